@@ -1,0 +1,9 @@
+pub mod Exact
+pub mod Rows
+pub mod Fields
+pub mod EachKind
+pub mod Bits
+pub mod Instruction
+pub mod Back
+pub mod BackFields
+pub mod BackKinds

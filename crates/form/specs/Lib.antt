@@ -1,0 +1,5 @@
+pub mod Syntax
+pub mod Reads
+pub mod Decode
+pub mod Encode
+pub mod Walk

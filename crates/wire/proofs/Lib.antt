@@ -1,0 +1,4 @@
+pub mod Laws
+pub mod Inv
+pub mod RoundTrip
+pub mod Canon

@@ -1,0 +1,4 @@
+pub mod Parse
+pub mod Number
+pub mod Value
+pub mod WellFormed

@@ -1,0 +1,5 @@
+pub mod Start
+pub mod Meta
+pub mod Laws
+pub mod Blocks
+pub mod Sizes

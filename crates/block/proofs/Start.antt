@@ -1,0 +1,114 @@
+-- An instruction's bit map and kind, and a walk's answer behind a place.
+use Prim.Native.Nat.{ℕ, _≤_, _<_}
+use mathlib.Core.Path.{_≡_, refl, ap, _∙_}
+use mathlib.Core.List.{List}
+use mathlib.Core.Bool.{Bool, true, false, not, _&&_, _||_}
+use native.Mathlib.Omega.{arith}
+use borrow.Author.Tests.{lt-ltb, le-ltb, eq-eqb, ne-eqb, ltb-true}
+use lib.ListN.{length, getD, drop, length-drop}
+use lib.Dec.{ltb, eqb}
+use Rattle.wire.specs.Parse.{Parse, ok, bad, mapParse, checked}
+use Rattle.wire.specs.Number.{numberOf, u8Of}
+use Rattle.wire.specs.declared.Cause.{Cause}
+use Rattle.wire.proofs.Laws.{number-short, number-some, from-8}
+use Rattle.wire.proofs.Inv.{no-ok, both, image, and-inv, map-inv, checked-inv}
+use Rattle.form.specs.Decode.{bitsOf, kindOf}
+use Rattle.form.specs.Walk.{Walk, walkOf, asScan}
+use Rattle.form.specs.declared.Scan.{Scan}
+use Rattle.block.specs.Decode.{KindRead, headOf, misplacedConst, lateBehind}
+
+-- the bits' byte
+first : (s : List ℕ) → 1 ≤ length s → numberOf 1 s ≡ ok (getD s 0 0) 1
+first s h = number-some 1 s h ∙ ap (λ x. ok x 1) (from-8 s 0)
+
+-- the kind's byte
+second : (s : List ℕ) → 2 ≤ length s → numberOf 1 (drop 1 s) ≡ ok (getD s 1 0) 1
+second s h = number-some 1 (drop 1 s) (omega (arith, length-drop 1 s)) ∙ ap (λ x. ok x 1) (from-8 s 1)
+
+-- a kind is one of the 19
+pub kind-below : (late : Bool) (s : List ℕ) {k n : ℕ} → kindOf late s ≡ ok k n → k < 19
+kind-below late s {k} e =
+    let h = checked-inv Cause.LatePhi (λ k. not (late && eqb k 9)) (checked Cause.Undefined (λ k. ltb k 19) (u8Of s)) e .0 in
+    ltb-true k 19 (checked-inv Cause.Undefined (λ k. ltb k 19) (u8Of s) h .1)
+
+module _ (late : Bool) (s : List ℕ) where
+  -- there is no byte for the bits
+  pub no-bits : length s < 1 → _≡_ {A = Parse KindRead} (bad Cause.Truncated 0) (headOf late s)
+  unfolding headOf
+  no-bits h = simp (number-short 1 s h)
+
+  -- a bit above 3 stands
+  pub bits-past : 1 ≤ length s → 16 ≤ getD s 0 0 → _≡_ {A = Parse KindRead} (bad Cause.Undefined 0) (headOf late s)
+  unfolding headOf
+  bits-past h g = simp (first s h, le-ltb _ _ g)
+
+  -- bit 3 stands before another kind than MakeFixedArray
+  pub bits-misplaced : 1 ≤ length s → getD s 0 0 < 16 → misplacedConst s (getD s 0 0) ≡ true → _≡_ {A = Parse KindRead} (bad Cause.Undefined 0) (headOf late s)
+  unfolding headOf
+  bits-misplaced h g e = simp (first s h, lt-ltb _ _ g, e)
+
+  module _ (g : getD s 0 0 < 16) (e : misplacedConst s (getD s 0 0) ≡ false) where
+    -- there is no byte for the kind
+    pub no-kind : 1 ≤ length s → length s < 2 → _≡_ {A = Parse KindRead} (bad Cause.Truncated 1) (headOf late s)
+    unfolding headOf
+    no-kind h k =
+        let j : length (drop 1 s) < 1 = omega (arith, length-drop 1 s) in
+        simp (first s h, lt-ltb _ _ g, e, number-short 1 (drop 1 s) j)
+
+    -- the kind is none of the 19
+    pub kind-past : 2 ≤ length s → 19 ≤ getD s 1 0 → _≡_ {A = Parse KindRead} (bad Cause.Undefined 1) (headOf late s)
+    unfolding headOf
+    kind-past h k =
+        let j : 1 ≤ length s = omega arith in
+        simp (first s j, lt-ltb _ _ g, e, second s h, le-ltb _ _ k)
+
+    -- a Phi is late
+    pub late-phi : 2 ≤ length s → getD s 1 0 < 19 → (late && eqb (getD s 1 0) 9) ≡ true → _≡_ {A = Parse KindRead} (bad Cause.LatePhi 1) (headOf late s)
+    unfolding headOf
+    late-phi h k l =
+        let j : 1 ≤ length s = omega arith in
+        simp (first s j, lt-ltb _ _ g, e, second s h, lt-ltb _ _ k, l)
+
+    -- both are as they should be
+    pub head-some : 2 ≤ length s → getD s 1 0 < 19 → (late && eqb (getD s 1 0) 9) ≡ false → _≡_ {A = Parse KindRead} (ok (record { bits = getD s 0 0; kind = getD s 1 0 }) 2) (headOf late s)
+    unfolding headOf
+    head-some h k l =
+        let j : 1 ≤ length s = omega arith in
+        simp (first s j, lt-ltb _ _ g, e, second s h, lt-ltb _ _ k, l)
+
+-- behind a Phi a Phi is as late as before
+pub behind-phi : (k : ℕ) (w : Walk) (at : ℕ) → k ≡ 9 → ok w at ≡ mapParse (lateBehind k) (ok w at)
+behind-phi k w at e = simp (eq-eqb k 9 e) (go (w .late))
+  where
+    go : (l : Bool) → ok (walkOf (w .seen) (w .buffer) (w .count) l) at ≡ ok (walkOf (w .seen) (w .buffer) (w .count) (l || false)) at
+    go true = refl
+    go false = refl
+
+-- behind another kind it is late
+pub behind-other : (k : ℕ) (w : Walk) (at : ℕ) → (k ≡ 9 → ⊥) → ok (walkOf (w .seen) (w .buffer) (w .count) true) at ≡ mapParse (lateBehind k) (ok w at)
+behind-other k w at e = simp (ne-eqb k 9 e) (go (w .late))
+  where
+    go : (l : Bool) → ok (walkOf (w .seen) (w .buffer) (w .count) true) at ≡ ok (walkOf (w .seen) (w .buffer) (w .count) (l || true)) at
+    go true = refl
+    go false = refl
+
+-- the place of a walk is one
+pub same-place : {p : Scan} {at n at′ n′ : ℕ} {late late′ : Bool} → p ≡ Scan.Used at n late → p ≡ Scan.Used at′ n′ late′ → at ≡ at′
+same-place {p} {at} {n} {at′} {n′} {late} {late′} e f = cc
+
+-- a refusal has none
+pub no-place : {p : Scan} {at n o : ℕ} {late : Bool} {c : Cause} → p ≡ Scan.Refused c o → p ≡ Scan.Used at n late → ⊥
+no-place {p} {at} {n} {o} {late} {c} e f = let z : _≡_ {A = ℕ} 0 1 = cc in omega arith
+
+-- what is known at the place of a walk is known at its count
+pub peeked : (s : List ℕ) (x : ℕ) (p : Scan) (seen : List Bool) (buffer : List ℕ) → ((at n : ℕ) (late : Bool) → p ≡ Scan.Used at n late → x ≡ getD s at 0) → (v : Walk) (at : ℕ) → asScan p seen buffer ≡ ok v at → x ≡ getD s at 0
+peeked s x (Scan.Used a n l) seen buffer h v at e = let q : a ≡ at = cc in h a n l refl ∙ ap (λ i. getD s i 0) q
+peeked s x (Scan.Refused c o) seen buffer h v at e = absurd (no-ok e)
+
+-- a head's kind is one of the 19
+pub head-below : (late : Bool) (s : List ℕ) {h : KindRead} {n : ℕ} → headOf late s ≡ ok h n → h .kind < 19
+unfolding headOf
+head-below late s {h} e =
+    elim (and-inv s (bitsOf s) (λ x t. mapParse (λ k. record { bits = x; kind = k }) (kindOf late t)) e) [
+      | both x m j p q r ↦ elim (map-inv (λ k. record { bits = x; kind = k }) (kindOf late (drop m s)) q) [ image k f g ↦ omega (arith, ap (λ y. y .kind) g, kind-below late (drop m s) f) ]
+    ]

@@ -1,0 +1,58 @@
+//! One driver for the oracle, the generator and the comparison.
+
+mod args;
+mod bench;
+mod check_diff;
+mod coverage;
+mod histogram;
+mod one;
+mod tally;
+
+use std::process::ExitCode;
+
+use args::Args;
+
+const USAGE: &str = "usage: driver COMMAND [--NAME VALUE]...
+  check-diff  --count N --seed S [--sort SORT]   the static library's check against the oracle's reader
+  histogram   --count N --seed S [--sort SORT]   how often each case is met
+  coverage    --count N --seed S [--sort SORT]   the lines of sroa.rs that no routine reaches
+  bench       --count N --seed S                 check against the oracle's reader, in time
+  run         --hex HEX [--tuples N] [--structs N] [--max N] [--lent N]
+                                                 what the Rust makes of one input
+sorts: typed, wild, near, damaged, bytes; without one, a mix of all";
+
+/// The static library's `check`, where the driver was built with it.
+type Check = fn(&[u8]) -> (u8, u64);
+#[cfg(feature = "pass")]
+const CHECK: Option<Check> = Some(pass::check);
+#[cfg(not(feature = "pass"))]
+const CHECK: Option<Check> = None;
+
+fn main() -> ExitCode {
+    let mut words = std::env::args().skip(1);
+    let command = words.next().unwrap_or_default();
+    let answer = Args::of(words).and_then(|args| dispatch(&command, &args));
+    match answer {
+        Ok(true) => ExitCode::SUCCESS,
+        Ok(false) => ExitCode::FAILURE,
+        Err(message) => {
+            eprintln!("{message}");
+            ExitCode::from(2)
+        }
+    }
+}
+
+/// Runs a command: whether all is well, or what is wrong with the words.
+fn dispatch(command: &str, args: &Args) -> Result<bool, String> {
+    match command {
+        "check-diff" => {
+            let check = CHECK.ok_or("built without the static library: add `--features pass`")?;
+            check_diff::command(args, check)
+        }
+        "histogram" => histogram::command(args),
+        "coverage" => coverage::command(args),
+        "bench" => bench::command(args, CHECK),
+        "run" => one::command(args),
+        _ => Err(USAGE.to_string()),
+    }
+}

@@ -1,0 +1,28 @@
+//! Tells the linker where the proved static library is.
+
+use std::env;
+use std::path::PathBuf;
+
+/// Names the folder that holds the archive, where it is not the usual one.
+const OVERRIDE: &str = "POELVIGU_LIB_DIR";
+
+/// The usual folder, from this crate: the repository's own target folder.
+const USUAL: &str = "../../target/staticlib";
+
+const ARCHIVE: &str = "libroutine.a";
+
+fn main() {
+    println!("cargo:rerun-if-env-changed={OVERRIDE}");
+    let manifest = PathBuf::from(env::var_os("CARGO_MANIFEST_DIR").expect("cargo sets it"));
+    let folder = env::var_os(OVERRIDE).map_or_else(|| manifest.join(USUAL), PathBuf::from);
+    let archive = folder.join(ARCHIVE);
+    assert!(
+        archive.is_file(),
+        "{} is missing: make it with `rt staticlib routine` in the repository's root, or set \
+         {OVERRIDE} to the folder that holds {ARCHIVE}",
+        archive.display()
+    );
+    println!("cargo:rerun-if-changed={}", archive.display());
+    println!("cargo:rustc-link-search=native={}", folder.display());
+    println!("cargo:rustc-link-lib=static=routine");
+}

@@ -3,3 +3,5 @@ pub mod Meta
 pub mod Laws
 pub mod Blocks
 pub mod Sizes
+pub mod Canon
+pub mod RoundTrip

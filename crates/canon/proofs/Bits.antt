@@ -13,12 +13,12 @@ pub true-false : true ≡ false → ⊥
 true-false e = let z : _≡_ {A = ℕ} 1 0 = ap boolByte e in omega arith
 
 -- a bit, as a number
-small : (y : ℕ) → y < 2 → boolByte (eqb y 1) ≡ y
+pub small : (y : ℕ) → y < 2 → boolByte (eqb y 1) ≡ y
 small zero l = refl
 small (suc zero) l = refl
 small (suc (suc y)) l = absurd (omega arith)
 
-bit-byte : (k x : ℕ) → boolByte (bit k x) ≡ x / 2 ^ k % 2
+pub bit-byte : (k x : ℕ) → boolByte (bit k x) ≡ x / 2 ^ k % 2
 bit-byte k x = small (x / 2 ^ k % 2) (omega arith)
 
 -- four bits make the number

@@ -1,0 +1,6 @@
+pub mod Places
+pub mod EachKind
+pub mod Instruction
+pub mod Loops
+pub mod Relax
+pub mod Noted

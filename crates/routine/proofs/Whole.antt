@@ -1,0 +1,167 @@
+-- The whole routine: types, sizes, body.
+use Prim.Native.Nat.{ℕ, zero, suc, _+_, _-_, _≤_}
+use mathlib.Core.Path.{_≡_, refl, ap, _∙_, sym}
+use mathlib.Core.List.{List, [], _∷_, _++_}
+use mathlib.Core.Bool.{not}
+use native.Mathlib.Omega.{arith}
+use lib.ListN.{length, take, drop}
+use lib.Seq.{drop-drop}
+use lib.Dec.{leb, eqb}
+use Rattle.wire.specs.Parse.{Parse, ok, bad, later, andThen, mapParse, checked}
+use Rattle.wire.specs.Number.{u16Of, at16}
+use Rattle.wire.specs.declared.Cause.{Cause}
+use Rattle.wire.specs.declared.BlockId.{BlockId}
+use Rattle.wire.proofs.Laws.{size, map-later, later-later, map-map, map-and, told, told-size, from-16}
+use Rattle.wire.proofs.Inv.{no-ok, both, behind, image, later-inv, and-inv, map-inv, cond-inv, checked-inv, number-inv}
+use Rattle.form.specs.Walk.{asPart, unit}
+use Rattle.form.specs.declared.Part.{Part}
+use Rattle.block.specs.declared.Mosts.{Mosts}
+use Rattle.types.specs.Syntax.{MirType}
+use Rattle.types.specs.Decode.{hasType, typeOf, typeSeq, typesOf}
+use Rattle.types.specs.Index.{TypesAt, TypesRead}
+use Rattle.types.proofs.Sizes.{size-types}
+use Rattle.types.proofs.Fields.{map-bad}
+use Rattle.routine.specs.Routine.{Routine}
+use Rattle.routine.specs.Decode.{Sizes, sizesOf, boundsOf, bodyOf, routineOf, ended, wholeOf}
+use Rattle.routine.specs.Index.{asSizes, asChecked, BodyRead, RoutineRead, verdict}
+use Rattle.routine.specs.declared.Checked.{Checked}
+use Rattle.routine.specs.declared.SizesRead.{SizesRead}
+use Rattle.routine.proofs.Laws.{and-later}
+use Rattle.routine.proofs.Sizes.{size-sizes, sizes-fit}
+
+-- k types are k
+types-length : (most : ℕ) (earlier : List MirType) (k : ℕ) (s : List ℕ) {ts : List MirType} {n : ℕ} → typeSeq most earlier k s ≡ ok ts n → length ts ≡ k
+unfolding typeSeq
+types-length most earlier zero s {ts} e = let p : [] ≡ ts = cc in sym (ap length p)
+types-length most earlier (suc k) s e =
+    elim (and-inv s (checked Cause.Repeated (λ t. not (hasType t earlier)) (typeOf most (length earlier) s)) _ e) [
+      | both t i j p q r ↦
+          elim (map-inv (λ ts. t ∷ ts) (typeSeq most (earlier ++ (t ∷ [])) k (drop i s)) q) [
+            | image us f g ↦ ap length g ∙ ap suc (types-length most (earlier ++ (t ∷ [])) k (drop i s) f)
+          ]
+    ]
+
+-- as many as the first u16 says
+types-count : (mostTypes most : ℕ) (s : List ℕ) {ts : List MirType} {n : ℕ} → typesOf mostTypes most s ≡ ok ts n → at16 s 0 ≡ length ts
+unfolding typesOf
+types-count mostTypes most s e =
+    elim (and-inv s (checked Cause.TooMany (λ n. leb n mostTypes) (u16Of s)) (λ n t. typeSeq most [] n t) e) [
+      | both x i j p q r ↦
+          let h = number-inv 2 s (checked-inv Cause.TooMany (λ n. leb n mostTypes) (u16Of s) p .0) in
+          sym (types-length most [] x (drop i s) q ∙ h .1 ∙ from-16 s 0)
+    ]
+
+-- the table of types is read
+pub record Tabled (m : Mosts) (s : List ℕ) (at : ℕ) (starts : List ℕ) : Type 0 where
+  pub found : List MirType
+  pub read : typesOf (m .types) (m .list) s ≡ ok found at
+  pub table : TypesAt (m .list) s starts found
+  pub counts : at16 s 0 ≡ length found
+  pub in-s : at ≤ length s
+
+pub tabled : (m : Mosts) (s : List ℕ) {at : ℕ} {before starts : List ℕ} {r : Part} → TypesRead (m .types) (m .list) s (asPart r) before starts → r ≡ Part.Used at → Tabled m s at starts
+tabled m s {at} p g =
+    let d = typesOf (m .types) (m .list) s in
+    elim (map-inv unit d (sym (p .answers) ∙ ap asPart g)) [
+      | image ts e i ↦
+          record {
+            found = ts;
+            read = e;
+            table = p .places ts at e;
+            counts = types-count (m .types) (m .list) s e;
+            in-s = omega (arith, ap (λ x. size x) e, size-types (m .types) (m .list) s);
+          }
+    ]
+
+-- the sizes are read
+pub record Fitted (m : Mosts) (s : List ℕ) (at : ℕ) (z : Sizes) : Type 0 where
+  pub read : sizesOf m (drop at s) ≡ ok z 6
+  pub in-s : at + 6 ≤ length s
+  pub next : z .next ≤ m .next
+  pub blocks : z .blocks ≤ m .blocks
+
+pub fitted : (m : Mosts) (s : List ℕ) (at : ℕ) {next blocks : ℕ} {entry : BlockId} {r : SizesRead} → at ≤ length s → asSizes r ≡ sizesOf m (take (length s - at) (drop at s)) → r ≡ SizesRead.Got next blocks entry → Fitted m s at (record { next = next; blocks = blocks; entry = entry })
+fitted m s at {next} {blocks} {entry} h p g =
+    let e = told asSizes (sizesOf m) at s p g in
+    let f = sizes-fit m (drop at s) e in
+    record { read = e; in-s = told-size asSizes (sizesOf m) at s (size-sizes m) h p g; next = f .0; blocks = f .1 }
+
+-- an answer of the sizes reaches no further than the bytes do
+pub sizes-size : (m : Mosts) (s : List ℕ) (at : ℕ) {r r′ : SizesRead} → at ≤ length s → asSizes r ≡ sizesOf m (take (length s - at) (drop at s)) → r ≡ r′ → at + size (asSizes r′) ≤ length s
+sizes-size m s at h p g = told-size asSizes (sizesOf m) at s (size-sizes m) h p g
+
+-- a body has the types that stood before it
+types-made : (m : Mosts) (ts : List MirType) (z : Sizes) (s : List ℕ) → mapParse (λ r. r .types) (bodyOf m ts z s) ≡ mapParse (λ r. ts) (bodyOf m ts z s)
+unfolding bodyOf
+types-made m ts z s = simp (map-and, map-map)
+
+body-types : (m : Mosts) (ts : List MirType) (z : Sizes) (s : List ℕ) {r : Routine} {n : ℕ} → bodyOf m ts z s ≡ ok r n → r .types ≡ ts
+body-types m ts z s {r} {n} e = let f : ok (r .types) n ≡ ok ts n = rw e at (types-made m ts z s) in cc
+
+-- the routine that a decoder gave
+data Made (d : Parse Routine) (r : Routine) : Type 0 where
+  made : (n : ℕ) → d ≡ ok r n → Made d r
+
+-- what is accepted with nothing behind it
+accepted : (at : ℕ) (s : List ℕ) (d : Parse Routine) {r : Routine} {n : ℕ} → later at (andThen s d (λ r t. ended r t)) ≡ ok r n → Made d r
+accepted at s d {r} e =
+    elim (later-inv at (andThen s d (λ r t. ended r t)) e) [
+      | behind k f g ↦
+          elim (and-inv s d (λ r t. ended r t) f) [
+            | both x i j p q o ↦
+                let h = cond-inv (eqb (length (drop i s)) 0) (ok x 0) Cause.Trailing 0 q .1 in
+                let y : x ≡ r = cc in
+                made i (p ∙ ap (λ x. ok x i) y)
+          ]
+    ]
+
+module _ (m : Mosts) (s : List ℕ) where
+  -- a refusal finds nothing
+  whole-bad : {c : Cause} {o : ℕ} {types recorded starts : List ℕ} → bad c o ≡ mapParse unit (wholeOf m s) → RoutineRead m s (Checked.Refused c o) types recorded starts
+  whole-bad e =
+      record {
+        answers = e;
+        found = λ l r n f g. absurd (no-ok (e ∙ ap (mapParse unit) g));
+        table = λ r n g. absurd (no-ok (e ∙ ap (mapParse unit) g));
+      }
+
+  -- the types are refused
+  pub whole-types : {c : Cause} {o : ℕ} {before types recorded starts : List ℕ} {r : Part} → TypesRead (m .types) (m .list) s (asPart r) before types → r ≡ Part.Refused c o → RoutineRead m s (Checked.Refused c o) types recorded starts
+  unfolding wholeOf routineOf
+  whole-types p g = whole-bad (sym (simp (map-bad unit (typesOf (m .types) (m .list) s) (sym (p .answers) ∙ ap asPart g))))
+
+  module _ {at : ℕ} {types : List ℕ} (u : Tabled m s at types) where
+    -- the types are passed
+    after-types : wholeOf m s ≡ later at (andThen (drop at s) (andThen (drop at s) (sizesOf m (drop at s)) (λ z t. bodyOf m (u .found) z t)) (λ r t. ended r t))
+    unfolding wholeOf routineOf
+    after-types = simp (u .read, and-later)
+
+    -- the sizes are refused
+    pub whole-sizes : {c : Cause} {o : ℕ} {recorded starts : List ℕ} {r : SizesRead} → asSizes r ≡ sizesOf m (take (length s - at) (drop at s)) → r ≡ SizesRead.Refused c o → RoutineRead m s (Checked.Refused c (at + o)) types recorded starts
+    whole-sizes p g = whole-bad (sym (ap (mapParse unit) after-types ∙ simp (told asSizes (sizesOf m) at s p g)))
+
+    module _ (z : Sizes) (v : Fitted m s at z) where
+      -- the sizes are passed
+      after-sizes : wholeOf m s ≡ later (at + 6) (andThen (drop (at + 6) s) (bodyOf m (u .found) z (drop (at + 6) s)) (λ r t. ended r t))
+      after-sizes = after-types ∙ simp (v .read, and-later, later-later, drop-drop)
+
+      -- the body behind them
+      pub whole-body : (x : ℕ) {recorded starts : List ℕ} {answer : Checked} → x ≡ at16 s 0 → BodyRead m (boundsOf m x (z .next) (z .blocks)) (z .entry) (at + 6) s answer recorded starts → RoutineRead m s answer types recorded starts
+      whole-body x {recorded} {starts} {answer} h p =
+          let ts = u .found in
+          let d = bodyOf m ts z (drop (at + 6) s) in
+          let k : boundsOf m x (z .next) (z .blocks) ≡ boundsOf m (length (u .found)) (z .next) (z .blocks) = ap (λ y. boundsOf m y (z .next) (z .blocks)) (h ∙ u .counts) in
+          record {
+            answers = p .answers ts k ∙ sym (ap (mapParse unit) after-sizes ∙ map-later unit (at + 6) (andThen (drop (at + 6) s) d (λ r t. ended r t)));
+            found = λ l r n e f. elim (accepted (at + 6) (drop (at + 6) s) d (sym after-sizes ∙ f)) [ made i g ↦ p .found l ts r i k e g ];
+            table = λ r n f. elim (accepted (at + 6) (drop (at + 6) s) d (sym after-sizes ∙ f)) [ made i g ↦ rw (body-types m ts z (drop (at + 6) s) g) (u .table) ];
+          }
+
+-- the verdict does not look at the value
+verdict-unit : {A : Type 0} (d : Parse A) → verdict (mapParse unit d) ≡ verdict d
+verdict-unit (ok a n) = refl
+verdict-unit (bad c o) = refl
+
+-- so the code's answer tells it
+pub verdict-of : {A : Type 0} (d : Parse A) (n : ℕ) {r r′ : Checked} → asChecked n r ≡ mapParse unit d → r ≡ r′ → verdict (asChecked n r′) ≡ verdict d
+verdict-of d n e g = ap (λ r. verdict (asChecked n r)) (sym g) ∙ ap verdict e ∙ verdict-unit d

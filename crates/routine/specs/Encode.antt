@@ -1,0 +1,30 @@
+-- The bytes of a routine.
+use Prim.Native.Nat.{ℕ, zero, suc, _+_, _*_, _/_}
+use mathlib.Core.List.{List, [], _∷_, _++_}
+use mathlib.Core.Option.{Option, none, some}
+use lib.ListN.{length}
+use Rattle.wire.specs.Number.{toBytes, fromBytes}
+use Rattle.wire.specs.declared.TypeId.{TypeId}
+use Rattle.form.specs.Encode.{valueIdBytes, blockIdBytes, typeIdBytes, eachBytes, listBytes, optionBytes, stands}
+use Rattle.block.specs.Encode.{blockBytes}
+use Rattle.types.specs.Encode.{typesBytes}
+use Rattle.routine.specs.Routine.{Routine}
+
+-- the number whose bit v stands where value v has a recorded type
+abbrev pub mapNumber : List (Option TypeId) → ℕ
+mapNumber [] = 0
+mapNumber (t ∷ ts) = stands t + 2 * mapNumber ts
+
+-- its bytes, and the types of the values that have one, rising
+abbrev pub recordedBytes : List (Option TypeId) → List ℕ
+recordedBytes ts = toBytes ((length ts + 7) / 8) (mapNumber ts) ++ eachBytes (optionBytes typeIdBytes) ts
+
+unfoldable pub encode : Routine → List ℕ
+encode r =
+    typesBytes (r .types)
+    ++ (toBytes 2 (r .next)
+    ++ (toBytes 2 (length (r .blocks))
+    ++ (blockIdBytes (r .entry)
+    ++ (listBytes valueIdBytes (r .parameters)
+    ++ (recordedBytes (r .recorded)
+    ++ eachBytes blockBytes (r .blocks))))))

@@ -1,0 +1,17 @@
+-- A routine: what document 01's byte form carries of function.rs, `MirFunction`.
+use Prim.Native.Nat.{ℕ}
+use mathlib.Core.List.{List}
+use mathlib.Core.Option.{Option}
+use Rattle.wire.specs.declared.ValueId.{ValueId}
+use Rattle.wire.specs.declared.BlockId.{BlockId}
+use Rattle.wire.specs.declared.TypeId.{TypeId}
+use Rattle.form.specs.Syntax.{Block}
+use Rattle.types.specs.Syntax.{MirType}
+
+pub record Routine : Type 0 where
+  pub types : List MirType
+  pub next : ℕ
+  pub entry : BlockId
+  pub parameters : List ValueId
+  pub recorded : List (Option TypeId)  -- the recorded type of each value below next
+  pub blocks : List Block

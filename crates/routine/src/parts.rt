@@ -1,0 +1,192 @@
+// The parts of a routine: sizes, map, recorded types, parameters.
+use crate::SizesRead;
+use block::BlockRead;
+use block::Mosts;
+use form::Bounds;
+use form::Part;
+use form::Scan;
+use wire::BlockId;
+use wire::Cause;
+use wire::Read16;
+ghost use mathlib.Core.Path.{_≡_};
+ghost use Prim.Native.Nat.{_≤_, _<_};
+ghost use lib.ListN.{length, drop, set};
+ghost use Rattle.wire.specs.Parse.{mapParse};
+ghost use Rattle.form.specs.Walk.{asPart, unit};
+ghost use Rattle.routine.specs.Decode.{atMost, mapOf, hasRecorded, sizesOf};
+ghost use Rattle.routine.specs.Index.{RecordedOne, RecordedRead, ParametersRead, BlocksRead, asSizes};
+
+const POWERS: [u8; 8] = [1, 2, 4, 8, 16, 32, 64, 128];
+
+// A u16 that is at most `most`.
+pub fn count_part(s: &[u8], most: u16) -> Part
+    ensures { λ r. ⌜ asPart r ≡ mapParse unit (atMost most (now (s .entry))) ⌝ }
+{
+    match wire::read_u16(s) {
+        Read16::Refused(c, o) => Part::Refused(c, o),
+        Read16::Got(x, n) => {
+            if most < x {
+                return Part::Refused(Cause::TooMany, 0);
+            }
+            Part::Used(n)
+        }
+    }
+}
+
+// "u16 next value; u16 block count; u16 entry block".
+pub fn read_sizes(s: &[u8], m: Mosts) -> SizesRead
+    ensures { λ r. ⌜ asSizes r ≡ sizesOf m (now (s .entry)) ⌝ }
+{
+    match count_part(s, m.next) {
+        Part::Refused(c, o) => SizesRead::Refused(c, o),
+        Part::Used(_) => match count_part(form::tail(s, 2), m.blocks) {
+            Part::Refused(c, o) => SizesRead::Refused(c, 2 + o),
+            Part::Used(_) => match wire::read_u16(form::tail(s, 4)) {
+                Read16::Refused(c, o) => SizesRead::Refused(c, 4 + o),
+                Read16::Got(entry, _) => {
+                    let next = wire::u16_at(s, 0);
+                    let blocks = wire::u16_at(s, 2);
+                    if entry < blocks {
+                        SizesRead::Got(next, blocks, BlockId(entry))
+                    } else {
+                        SizesRead::Refused(Cause::OutOfRange, 4)
+                    }
+                }
+            },
+        },
+    }
+}
+
+// The map of the values that have a recorded type.
+pub fn map_part(s: &[u8], next: u16) -> Part
+    ensures { λ r. ⌜ asPart r ≡ mapParse unit (mapOf next (now (s .entry))) ⌝ }
+{
+    let whole = (next / 8) as usize;
+    if s.len() < whole {
+        return Part::Refused(Cause::Truncated, s.len());
+    }
+    let bits = (next % 8) as usize;
+    if bits == 0 {
+        return Part::Used(whole);
+    }
+    if s.len() <= whole {
+        return Part::Refused(Cause::Truncated, whole);
+    }
+    if POWERS[bits] <= s[whole] {
+        return Part::Refused(Cause::Undefined, whole);
+    }
+    Part::Used(whole + 1)
+}
+
+// Value v's bit in the map at a place.
+fn map_bit(s: &[u8], map: usize, v: u16) -> bool
+    ensures { λ r. ⌜ r ≡ hasRecorded (drop map (now (s .entry))) v ⌝ }
+{
+    let k = (v / 8) as usize;
+    let b = wire::byte_at(form::tail(s, map), k);
+    let i = (v % 8) as usize;
+    b / POWERS[i] % 2 == 1
+}
+
+fn put_type(recorded: &mut [u16], v: u16, t: u16)
+    ensures { λ _. ⌜ now (recorded .exit) ≡ set (now (recorded .entry)) v t ⌝ }
+{
+    let i = v as usize;
+    if i < recorded.len() {
+        recorded[i] = t;
+    }
+}
+
+// The recorded type of value v, at `here` where it has one: `recorded` is given 1 and its number, else 0.
+fn recorded_one(s: &[u8], here: usize, map: usize, v: u16, types: u16, recorded: &mut [u16]) -> Part
+    requires { ⌜ here ≤ length (now s) ⌝ }
+    ensures { λ r. ⌜ RecordedOne types (drop map (now (s .entry))) v here (now (s .entry)) (asPart r) (now (recorded .entry)) (now (recorded .exit)) ⌝ }
+{
+    if !map_bit(s, map, v) {
+        put_type(recorded, v, 0);
+        return Part::Used(here);
+    }
+    match wire::read_u16(&s[here..]) {
+        Read16::Refused(c, o) => Part::Refused(c, here + o),
+        Read16::Got(t, n) => {
+            if types <= t {
+                return Part::Refused(Cause::OutOfRange, here);
+            }
+            put_type(recorded, v, t + 1);
+            Part::Used(here + n)
+        }
+    }
+}
+
+// The recorded types, from `at` on.
+pub fn recorded_part(
+    s: &[u8],
+    at: usize,
+    map: usize,
+    next: u16,
+    types: u16,
+    recorded: &mut [u16],
+) -> Part
+    requires { ⌜ at ≤ length (now s) ⌝ }
+    ensures { λ r. ⌜ RecordedRead types (drop map (now (s .entry))) next at (now (s .entry)) (asPart r) (now (recorded .entry)) (now (recorded .exit)) ⌝ }
+{
+    let mut here = at;
+    let mut v: u16 = 0;
+    while v < next {
+        match recorded_one(s, here, map, v, types, recorded) {
+            Part::Refused(c, o) => {
+                return Part::Refused(c, o);
+            }
+            Part::Used(end) => {
+                here = end;
+            }
+        }
+        v = v + 1;
+    }
+    Part::Used(here)
+}
+
+// The parameters, from their count on: each is marked as defined.
+pub fn parameters_part(s: &[u8], b: Bounds, seen: &mut [bool]) -> Part
+    ensures { λ r. ⌜ ParametersRead b (now (s .entry)) (asPart r) (now (seen .entry)) (now (seen .exit)) ⌝ }
+{
+    let mut none: [u16; 0] = [0; 0];
+    match form::then_row(s, Scan::Used(0, 0, false), 0xc, 0, b, seen, &mut none) {
+        Scan::Used(n, _, _) => Part::Used(n),
+        Scan::Refused(c, o) => Part::Refused(c, o),
+    }
+}
+
+// The blocks, from `at` on. `starts` is given each block's place, and the place behind the last.
+pub fn blocks_part(
+    s: &[u8],
+    at: usize,
+    m: Mosts,
+    b: Bounds,
+    many: u16,
+    seen: &mut [bool],
+    starts: &mut [usize],
+) -> Part
+    requires { ⌜ (at ≤ length (now s)) × (many < length (now starts)) ⌝ }
+    ensures { λ r. ⌜ BlocksRead m b many at (now (s .entry)) (now (seen .entry)) (asPart r) (now (starts .entry)) (now (starts .exit)) ⌝ }
+{
+    let mut here = at;
+    let mut total: u16 = 0;
+    let mut k: u16 = 0;
+    starts[0] = here;
+    while k < many {
+        match block::read_block(&s[here..], m, b, total, seen) {
+            BlockRead::Refused(c, o) => {
+                return Part::Refused(c, here + o);
+            }
+            BlockRead::Used(n, count) => {
+                here = here + n;
+                total = total + count;
+            }
+        }
+        k = k + 1;
+        let i = k as usize;
+        starts[i] = here;
+    }
+    Part::Used(here)
+}

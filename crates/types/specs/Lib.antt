@@ -1,0 +1,5 @@
+pub mod Syntax
+pub mod Encode
+pub mod Decode
+pub mod Index
+pub mod WellFormed

@@ -1,0 +1,1 @@
+// nothing but definitions and laws

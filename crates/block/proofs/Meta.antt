@@ -1,10 +1,11 @@
 -- The numbers beside an instruction's kind: each stands where its bit does.
-use Prim.Native.Nat.{ℕ, _+_, _≤_, _<_, zero-le}
+use Prim.Native.Nat.{ℕ, _+_, _/_, _%_, _≤_, _<_, zero-le}
 use mathlib.Core.Path.{_≡_, refl, _∙_, sym}
 use mathlib.Core.List.{List}
 use mathlib.Core.Bool.{Bool, true, false, not}
 use native.Mathlib.Nat.{add-zero}
 use native.Mathlib.Omega.{arith}
+use borrow.Author.Tests.{ne-eqb}
 use lib.ListN.{length, drop}
 use Rattle.wire.specs.Parse.{Parse, ok, bad, later, andThen, mapParse}
 use Rattle.wire.specs.Number.{u32Of}
@@ -65,6 +66,15 @@ pub meta-numbers : (s : List ℕ) (bits : ℕ) {x y z : Bool} (p : Parse Walk) {
 unfolding metaOf
 meta-numbers s bits {x} {y} {z} p ex ey ez e1 e2 e3 e4 e5 =
     e5 ∙ rw (e4, e3, e2, e1) (simp assoc (and-same s p (numbers x y z) _ (λ w t. rw (ex, ey, ez) (meta-cases (bit 0 bits) (bit 1 bits) (bit 2 bits) w t))))
+
+-- none of the bits stands
+pub no-numbers : (s : List ℕ) (bits : ℕ) (p : Parse Walk) → bits % 8 ≡ 0 → p ≡ andThen s p (λ w t. mapParse (λ m. w) (metaOf bits t))
+unfolding metaOf
+no-numbers s bits p h =
+    let x : bit 0 bits ≡ false = ne-eqb (bits / 1 % 2) 1 (λ (e : bits / 1 % 2 ≡ 1). omega arith) in
+    let y : bit 1 bits ≡ false = ne-eqb (bits / 2 % 2) 1 (λ (e : bits / 2 % 2 ≡ 1). omega arith) in
+    let z : bit 2 bits ≡ false = ne-eqb (bits / 4 % 2) 1 (λ (e : bits / 4 % 2 ≡ 1). omega arith) in
+    sym (simp (x, y, z, and-nothing))
 
 -- a field that may be absent stays within the bytes
 size-optional : {A : Type 0} (x : Bool) (dec : List ℕ → Parse A) → ((t : List ℕ) → size (dec t) ≤ length t) → (s : List ℕ) → size (optional x dec s) ≤ length s

@@ -102,6 +102,9 @@ fn bit(x: u8, k: u8) -> bool
 fn then_meta(s: &[u8], p: Scan, bits: u8) -> Scan
     ensures { λ r. ⌜ ((seen : List Bool) (buffer : List ℕ) → asScan r seen buffer ≡ andThen (now (s .entry)) (asScan p seen buffer) (λ w t. mapParse (λ x. w) (metaOf bits t))) ⌝ }
 {
+    if bits % 8 == 0 {
+        return p;
+    }
     let span = bit(bits, 0);
     let expression = bit(bits, 1);
     let comment = bit(bits, 2);

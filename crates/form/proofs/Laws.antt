@@ -1,14 +1,14 @@
 -- Laws of walks in general: what a step behind a place tells, and walks over several things.
 use Prim.Native.Nat.{ℕ, suc, _+_, _-_, _≤_, _<_, zero-le}
-use mathlib.Core.Path.{_≡_, ap, _∙_, sym}
+use mathlib.Core.Path.{_≡_, refl, ap, _∙_, sym}
 use mathlib.Core.List.{List}
 use mathlib.Core.Bool.{Bool}
 use native.Mathlib.Nat.{add-zero, sub-zero}
 use native.Mathlib.Omega.{arith}
 use lib.ListN.{length, getD, drop, length-drop}
-use lib.Seq.{getD-drop}
-use Rattle.wire.specs.Parse.{Parse, later, andThen}
-use Rattle.wire.proofs.Laws.{size, assoc, and-nothing}
+use lib.Seq.{drop-drop, getD-drop}
+use Rattle.wire.specs.Parse.{Parse, ok, bad, later, andThen}
+use Rattle.wire.proofs.Laws.{size, size-later, later-later, assoc, and-nothing}
 use Rattle.form.specs.Walk.{Walk, times, asScan}
 use Rattle.form.specs.declared.Scan.{Scan}
 
@@ -27,6 +27,19 @@ passed s at f seen buffer h e g = ap (later at) (sym (ap (λ r. asScan r seen bu
 -- and it reaches no further than the bytes do
 pub within : (s : List ℕ) (at : ℕ) (f : List ℕ → Parse Walk) (seen : List Bool) (buffer : List ℕ) {t : List ℕ} {r r′ : Scan} → ((u : List ℕ) → size (f u) ≤ length u) → t ≡ drop at s → asScan r seen buffer ≡ f t → r ≡ r′ → size (asScan r′ seen buffer) ≤ length s - at
 within s at f seen buffer l h e g = omega (arith, ap size (sym (ap (λ r. asScan r seen buffer) g) ∙ e ∙ ap f h), l (drop at s), length-drop at s)
+
+-- counted from the start, it reaches no further than the bytes do
+pub reach : (s : List ℕ) (at : ℕ) (f : List ℕ → Parse Walk) (seen : List Bool) (buffer : List ℕ) {r r′ : Scan} → ((u : List ℕ) → size (f u) ≤ length u) → at ≤ length s → asScan r seen buffer ≡ later at (f (drop at s)) → r ≡ r′ → size (asScan r′ seen buffer) ≤ length s
+reach s at f seen buffer l h e g = omega (arith, ap size (sym (ap (λ r. asScan r seen buffer) g) ∙ e), size-later at (f (drop at s)), l (drop at s), length-drop at s)
+
+-- which variant an answer was
+pub answer : {r r′ : Scan} (seen : List Bool) (buffer : List ℕ) {d : Parse Walk} → asScan r seen buffer ≡ d → r ≡ r′ → asScan r′ seen buffer ≡ d
+answer seen buffer e g = sym (ap (λ r. asScan r seen buffer) g) ∙ e
+
+-- a step behind an answer that is counted from `n`
+pub and-later : {A B : Type 0} (s : List ℕ) (n : ℕ) (d : Parse A) (g : A → List ℕ → Parse B) → andThen s (later n d) g ≡ later n (andThen (drop n s) d g)
+and-later s n (ok a m) g = sym (rw (drop-drop, later-later))
+and-later s n (bad c o) g = refl
 
 -- a step, and then another, are one step
 pub joined : {A B C : Type 0} (s : List ℕ) (p : Parse A) {q : Parse B} {r : Parse C} (f : A → List ℕ → Parse B) (g : B → List ℕ → Parse C) → q ≡ andThen s p f → r ≡ andThen s q g → r ≡ andThen s p (λ a t. andThen t (f a t) g)

@@ -1,4 +1,5 @@
 pub mod Laws
+pub mod Numbers
 pub mod Sizes
 pub mod Atom
 pub mod Listing

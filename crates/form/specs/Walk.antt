@@ -103,6 +103,14 @@ unfoldable pub times : (Walk → List ℕ → Parse Walk) → ℕ → Walk → L
 times f zero w s = ok w 0
 times f (suc k) w s = andThen s (f w s) (λ v t. times f k v t)
 
+-- the fields of an element, by the kind of its list: values, types, defined values, names with values, blocks with
+-- values, types; and projections
+abbrev pub firstOf : ℕ → ℕ
+firstOf k = getD (2 ∷ 3 ∷ 1 ∷ 4 ∷ 6 ∷ 3 ∷ []) k 10
+
+abbrev pub secondOf : ℕ → ℕ
+secondOf k = getD (0 ∷ 0 ∷ 0 ∷ 2 ∷ 2 ∷ 0 ∷ []) k 0
+
 -- where `exact` stands, a list counts `many` and no other number
 abbrev pub counts : Lists → ℕ → Bool
 counts l n = not (l .exact) || eqb n (l .many)

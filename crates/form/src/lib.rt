@@ -1,22 +1,18 @@
 // The walk over the fields of an instruction: one table of field classes drives the check, the skip and the scan of
 // what is read.
 use wire::Cause;
-use wire::Read8;
-use wire::Read16;
-use wire::Read32;
-use wire::ReadValue;
 use wire::Value;
 ghost use mathlib.Core.Path.{_≡_};
 ghost use mathlib.Core.List.{List};
 ghost use mathlib.Core.Bool.{Bool, true, false, cond, not};
-ghost use Prim.Native.Nat.{ℕ, _+_, _<_};
+ghost use Prim.Native.Nat.{ℕ, _+_, _≤_, _<_};
 ghost use lib.ListN.{length, getD, set, drop};
 ghost use lib.Dec.{ltb};
-ghost use Rattle.wire.specs.Parse.{Parse, andThen, mapParse, later};
-ghost use Rattle.wire.specs.Number.{u16Of, u32Of, below};
+ghost use Rattle.wire.specs.Parse.{andThen, mapParse, later};
+ghost use Rattle.wire.specs.Number.{numberOf, below, at16};
 ghost use Rattle.wire.specs.Value.{valueOf, valueIdOf};
 ghost use Rattle.form.specs.Decode.{definedOf, operationOf, projectionOf, placeOf};
-ghost use Rattle.form.specs.Walk.{Walk, walkOf, defines, uses, usesValue, usesPlace, usesProjection, simpleWalk, atomWalk, counts, listWalk, placeWalk, fieldWalk, rowWalk, asScan, asPart};
+ghost use Rattle.form.specs.Walk.{walkOf, defines, uses, usesValue, usesPlace, usesProjection, pairWalk, times, firstOf, secondOf, counts, listWalk, placeWalk, fieldWalk, rowWalk, asScan};
 
 // What the numbers of an instruction stay below, and the mosts of its lists and projections.
 pub struct Bounds {
@@ -76,110 +72,103 @@ pub fn note_value(buffer: &mut [u16], n: usize, x: Value) -> usize
     }
 }
 
+// The u16 at a place.
+fn word(s: &[u8], at: usize) -> u16
+    requires { ⌜ at + 1 < length (now s) ⌝ }
+    ensures { λ r. ⌜ r ≡ at16 (now (s .entry)) at ⌝ }
+{
+    let x = s[at] as u16;
+    let y = s[at + 1] as u16;
+    x + 256 * y
+}
+
+// A number of `width` bytes.
+fn number_at(s: &[u8], at: usize, n: usize, late: bool, width: usize) -> Scan
+    requires { ⌜ at ≤ length (now s) ⌝ }
+    ensures { λ r. ⌜ ((seen : List Bool) (buffer : List ℕ) → asScan r seen buffer ≡ later at (mapParse (λ x. walkOf seen buffer n late) (numberOf width (drop at (now (s .entry)))))) ⌝ }
+{
+    if s.len() - at < width {
+        return Scan::Refused(Cause::Truncated, at);
+    }
+    Scan::Used(at + width, n, late)
+}
+
 // A u16 below a bound.
-fn below_part(t: &[u8], bound: u16) -> Part
-    ensures { λ r. ⌜ asPart r ≡ mapParse (λ x. tt) (below bound (now (t .entry))) ⌝ }
+fn below_at(s: &[u8], at: usize, n: usize, late: bool, bound: u16) -> Scan
+    requires { ⌜ at ≤ length (now s) ⌝ }
+    ensures { λ r. ⌜ ((seen : List Bool) (buffer : List ℕ) → asScan r seen buffer ≡ later at (mapParse (λ x. walkOf seen buffer n late) (below bound (drop at (now (s .entry)))))) ⌝ }
 {
-    match wire::read_u16(t) {
-        Read16::Got(x, k) => {
-            if x < bound {
-                Part::Used(k)
-            } else {
-                Part::Refused(Cause::OutOfRange, 0)
-            }
-        }
-        Read16::Refused(c, o) => Part::Refused(c, o),
+    if s.len() - at < 2 {
+        return Scan::Refused(Cause::Truncated, at);
     }
-}
-
-fn u16_part(t: &[u8]) -> Part
-    ensures { λ r. ⌜ asPart r ≡ mapParse (λ x. tt) (u16Of (now (t .entry))) ⌝ }
-{
-    match wire::read_u16(t) {
-        Read16::Got(_, k) => Part::Used(k),
-        Read16::Refused(c, o) => Part::Refused(c, o),
+    if bound <= word(s, at) {
+        return Scan::Refused(Cause::OutOfRange, at);
     }
-}
-
-fn u32_part(t: &[u8]) -> Part
-    ensures { λ r. ⌜ asPart r ≡ mapParse (λ x. tt) (u32Of (now (t .entry))) ⌝ }
-{
-    match wire::read_u32(t) {
-        Read32::Got(_, k) => Part::Used(k),
-        Read32::Refused(c, o) => Part::Refused(c, o),
-    }
+    Scan::Used(at + 2, n, late)
 }
 
 // One of `many` operations.
-fn operation_part(t: &[u8], many: u8) -> Part
-    ensures { λ r. ⌜ asPart r ≡ mapParse (λ x. tt) (operationOf many (now (t .entry))) ⌝ }
+fn operation_at(s: &[u8], at: usize, n: usize, late: bool, many: u8) -> Scan
+    ensures { λ r. ⌜ ((seen : List Bool) (buffer : List ℕ) → asScan r seen buffer ≡ later at (mapParse (λ x. walkOf seen buffer n late) (operationOf many (drop at (now (s .entry)))))) ⌝ }
 {
-    match wire::read_u8(t) {
-        Read8::Got(x, k) => {
-            if x < many {
-                Part::Used(k)
-            } else {
-                Part::Refused(Cause::Undefined, 0)
-            }
-        }
-        Read8::Refused(c, o) => Part::Refused(c, o),
+    if s.len() <= at {
+        return Scan::Refused(Cause::Truncated, at);
     }
-}
-
-// A field that leaves what the walk carries.
-fn kept(p: Part, n: usize, late: bool) -> Scan
-    ensures { λ r. ⌜ ((seen : List Bool) (buffer : List ℕ) → asScan r seen buffer ≡ mapParse (λ x. walkOf seen buffer n late) (asPart p)) ⌝ }
-{
-    match p {
-        Part::Used(k) => Scan::Used(k, n, late),
-        Part::Refused(c, o) => Scan::Refused(c, o),
+    if many <= s[at] {
+        return Scan::Refused(Cause::Undefined, at);
     }
+    Scan::Used(at + 1, n, late)
 }
 
 // A value that is defined here.
-fn defined_atom(t: &[u8], next: u16, n: usize, late: bool, seen: &mut [bool]) -> Scan
-    ensures { λ r. ⌜ ((buffer : List ℕ) → let w = walkOf (now (seen .entry)) buffer n late in asScan r (now (seen .exit)) buffer ≡ mapParse (defines w) (definedOf next (now (seen .entry)) (now (t .entry)))) ⌝ }
+fn defined_at(s: &[u8], at: usize, n: usize, late: bool, next: u16, seen: &mut [bool]) -> Scan
+    requires { ⌜ at ≤ length (now s) ⌝ }
+    ensures { λ r. ⌜ ((buffer : List ℕ) → let w = walkOf (now (seen .entry)) buffer n late in asScan r (now (seen .exit)) buffer ≡ later at (mapParse (defines w) (definedOf next (now (seen .entry)) (drop at (now (s .entry)))))) ⌝ }
 {
-    match wire::read_u16(t) {
-        Read16::Refused(c, o) => Scan::Refused(c, o),
-        Read16::Got(x, k) => {
-            if next <= x {
-                return Scan::Refused(Cause::OutOfRange, 0);
-            }
-            if is_defined(seen, x) {
-                return Scan::Refused(Cause::Redefined, 0);
-            }
-            mark_defined(seen, x);
-            Scan::Used(k, n, late)
-        }
+    if s.len() - at < 2 {
+        return Scan::Refused(Cause::Truncated, at);
     }
+    let x = word(s, at);
+    if next <= x {
+        return Scan::Refused(Cause::OutOfRange, at);
+    }
+    if is_defined(seen, x) {
+        return Scan::Refused(Cause::Redefined, at);
+    }
+    mark_defined(seen, x);
+    Scan::Used(at + 2, n, late)
 }
 
 // A value number that is read.
-fn base_atom(t: &[u8], next: u16, n: usize, late: bool, buffer: &mut [u16]) -> Scan
-    ensures { λ r. ⌜ ((seen : List Bool) → let w = walkOf seen (now (buffer .entry)) n late in asScan r seen (now (buffer .exit)) ≡ mapParse (uses w) (valueIdOf next (now (t .entry)))) ⌝ }
+fn base_at(s: &[u8], at: usize, n: usize, late: bool, next: u16, buffer: &mut [u16]) -> Scan
+    requires { ⌜ at ≤ length (now s) ⌝ }
+    ensures { λ r. ⌜ ((seen : List Bool) → let w = walkOf seen (now (buffer .entry)) n late in asScan r seen (now (buffer .exit)) ≡ later at (mapParse (uses w) (valueIdOf next (drop at (now (s .entry)))))) ⌝ }
 {
-    match wire::read_u16(t) {
-        Read16::Refused(c, o) => Scan::Refused(c, o),
-        Read16::Got(x, k) => {
-            if next <= x {
-                return Scan::Refused(Cause::OutOfRange, 0);
-            }
-            let m = note(buffer, n, x);
-            Scan::Used(k, m, late)
-        }
+    if s.len() - at < 2 {
+        return Scan::Refused(Cause::Truncated, at);
     }
+    let x = word(s, at);
+    if next <= x {
+        return Scan::Refused(Cause::OutOfRange, at);
+    }
+    let m = note(buffer, n, x);
+    Scan::Used(at + 2, m, late)
 }
 
-fn value_atom(t: &[u8], next: u16, n: usize, late: bool, buffer: &mut [u16]) -> Scan
-    ensures { λ r. ⌜ ((seen : List Bool) → let w = walkOf seen (now (buffer .entry)) n late in asScan r seen (now (buffer .exit)) ≡ mapParse (usesValue w) (valueOf next (now (t .entry)))) ⌝ }
+// A value, from its kind on.
+fn value_at(s: &[u8], at: usize, n: usize, late: bool, next: u16, buffer: &mut [u16]) -> Scan
+    ensures { λ r. ⌜ ((seen : List Bool) → let w = walkOf seen (now (buffer .entry)) n late in asScan r seen (now (buffer .exit)) ≡ later at (mapParse (usesValue w) (valueOf next (drop at (now (s .entry)))))) ⌝ }
 {
-    match wire::read_value(t, next) {
-        ReadValue::Refused(c, o) => Scan::Refused(c, o),
-        ReadValue::Got(x, k) => {
-            let m = note_value(buffer, n, x);
-            Scan::Used(k, m, late)
-        }
+    if s.len() <= at {
+        return Scan::Refused(Cause::Truncated, at);
+    }
+    match s[at] {
+        0 => number_at(s, at + 1, n, late, 4),
+        1 => operation_at(s, at + 1, n, late, 2),
+        2 => Scan::Used(at + 1, n, late),
+        3 => base_at(s, at + 1, n, late, next, buffer),
+        4 => Scan::Used(at + 1, n, late),
+        _ => Scan::Refused(Cause::Undefined, at),
     }
 }
 
@@ -194,76 +183,19 @@ pub fn tail(s: &[u8], at: usize) -> &[u8]
     &s[n..]
 }
 
-// One field of a class up to 9.
-fn simple_atom(
-    t: &[u8],
-    c: u8,
-    b: Bounds,
-    n: usize,
-    late: bool,
-    seen: &mut [bool],
-    buffer: &mut [u16],
-) -> Scan
-    ensures { λ r. ⌜ asScan r (now (seen .exit)) (now (buffer .exit)) ≡ simpleWalk b c (walkOf (now (seen .entry)) (now (buffer .entry)) n late) (now (t .entry)) ⌝ }
-{
-    match c {
-        1 => defined_atom(t, b.next, n, late, seen),
-        2 => value_atom(t, b.next, n, late, buffer),
-        3 => kept(below_part(t, b.types), n, late),
-        4 => kept(u16_part(t), n, late),
-        5 => kept(u32_part(t), n, late),
-        6 => kept(below_part(t, b.blocks), n, late),
-        7 => base_atom(t, b.next, n, late, buffer),
-        8 => kept(operation_part(t, 26), n, late),
-        9 => kept(operation_part(t, 16), n, late),
-        _ => Scan::Used(0, n, late),
-    }
-}
-
-fn then_simple(s: &[u8], p: Scan, c: u8, b: Bounds, seen: &mut [bool], buffer: &mut [u16]) -> Scan
-    ensures { λ r. ⌜ asScan r (now (seen .exit)) (now (buffer .exit)) ≡ andThen (now (s .entry)) (asScan p (now (seen .entry)) (now (buffer .entry))) (λ w t. simpleWalk b c w t) ⌝ }
-{
-    match p {
-        Scan::Refused(k, o) => Scan::Refused(k, o),
-        Scan::Used(at, n, late) => {
-            let t = tail(s, at);
-            match simple_atom(t, c, b, n, late, seen, buffer) {
-                Scan::Refused(k, o) => Scan::Refused(k, at + o),
-                Scan::Used(k, m, after) => Scan::Used(at + k, m, after),
-            }
-        }
-    }
-}
-
 // A projection: its kind, then a value, a name or an index.
-fn then_projection(s: &[u8], p: Scan, b: Bounds, seen: &mut [bool], buffer: &mut [u16]) -> Scan
-    ensures { λ r. ⌜ asScan r (now (seen .exit)) (now (buffer .exit)) ≡ andThen (now (s .entry)) (asScan p (now (seen .entry)) (now (buffer .entry))) (λ w t. mapParse (usesProjection w) (projectionOf (b .next) t)) ⌝ }
+fn projection_at(s: &[u8], at: usize, n: usize, late: bool, next: u16, buffer: &mut [u16]) -> Scan
+    ensures { λ r. ⌜ ((seen : List Bool) → let w = walkOf seen (now (buffer .entry)) n late in asScan r seen (now (buffer .exit)) ≡ later at (mapParse (usesProjection w) (projectionOf next (drop at (now (s .entry)))))) ⌝ }
 {
-    match p {
-        Scan::Refused(k, o) => Scan::Refused(k, o),
-        Scan::Used(at, n, late) => {
-            if s.len() <= at {
-                return Scan::Refused(Cause::Truncated, at);
-            }
-            let kind = s[at];
-            match kind {
-                0 => then_simple(s, Scan::Used(at + 1, n, late), 2, b, seen, buffer),
-                1 => then_simple(s, Scan::Used(at + 1, n, late), 4, b, seen, buffer),
-                2 => then_simple(s, Scan::Used(at + 1, n, late), 5, b, seen, buffer),
-                _ => Scan::Refused(Cause::Undefined, at),
-            }
-        }
+    if s.len() <= at {
+        return Scan::Refused(Cause::Truncated, at);
     }
-}
-
-// One field, or one element of a list.
-fn then_atom(s: &[u8], p: Scan, c: u8, b: Bounds, seen: &mut [bool], buffer: &mut [u16]) -> Scan
-    ensures { λ r. ⌜ asScan r (now (seen .exit)) (now (buffer .exit)) ≡ andThen (now (s .entry)) (asScan p (now (seen .entry)) (now (buffer .entry))) (λ w t. atomWalk b c w t) ⌝ }
-{
-    if c == 10 {
-        return then_projection(s, p, b, seen, buffer);
+    match s[at] {
+        0 => value_at(s, at + 1, n, late, next, buffer),
+        1 => number_at(s, at + 1, n, late, 2),
+        2 => number_at(s, at + 1, n, late, 4),
+        _ => Scan::Refused(Cause::Undefined, at),
     }
-    then_simple(s, p, c, b, seen, buffer)
 }
 
 // What a list may count: at most `most`; where `exact` stands, `many` and no other.
@@ -280,92 +212,214 @@ fn miscounts(count: u8, l: Lists) -> bool
     if l.exact { count != l.many } else { false }
 }
 
-// A list: its count, then as many elements of one field or two.
-fn then_list(
+// A value, behind what was read.
+fn then_value(s: &[u8], p: Scan, next: u16, buffer: &mut [u16]) -> Scan
+    ensures { λ r. ⌜ ((seen : List Bool) → asScan r seen (now (buffer .exit)) ≡ andThen (now (s .entry)) (asScan p seen (now (buffer .entry))) (λ w t. mapParse (usesValue w) (valueOf next t))) ⌝ }
+{
+    match p {
+        Scan::Refused(k, o) => Scan::Refused(k, o),
+        Scan::Used(at, n, late) => value_at(s, at, n, late, next, buffer),
+    }
+}
+
+// An element, by the kind of its list: values, types, defined values, names with values, blocks with values, types,
+// projections.
+fn element_at(
     s: &[u8],
-    p: Scan,
-    l: Lists,
-    c: u8,
-    d: u8,
+    at: usize,
+    n: usize,
+    late: bool,
+    k: u8,
     b: Bounds,
     seen: &mut [bool],
     buffer: &mut [u16],
 ) -> Scan
-    ensures { λ r. ⌜ asScan r (now (seen .exit)) (now (buffer .exit)) ≡ andThen (now (s .entry)) (asScan p (now (seen .entry)) (now (buffer .entry))) (λ w t. listWalk b l c d w t) ⌝ }
+    requires { ⌜ at ≤ length (now s) ⌝ }
+    ensures { λ r. ⌜ asScan r (now (seen .exit)) (now (buffer .exit)) ≡ later at (pairWalk b (firstOf k) (secondOf k) (walkOf (now (seen .entry)) (now (buffer .entry)) n late) (drop at (now (s .entry)))) ⌝ }
 {
-    match p {
-        Scan::Refused(k, o) => Scan::Refused(k, o),
-        Scan::Used(at, n, late) => {
-            if s.len() <= at {
-                return Scan::Refused(Cause::Truncated, at);
+    match k {
+        0 => value_at(s, at, n, late, b.next, buffer),
+        1 => below_at(s, at, n, late, b.types),
+        2 => defined_at(s, at, n, late, b.next, seen),
+        3 => then_value(s, number_at(s, at, n, late, 2), b.next, buffer),
+        4 => then_value(s, below_at(s, at, n, late, b.blocks), b.next, buffer),
+        5 => below_at(s, at, n, late, b.types),
+        _ => projection_at(s, at, n, late, b.next, buffer),
+    }
+}
+
+// As many elements as a list counts, from `start` on.
+fn elements_at(
+    s: &[u8],
+    start: usize,
+    p: usize,
+    before: bool,
+    count: u8,
+    k: u8,
+    b: Bounds,
+    seen: &mut [bool],
+    buffer: &mut [u16],
+) -> Scan
+    requires { ⌜ start ≤ length (now s) ⌝ }
+    ensures { λ r. ⌜ asScan r (now (seen .exit)) (now (buffer .exit)) ≡ later start (times (pairWalk b (firstOf k) (secondOf k)) count (walkOf (now (seen .entry)) (now (buffer .entry)) p before) (drop start (now (s .entry)))) ⌝ }
+{
+    let mut at = start;
+    let mut n = p;
+    let mut late = before;
+    let mut i: u8 = 0;
+    while i < count {
+        match element_at(s, at, n, late, k, b, seen, buffer) {
+            Scan::Refused(c, o) => return Scan::Refused(c, o),
+            Scan::Used(to, m, after) => {
+                at = to;
+                n = m;
+                late = after;
             }
-            let count = s[at];
-            if l.most < count {
-                return Scan::Refused(Cause::TooMany, at);
-            }
-            if miscounts(count, l) {
-                return Scan::Refused(Cause::CallCounts, at);
-            }
-            let mut q = Scan::Used(at + 1, n, late);
-            let mut i: u8 = 0;
-            while i < count {
-                q = then_atom(s, q, c, b, seen, buffer);
-                q = then_atom(s, q, d, b, seen, buffer);
-                i = i + 1;
-            }
-            q
+        }
+        i = i + 1;
+    }
+    Scan::Used(at, n, late)
+}
+
+// A list: its count, then as many elements.
+fn list_at(
+    s: &[u8],
+    at: usize,
+    n: usize,
+    late: bool,
+    l: Lists,
+    k: u8,
+    b: Bounds,
+    seen: &mut [bool],
+    buffer: &mut [u16],
+) -> Scan
+    ensures { λ r. ⌜ asScan r (now (seen .exit)) (now (buffer .exit)) ≡ later at (listWalk b l (firstOf k) (secondOf k) (walkOf (now (seen .entry)) (now (buffer .entry)) n late) (drop at (now (s .entry)))) ⌝ }
+{
+    if s.len() <= at {
+        return Scan::Refused(Cause::Truncated, at);
+    }
+    let count = s[at];
+    if l.most < count {
+        return Scan::Refused(Cause::TooMany, at);
+    }
+    if miscounts(count, l) {
+        return Scan::Refused(Cause::CallCounts, at);
+    }
+    elements_at(s, at + 1, n, late, count, k, b, seen, buffer)
+}
+
+// A place: its base, then its projections.
+fn place_at(
+    s: &[u8],
+    at: usize,
+    n: usize,
+    late: bool,
+    b: Bounds,
+    seen: &mut [bool],
+    buffer: &mut [u16],
+) -> Scan
+    requires { ⌜ at ≤ length (now s) ⌝ }
+    ensures { λ r. ⌜ asScan r (now (seen .exit)) (now (buffer .exit)) ≡ later at (placeWalk b (walkOf (now (seen .entry)) (now (buffer .entry)) n late) (drop at (now (s .entry)))) ⌝ }
+{
+    match base_at(s, at, n, late, b.next, buffer) {
+        Scan::Refused(c, o) => Scan::Refused(c, o),
+        Scan::Used(to, m, after) => {
+            let l = Lists {
+                most: b.projections,
+                exact: false,
+                many: 0,
+            };
+            list_at(s, to, m, after, l, 6, b, seen, buffer)
         }
     }
 }
 
-// A place: its base, then its projections.
-fn then_place(s: &[u8], p: Scan, b: Bounds, seen: &mut [bool], buffer: &mut [u16]) -> Scan
-    ensures { λ r. ⌜ asScan r (now (seen .exit)) (now (buffer .exit)) ≡ andThen (now (s .entry)) (asScan p (now (seen .entry)) (now (buffer .entry))) (λ w t. placeWalk b w t) ⌝ }
-{
-    let q = then_simple(s, p, 7, b, seen, buffer);
-    let l = Lists {
-        most: b.projections,
-        exact: false,
-        many: 0,
-    };
-    then_list(s, q, l, 10, 0, b, seen, buffer)
-}
-
-// The fields of an element, by the class of its list: values, types, defined values, names with values, blocks with
-// values, types.
-const FIRST: [u8; 6] = [2, 3, 1, 4, 6, 3];
-
-const SECOND: [u8; 6] = [0, 0, 0, 2, 2, 0];
-
-// One field of a row. `many` is the first byte of the row's fields: a Call's number of dests.
-fn then_field(
+// A list of a row, by its class.
+fn listed_at(
     s: &[u8],
-    p: Scan,
+    at: usize,
+    n: usize,
+    late: bool,
     c: u8,
     many: u8,
     b: Bounds,
     seen: &mut [bool],
     buffer: &mut [u16],
 ) -> Scan
-    requires { ⌜ c < 16 ⌝ }
-    ensures { λ r. ⌜ asScan r (now (seen .exit)) (now (buffer .exit)) ≡ andThen (now (s .entry)) (asScan p (now (seen .entry)) (now (buffer .entry))) (λ w t. fieldWalk b many c w t) ⌝ }
+    requires { ⌜ (10 ≤ c) × (c < 16) ⌝ }
+    ensures { λ r. ⌜ asScan r (now (seen .exit)) (now (buffer .exit)) ≡ later at (fieldWalk b many c (walkOf (now (seen .entry)) (now (buffer .entry)) n late) (drop at (now (s .entry)))) ⌝ }
 {
-    if c == 7 {
-        return then_place(s, p, b, seen, buffer);
-    }
-    if c < 10 {
-        return then_simple(s, p, c, b, seen, buffer);
-    }
-    let k = (c - 10) as usize;
     let l = Lists {
         most: b.list,
         exact: c == 15,
         many: many,
     };
-    then_list(s, p, l, FIRST[k], SECOND[k], b, seen, buffer)
+    list_at(s, at, n, late, l, c - 10, b, seen, buffer)
+}
+
+// One field of a row. `many` is the first byte of the row's fields: a Call's number of dests.
+fn field_at(
+    s: &[u8],
+    at: usize,
+    n: usize,
+    late: bool,
+    c: u8,
+    many: u8,
+    b: Bounds,
+    seen: &mut [bool],
+    buffer: &mut [u16],
+) -> Scan
+    requires { ⌜ (c < 16) × (at ≤ length (now s)) ⌝ }
+    ensures { λ r. ⌜ asScan r (now (seen .exit)) (now (buffer .exit)) ≡ later at (fieldWalk b many c (walkOf (now (seen .entry)) (now (buffer .entry)) n late) (drop at (now (s .entry)))) ⌝ }
+{
+    match c {
+        0 => Scan::Used(at, n, late),
+        1 => defined_at(s, at, n, late, b.next, seen),
+        2 => value_at(s, at, n, late, b.next, buffer),
+        3 => below_at(s, at, n, late, b.types),
+        4 => number_at(s, at, n, late, 2),
+        5 => number_at(s, at, n, late, 4),
+        6 => below_at(s, at, n, late, b.blocks),
+        7 => place_at(s, at, n, late, b, seen, buffer),
+        8 => operation_at(s, at, n, late, 26),
+        9 => operation_at(s, at, n, late, 16),
+        _ => listed_at(s, at, n, late, c, many, b, seen, buffer),
+    }
 }
 
 // A row of at most five fields: its hexadecimal digits are their classes, the first field's the lowest.
+fn row_at(
+    s: &[u8],
+    p: usize,
+    before: bool,
+    row: u32,
+    many: u8,
+    b: Bounds,
+    seen: &mut [bool],
+    buffer: &mut [u16],
+) -> Scan
+    ensures { λ r. ⌜ asScan r (now (seen .exit)) (now (buffer .exit)) ≡ rowWalk b many 5 row (walkOf (now (seen .entry)) (now (buffer .entry)) p before) (now (s .entry)) ⌝ }
+{
+    let mut at: usize = 0;
+    let mut n = p;
+    let mut late = before;
+    let mut left = row % 0x100000;
+    while left != 0 {
+        let c = (left % 16) as u8;
+        match field_at(s, at, n, late, c, many, b, seen, buffer) {
+            Scan::Refused(k, o) => return Scan::Refused(k, o),
+            Scan::Used(to, m, after) => {
+                at = to;
+                n = m;
+                late = after;
+            }
+        }
+        left = left / 16;
+    }
+    Scan::Used(at, n, late)
+}
+
+// A row behind what was read.
 pub fn then_row(
     s: &[u8],
     p: Scan,
@@ -377,16 +431,16 @@ pub fn then_row(
 ) -> Scan
     ensures { λ r. ⌜ asScan r (now (seen .exit)) (now (buffer .exit)) ≡ andThen (now (s .entry)) (asScan p (now (seen .entry)) (now (buffer .entry))) (λ w t. rowWalk b many 5 row w t) ⌝ }
 {
-    let mut q = p;
-    let mut left = row;
-    let mut j: u8 = 0;
-    while j < 5 {
-        let c = (left % 16) as u8;
-        q = then_field(s, q, c, many, b, seen, buffer);
-        left = left / 16;
-        j = j + 1;
+    match p {
+        Scan::Refused(k, o) => Scan::Refused(k, o),
+        Scan::Used(at, n, late) => {
+            let t = tail(s, at);
+            match row_at(t, n, late, row, many, b, seen, buffer) {
+                Scan::Refused(k, o) => Scan::Refused(k, at + o),
+                Scan::Used(k, m, after) => Scan::Used(at + k, m, after),
+            }
+        }
     }
-    q
 }
 
 // A place, from its base on.
@@ -394,5 +448,5 @@ pub fn read_place(s: &[u8], b: Bounds, buffer: &mut [u16]) -> Scan
     ensures { λ r. ⌜ ((seen : List Bool) → asScan r seen (now (buffer .exit)) ≡ mapParse (usesPlace (walkOf seen (now (buffer .entry)) 0 false)) (placeOf b (now (s .entry)))) ⌝ }
 {
     let mut none: [bool; 1] = [false; 1];
-    then_place(s, Scan::Used(0, 0, false), b, &mut none, buffer)
+    place_at(s, 0, 0, false, b, &mut none, buffer)
 }

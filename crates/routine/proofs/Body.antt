@@ -51,6 +51,7 @@ pub record Marked (b : Bounds) (s : List ℕ) (at k : ℕ) (seen : List Bool) : 
   pub marking : seen ≡ marks (clear b) names
   pub in-s : at + k ≤ length s
 
+-- so the code tells
 pub marked : (b : Bounds) (s : List ℕ) (at : ℕ) {k : ℕ} {before seen : List Bool} {r : Part} → at ≤ length s → before ≡ clear b → ParametersRead b (take (length s - at) (drop at s)) (asPart r) before seen → r ≡ Part.Used k → Marked b s at k seen
 marked b s at {k} {before} {seen} {r} h f p g =
     let d = definedsOf (b .list) (b .next) before (drop at s) in
@@ -75,6 +76,7 @@ pub record Mapped (next : ℕ) (s : List ℕ) (at k : ℕ) : Type 0 where
   pub read : mapOf next (drop at s) ≡ ok bits k
   pub in-s : at + k ≤ length s
 
+-- so the code tells
 pub mapped : (next : ℕ) (s : List ℕ) (at : ℕ) {k : ℕ} {r : Part} → at ≤ length s → asPart r ≡ mapParse unit (mapOf next (take (length s - at) (drop at s))) → r ≡ Part.Used k → Mapped next s at k
 mapped next s at {k} {r} h p g =
     elim (map-inv unit (mapOf next (drop at s)) (told asPart (λ t. mapParse unit (mapOf next t)) at s p g)) [
@@ -94,6 +96,7 @@ pub record Typed (types next : ℕ) (s bits : List ℕ) (at end : ℕ) (recorded
 by-bytes : (types next : ℕ) (s : List ℕ) (map k at : ℕ) (u : Mapped next s map k) → recordedOf types (u .bits) 0 next (drop at s) ≡ recordedOf types (drop map s) 0 next (drop at s)
 by-bytes types next s map k at u = same-types types next (drop map s) (u .bits) (map-bytes next (drop map s) (u .read)) next 0 (drop at s) (omega arith)
 
+-- so the code tells, where the map is read
 pub typed : (types next : ℕ) (s : List ℕ) (map at : ℕ) {end k : ℕ} {before recorded : List ℕ} {r : Part} (u : Mapped next s map k) → at ≤ length s → RecordedRead types (drop map s) next at s (asPart r) before recorded → r ≡ Part.Used end → Typed types next s (u .bits) at end recorded
 typed types next s map at {end} {k} {before} {recorded} {r} u h p g =
     let d = recordedOf types (drop map s) 0 next (drop at s) in
@@ -122,6 +125,7 @@ pub record Coded (m : Mosts) (b : Bounds) (s : List ℕ) (names : List ValueId) 
   pub placed : BlocksAt m b s starts found
   pub in-s : end ≤ length s
 
+-- so the code tells, where the parameters are read
 pub coded : (m : Mosts) (b : Bounds) (s : List ℕ) (at : ℕ) {end k from : ℕ} {seen : List Bool} {before starts : List ℕ} {r : Part} (u : Marked b s from k seen) → at ≤ length s → BlocksRead m b (b .blocks) at s seen (asPart r) before starts → r ≡ Part.Used end → Coded m b s (u .names) at end starts
 coded m b s at {end} {k} {from} {seen} {before} {starts} {r} u h p g =
     let d = blocksOf m b 0 seen (b .blocks) (drop at s) in
@@ -141,20 +145,25 @@ coded m b s at {end} {k} {from} {seen} {before} {starts} {r} u h p g =
           ]
     ]
 
--- what is left to read: the blocks, the recorded types before them, the map, the parameters
+-- what is left to read, from the end backwards
 module _ (m : Mosts) (b : Bounds) (entry : BlockId) (ts : List MirType) where
+  -- the routine of these parts
   abbrev madeOf : List ValueId → List (Option TypeId) → List Block → Routine
   madeOf ps rs ks = record { types = ts; next = b .next; entry = entry; parameters = ps; recorded = rs; blocks = ks }
 
+  -- the blocks are left
   abbrev codeLeft : List ValueId → List (Option TypeId) → List ℕ → Parse Routine
   codeLeft ps rs s = mapParse (madeOf ps rs) (blocksOf m b 0 (marks (clear b) ps) (b .blocks) s)
 
+  -- the recorded types, and they
   abbrev typesLeft : List ValueId → List ℕ → List ℕ → Parse Routine
   typesLeft ps bits s = andThen s (recordedOf (b .types) bits 0 (b .next) s) (λ rs s. codeLeft ps rs s)
 
+  -- the map, and these
   abbrev mapLeft : List ValueId → List ℕ → Parse Routine
   mapLeft ps s = andThen s (mapOf (b .next) s) (λ bits s. typesLeft ps bits s)
 
+  -- the parameters, and these
   abbrev bodyLeft : List ℕ → Parse Routine
   bodyLeft s = andThen s (definedsOf (b .list) (b .next) (clear b) s) (λ ps s. mapLeft ps s)
 

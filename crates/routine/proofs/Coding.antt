@@ -28,10 +28,11 @@ use Rattle.routine.proofs.Laws.{map-id, no-value}
 
 -- one more block, whose end is stored behind the last place
 module _ (m : Mosts) (b : Bounds) (s starts : List ℕ) (xs : List Block) (a : BlocksAt m b s starts xs) (k at n total : ℕ) (seen : List Bool) (x : Block) (many : length xs ≡ k) (room : k + 1 < length starts) (here : at ≡ getD starts k 0) (e : blockOf m b total seen (drop at s) ≡ ok x n) (in-s : at + n ≤ length s) where
-  -- the place behind it, and those before
+  -- the place behind it
   new-end : getD (set starts (k + 1) (at + n)) (suc k) 0 ≡ at + n
   new-end = rw (add-one k) (getD-set-same starts (suc k) (at + n) 0 (omega arith))
 
+  -- those before it stay
   old-place : (j : ℕ) → j ≤ k → getD (set starts (k + 1) (at + n)) j 0 ≡ getD starts j 0
   old-place j h = getD-set-other starts (k + 1) j (at + n) 0 (λ q. omega arith)
 
@@ -62,6 +63,7 @@ module _ (m : Mosts) (b : Bounds) (s starts : List ℕ) (xs : List Block) (a : B
 size-passed : (m : Mosts) (b : Bounds) (total : ℕ) (seen : List Bool) (s : List ℕ) → size (mapParse (passed seen) (blockOf m b total seen s)) ≤ length s
 size-passed m b total seen s = rw size-map (size-block m b total seen s)
 
+-- nor do several blocks
 pub size-blocks : (m : Mosts) (b : Bounds) (total : ℕ) (seen : List Bool) (k : ℕ) (s : List ℕ) → size (blocksOf m b total seen k s) ≤ length s
 unfolding blocksOf
 size-blocks m b total seen zero s = zero-le

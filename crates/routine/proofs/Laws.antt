@@ -23,6 +23,7 @@ answer-of view dec h e g = sym (ap dec h) ∙ sym e ∙ ap view g
 pub data Refused {A : Type 0} (m : ℕ) (d : Parse A) (c : Cause) (o : ℕ) : Type 0 where
   refused : (k : ℕ) → d ≡ bad c k → o ≡ m + k → Refused m d c o
 
+-- so an answer tells
 pub refusal : {A : Type 0} (m : ℕ) (d : Parse A) {c : Cause} {o : ℕ} → bad c o ≡ later m (mapParse unit d) → Refused m d c o
 refusal m (ok a n) e = absurd (no-ok e)
 refusal m (bad k n) {c} {o} e = let p : k ≡ c = cc in let q : o ≡ m + n = cc in refused n (ap (λ x. bad x n) p) q

@@ -53,6 +53,7 @@ power (suc (suc (suc (suc (suc (suc zero)))))) h = refl
 power (suc (suc (suc (suc (suc (suc (suc zero))))))) h = refl
 power (suc (suc (suc (suc (suc (suc (suc (suc i)))))))) h = absurd (omega arith)
 
+-- none is 0
 pub power-some : (i : ℕ) → i < 8 → 0 < getD (1 ∷ 2 ∷ 4 ∷ 8 ∷ 16 ∷ 32 ∷ 64 ∷ 128 ∷ []) i 0
 power-some zero h = omega arith
 power-some (suc zero) h = omega arith
@@ -120,6 +121,7 @@ single : (s : List ℕ) → 1 ≤ length s → fromBytes (take 1 s) ∷ [] ≡ t
 single [] h = absurd (omega arith)
 single (a ∷ s) h = let z : a + 256 * 0 ≡ a = omega arith in ap (λ x. x ∷ []) z
 
+-- so a map tells that was read
 pub map-bytes : (next : ℕ) (s : List ℕ) {map : List ℕ} {n : ℕ} → mapOf next s ≡ ok map n → MapBytes next s map
 unfolding mapOf
 map-bytes next s {map} {n} e =

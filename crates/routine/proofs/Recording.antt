@@ -82,6 +82,7 @@ size-recorded-type : (types : ℕ) (b : Bool) (s : List ℕ) → size (recordedT
 size-recorded-type types true s = rw (size-map, size-map) (size-below types s)
 size-recorded-type types false s = zero-le
 
+-- nor do the types of several values
 pub size-recorded : (types : ℕ) (map : List ℕ) (v k : ℕ) (s : List ℕ) → size (recordedOf types map v k s) ≤ length s
 unfolding recordedOf
 size-recorded types map v zero s = zero-le

@@ -25,6 +25,7 @@ pub record Count (most : ℕ) (s : List ℕ) (at : ℕ) : Type 0 where
   pub small : at16 s at ≤ most
   pub is : atMost most (drop at s) ≡ ok (at16 s at) 2
 
+-- so the code tells
 pub count-read : (most : ℕ) (s : List ℕ) (at : ℕ) {n : ℕ} → at ≤ length s → mapParse unit (atMost most (drop at s)) ≡ ok tt n → Count most s at
 count-read most s at {n} h e =
     elim (map-inv unit (atMost most (drop at s)) e) [

@@ -59,6 +59,7 @@ pub record Tabled (m : Mosts) (s : List ℕ) (at : ℕ) (starts : List ℕ) : Ty
   pub counts : at16 s 0 ≡ length found
   pub in-s : at ≤ length s
 
+-- so the code tells
 pub tabled : (m : Mosts) (s : List ℕ) {at : ℕ} {before starts : List ℕ} {r : Part} → TypesRead (m .types) (m .list) s (asPart r) before starts → r ≡ Part.Used at → Tabled m s at starts
 tabled m s {at} p g =
     let d = typesOf (m .types) (m .list) s in
@@ -80,6 +81,7 @@ pub record Fitted (m : Mosts) (s : List ℕ) (at : ℕ) (z : Sizes) : Type 0 whe
   pub next : z .next ≤ m .next
   pub blocks : z .blocks ≤ m .blocks
 
+-- so the code tells
 pub fitted : (m : Mosts) (s : List ℕ) (at : ℕ) {next blocks : ℕ} {entry : BlockId} {r : SizesRead} → at ≤ length s → asSizes r ≡ sizesOf m (take (length s - at) (drop at s)) → r ≡ SizesRead.Got next blocks entry → Fitted m s at (record { next = next; blocks = blocks; entry = entry })
 fitted m s at {next} {blocks} {entry} h p g =
     let e = told asSizes (sizesOf m) at s p g in
@@ -90,11 +92,12 @@ fitted m s at {next} {blocks} {entry} h p g =
 pub sizes-size : (m : Mosts) (s : List ℕ) (at : ℕ) {r r′ : SizesRead} → at ≤ length s → asSizes r ≡ sizesOf m (take (length s - at) (drop at s)) → r ≡ r′ → at + size (asSizes r′) ≤ length s
 sizes-size m s at h p g = told-size asSizes (sizesOf m) at s (size-sizes m) h p g
 
--- a body has the types that stood before it
+-- every body has the types that stood before it
 types-made : (m : Mosts) (ts : List MirType) (z : Sizes) (s : List ℕ) → mapParse (λ r. r .types) (bodyOf m ts z s) ≡ mapParse (λ r. ts) (bodyOf m ts z s)
 unfolding bodyOf
 types-made m ts z s = simp (map-and, map-map)
 
+-- so the routine that was read has
 body-types : (m : Mosts) (ts : List MirType) (z : Sizes) (s : List ℕ) {r : Routine} {n : ℕ} → bodyOf m ts z s ≡ ok r n → r .types ≡ ts
 body-types m ts z s {r} {n} e = let f : ok (r .types) n ≡ ok ts n = rw e at (types-made m ts z s) in cc
 

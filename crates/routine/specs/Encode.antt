@@ -1,9 +1,9 @@
 -- The bytes of a routine.
-use Prim.Native.Nat.{ℕ, zero, suc, _+_, _*_, _/_}
+use Prim.Native.Nat.{ℕ, _+_, _*_, _/_}
 use mathlib.Core.List.{List, [], _∷_, _++_}
-use mathlib.Core.Option.{Option, none, some}
+use mathlib.Core.Option.{Option}
 use lib.ListN.{length}
-use Rattle.wire.specs.Number.{toBytes, fromBytes}
+use Rattle.wire.specs.Number.{toBytes}
 use Rattle.wire.specs.declared.TypeId.{TypeId}
 use Rattle.form.specs.Encode.{valueIdBytes, blockIdBytes, typeIdBytes, eachBytes, listBytes, optionBytes, stands}
 use Rattle.block.specs.Encode.{blockBytes}

@@ -108,6 +108,7 @@ fn read_marked(
     })
 }
 
+// The same, with marks of its own.
 fn read_body(
     s: &[u8],
     at: usize,

@@ -1,4 +1,4 @@
-// The parts of a routine: sizes, map, recorded types, parameters.
+// The parts of a routine: sizes, map, recorded types, parameters, blocks.
 use crate::SizesRead;
 use block::BlockRead;
 use block::Mosts;

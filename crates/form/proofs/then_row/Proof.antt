@@ -1,58 +1,84 @@
+use borrow.Author.Needs.{needs}
 use Rattle.form.proofs.then_row.Statement.{statement}
 use Rattle.form.proofs.then_row.Tie as tie
-use borrow.Author.Needs.{needs}
-use Prim.Native.Nat.{_-_, zero-le}
-use mathlib.Core.Path.{_≡_, refl}
-use lib.ListN.{length}
-use Rattle.wire.specs.Parse.{andThen}
-use Rattle.form.specs.Walk.{rowWalk, asScan}
-use Rattle.form.proofs.Fields.{Row, row-again, row-done}
+use native.Mathlib.Omega.{arith}
+use Rattle.form.specs.Walk.{walkOf, rowWalk}
+use Rattle.form.proofs.Laws.{passed, within}
+use Rattle.form.proofs.Sizes.{size-row}
 
-abbrev Inv-loop : tie.InvT-loop
-Inv-loop s row many b seen₀ buffer₀ q₀ left₀ j₀ seen buffer q left j = (length seen ≡ length seen₀) × (length buffer ≡ length buffer₀) × Row b many s (andThen s (asScan q₀ seen₀ buffer₀) (λ w t. rowWalk b many 5 row w t)) left j (asScan q seen buffer)
+enum-known-p : tie.Need-enum-known-p
+enum-known-p c = search needs
 
-abbrev μ-loop : tie.MeasureT-loop
-μ-loop s row many b seen₀ buffer₀ q₀ left₀ j₀ seen buffer q left j = 5 - j
+enum-known-p-2 : tie.Need-enum-known-p-2
+enum-known-p-2 c = search needs
 
-loop-holds : tie.Need-loop-holds Inv-loop μ-loop
-loop-holds c = (refl, refl, record { under = zero-le; left = refl })
+tail-requires : tie.Need-tail-requires
+tail-requires c κs = search needs
 
-cast-c : tie.Need-cast-c Inv-loop μ-loop
-cast-c c = search needs
+row-at-requires : tie.Need-row-at-requires
+row-at-requires c κs = search needs
 
-then-field-requires : tie.Need-then-field-requires Inv-loop μ-loop
-then-field-requires c κs = search needs
+enum-known-k : tie.Need-enum-known-k
+enum-known-k c = search needs
 
-add-j : tie.Need-add-j Inv-loop μ-loop
-add-j c = search needs
+add-t26 : tie.Need-add-t26
+add-t26 c = let a = c .before .before .before .before .before .before .before .before .before .before .before .before .before .before .before .before .before .args in
+    let w = walkOf (a .seen .now) (a .buffer .now) (c .before .before .before .before .before .before .before .before .before .before .before .before .p2 .given .0 .1 .0) (c .before .before .before .before .before .before .before .before .before .before .before .before .p2 .given .0 .1 .1 .0) in
+    let l = c .before .before .before .before .before .before .before .row-at .last in
+    omega (arith, within (a .s .now) (c .before .before .before .before .before .before .before .before .before .before .before .before .p2 .given .0 .0) (λ t. rowWalk (a .b) (a .many) 5 (a .row) w t) (l .1 .1 .1 .1 .1 .1 .0) (l .1 .1 .1 .1 .1 .1 .1 .0) (λ t. size-row (a .b) (a .many) 5 (a .row) w t) (c .before .before .before .before .before .before .before .before .before .before .tail .ensures) (c .before .before .before .before .before .before .before .row-at .ensures) (c .before .k .given .1))
 
-loop-less : tie.Need-loop-less Inv-loop μ-loop
-loop-less c = search needs
+enum-known-k-2 : tie.Need-enum-known-k-2
+enum-known-k-2 c = search needs
 
-loop-again : tie.Need-loop-again Inv-loop μ-loop
-loop-again c = (search needs, search needs, row-again _ _ _ _ _ _ _ (c .before .before .before .before .before .before .before .before .loop .inv .2) _ (c .before .before .before .before .before .before .before .loop-test .taken) (c .before .before .before .before .then-field .ensures))
+add-t27 : tie.Need-add-t27
+add-t27 c = let a = c .before .before .before .before .before .before .before .before .before .before .before .before .before .before .before .before .before .args in
+    let w = walkOf (a .seen .now) (a .buffer .now) (c .before .before .before .before .before .before .before .before .before .before .before .before .p2 .given .0 .1 .0) (c .before .before .before .before .before .before .before .before .before .before .before .before .p2 .given .0 .1 .1 .0) in
+    let l = c .before .before .before .before .before .before .before .row-at .last in
+    omega (arith, within (a .s .now) (c .before .before .before .before .before .before .before .before .before .before .before .before .p2 .given .0 .0) (λ t. rowWalk (a .b) (a .many) 5 (a .row) w t) (l .1 .1 .1 .1 .1 .1 .0) (l .1 .1 .1 .1 .1 .1 .1 .0) (λ t. size-row (a .b) (a .many) 5 (a .row) w t) (c .before .before .before .before .before .before .before .before .before .before .tail .ensures) (c .before .before .before .before .before .before .before .row-at .ensures) (c .before .k2 .given .1))
 
-same-length : tie.Need-same-length Inv-loop μ-loop
+returns : tie.Need-returns
+returns c = simp (c .before .p .given .1)
+
+same-length : tie.Need-same-length
 same-length c = search needs
 
-same-length-2 : tie.Need-same-length-2 Inv-loop μ-loop
+same-length-2 : tie.Need-same-length-2
 same-length-2 c = search needs
 
-returns : tie.Need-returns Inv-loop μ-loop
-returns c = row-done _ _ _ _ _ _ _ (c .before .loop .inv .2) (c .loop-test .left)
+returns-2 : tie.Need-returns-2
+returns-2 c = let a = c .before .before .before .before .before .before .before .before .before .before .before .before .before .before .before .before .before .args in
+    let w = walkOf (a .seen .now) (a .buffer .now) (c .before .before .before .before .before .before .before .before .before .before .before .before .p2 .given .0 .1 .0) (c .before .before .before .before .before .before .before .before .before .before .before .before .p2 .given .0 .1 .1 .0) in
+    let l = c .before .before .before .before .before .before .before .row-at .last in
+    simp (c .before .before .before .before .before .before .before .before .before .before .before .before .p2 .given .1) (passed (a .s .now) (c .before .before .before .before .before .before .before .before .before .before .before .before .p2 .given .0 .0) (λ t. rowWalk (a .b) (a .many) 5 (a .row) w t) (l .1 .1 .1 .1 .1 .1 .0) (l .1 .1 .1 .1 .1 .1 .1 .0) (c .before .before .before .before .before .before .before .before .before .before .tail .ensures) (c .before .before .before .before .before .before .before .row-at .ensures) (c .before .k .given .1))
+
+same-length-3 : tie.Need-same-length-3
+same-length-3 c = search needs
+
+same-length-4 : tie.Need-same-length-4
+same-length-4 c = search needs
+
+returns-3 : tie.Need-returns-3
+returns-3 c = let a = c .before .before .before .before .before .before .before .before .before .before .before .before .before .before .before .before .before .args in
+    let w = walkOf (a .seen .now) (a .buffer .now) (c .before .before .before .before .before .before .before .before .before .before .before .before .p2 .given .0 .1 .0) (c .before .before .before .before .before .before .before .before .before .before .before .before .p2 .given .0 .1 .1 .0) in
+    let l = c .before .before .before .before .before .before .before .row-at .last in
+    simp (c .before .before .before .before .before .before .before .before .before .before .before .before .p2 .given .1) (passed (a .s .now) (c .before .before .before .before .before .before .before .before .before .before .before .before .p2 .given .0 .0) (λ t. rowWalk (a .b) (a .many) 5 (a .row) w t) (l .1 .1 .1 .1 .1 .1 .0) (l .1 .1 .1 .1 .1 .1 .1 .0) (c .before .before .before .before .before .before .before .before .before .before .tail .ensures) (c .before .before .before .before .before .before .before .row-at .ensures) (c .before .k2 .given .1))
 
 pub then-row-spec : {M : Type 1} → statement M
 then-row-spec =
     tie.close
     (tie.spec
-    Inv-loop
-    μ-loop
-    loop-holds
-    cast-c
-    then-field-requires
-    add-j
-    loop-less
-    loop-again
+    enum-known-p
+    enum-known-p-2
+    tail-requires
+    row-at-requires
+    enum-known-k
+    add-t26
+    enum-known-k-2
+    add-t27
+    returns
     same-length
     same-length-2
-    returns)
+    returns-2
+    same-length-3
+    same-length-4
+    returns-3)

@@ -1,0 +1,187 @@
+-- The decision for each kind of build, from the tables.
+use Prim.Native.Nat.{ℕ, zero, suc, _-_, _≤_, _<_}
+use mathlib.Core.Path.{_≡_, refl, ap, sym, _∙_}
+use mathlib.Core.List.{List, [], _∷_}
+use mathlib.Core.Bool.{Bool, true, false, cond, not, _&&_, _||_}
+use mathlib.Core.Option.{Option, none, some}
+use native.Mathlib.Omega.{arith}
+use borrow.Author.Tests.{eq-eqb, ne-eqb}
+use lib.ListN.{length, getD}
+use lib.Dec.{eqb}
+use Rattle.wire.specs.declared.ValueId.{ValueId}
+use Rattle.wire.specs.declared.Value.{Value}
+use Rattle.form.specs.Syntax.{Instruction, InstructionKind, MakeTuple}
+use Rattle.form.specs.Reads.{kindNumber}
+use Rattle.lookup.specs.Fields.{listValues}
+use Rattle.eligibility.specs.declared.Settings.{Settings}
+use Rattle.eligibility.specs.Lookup.{Types, all}
+use Rattle.eligibility.specs.Family.{Marks, buildDest, hasDynamicIndex}
+use Rattle.eligibility.specs.Tables.{FactsAt}
+use Rattle.eligibility.specs.Climb.{isSome, buildOf, buildable, buildableOf, canScalarize}
+use Rattle.eligibility.specs.Fold.{tupleParent, foldsTuple, foldsStruct, foldsArray}
+use Rattle.climb.specs.Edges.{Edge, edge, partEdge, partEdges, buildEdges, edgesOf, tupleEdgesOf, tuplesClimb, Sight, climbOf, asClimbed}
+use Rattle.climb.specs.declared.Climbed.{Climbed}
+use Rattle.climb.specs.Scanned.{Each, Scanned, sightOf, tuplesDown, fresh}
+use Rattle.climb.specs.Decided.{climbs, Decided}
+use Rattle.climb.proofs.Whole.{decides}
+use Rattle.climb.proofs.Tuples.{over-tuples}
+
+-- what the answer of a climb is worth
+pub some-ok : (r : Climbed) → r .ok ≡ isSome (asClimbed r)
+unfolding isSome
+some-ok r = go (r .ok)
+  where
+    go : (b : Bool) → b ≡ isSome (cond b (some (r .visited)) none)
+    go true = refl
+    go false = refl
+
+pub dynamic-array : (a b d : Bool) → d ≡ true → false ≡ (a && (b && not d))
+dynamic-array true true d e = rw e
+dynamic-array true false d e = refl
+dynamic-array false b d e = refl
+
+pub constant-array : (a b d r : Bool) → a ≡ true → d ≡ false → r ≡ b → r ≡ (a && (b && not d))
+constant-array a true d r e f k = rw (e, f) k
+constant-array a false d r e f k = rw e k
+
+module _ (Q : ℕ → Type 0) where
+  one-behind : (b : Bool) (e : Edge) (es : List Edge) → Each Q (cond b es (e ∷ es)) → Each Q es
+  one-behind true e es h = h
+  one-behind false e es h = h .1
+
+  one-front : (b : Bool) (e : Edge) (es fs : List Edge) → Each Q (cond b es (e ∷ es)) → Each Q fs → Each Q (cond b fs (e ∷ fs))
+  one-front true e es fs h k = k
+  one-front false e es fs h k = (h .0, k)
+
+  parts-behind : (d : ℕ) (xs : List Value) (es : List Edge) → Each Q (partEdges d xs es) → Each Q es
+  unfolding partEdges partEdge
+  parts-behind d [] es h = h
+  parts-behind d (Value.Literal l ∷ xs) es h = parts-behind d xs es h
+  parts-behind d (Value.Operand w ∷ xs) es h = parts-behind d xs es (one-behind (eqb (w .0) d) (edge (w .0) d) (partEdges d xs es) h)
+  parts-behind d (Value.Error ∷ xs) es h = parts-behind d xs es h
+
+  parts-front : (d : ℕ) (xs : List Value) (es fs : List Edge) → Each Q (partEdges d xs es) → Each Q fs → Each Q (partEdges d xs fs)
+  unfolding partEdges partEdge
+  parts-front d [] es fs h k = k
+  parts-front d (Value.Literal l ∷ xs) es fs h k = parts-front d xs es fs h k
+  parts-front d (Value.Operand w ∷ xs) es fs h k =
+      one-front (eqb (w .0) d) (edge (w .0) d) (partEdges d xs es) (partEdges d xs fs) h
+      (parts-front d xs es fs (one-behind (eqb (w .0) d) (edge (w .0) d) (partEdges d xs es) h) k)
+  parts-front d (Value.Error ∷ xs) es fs h k = parts-front d xs es fs h k
+
+  build-behind : (d : Option ValueId) (xs : List Value) (es : List Edge) → Each Q (buildEdges d xs es) → Each Q es
+  unfolding buildEdges
+  build-behind none xs es h = h
+  build-behind (some d) xs es h = parts-behind (d .0) xs es h
+
+  build-front : (d : Option ValueId) (xs : List Value) (es fs : List Edge) (b : Bool) → Each Q (buildEdges d xs es) → Each Q fs → Each Q (cond b (buildEdges d xs fs) fs)
+  unfolding buildEdges
+  build-front d xs es fs false h k = k
+  build-front none xs es fs true h k = k
+  build-front (some d) xs es fs true h k = parts-front (d .0) xs es fs h k
+
+  -- what holds of every parent holds of the tuples among them
+  each-tuple : (is : List Instruction) → Each Q (edgesOf is) → Each Q (tupleEdgesOf is)
+  unfolding edgesOf tupleEdgesOf
+  each-tuple [] h = tt
+  each-tuple (i ∷ is) h =
+      let d = buildDest (i .kind) in
+      let xs = listValues (i .kind) in
+      build-front d xs (edgesOf is) (tupleEdgesOf is) (eqb (kindNumber (i .kind)) 10) h (each-tuple is (build-behind d xs (edgesOf is) h))
+
+  tuples-same : (f g : ℕ → Bool) → ((p : ℕ) → Q p → f p ≡ g p) → (v : ℕ) (es : List Edge) → Each Q es → tuplesClimb f v es ≡ tuplesClimb g v es
+  unfolding tuplesClimb
+  tuples-same f g same v [] h = refl
+  tuples-same f g same v (e ∷ es) h = rw (same (e .parent) (h .0), tuples-same f g same v es (h .1))
+
+module _ {σ : Settings} {τ : Types} {cross : Marks} {is : List Instruction} {shapes : List ℕ} {eligible : List Bool} {children parents : List ℕ} {tuples : List Bool} {many : ℕ} {buildable′ blocked : List Bool}
+    (facts : FactsAt σ τ shapes eligible) (scanned : Scanned σ τ cross is children parents tuples many buildable′ blocked) (few : length (τ .recorded) ≤ 256)
+    (v : ValueId) (low : v .0 < length (τ .recorded))
+  where
+    abbrev sight : Sight
+    sight = sightOf shapes buildable′ blocked children parents many
+
+    pub struct-decided : foldsStruct σ τ cross is v ≡ (σ .structs && climbs sight (v .0))
+    unfolding foldsStruct
+    struct-decided = ap (λ (b : Bool). σ .structs && b) (decides facts scanned (v .0) low few)
+
+    pub array-decided : (dynamic : Bool) → dynamic ≡ hasDynamicIndex τ v is → foldsArray σ τ cross is v ≡ (σ .tuples && (climbs sight (v .0) && not dynamic))
+    unfolding foldsArray
+    array-decided dynamic e = rw (decides facts scanned (v .0) low few, e)
+
+    pub tuple-decided : (xs : List Value) → buildOf σ τ cross v is ≡ some (MakeTuple v xs) → foldsTuple σ τ cross is v xs ≡ (σ .tuples && (getD buildable′ (v .0) false && tuplesClimb (climbs sight) (v .0) (tuplesDown tuples children parents many)))
+    unfolding foldsTuple buildableOf
+    tuple-decided xs e =
+        let b : getD buildable′ (v .0) false ≡ buildable σ τ cross (MakeTuple v xs) = scanned .built (v .0) low ∙ ap (buildableOf σ τ cross) e in
+        let n = length (τ .recorded) in
+        let can : ℕ → Bool = λ p. canScalarize σ τ cross is (record { 0 = p }) in
+        let t : tuplesClimb can (v .0) (tupleEdgesOf is) ≡ tuplesClimb (climbs sight) (v .0) (tupleEdgesOf is) = tuples-same (λ p. p < n) can (climbs sight) (λ p h. decides facts scanned p h few) (v .0) (tupleEdgesOf is) (each-tuple (λ p. p < n) is (scanned .below)) in
+        rw (b, over-tuples σ τ cross is (v .0) is, t, scanned .tuple-edges)
+
+    module _ (kind : ℕ) (dynamic : Bool) where
+      pub for-struct : (r : Bool) → kind ≡ 12 → r ≡ (σ .structs && climbs sight (v .0)) → Decided σ τ cross is v kind dynamic r
+      for-struct r k e =
+          record {
+            tuple = λ xs n b. absurd (omega arith);
+            struct = λ n. e ∙ sym struct-decided;
+            array = λ n d. absurd (omega arith);
+          }
+
+      pub for-array : (r : Bool) → kind ≡ 16 → r ≡ (σ .tuples && (climbs sight (v .0) && not dynamic)) → Decided σ τ cross is v kind dynamic r
+      for-array r k e =
+          record {
+            tuple = λ xs n b. absurd (omega arith);
+            struct = λ n. absurd (omega arith);
+            array = λ n d. e ∙ sym (array-decided dynamic d);
+          }
+
+      pub for-tuple : (r : Bool) → (kind ≡ 12 → ⊥) → (kind ≡ 16 → ⊥) → r ≡ (σ .tuples && (getD buildable′ (v .0) false && tuplesClimb (climbs sight) (v .0) (tuplesDown tuples children parents many))) → Decided σ τ cross is v kind dynamic r
+      for-tuple r s a e =
+          record {
+            tuple = λ xs n b. e ∙ sym (tuple-decided xs b);
+            struct = λ n. absurd (s n);
+            array = λ n d. absurd (a n);
+          }
+
+      pub for-none : (kind ≡ 12 → ⊥) → σ .tuples ≡ false → Decided σ τ cross is v kind dynamic false
+      for-none s off =
+          record {
+            tuple = λ xs n b. sym (tuple-decided xs b ∙ rw off);
+            struct = λ n. absurd (s n);
+            array = λ n d. sym (array-decided dynamic d ∙ rw off);
+          }
+
+-- the loop over the tuples that take the value as a part
+tuple-down : (fs : List Bool) (cs ps : List ℕ) (i : ℕ) → 0 < i → tuplesDown fs cs ps i ≡ cond (getD fs (i - 1) false) (edge (getD cs (i - 1) 0) (getD ps (i - 1) 0) ∷ tuplesDown fs cs ps (i - 1)) (tuplesDown fs cs ps (i - 1))
+unfolding tuplesDown
+tuple-down fs cs ps zero h = absurd (omega arith)
+tuple-down fs cs ps (suc k) h = let e : suc k - 1 ≡ k = omega arith in rw e
+
+pub record Testing (can : ℕ → Bool) (v : ℕ) (fs : List Bool) (cs ps : List ℕ) (many i : ℕ) : Type 0 where
+  pub small : i < 65536
+  pub left : tuplesClimb can v (tuplesDown fs cs ps many) ≡ tuplesClimb can v (tuplesDown fs cs ps i)
+
+module _ (can : ℕ → Bool) (v : ℕ) (fs : List Bool) (cs ps : List ℕ) (many i : ℕ) (inv : Testing can v fs cs ps many i) where
+  pub test-done : i ≤ 0 → true ≡ tuplesClimb can v (tuplesDown fs cs ps many)
+  unfolding tuplesDown tuplesClimb
+  test-done h = let z : i ≡ 0 = omega arith in sym (inv .left ∙ rw z)
+
+  module _ (more : 0 < i) where
+    smaller : i - 1 < 65536
+    smaller = omega (arith, inv .small)
+
+    pub test-kind : getD fs (i - 1) false ≡ false → Testing can v fs cs ps many (i - 1)
+    test-kind e = record { small = smaller; left = inv .left ∙ simp (tuple-down fs cs ps i more, e) }
+
+    module _ (kind : getD fs (i - 1) false ≡ true) where
+      pub test-other : (getD cs (i - 1) 0 ≡ v → ⊥) → Testing can v fs cs ps many (i - 1)
+      unfolding tuplesClimb
+      test-other e = record { small = smaller; left = inv .left ∙ simp (tuple-down fs cs ps i more, kind, ne-eqb _ _ e) }
+
+      pub test-on : getD cs (i - 1) 0 ≡ v → (p : ℕ) → p ≡ getD ps (i - 1) 0 → (r : Bool) → r ≡ can p → r ≡ true → Testing can v fs cs ps many (i - 1)
+      unfolding tuplesClimb
+      test-on e p q r k t = let z : can (getD ps (i - 1) 0) ≡ true = sym (rw q at k) ∙ t in record { small = smaller; left = inv .left ∙ simp (tuple-down fs cs ps i more, kind, eq-eqb _ _ e, z) }
+
+      pub test-stop : getD cs (i - 1) 0 ≡ v → (p : ℕ) → p ≡ getD ps (i - 1) 0 → (r : Bool) → r ≡ can p → r ≡ false → false ≡ tuplesClimb can v (tuplesDown fs cs ps many)
+      unfolding tuplesClimb
+      test-stop e p q r k t = let z : can (getD ps (i - 1) 0) ≡ false = sym (rw q at k) ∙ t in sym (inv .left ∙ simp (tuple-down fs cs ps i more, kind, eq-eqb _ _ e, z))

@@ -1,0 +1,155 @@
+-- Where the numbers that the scan reads stand in an accepted instruction: a build's dest, a place's base.
+use Prim.Native.Nat.{ℕ, zero, suc, _+_, _≤_, _<_}
+use mathlib.Core.Path.{_≡_, refl, ap, _∙_, sym}
+use mathlib.Core.List.{List, [], _∷_, map}
+use mathlib.Core.Bool.{Bool, true, false, not}
+use mathlib.Core.Option.{Option, none, some}
+use lib.ListN.{length, getD, drop, take}
+use lib.Dec.{ltb}
+use Rattle.wire.specs.Parse.{Parse, ok, bad, checked, mapParse}
+use Rattle.wire.specs.Number.{at16, below, fromBytes}
+use Rattle.wire.specs.Value.{valueIdOf, valueOf}
+use Rattle.wire.specs.declared.Cause.{Cause}
+use Rattle.wire.specs.declared.ValueId.{ValueId}
+use Rattle.wire.proofs.Laws.{from-16}
+use Rattle.wire.proofs.Inv.{both, image, and-inv, map-inv, checked-inv, number-inv, below-inv}
+use Rattle.form.specs.Syntax.{Projection, Place, Instruction, InstructionKind}
+use Rattle.form.specs.Syntax.{Load, Store, MakeTuple, MakeStruct, MakeFixedArray}
+use Rattle.form.specs.Reads.{kindNumber}
+use Rattle.form.specs.Decode as D
+use Rattle.form.specs.Decode.{kinds, bit, definedOf, listOf, fieldInitOf, typeIdOf, projectionOf, instructionOf, loadOf, storeOf, makeTupleOf, makeStructOf, makeArrayOf}
+use Rattle.form.specs.declared.Bounds.{Bounds}
+use Rattle.lookup.specs.Fields.{listValues, placeSteps, fieldsPlace, listCount}
+use Rattle.lookup.proofs.EachKind.{Stands}
+use Rattle.lookup.proofs.Instruction.{KindAt, chosen, instruction-fields, instruction-stands}
+use Rattle.eligibility.specs.Family.{buildDest, placeOf}
+
+-- a value's number at a place
+id-at : (next : ℕ) (t : List ℕ) (p : ℕ) {d : ValueId} {n : ℕ} → valueIdOf next (drop p t) ≡ ok d n → (d .0 ≡ at16 t p) × (d .0 < next) × (n ≡ 2)
+id-at next t p e =
+    elim (map-inv (λ x. record { 0 = x }) (below next (drop p t)) e) [
+      | image x f g ↦
+          let h = below-inv next (drop p t) f in
+          let k = number-inv 2 (drop p t) (h .0) in
+          let i = ap (λ (a : ValueId). a .0) g in
+          (i ∙ k .1 ∙ from-16 t p, rw i (h .1), k .2)
+    ]
+
+dest-at : (next : ℕ) (seen : List Bool) (t : List ℕ) {d : ValueId} {n : ℕ} → definedOf next seen t ≡ ok d n → (d .0 ≡ at16 t 0) × (d .0 < next) × (n ≡ 2)
+dest-at next seen t e = id-at next t 0 (checked-inv Cause.Redefined (λ d. not (getD seen (d .0) false)) (valueIdOf next t) e .0)
+
+-- a build's dest is its first field
+pub data DestAt (next : ℕ) (t : List ℕ) (i : InstructionKind) : Type 0 where
+  dest : (d : ValueId) → buildDest i ≡ some d → d .0 ≡ at16 t 0 → d .0 < next → DestAt next t i
+
+-- a place's base stands at p
+pub data BaseAt (next : ℕ) (t : List ℕ) (p : ℕ) (i : InstructionKind) : Type 0 where
+  base : (x : Place) → placeOf i ≡ some x → placeSteps i ≡ x .projections → x .base .0 ≡ at16 t p → x .base .0 < next → BaseAt next t p i
+
+module _ (b : Bounds) (seen : List Bool) (t : List ℕ) (i : InstructionKind) (n : ℕ) where
+  tuple-dest : makeTupleOf b seen t ≡ ok i n → DestAt (b .next) t i
+  unfolding makeTupleOf buildDest
+  tuple-dest e =
+      elim (and-inv t (definedOf (b .next) seen t) _ e) [
+        | both d m k p q r ↦
+            elim (map-inv (λ xs. MakeTuple d xs) (listOf (b .list) (valueOf (b .next)) (drop m t)) q) [
+              | image xs f g ↦ let h = dest-at (b .next) seen t p in dest d (rw g refl) (h .0) (h .1)
+            ]
+      ]
+
+  struct-dest : makeStructOf b seen t ≡ ok i n → DestAt (b .next) t i
+  unfolding makeStructOf buildDest
+  struct-dest e =
+      elim (and-inv t (definedOf (b .next) seen t) _ e) [
+        | both d m k p q r ↦
+            elim (and-inv (drop m t) (listOf (b .list) (fieldInitOf b) (drop m t)) _ q) [
+              | both fs m′ k′ p′ q′ r′ ↦
+                  elim (map-inv (λ t. MakeStruct d fs t) (typeIdOf (b .types) (drop m′ (drop m t))) q′) [
+                    | image u f g ↦ let h = dest-at (b .next) seen t p in dest d (rw g refl) (h .0) (h .1)
+                  ]
+            ]
+      ]
+
+  array-dest : (c : Bool) → makeArrayOf b seen c t ≡ ok i n → DestAt (b .next) t i
+  unfolding makeArrayOf buildDest
+  array-dest c e =
+      elim (and-inv t (definedOf (b .next) seen t) _ e) [
+        | both d m k p q r ↦
+            elim (and-inv (drop m t) (listOf (b .list) (valueOf (b .next)) (drop m t)) _ q) [
+              | both xs m′ k′ p′ q′ r′ ↦
+                  elim (map-inv (λ t. MakeFixedArray d xs t c) (typeIdOf (b .types) (drop m′ (drop m t))) q′) [
+                    | image u f g ↦ let h = dest-at (b .next) seen t p in dest d (rw g refl) (h .0) (h .1)
+                  ]
+            ]
+      ]
+
+  -- the base of the place that stands at p
+  place-base : (p : ℕ) (x : Place) (m : ℕ) → D.placeOf b (drop p t) ≡ ok x m → (x .base .0 ≡ at16 t p) × (x .base .0 < b .next)
+  place-base p x m e =
+      elim (and-inv (drop p t) (valueIdOf (b .next) (drop p t)) _ e) [
+        | both v m′ k q r s ↦
+            elim (map-inv (λ ps. record { base = v; projections = ps }) (listOf (b .projections) (projectionOf (b .next)) (drop m′ (drop p t))) r) [
+              | image ps f g ↦
+                  let h = id-at (b .next) t p q in
+                  let v′ : x .base .0 ≡ v .0 = ap (λ (a : Place). a .base .0) g in
+                  (v′ ∙ h .0, rw v′ (h .1))
+            ]
+      ]
+
+  load-base : loadOf b seen t ≡ ok i n → BaseAt (b .next) t 2 i
+  unfolding loadOf placeOf
+  load-base e =
+      elim (and-inv t (definedOf (b .next) seen t) _ e) [
+        | both d m k p q r ↦
+            elim (and-inv (drop m t) (D.placeOf b (drop m t)) _ q) [
+              | both x m′ k′ p′ q′ r′ ↦
+                  elim (map-inv (λ u. Load d x u) (typeIdOf (b .types) (drop m′ (drop m t))) q′) [
+                    | image u f g ↦
+                        let h = dest-at (b .next) seen t p in
+                        let at : D.placeOf b (drop 2 t) ≡ ok x m′ = rw (h .2) at p′ in
+                        let o = place-base 2 x m′ at in
+                        base x (rw g refl) (rw g refl) (o .0) (o .1)
+                  ]
+            ]
+      ]
+
+  store-base : storeOf b seen t ≡ ok i n → BaseAt (b .next) t 0 i
+  unfolding storeOf placeOf
+  store-base e =
+      elim (and-inv t (D.placeOf b t) _ e) [
+        | both x m k p q r ↦
+            elim (and-inv (drop m t) (valueOf (b .next) (drop m t)) _ q) [
+              | both y m′ k′ p′ q′ r′ ↦
+                  elim (map-inv (λ u. Store x y u) (typeIdOf (b .types) (drop m′ (drop m t))) q′) [
+                    | image u f g ↦ let o = place-base 0 x m p in base x (rw g refl) (rw g refl) (o .0) (o .1)
+                  ]
+            ]
+      ]
+
+-- of an instruction: t are its own fields
+module _ (b : Bounds) (seen : List Bool) (late : Bool) (s : List ℕ) (i : Instruction) (n : ℕ) (e : instructionOf b seen late s ≡ ok i n) where
+  -- its kind is its second byte
+  pub kind-at : kindNumber (i .kind) ≡ getD s 1 0
+  kind-at = instruction-fields b seen late s i n e .numbered
+
+  read-as : (k : ℕ) → getD s 1 0 ≡ k → chosen b seen (getD s 0 0) k (drop (fieldsPlace s) s) ≡ ok (i .kind) (instruction-fields b seen late s i n e .size)
+  read-as k h = rw h at (instruction-fields b seen late s i n e .read)
+
+  pub tuple-place : getD s 1 0 ≡ 10 → DestAt (b .next) (drop (fieldsPlace s) s) (i .kind)
+  tuple-place h = tuple-dest b seen (drop (fieldsPlace s) s) (i .kind) _ (read-as 10 h)
+
+  pub struct-place : getD s 1 0 ≡ 12 → DestAt (b .next) (drop (fieldsPlace s) s) (i .kind)
+  struct-place h = struct-dest b seen (drop (fieldsPlace s) s) (i .kind) _ (read-as 12 h)
+
+  pub array-place : getD s 1 0 ≡ 16 → DestAt (b .next) (drop (fieldsPlace s) s) (i .kind)
+  array-place h = array-dest b seen (drop (fieldsPlace s) s) (i .kind) _ (bit 3 (getD s 0 0)) (read-as 16 h)
+
+  pub load-place : getD s 1 0 ≡ 5 → BaseAt (b .next) (drop (fieldsPlace s) s) 2 (i .kind)
+  load-place h = load-base b seen (drop (fieldsPlace s) s) (i .kind) _ (read-as 5 h)
+
+  pub store-place : getD s 1 0 ≡ 6 → BaseAt (b .next) (drop (fieldsPlace s) s) 0 (i .kind)
+  store-place h = store-base b seen (drop (fieldsPlace s) s) (i .kind) _ (read-as 6 h)
+
+  -- how many values its list has
+  pub list-count : length (listValues (i .kind)) ≡ listCount (drop (fieldsPlace s) s) (getD s 1 0)
+  list-count = instruction-stands b seen late s i n e .listed

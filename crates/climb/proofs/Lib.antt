@@ -1,0 +1,13 @@
+pub mod Passing
+pub mod Depth
+pub mod Whole
+pub mod Tuples
+pub mod Turn
+pub mod Decide
+pub mod Found
+pub mod Sorts
+pub mod Noting
+pub mod Room
+pub mod Extend
+pub mod One
+pub mod Blocks

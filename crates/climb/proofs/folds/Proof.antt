@@ -1,0 +1,62 @@
+use borrow.Author.Needs.{needs}
+use Rattle.climb.proofs.folds.Statement.{statement}
+use Rattle.climb.proofs.folds.Tie as tie
+use mathlib.Core.Path.{refl, sym, _∙_}
+use mathlib.Core.Bool.{true, false}
+use borrow.Author.Tests.{not-true, not-false}
+use Rattle.climb.specs.Scanned.{sightOf}
+use Rattle.climb.specs.Decided.{climbs}
+use Rattle.climb.proofs.Decide.{for-struct, for-array, for-tuple, for-none, dynamic-array, constant-array}
+
+returns : tie.Need-returns
+returns c = let a = c .before .before .before .before .before .before .before .before .before .args in λ τ cross is eligible facts scanned few low. for-struct facts scanned few (a .v) low (a .kind) (a .dynamic) false (c .before .before .if1 .taken) (rw (not-true (a .settings .structs) (c .if2 .taken)))
+
+can-scalarize-requires : tie.Need-can-scalarize-requires
+can-scalarize-requires c κs = search needs
+
+returns-2 : tie.Need-returns-2
+returns-2 c = let a = c .before .before .before .before .before .before .before .before .before .before .args in λ τ cross is eligible facts scanned few low. for-struct facts scanned few (a .v) low (a .kind) (a .dynamic) (c .can-scalarize .result) (c .before .before .before .if1 .taken) (rw (not-false (a .settings .structs) (c .before .if2 .left)) (c .can-scalarize .ensures))
+
+returns-3 : tie.Need-returns-3
+returns-3 c = let a = c .before .before .before .before .before .before .before .before .before .args in λ τ cross is eligible facts scanned few low. for-none facts scanned few (a .v) low (a .kind) (a .dynamic) (c .before .before .if1 .left) (not-true _ (c .if3 .taken))
+
+returns-4 : tie.Need-returns-4
+returns-4 c = let a = c .before .before .before .before .before .before .before .before .before .before .before .args in λ τ cross is eligible facts scanned few low. for-array facts scanned few (a .v) low (a .kind) (a .dynamic) false (c .before .if4 .taken) (dynamic-array (a .settings .tuples) (climbs (sightOf (a .shapes .now) (a .buildable .now) (a .blocked .now) (a .children .now) (a .parents .now) (a .many)) (a .v .0)) (a .dynamic) (c .if5 .taken))
+
+can-scalarize-requires-2 : tie.Need-can-scalarize-requires-2
+can-scalarize-requires-2 c κs = search needs
+
+returns-5 : tie.Need-returns-5
+returns-5 c = let a = c .before .before .before .before .before .before .before .before .before .before .before .before .args in λ τ cross is eligible facts scanned few low. for-array facts scanned few (a .v) low (a .kind) (a .dynamic) (c .can-scalarize2 .result) (c .before .before .if4 .taken) (constant-array (a .settings .tuples) (climbs (sightOf (a .shapes .now) (a .buildable .now) (a .blocked .now) (a .children .now) (a .parents .now) (a .many)) (a .v .0)) (a .dynamic) (c .can-scalarize2 .result) (not-false _ (c .before .before .before .if3 .left)) (c .before .if5 .left) (c .can-scalarize2 .ensures))
+
+cast-flag-at : tie.Need-cast-flag-at
+cast-flag-at c = search needs
+
+flag-at-requires : tie.Need-flag-at-requires
+flag-at-requires c κs = search needs
+
+returns-6 : tie.Need-returns-6
+returns-6 c = let a = c .before .before .before .before .before .before .before .before .before .before .before .before .before .args in λ τ cross is eligible facts scanned few low. for-tuple facts scanned few (a .v) low (a .kind) (a .dynamic) false (c .before .before .before .before .before .before .if1 .left) (c .before .before .before .if4 .left) (rw (not-false (a .settings .tuples) (c .before .before .before .before .if3 .left), sym (c .before .flag-at .ensures), not-true (c .before .flag-at .result) (c .if6 .taken)))
+
+tuple-parents-requires : tie.Need-tuple-parents-requires
+tuple-parents-requires c κs = search needs
+
+returns-7 : tie.Need-returns-7
+returns-7 c = let a = c .before .before .before .before .before .before .before .before .before .before .before .before .before .before .args in λ τ cross is eligible facts scanned few low. for-tuple facts scanned few (a .v) low (a .kind) (a .dynamic) (c .tuple-parents .result) (c .before .before .before .before .before .before .before .if1 .left) (c .before .before .before .before .if4 .left) (rw (not-false (a .settings .tuples) (c .before .before .before .before .before .if3 .left), sym (c .before .before .flag-at .ensures), not-false (c .before .before .flag-at .result) (c .before .if6 .left)) (c .tuple-parents .ensures))
+
+pub folds-spec : {M : Type 1} → statement M
+folds-spec =
+    tie.close
+    (tie.spec
+    returns
+    can-scalarize-requires
+    returns-2
+    returns-3
+    returns-4
+    can-scalarize-requires-2
+    returns-5
+    cast-flag-at
+    flag-at-requires
+    returns-6
+    tuple-parents-requires
+    returns-7)

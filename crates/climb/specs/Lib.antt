@@ -1,0 +1,4 @@
+pub mod Edges
+pub mod Scanned
+pub mod Decided
+pub mod Noted

@@ -1,0 +1,176 @@
+-- A type's row says its shape and its number of parts.
+use Prim.Native.Nat.{ℕ, zero, suc, _+_, _≤_, _<_}
+use mathlib.Core.Path.{_≡_, refl, ap, _∙_, sym}
+use mathlib.Core.List.{List, [], _∷_, map}
+use mathlib.Core.Bool.{true, false, cond, _&&_}
+use mathlib.Core.Bool as B
+use mathlib.Core.Option.{Option, none, some}
+use native.Mathlib.Nat.{add-zero}
+use native.Mathlib.Omega.{arith}
+use borrow.Author.Tests.{ltb-true, ltb-false}
+use lib.ListN.{length, getD, getElem?, drop, take}
+use lib.Seq.{drop-length, getD-drop}
+use lib.Dec.{leb, ltb}
+use Rattle.wire.specs.Parse.{Parse, ok, bad, later, andThen, mapParse, checked, seqOf}
+use Rattle.wire.specs.Number.{u8Of, u16Of, u32Of, below, at32, fromBytes}
+use Rattle.wire.specs.declared.Cause.{Cause}
+use Rattle.wire.specs.declared.NameId.{NameId}
+use Rattle.wire.specs.declared.TypeId.{TypeId}
+use Rattle.wire.proofs.Laws.{from-8, from-32}
+use Rattle.wire.proofs.Inv.{no-ok, both, behind, image, later-inv, and-inv, map-inv, checked-inv, number-inv, below-inv, tagged-inv}
+use Rattle.form.specs.Decode.{typeIdOf, nameIdOf, countOf, listOf}
+use Rattle.types.specs.Syntax.{StructField, MirType}
+use Rattle.types.specs.Decode.{newNameOf, structFields, structOf, typeKinds, typeOf}
+use Rattle.types.specs.Index.{TypesAt}
+use Rattle.eligibility.specs.declared.Settings.{Settings}
+use Rattle.eligibility.specs.Lookup.{shape, isScalarizable}
+use Rattle.facts.specs.Facts.{rowShape, rowEligible}
+
+-- a sequence has as many as are asked for
+seq-length : {A : Type 0} (dec : List ℕ → Parse A) (k : ℕ) (s : List ℕ) {xs : List A} {n : ℕ} → seqOf dec k s ≡ ok xs n → length xs ≡ k
+unfolding seqOf
+seq-length dec zero s {xs} e = let p : xs ≡ [] = cc in ap length p
+seq-length dec (suc k) s e =
+    elim (and-inv s (dec s) (λ a t. mapParse (λ xs. a ∷ xs) (seqOf dec k t)) e) [
+      | both a m j p q r ↦ elim (map-inv (λ xs. a ∷ xs) (seqOf dec k (drop m s)) q) [ image xs f g ↦ ap length g ∙ ap suc (seq-length dec k (drop m s) f) ]
+    ]
+
+-- a struct has as many fields
+fields-length : (own : ℕ) (names : List NameId) (k : ℕ) (s : List ℕ) {fs : List StructField} {n : ℕ} → structFields own names k s ≡ ok fs n → length fs ≡ k
+unfolding structFields
+fields-length own names zero s {fs} e = let p : fs ≡ [] = cc in ap length p
+fields-length own names (suc k) s e =
+    elim (and-inv s (newNameOf names s) (λ n s. andThen s (typeIdOf own s) (λ t s. mapParse (λ fs. record { name = n; part = t } ∷ fs) (structFields own (n ∷ names) k s))) e) [
+      | both n m j p q r ↦
+          elim (and-inv (drop m s) (typeIdOf own (drop m s)) (λ t s. mapParse (λ fs. record { name = n; part = t } ∷ fs) (structFields own (n ∷ names) k s)) q) [
+            | both t m2 j2 p2 q2 r2 ↦ elim (map-inv (λ fs. record { name = n; part = t } ∷ fs) (structFields own (n ∷ names) k (drop m2 (drop m s))) q2) [ image fs f g ↦ ap length g ∙ ap suc (fields-length own (n ∷ names) k (drop m2 (drop m s)) f) ]
+          ]
+    ]
+
+-- a count is the byte that stands there
+count-byte : (most : ℕ) (s : List ℕ) {k n : ℕ} → countOf most s ≡ ok k n → k ≡ getD s 0 0
+count-byte most s e = number-inv 1 s (checked-inv Cause.TooMany (λ n. leb n most) (u8Of s) e .0) .1 ∙ from-8 s 0
+
+-- a list has as many as its first byte says
+list-length : {A : Type 0} (most : ℕ) (dec : List ℕ → Parse A) (s : List ℕ) {xs : List A} {n : ℕ} → listOf most dec s ≡ ok xs n → length xs ≡ getD s 0 0
+unfolding listOf
+list-length most dec s e =
+    elim (and-inv s (countOf most s) (λ n t. seqOf dec n t) e) [ both k m j p q r ↦ seq-length dec k (drop m s) q ∙ count-byte most s p ]
+
+-- two bytes for a name, or a type
+name-size : (s : List ℕ) {x : NameId} {n : ℕ} → nameIdOf s ≡ ok x n → n ≡ 2
+name-size s e = elim (map-inv (λ x. record { 0 = x }) (u16Of s) e) [ image x f g ↦ number-inv 2 s f .2 ]
+
+type-size : (own : ℕ) (s : List ℕ) {x : TypeId} {n : ℕ} → typeIdOf own s ≡ ok x n → n ≡ 2
+type-size own s e = elim (map-inv (λ x. record { 0 = x }) (below own s) e) [ image x f g ↦ number-inv 2 s (below-inv own s f .0) .2 ]
+
+-- what a row says of its type
+pub record Said (o : Option MirType) (t : List ℕ) : Type 0 where
+  pub shaped : shape o ≡ rowShape t
+  pub fits : (σ : Settings) → isScalarizable σ o ≡ rowEligible σ t
+
+-- a Tuple
+tuple-said : (most own : ℕ) (t : List ℕ) {ty : MirType} {n : ℕ} → mapParse MirType.Tuple (listOf most (typeIdOf own) t) ≡ ok ty n → Said (some ty) (3 ∷ t)
+unfolding shape isScalarizable
+tuple-said most own t e =
+    elim (map-inv MirType.Tuple (listOf most (typeIdOf own) t) e) [
+      | image ts f g ↦ let h = list-length most (typeIdOf own) t f in rw g record { shaped = refl; fits = λ σ. rw h }
+    ]
+
+-- a Struct
+struct-said : (most own : ℕ) (t : List ℕ) {ty : MirType} {n : ℕ} → structOf most own t ≡ ok ty n → Said (some ty) (4 ∷ t)
+unfolding shape isScalarizable structOf
+struct-said most own t e =
+    elim (and-inv t (nameIdOf t) (λ n s. andThen s (countOf most s) (λ k s. mapParse (λ fs. MirType.Struct n fs) (structFields own [] k s))) e) [
+      | both n m j p q r ↦
+          elim (and-inv (drop m t) (countOf most (drop m t)) (λ k s. mapParse (λ fs. MirType.Struct n fs) (structFields own [] k s)) q) [
+            | both k m2 j2 p2 q2 r2 ↦
+                elim (map-inv (λ fs. MirType.Struct n fs) (structFields own [] k (drop m2 (drop m t))) q2) [
+                  | image fs f g ↦
+                      let a : m ≡ 2 = name-size t p in
+                      let h : length fs ≡ getD t 2 0 = fields-length own [] k (drop m2 (drop m t)) f ∙ count-byte most (drop m t) p2 ∙ rw (a, getD-drop) in
+                      rw g record { shaped = refl; fits = λ σ. rw h }
+                ]
+          ]
+    ]
+
+-- a FixedArray
+array-said : (own : ℕ) (t : List ℕ) {ty : MirType} {n : ℕ} → andThen t (typeIdOf own t) (λ p s. mapParse (λ size. MirType.FixedArray p size) (u32Of s)) ≡ ok ty n → Said (some ty) (5 ∷ t)
+unfolding shape isScalarizable
+array-said own t e =
+    elim (and-inv t (typeIdOf own t) (λ p s. mapParse (λ size. MirType.FixedArray p size) (u32Of s)) e) [
+      | both p m j f q r ↦
+          elim (map-inv (λ size. MirType.FixedArray p size) (u32Of (drop m t)) q) [
+            | image size h g ↦
+                let a : m ≡ 2 = type-size own t f in
+                let k : size ≡ at32 (5 ∷ t) 3 = number-inv 4 (drop m t) h .1 ∙ rw a (from-32 t 2) in
+                rw g record { shaped = refl; fits = λ σ. rw k }
+          ]
+    ]
+
+-- any type
+pub type-said : (most own : ℕ) (t : List ℕ) {ty : MirType} {n : ℕ} → typeOf most own t ≡ ok ty n → Said (some ty) t
+unfolding typeOf shape isScalarizable
+type-said most own [] e = absurd (no-ok e)
+type-said most own (zero ∷ t) {ty} e = let f = tagged-inv (typeKinds most own) (0 ∷ t) e .1 in let p : ty ≡ MirType.Felt = cc in rw p record { shaped = refl; fits = λ σ. refl }
+type-said most own (suc zero ∷ t) {ty} e = let f = tagged-inv (typeKinds most own) (1 ∷ t) e .1 in let p : ty ≡ MirType.Bool = cc in rw p record { shaped = refl; fits = λ σ. refl }
+type-said most own (suc (suc zero) ∷ t) {ty} e = let f = tagged-inv (typeKinds most own) (2 ∷ t) e .1 in let p : ty ≡ MirType.U32 = cc in rw p record { shaped = refl; fits = λ σ. refl }
+type-said most own (suc (suc (suc zero)) ∷ t) e =
+    elim (later-inv 1 (mapParse MirType.Tuple (listOf most (typeIdOf own) t)) (tagged-inv (typeKinds most own) (3 ∷ t) e .1)) [ behind k p q ↦ tuple-said most own t p ]
+type-said most own (suc (suc (suc (suc zero))) ∷ t) e =
+    elim (later-inv 1 (structOf most own t) (tagged-inv (typeKinds most own) (4 ∷ t) e .1)) [ behind k p q ↦ struct-said most own t p ]
+type-said most own (suc (suc (suc (suc (suc zero)))) ∷ t) e =
+    elim (later-inv 1 (andThen t (typeIdOf own t) (λ p s. mapParse (λ size. MirType.FixedArray p size) (u32Of s))) (tagged-inv (typeKinds most own) (5 ∷ t) e .1)) [ behind k p q ↦ array-said own t p ]
+type-said most own (suc (suc (suc (suc (suc (suc zero))))) ∷ t) e =
+    elim (later-inv 1 (mapParse MirType.Pointer (typeIdOf own t)) (tagged-inv (typeKinds most own) (6 ∷ t) e .1)) [
+      | behind k p q ↦ elim (map-inv MirType.Pointer (typeIdOf own t) p) [ image x f g ↦ rw g record { shaped = refl; fits = λ σ. refl } ]
+    ]
+type-said most own (suc (suc (suc (suc (suc (suc (suc zero)))))) ∷ t) e =
+    elim (later-inv 1 (andThen t (listOf most (typeIdOf own) t) (λ ps s. mapParse (λ r. MirType.Function ps r) (typeIdOf own s))) (tagged-inv (typeKinds most own) (7 ∷ t) e .1)) [
+      | behind k p q ↦
+          elim (and-inv t (listOf most (typeIdOf own) t) (λ ps s. mapParse (λ r. MirType.Function ps r) (typeIdOf own s)) p) [
+            | both ps m j f h r ↦ elim (map-inv (λ r. MirType.Function ps r) (typeIdOf own (drop m t)) h) [ image x u g ↦ rw g record { shaped = refl; fits = λ σ. refl } ]
+          ]
+    ]
+type-said most own (suc (suc (suc (suc (suc (suc (suc (suc zero))))))) ∷ t) {ty} e = let f = tagged-inv (typeKinds most own) (8 ∷ t) e .1 in let p : ty ≡ MirType.Unit = cc in rw p record { shaped = refl; fits = λ σ. refl }
+type-said most own (suc (suc (suc (suc (suc (suc (suc (suc (suc zero)))))))) ∷ t) {ty} e = let f = tagged-inv (typeKinds most own) (9 ∷ t) e .1 in let p : ty ≡ MirType.Error = cc in rw p record { shaped = refl; fits = λ σ. refl }
+type-said most own (suc (suc (suc (suc (suc (suc (suc (suc (suc (suc zero))))))))) ∷ t) {ty} e = let f = tagged-inv (typeKinds most own) (10 ∷ t) e .1 in let p : ty ≡ MirType.Unknown = cc in rw p record { shaped = refl; fits = λ σ. refl }
+type-said most own (suc (suc (suc (suc (suc (suc (suc (suc (suc (suc (suc a)))))))))) ∷ t) e =
+    absurd (no-ok (tagged-inv (typeKinds most own) (suc (suc (suc (suc (suc (suc (suc (suc (suc (suc (suc a)))))))))) ∷ t) e .1))
+
+-- an element that is there, and one that is not
+some-at : {A : Type 0} (xs : List A) (k : ℕ) (d : A) → k < length xs → getElem? xs k ≡ some (getD xs k d)
+some-at [] k d h = absurd (omega arith)
+some-at (x ∷ xs) zero d h = refl
+some-at (x ∷ xs) (suc k) d h = some-at xs k d (omega arith)
+
+none-at : {A : Type 0} (xs : List A) (k : ℕ) → length xs ≤ k → getElem? xs k ≡ none
+none-at [] k h = refl
+none-at (x ∷ xs) zero h = absurd (omega arith)
+none-at (x ∷ xs) (suc k) h = none-at xs k (omega arith)
+
+-- the row of a type says its facts, and where there is no row nothing is said
+pub row-said : (most many t : ℕ) (s types : List ℕ) (ts : List MirType) → TypesAt most s types ts → length ts ≡ many → Said (getElem? ts t) (drop (cond (ltb t many) (getD types t 0) (length s)) s)
+unfolding shape isScalarizable
+row-said most many t s types ts a m = go (ltb t many) refl
+  where
+    go : (b : B.Bool) → ltb t many ≡ b → Said (getElem? ts t) (drop (cond b (getD types t 0) (length s)) s)
+    go true e = let p : t < length ts = omega (arith, ltb-true t many e) in rw (some-at ts t MirType.Unit p) (type-said most t (drop (getD types t 0) s) (a .each t p))
+    go false e = rw (drop-length s, none-at ts t (omega (arith, ltb-false t many e))) record { shaped = refl; fits = λ σ. refl }
+
+-- the code's way there
+pub shape-found : (most many t : ℕ) (s types : List ℕ) (ts : List MirType) {r at : ℕ} {u : List ℕ} → r ≡ rowShape u → u ≡ drop at s → at ≡ cond (ltb t many) (getD types t 0) (length s) → TypesAt most s types ts → length ts ≡ many → r ≡ shape (getElem? ts t)
+shape-found most many t s types ts e f g a m = e ∙ rw (f, g) (sym (row-said most many t s types ts a m .shaped))
+
+pub eligible-found : (most many t : ℕ) (s types : List ℕ) (ts : List MirType) (σ : Settings) {r : B.Bool} {at : ℕ} {u : List ℕ} → r ≡ rowEligible σ u → u ≡ drop at s → at ≡ cond (ltb t many) (getD types t 0) (length s) → TypesAt most s types ts → length ts ≡ many → r ≡ isScalarizable σ (getElem? ts t)
+eligible-found most many t s types ts σ e f g a m = e ∙ rw (f, g) (sym (row-said most many t s types ts a m .fits σ))
+
+-- a kind that is none of the three
+pub other-kind : {A : Type 0} (d a b c : A) (k : ℕ) → (k ≡ 3 → ⊥) → (k ≡ 4 → ⊥) → (k ≡ 5 → ⊥) → d ≡ getD (d ∷ d ∷ d ∷ a ∷ b ∷ c ∷ []) k d
+other-kind d a b c zero f g h = refl
+other-kind d a b c (suc zero) f g h = refl
+other-kind d a b c (suc (suc zero)) f g h = refl
+other-kind d a b c (suc (suc (suc zero))) f g h = absurd (f refl)
+other-kind d a b c (suc (suc (suc (suc zero)))) f g h = absurd (g refl)
+other-kind d a b c (suc (suc (suc (suc (suc zero))))) f g h = absurd (h refl)
+other-kind d a b c (suc (suc (suc (suc (suc (suc k)))))) f g h = refl

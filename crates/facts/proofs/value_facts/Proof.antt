@@ -1,0 +1,66 @@
+use borrow.Author.Needs.{needs}
+use Rattle.facts.proofs.value_facts.Statement.{statement}
+use Rattle.facts.proofs.value_facts.Tie as tie
+use Prim.Native.Nat.{_-_}
+use Rattle.facts.proofs.Values.{Filling, fill-start, fill-again, fill-done}
+
+abbrev Inv-loop : tie.InvT-loop
+Inv-loop s types many recorded next settings shapes₀ eligible₀ v₀ shapes eligible v = Filling s types many recorded next settings shapes₀ eligible₀ shapes eligible v
+
+abbrev μ-loop : tie.MeasureT-loop
+μ-loop s types many recorded next settings shapes₀ eligible₀ v₀ shapes eligible v = next - v
+
+loop-holds : tie.Need-loop-holds Inv-loop μ-loop
+loop-holds c = fill-start _ _ _ _ _ _ _ _
+
+number-at-requires : tie.Need-number-at-requires Inv-loop μ-loop
+number-at-requires c κs = search needs
+
+recorded-shape-requires : tie.Need-recorded-shape-requires Inv-loop μ-loop
+recorded-shape-requires c κs = search needs
+
+put-shape-requires : tie.Need-put-shape-requires Inv-loop μ-loop
+put-shape-requires c κs = search needs
+
+recorded-eligible-requires : tie.Need-recorded-eligible-requires Inv-loop μ-loop
+recorded-eligible-requires c κs = search needs
+
+put-eligible-requires : tie.Need-put-eligible-requires Inv-loop μ-loop
+put-eligible-requires c κs = search needs
+
+add-v : tie.Need-add-v Inv-loop μ-loop
+add-v c = search needs
+
+loop-less : tie.Need-loop-less Inv-loop μ-loop
+loop-less c = search needs
+
+loop-again : tie.Need-loop-again Inv-loop μ-loop
+loop-again c = let a = c .before .before .before .before .before .before .before .before .before .before .before .before .before .before .before .before .before .before .args in let l = c .before .before .before .before .before .before .before .before .before .before .before .before .loop in fill-again (a .s .now) (a .types .now) (a .many) (a .recorded .now) (a .next) (a .settings) _ _ (l .shapes) (l .eligible) (l .v) _ _ _ _ _ (l .inv) (c .before .before .before .before .before .before .before .before .before .before .before .loop-test .taken) (c .before .before .before .before .before .before .before .before .before .before .number-at .ensures) (c .before .before .before .before .before .before .before .before .recorded-shape .ensures) (c .before .before .before .recorded-eligible .ensures) (c .before .before .before .before .before .before .before .put-shape .ensures) (c .before .before .put-eligible .ensures)
+
+same-length : tie.Need-same-length Inv-loop μ-loop
+same-length c = search needs
+
+same-length-2 : tie.Need-same-length-2 Inv-loop μ-loop
+same-length-2 c = search needs
+
+returns : tie.Need-returns Inv-loop μ-loop
+returns c = let a = c .before .before .before .before .before .before .before .args in let l = c .before .loop in fill-done (a .s .now) (a .types .now) (a .many) (a .recorded .now) (a .next) (a .settings) _ _ (l .shapes) (l .eligible) (l .v) (l .inv) (c .loop-test .left)
+
+pub value-facts-spec : {M : Type 1} → statement M
+value-facts-spec =
+    tie.close
+    (tie.spec
+    Inv-loop
+    μ-loop
+    loop-holds
+    number-at-requires
+    recorded-shape-requires
+    put-shape-requires
+    recorded-eligible-requires
+    put-eligible-requires
+    add-v
+    loop-less
+    loop-again
+    same-length
+    same-length-2
+    returns)

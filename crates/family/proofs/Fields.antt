@@ -1,0 +1,315 @@
+-- Where a copy's source and dest stand, and the base that a Load or Store looks into.
+use Prim.Native.Nat.{ℕ, zero, suc, _+_, _≤_, _<_}
+use mathlib.Core.Path.{_≡_, refl, ap, _∙_, sym}
+use mathlib.Core.List.{List, [], _∷_, map}
+use mathlib.Core.Bool.{Bool, true, false, cond, not}
+use mathlib.Core.Option.{Option, none, some}
+use native.Mathlib.Omega.{arith}
+use native.Mathlib.Nat.{add-comm}
+use borrow.Author.Tests.{ne-eqb}
+use lib.ListN.{length, getD, getElem?, set, drop}
+use lib.Seq.{drop-drop}
+use lib.Dec.{eqb}
+use Rattle.wire.specs.Parse.{Parse, ok, bad, andThen, mapParse}
+use Rattle.wire.specs.Number.{u16Of, u32Of, below, at16}
+use Rattle.wire.specs.Value.{valueOf, valueIdOf, asValue}
+use Rattle.wire.specs.declared.Cause.{Cause}
+use Rattle.wire.specs.declared.ReadValue.{ReadValue}
+use Rattle.wire.specs.declared.TypeId.{TypeId}
+use Rattle.wire.specs.declared.Value.{Value}
+use Rattle.wire.specs.declared.ValueId.{ValueId}
+use Rattle.wire.proofs.Laws.{from-16}
+use Rattle.wire.proofs.Inv.{no-ok, both, image, and-inv, map-inv, checked-inv, number-inv, below-inv}
+use Rattle.form.specs.Syntax.{Projection, Index, Field, Tuple, Place, Instruction, InstructionKind}
+use Rattle.form.specs.Syntax.{Assign, UnaryOp, BinaryOp, Call, Cast, Load, Store, Debug, Nop, Phi}
+use Rattle.form.specs.Syntax.{MakeTuple, ExtractTupleElement, MakeStruct, ExtractStructField, InsertField, InsertTuple, MakeFixedArray, AssertEq, HeapAllocCells}
+use Rattle.form.specs.Reads.{kindNumber}
+use Rattle.form.specs.Decode.{definedOf, typeIdOf, nameIdOf, listOf, projectionOf, instructionOf, assignOf, loadOf, storeOf, insertFieldOf, insertTupleOf}
+use Rattle.form.specs.Decode as decode
+use Rattle.form.specs.declared.Bounds.{Bounds}
+use Rattle.types.specs.Syntax.{MirType}
+use Rattle.types.specs.Index.{TypesAt}
+use Rattle.lookup.specs.Fields.{fieldsPlace, placeSteps}
+use Rattle.lookup.proofs.Instruction.{chosen, KindAt, instruction-fields}
+use Rattle.eligibility.specs.Lookup.{Types, rowOf, shape}
+use Rattle.eligibility.specs.Family.{Marks, placeOf, dynamicFirst}
+use Rattle.family.specs.declared.CopyRead.{CopyRead}
+use Rattle.family.specs.Copies.{Copy, copied, assigned, copyOf, dynamicStep, dynamicPlace, asCopy}
+
+-- a value's number takes two bytes
+id-at : (next : ℕ) (u : List ℕ) {d : ValueId} {m : ℕ} → valueIdOf next u ≡ ok d m → (d .0 ≡ at16 u 0) × (m ≡ 2)
+id-at next u e =
+    elim (map-inv (λ x. record { 0 = x }) (below next u) e) [
+      | image x f g ↦ let k = number-inv 2 u (below-inv next u f .0) in (ap (λ y. y .0) g ∙ k .1 ∙ from-16 u 0, k .2)
+    ]
+
+-- so does one that is defined here
+pub dest-at : (next : ℕ) (seen : List Bool) (u : List ℕ) {d : ValueId} {m : ℕ} → definedOf next seen u ≡ ok d m → (d .0 ≡ at16 u 0) × (m ≡ 2)
+dest-at next seen u e = id-at next u (checked-inv Cause.Redefined (λ d. not (getD seen (d .0) false)) (valueIdOf next u) e .0)
+
+-- a type's number
+type-at : (types : ℕ) (u : List ℕ) {t : TypeId} {m : ℕ} → typeIdOf types u ≡ ok t m → t .0 ≡ at16 u 0
+type-at types u e =
+    elim (map-inv (λ x. record { 0 = x }) (below types u) e) [ image x f g ↦ ap (λ y. y .0) g ∙ number-inv 2 u (below-inv types u f .0) .1 ∙ from-16 u 0 ]
+
+-- the place behind two bytes and m others, found either way
+behind-two : (u : List ℕ) (m : ℕ) → at16 (drop m (drop 2 u)) 0 ≡ at16 (drop m u) 2
+behind-two u m =
+    let e : drop m (drop 2 u) ≡ drop 2 (drop m u) = rw (drop-drop, drop-drop) (ap (λ n. drop n u) (add-comm 2 m)) in
+    sym (from-16 (drop m (drop 2 u)) 0) ∙ rw e (from-16 (drop m u) 2)
+
+-- what stands in an insert, and in an Assign: the value, and the copy
+pub record InsertAt (next : ℕ) (u : List ℕ) (k : InstructionKind) : Type 0 where
+  pub value : Value
+  pub took : ℕ
+  pub read : valueOf next (drop 2 u) ≡ ok value took
+  pub copy : (τ : Types) → copyOf τ k ≡ copied 0 value (at16 u 0)
+
+pub record AssignAt (next : ℕ) (u : List ℕ) (k : InstructionKind) : Type 0 where
+  pub value : Value
+  pub took : ℕ
+  pub read : valueOf next (drop 2 u) ≡ ok value took
+  pub copy : (τ : Types) → copyOf τ k ≡ assigned (shape (rowOf τ (some (record { 0 = at16 (drop took u) 2 })))) value (at16 u 0)
+
+-- a dest, a value, and what is made of both with the rest
+dest-value : {A : Type 0} (b : Bounds) (u : List ℕ) (f : ValueId → Value → List ℕ → Parse A) {a : A} {n : ℕ} (P : A → Type 0) → ((d : ValueId) (x : Value) (m j : ℕ) → d .0 ≡ at16 u 0 → valueOf (b .next) (drop 2 u) ≡ ok x m → f d x (drop m (drop 2 u)) ≡ ok a j → P a) → andThen u (definedOf (b .next) [] u) (λ d s. andThen s (valueOf (b .next) s) (λ x s. f d x s)) ≡ ok a n → P a
+dest-value b u f {a} P g e =
+    elim (and-inv u (definedOf (b .next) [] u) (λ d s. andThen s (valueOf (b .next) s) (λ x s. f d x s)) e) [
+      | both d m j p q r ↦
+          let h = dest-at (b .next) [] u p in
+          elim (and-inv (drop m u) (valueOf (b .next) (drop m u)) (λ x s. f d x s) q) [
+            | both x m2 j2 p2 q2 r2 ↦
+                let z : m ≡ 2 = h .1 in
+                let v : valueOf (b .next) (drop 2 u) ≡ ok x m2 = rw z at p2 in
+                let w : f d x (drop m2 (drop 2 u)) ≡ ok a j2 = rw z at q2 in
+                g d x m2 j2 (h .0) v w
+          ]
+    ]
+
+assign-at : (b : Bounds) (u : List ℕ) {k : InstructionKind} {n : ℕ} → assignOf b [] u ≡ ok k n → AssignAt (b .next) u k
+unfolding assignOf
+assign-at b u {k} e =
+    dest-value b u (λ d x s. mapParse (λ t. Assign d x t) (typeIdOf (b .types) s)) (AssignAt (b .next) u)
+    (λ d x m j p q r.
+    elim (map-inv (λ t. Assign d x t) (typeIdOf (b .types) (drop m (drop 2 u))) r) [
+      | image t f g ↦
+          let z : t .0 ≡ at16 (drop m u) 2 = type-at (b .types) (drop m (drop 2 u)) f ∙ behind-two u m in
+          rw g record { value = x; took = m; read = q; copy = λ τ. rw (← z, ← p) }
+    ])
+    e
+
+insert-field-at : (b : Bounds) (u : List ℕ) {k : InstructionKind} {n : ℕ} → insertFieldOf b [] u ≡ ok k n → InsertAt (b .next) u k
+unfolding insertFieldOf
+insert-field-at b u {k} e =
+    dest-value b u (λ d x s. andThen s (nameIdOf s) (λ n s. andThen s (valueOf (b .next) s) (λ y s. mapParse (λ t. InsertField d x n y t) (typeIdOf (b .types) s)))) (InsertAt (b .next) u)
+    (λ d x m j p q r.
+    let s = drop m (drop 2 u) in
+    elim (and-inv s (nameIdOf s) (λ n s. andThen s (valueOf (b .next) s) (λ y s. mapParse (λ t. InsertField d x n y t) (typeIdOf (b .types) s))) r) [
+      | both n m2 j2 p2 q2 r2 ↦
+          elim (and-inv (drop m2 s) (valueOf (b .next) (drop m2 s)) (λ y s. mapParse (λ t. InsertField d x n y t) (typeIdOf (b .types) s)) q2) [
+            | both y m3 j3 p3 q3 r3 ↦
+                elim (map-inv (λ t. InsertField d x n y t) (typeIdOf (b .types) (drop m3 (drop m2 s))) q3) [ image t f g ↦ rw g record { value = x; took = m; read = q; copy = λ τ. rw (← p) } ]
+          ]
+    ])
+    e
+
+insert-tuple-at : (b : Bounds) (u : List ℕ) {k : InstructionKind} {n : ℕ} → insertTupleOf b [] u ≡ ok k n → InsertAt (b .next) u k
+unfolding insertTupleOf
+insert-tuple-at b u {k} e =
+    dest-value b u (λ d x s. andThen s (u32Of s) (λ n s. andThen s (valueOf (b .next) s) (λ y s. mapParse (λ t. InsertTuple d x n y t) (typeIdOf (b .types) s)))) (InsertAt (b .next) u)
+    (λ d x m j p q r.
+    let s = drop m (drop 2 u) in
+    elim (and-inv s (u32Of s) (λ n s. andThen s (valueOf (b .next) s) (λ y s. mapParse (λ t. InsertTuple d x n y t) (typeIdOf (b .types) s))) r) [
+      | both n m2 j2 p2 q2 r2 ↦
+          elim (and-inv (drop m2 s) (valueOf (b .next) (drop m2 s)) (λ y s. mapParse (λ t. InsertTuple d x n y t) (typeIdOf (b .types) s)) q2) [
+            | both y m3 j3 p3 q3 r3 ↦
+                elim (map-inv (λ t. InsertTuple d x n y t) (typeIdOf (b .types) (drop m3 (drop m2 s))) q3) [ image t f g ↦ rw g record { value = x; took = m; read = q; copy = λ τ. rw (← p) } ]
+          ]
+    ])
+    e
+
+-- what a reader of a value has answered
+pub got-value : {x : ReadValue} {y v : Value} {m n : ℕ} → x ≡ ReadValue.Got y m → asValue x ≡ ok v n → y ≡ v
+got-value {x} {y} {v} {m} {n} p e = let f : ok y m ≡ ok v n = sym (ap asValue p) ∙ e in cc
+
+pub got-size : {x : ReadValue} {y v : Value} {m n : ℕ} → x ≡ ReadValue.Got y m → asValue x ≡ ok v n → m ≡ n
+got-size {x} {y} {v} {m} {n} p e = let f : ok y m ≡ ok v n = sym (ap asValue p) ∙ e in cc
+
+pub got-none : {A : Type 0} {x : ReadValue} {c : Cause} {o n : ℕ} {v : Value} → x ≡ ReadValue.Refused c o → asValue x ≡ ok v n → A
+got-none p e = absurd (no-ok (sym (ap asValue p) ∙ e))
+
+-- an Assign's type, and whether that makes it a copy
+module _ (s types u w : List ℕ) (many : ℕ) (x : ReadValue) (y : Value) (m t k dest : ℕ) (got : x ≡ ReadValue.Got y m) (ew : w ≡ drop m u) (et : t ≡ at16 w 2) (ek : (most : ℕ) (ts : List MirType) → TypesAt most s types ts → length ts ≡ many → k ≡ shape (getElem? ts t)) where
+  shape-of : (most : ℕ) (τ : Types) (v : Value) (n : ℕ) → TypesAt most s types (τ .rows) → length (τ .rows) ≡ many → asValue x ≡ ok v n → k ≡ shape (rowOf τ (some (record { 0 = at16 (drop n u) 2 })))
+  unfolding rowOf
+  shape-of most τ v n a l e = ek most (τ .rows) a l ∙ ap (λ q. shape (getElem? (τ .rows) q)) (et ∙ ap (λ q. at16 q 2) (ew ∙ ap (λ q. drop q u) (got-size got e)))
+
+  pub assigned-none : k ≡ 0 → (most : ℕ) (τ : Types) (v : Value) (n : ℕ) → TypesAt most s types (τ .rows) → length (τ .rows) ≡ many → asValue x ≡ ok v n → none ≡ assigned (shape (rowOf τ (some (record { 0 = at16 (drop n u) 2 })))) v dest
+  assigned-none h most τ v n a l e = ap (λ q. assigned q v dest) (sym h ∙ shape-of most τ v n a l e)
+
+  pub assigned-copied : (k ≡ 0 → ⊥) → (r : CopyRead) → ((v : Value) (n : ℕ) → asValue x ≡ ok v n → asCopy r ≡ copied k v dest) → (most : ℕ) (τ : Types) (v : Value) (n : ℕ) → TypesAt most s types (τ .rows) → length (τ .rows) ≡ many → asValue x ≡ ok v n → asCopy r ≡ assigned (shape (rowOf τ (some (record { 0 = at16 (drop n u) 2 })))) v dest
+  assigned-copied h r f most τ v n a l e =
+      let z : copied k v dest ≡ assigned k v dest = rw (ne-eqb k 0 h) in
+      f v n e ∙ z ∙ ap (λ q. assigned q v dest) (shape-of most τ v n a l e)
+
+-- no other kind copies
+other-copy : (τ : Types) (i : InstructionKind) → (kindNumber i ≡ 0 → ⊥) → (kindNumber i ≡ 14 → ⊥) → (kindNumber i ≡ 15 → ⊥) → none ≡ copyOf τ i
+other-copy τ (Assign d x t) f g h = absurd (f refl)
+other-copy τ (UnaryOp op d x) f g h = refl
+other-copy τ (BinaryOp op d x y) f g h = refl
+other-copy τ (Call ds c xs ps rs) f g h = refl
+other-copy τ (Cast d x t u) f g h = refl
+other-copy τ (Load d p t) f g h = refl
+other-copy τ (Store p x t) f g h = refl
+other-copy τ (Debug n xs) f g h = refl
+other-copy τ Nop f g h = refl
+other-copy τ (Phi d t ss) f g h = refl
+other-copy τ (MakeTuple d xs) f g h = refl
+other-copy τ (ExtractTupleElement d x k t) f g h = refl
+other-copy τ (MakeStruct d fs t) f g h = refl
+other-copy τ (ExtractStructField d x n t) f g h = refl
+other-copy τ (InsertField d x n y t) f g h = absurd (g refl)
+other-copy τ (InsertTuple d x k y t) f g h = absurd (h refl)
+other-copy τ (MakeFixedArray d xs t c) f g h = refl
+other-copy τ (AssertEq x y) f g h = refl
+other-copy τ (HeapAllocCells d x) f g h = refl
+
+-- what copy_at finds: its own fields are u, behind the first of them stands v
+module _ (b : Bounds) (s types : List ℕ) (many : ℕ) (t u v : List ℕ) (fp kind dest : ℕ) (x : ReadValue) (r : CopyRead) (ef : fp ≡ fieldsPlace t) (eu : u ≡ drop fp t) (ed : dest ≡ at16 u 0) (ev : v ≡ drop 2 u) (ex : asValue x ≡ valueOf (b .next) v) (ek : kind ≡ getD t 1 0) where
+  -- the decoder of the kind has read the fields
+  chose : (i : Instruction) (n : ℕ) (e : instructionOf b [] false t ≡ ok i n) (j : ℕ) → kind ≡ j → chosen b [] (getD t 0 0) j u ≡ ok (i .kind) (instruction-fields b [] false t i n e .size)
+  chose i n e j h =
+      let own : u ≡ drop (fieldsPlace t) t = eu ∙ ap (λ a. drop a t) ef in
+      ap (λ a. chosen b [] (getD t 0 0) a u) (sym h ∙ ek) ∙ ap (λ a. chosen b [] (getD t 0 0) (getD t 1 0) a) own ∙ instruction-fields b [] false t i n e .read
+
+  -- its value
+  value-read : {y : Value} {m : ℕ} → valueOf (b .next) (drop 2 u) ≡ ok y m → asValue x ≡ ok y m
+  value-read q = ex ∙ rw ev q
+
+  found-assigned : (τ : Types) (i : InstructionKind) → ((y : Value) (n : ℕ) → asValue x ≡ ok y n → asCopy r ≡ assigned (shape (rowOf τ (some (record { 0 = at16 (drop n u) 2 })))) y dest) → AssignAt (b .next) u i → asCopy r ≡ copyOf τ i
+  found-assigned τ i f k = f (k .value) (k .took) (value-read (k .read)) ∙ rw ed (sym (k .copy τ))
+
+  pub found-assign : kind ≡ 0 → ((most : ℕ) (τ : Types) (y : Value) (n : ℕ) → TypesAt most s types (τ .rows) → length (τ .rows) ≡ many → asValue x ≡ ok y n → asCopy r ≡ assigned (shape (rowOf τ (some (record { 0 = at16 (drop n u) 2 })))) y dest) → (most : ℕ) (τ : Types) (i : Instruction) (n : ℕ) → TypesAt most s types (τ .rows) → length (τ .rows) ≡ many → instructionOf b [] false t ≡ ok i n → asCopy r ≡ copyOf τ (i .kind)
+  found-assign h f most τ i n a m e =
+      found-assigned τ (i .kind) (λ y q. f most τ y q a m) (assign-at b u (chose i n e 0 h))
+
+  found-insert : ((y : Value) (n : ℕ) → asValue x ≡ ok y n → asCopy r ≡ copied 0 y dest) → (τ : Types) (i : InstructionKind) → InsertAt (b .next) u i → asCopy r ≡ copyOf τ i
+  found-insert f τ i k = f (k .value) (k .took) (value-read (k .read)) ∙ rw ed (sym (k .copy τ))
+
+  pub found-field : kind ≡ 14 → ((y : Value) (n : ℕ) → asValue x ≡ ok y n → asCopy r ≡ copied 0 y dest) → (most : ℕ) (τ : Types) (i : Instruction) (n : ℕ) → TypesAt most s types (τ .rows) → length (τ .rows) ≡ many → instructionOf b [] false t ≡ ok i n → asCopy r ≡ copyOf τ (i .kind)
+  found-field h f most τ i n a m e = found-insert f τ (i .kind) (insert-field-at b u (chose i n e 14 h))
+
+  pub found-tuple : kind ≡ 15 → ((y : Value) (n : ℕ) → asValue x ≡ ok y n → asCopy r ≡ copied 0 y dest) → (most : ℕ) (τ : Types) (i : Instruction) (n : ℕ) → TypesAt most s types (τ .rows) → length (τ .rows) ≡ many → instructionOf b [] false t ≡ ok i n → asCopy r ≡ copyOf τ (i .kind)
+  found-tuple h f most τ i n a m e = found-insert f τ (i .kind) (insert-tuple-at b u (chose i n e 15 h))
+
+  pub found-none : (kind ≡ 0 → ⊥) → (kind ≡ 14 → ⊥) → (kind ≡ 15 → ⊥) → (most : ℕ) (τ : Types) (i : Instruction) (n : ℕ) → TypesAt most s types (τ .rows) → length (τ .rows) ≡ many → instructionOf b [] false t ≡ ok i n → none ≡ copyOf τ (i .kind)
+  found-none f g h most τ i n a m e =
+      let k : kindNumber (i .kind) ≡ kind = instruction-fields b [] false t i n e .numbered ∙ sym ek in
+      other-copy τ (i .kind) (λ z. f (sym k ∙ z)) (λ z. g (sym k ∙ z)) (λ z. h (sym k ∙ z))
+
+-- the first step of a place
+first-step : (ps : List Projection) → dynamicStep (getElem? ps 0) ≡ dynamicFirst ps
+unfolding dynamicFirst
+first-step [] = refl
+first-step (Index x ∷ ps) = refl
+first-step (Field n ∷ ps) = refl
+first-step (Tuple k ∷ ps) = refl
+
+-- a Load's base stands behind its dest, a Store's at the front
+load-base : (b : Bounds) (u : List ℕ) {d : ValueId} {p : Place} {t : TypeId} {n : ℕ} → loadOf b [] u ≡ ok (Load d p t) n → p .base .0 ≡ at16 u 2
+unfolding loadOf
+load-base b u {d} {p} {t} e =
+    elim (and-inv u (definedOf (b .next) [] u) (λ d s. andThen s (decode.placeOf b s) (λ p s. mapParse (λ t. Load d p t) (typeIdOf (b .types) s))) e) [
+      | both d′ m j f q r ↦
+          let s = drop m u in
+          elim (and-inv s (decode.placeOf b s) (λ p s. mapParse (λ t. Load d′ p t) (typeIdOf (b .types) s)) q) [
+            | both p′ m2 j2 f2 q2 r2 ↦
+                elim (map-inv (λ t. Load d′ p′ t) (typeIdOf (b .types) (drop m2 s)) q2) [
+                  | image t′ f3 g ↦
+                      let z : p ≡ p′ = cc in
+                      elim (and-inv s (valueIdOf (b .next) s) (λ v t. mapParse (λ ps. record { base = v; projections = ps }) (listOf (b .projections) (projectionOf (b .next)) t)) f2) [
+                        | both v m4 j4 f4 q4 r4 ↦
+                            elim (map-inv (λ ps. record { base = v; projections = ps }) (listOf (b .projections) (projectionOf (b .next)) (drop m4 s)) q4) [
+                              | image ps f5 g5 ↦
+                                  ap (λ y. y .base .0) (z ∙ g5) ∙ id-at (b .next) s f4 .0 ∙ sym (from-16 s 0) ∙ rw (dest-at (b .next) [] u f .1) (from-16 u 2)
+                            ]
+                      ]
+                ]
+          ]
+    ]
+
+store-base : (b : Bounds) (u : List ℕ) {p : Place} {x : Value} {t : TypeId} {n : ℕ} → storeOf b [] u ≡ ok (Store p x t) n → p .base .0 ≡ at16 u 0
+unfolding storeOf
+store-base b u {p} {x} {t} e =
+    elim (and-inv u (decode.placeOf b u) (λ p s. andThen s (valueOf (b .next) s) (λ x s. mapParse (λ t. Store p x t) (typeIdOf (b .types) s))) e) [
+      | both p′ m j f q r ↦
+          elim (and-inv (drop m u) (valueOf (b .next) (drop m u)) (λ x s. mapParse (λ t. Store p′ x t) (typeIdOf (b .types) s)) q) [
+            | both x′ m2 j2 f2 q2 r2 ↦
+                elim (map-inv (λ t. Store p′ x′ t) (typeIdOf (b .types) (drop m2 (drop m u))) q2) [
+                  | image t′ f3 g ↦
+                      let z : p ≡ p′ = cc in
+                      elim (and-inv u (valueIdOf (b .next) u) (λ v t. mapParse (λ ps. record { base = v; projections = ps }) (listOf (b .projections) (projectionOf (b .next)) t)) f) [
+                        | both v m4 j4 f4 q4 r4 ↦
+                            elim (map-inv (λ ps. record { base = v; projections = ps }) (listOf (b .projections) (projectionOf (b .next)) (drop m4 u)) q4) [ image ps f5 g5 ↦ ap (λ y. y .base .0) (z ∙ g5) ∙ id-at (b .next) u f4 .0 ]
+                      ]
+                ]
+          ]
+    ]
+
+-- a kind with such a step is one of the two
+dynamic-kind : (b : Bounds) (d : Marks) (u : List ℕ) (x j : ℕ) (i : InstructionKind) (n : ℕ) → chosen b [] x j u ≡ ok i n → kindNumber i ≡ j → dynamicStep (getElem? (placeSteps i) 0) ≡ true → (base : ℕ) → base ≡ at16 u (cond (eqb j 5) 2 0) → set d base true ≡ dynamicPlace d (placeOf i)
+unfolding placeOf
+dynamic-kind b d u x j (Load e p t) n r k h base f = let z : chosen b [] x 5 u ≡ ok (Load e p t) n = rw (← k) at r in let y : base ≡ p .base .0 = f ∙ rw (← k) (sym (load-base b u z)) in rw (← first-step (p .projections), h, y)
+dynamic-kind b d u x j (Store p v t) n r k h base f = let z : chosen b [] x 6 u ≡ ok (Store p v t) n = rw (← k) at r in let y : base ≡ p .base .0 = f ∙ rw (← k) (sym (store-base b u z)) in rw (← first-step (p .projections), h, y)
+dynamic-kind b d u x j (Assign e v t) n r k h base f = absurd (let z : _≡_ {A = ℕ} 0 1 = cc in omega arith)
+dynamic-kind b d u x j (UnaryOp op e v) n r k h base f = absurd (let z : _≡_ {A = ℕ} 0 1 = cc in omega arith)
+dynamic-kind b d u x j (BinaryOp op e v w) n r k h base f = absurd (let z : _≡_ {A = ℕ} 0 1 = cc in omega arith)
+dynamic-kind b d u x j (Call es c vs ps rs) n r k h base f = absurd (let z : _≡_ {A = ℕ} 0 1 = cc in omega arith)
+dynamic-kind b d u x j (Cast e v t w) n r k h base f = absurd (let z : _≡_ {A = ℕ} 0 1 = cc in omega arith)
+dynamic-kind b d u x j (Debug m vs) n r k h base f = absurd (let z : _≡_ {A = ℕ} 0 1 = cc in omega arith)
+dynamic-kind b d u x j Nop n r k h base f = absurd (let z : _≡_ {A = ℕ} 0 1 = cc in omega arith)
+dynamic-kind b d u x j (Phi e t ss) n r k h base f = absurd (let z : _≡_ {A = ℕ} 0 1 = cc in omega arith)
+dynamic-kind b d u x j (MakeTuple e vs) n r k h base f = absurd (let z : _≡_ {A = ℕ} 0 1 = cc in omega arith)
+dynamic-kind b d u x j (ExtractTupleElement e v m t) n r k h base f = absurd (let z : _≡_ {A = ℕ} 0 1 = cc in omega arith)
+dynamic-kind b d u x j (MakeStruct e fs t) n r k h base f = absurd (let z : _≡_ {A = ℕ} 0 1 = cc in omega arith)
+dynamic-kind b d u x j (ExtractStructField e v m t) n r k h base f = absurd (let z : _≡_ {A = ℕ} 0 1 = cc in omega arith)
+dynamic-kind b d u x j (InsertField e v m w t) n r k h base f = absurd (let z : _≡_ {A = ℕ} 0 1 = cc in omega arith)
+dynamic-kind b d u x j (InsertTuple e v m w t) n r k h base f = absurd (let z : _≡_ {A = ℕ} 0 1 = cc in omega arith)
+dynamic-kind b d u x j (MakeFixedArray e vs t c) n r k h base f = absurd (let z : _≡_ {A = ℕ} 0 1 = cc in omega arith)
+dynamic-kind b d u x j (AssertEq v w) n r k h base f = absurd (let z : _≡_ {A = ℕ} 0 1 = cc in omega arith)
+dynamic-kind b d u x j (HeapAllocCells e v) n r k h base f = absurd (let z : _≡_ {A = ℕ} 0 1 = cc in omega arith)
+
+-- without such a step nothing is noted
+static-kind : (d : Marks) (i : InstructionKind) → dynamicStep (getElem? (placeSteps i) 0) ≡ false → d ≡ dynamicPlace d (placeOf i)
+unfolding placeOf
+static-kind d (Load e p t) h = rw (← first-step (p .projections), h)
+static-kind d (Store p v t) h = rw (← first-step (p .projections), h)
+static-kind d (Assign e v t) h = refl
+static-kind d (UnaryOp op e v) h = refl
+static-kind d (BinaryOp op e v w) h = refl
+static-kind d (Call es c vs ps rs) h = refl
+static-kind d (Cast e v t w) h = refl
+static-kind d (Debug m vs) h = refl
+static-kind d Nop h = refl
+static-kind d (Phi e t ss) h = refl
+static-kind d (MakeTuple e vs) h = refl
+static-kind d (ExtractTupleElement e v m t) h = refl
+static-kind d (MakeStruct e fs t) h = refl
+static-kind d (ExtractStructField e v m t) h = refl
+static-kind d (InsertField e v m w t) h = refl
+static-kind d (InsertTuple e v m w t) h = refl
+static-kind d (MakeFixedArray e vs t c) h = refl
+static-kind d (AssertEq v w) h = refl
+static-kind d (HeapAllocCells e v) h = refl
+
+-- what note_dynamic finds
+module _ (b : Bounds) (t : List ℕ) (d : Marks) (r : Bool) (e : (i : Instruction) (n : ℕ) → instructionOf b [] false t ≡ ok i n → r ≡ dynamicStep (getElem? (placeSteps (i .kind)) 0)) where
+  pub noted-static : r ≡ false → (i : Instruction) (n : ℕ) → instructionOf b [] false t ≡ ok i n → d ≡ dynamicPlace d (placeOf (i .kind))
+  noted-static h i n f = static-kind d (i .kind) (sym (e i n f) ∙ h)
+
+  pub noted-dynamic : r ≡ true → (u : List ℕ) (fp kind at base : ℕ) → fp ≡ fieldsPlace t → u ≡ drop fp t → kind ≡ getD t 1 0 → at ≡ cond (eqb kind 5) 2 0 → base ≡ at16 u at → {m : Marks} → m ≡ set d base true → (i : Instruction) (n : ℕ) → instructionOf b [] false t ≡ ok i n → m ≡ dynamicPlace d (placeOf (i .kind))
+  noted-dynamic h u fp kind at base ef eu ek ea eb em i n f =
+      let k = instruction-fields b [] false t i n f in
+      let own : u ≡ drop (fieldsPlace t) t = eu ∙ ap (λ a. drop a t) ef in
+      let read = ap (λ a. chosen b [] (getD t 0 0) a u) ek ∙ ap (λ a. chosen b [] (getD t 0 0) (getD t 1 0) a) own ∙ k .read in
+      em ∙ dynamic-kind b d u (getD t 0 0) kind (i .kind) (k .size) read (k .numbered ∙ sym ek) (sym (e i n f) ∙ h) base (eb ∙ ap (λ q. at16 u q) ea)

@@ -1,0 +1,128 @@
+-- The sweeps of the code, one copy after another, one round after another.
+use Prim.Native.Nat.{ℕ, zero, suc, _+_, _-_, _≤_, _<_, zero-le}
+use mathlib.Core.Path.{_≡_, refl, ap, _∙_, sym}
+use mathlib.Core.List.{List, [], _∷_}
+use mathlib.Core.Bool.{Bool, true, false, cond, not, _||_}
+use native.Mathlib.Numerals.{add-one}
+use native.Mathlib.Nat.{sub-zero}
+use native.Mathlib.Omega.{arith}
+use borrow.Author.Tests.{not-true, not-false}
+use lib.ListN.{length, getD, set, drop, replicate, length-set}
+use lib.Seq.{drop-cons, drop-length}
+use lib.Dec.{eqb}
+use Rattle.wire.specs.declared.ValueId.{ValueId}
+use Rattle.form.specs.Syntax.{Instruction}
+use Rattle.eligibility.specs.Lookup.{Types, valueRow, shape}
+use Rattle.eligibility.specs.Family.{Marks, mark, family}
+use Rattle.family.specs.Copies.{Copy, copies, copyAt, noCopy, CopiesAt, joining, joinAll, rounds}
+use Rattle.family.proofs.Sweeps.{family-copies, rounds-still}
+
+-- a mark that stands already
+pub set-still : (m : Marks) (v : ℕ) → getD m v false ≡ true → set m v true ≡ m
+set-still [] v h = refl
+set-still (a ∷ m) zero h = ap (λ x. x ∷ m) (sym h)
+set-still (a ∷ m) (suc v) h = ap (λ x. a ∷ x) (set-still m v h)
+
+-- what copy k does, by what the code asks: w is the shape it asks for, r whether that is the root's
+module _ (root : ℕ) (m : Marks) (sources dests asked : List ℕ) (k : ℕ) (w : ℕ) (r : Bool) (ew : w ≡ getD asked k 0) (er : r ≡ (eqb w 0 || eqb w root)) where
+  asks : (eqb (getD asked k 0) 0 || eqb (getD asked k 0) root) ≡ r
+  asks = ap (λ x. eqb x 0 || eqb x root) (sym ew) ∙ sym er
+
+  pub join-unasked : not r ≡ true → m ≡ joining root m (copyAt sources dests asked k)
+  unfolding joining
+  join-unasked h = rw (asks ∙ not-true r h)
+
+  -- v is its source, q whether that is a member
+  module _ (v : ℕ) (q : Bool) (ev : v ≡ getD sources k 0) (eq : q ≡ getD m v false) (h : not r ≡ false) where
+    inside : getD m (getD sources k 0) false ≡ q
+    inside = ap (λ x. getD m x false) (sym ev) ∙ sym eq
+
+    pub join-outside : not q ≡ true → m ≡ joining root m (copyAt sources dests asked k)
+    unfolding joining
+    join-outside g = rw (asks ∙ not-false r h, inside ∙ not-true q g)
+
+    -- d is its dest, p whether that is one
+    module _ (d : ℕ) (p : Bool) (ed : d ≡ getD dests k 0) (ep : p ≡ getD m d false) (g : not q ≡ false) where
+      pub join-new : {n : Marks} → n ≡ set m d true → n ≡ joining root m (copyAt sources dests asked k)
+      unfolding joining
+      join-new e = rw (asks ∙ not-false r h, inside ∙ not-false q g, ← ed) e
+
+      pub join-known : p ≡ true → m ≡ joining root m (copyAt sources dests asked k)
+      join-known e = join-new (sym (set-still m d (sym ep ∙ e)))
+
+-- k copies of a sweep are behind
+pub record Sweeping (sources dests asked : List ℕ) (count root : ℕ) (m₀ m : Marks) (changed : Bool) (k : ℕ) : Type 0 where
+  pub under : k ≤ count
+  pub long : length m ≡ length m₀
+  pub left : (cs : List Copy) → CopiesAt sources dests asked count cs → joinAll root m₀ cs ≡ joinAll root m (drop k cs)
+  pub still : changed ≡ false → m ≡ m₀
+
+pub sweep-start : (sources dests asked : List ℕ) (count root : ℕ) (m : Marks) → Sweeping sources dests asked count root m m false 0
+sweep-start sources dests asked count root m = record { under = zero-le; long = refl; left = λ cs a. refl; still = λ h. refl }
+
+pub sweep-again : (sources dests asked : List ℕ) (count root : ℕ) (m₀ m m′ : Marks) (changed new next : Bool) (k : ℕ) → Sweeping sources dests asked count root m₀ m changed k → k < count → m′ ≡ joining root m (copyAt sources dests asked k) → (new ≡ false → m′ ≡ m) → length m′ ≡ length m → next ≡ (changed || new) → Sweeping sources dests asked count root m₀ m′ next (k + 1)
+unfolding joinAll
+sweep-again sources dests asked count root m₀ m m′ changed new next k u h e f l g =
+    record {
+      under = omega arith;
+      long = l ∙ u .long;
+      left = λ cs a.
+          let p : k < length cs = omega (arith, a .many) in
+          let q : drop k cs ≡ copyAt sources dests asked k ∷ drop (k + 1) cs = rw (add-one k, a .each k h) (drop-cons cs k noCopy p) in
+          u .left cs a ∙ ap (λ x. joinAll root m x) q ∙ ap (λ x. joinAll root x (drop (k + 1) cs)) (sym e);
+      still = λ z. go changed new (sym g ∙ z) f (u .still);
+    }
+  where
+    go : (a b : Bool) → (a || b) ≡ false → (b ≡ false → m′ ≡ m) → (a ≡ false → m ≡ m₀) → m′ ≡ m₀
+    go true b z p q = absurd (let w : _≡_ {A = ℕ} 0 1 = cc in omega arith)
+    go false b z p q = p z ∙ q refl
+
+pub sweep-done : (sources dests asked : List ℕ) (count root : ℕ) (m₀ m : Marks) (changed : Bool) (k : ℕ) → Sweeping sources dests asked count root m₀ m changed k → count ≤ k → (cs : List Copy) → CopiesAt sources dests asked count cs → m ≡ joinAll root m₀ cs
+unfolding joinAll
+sweep-done sources dests asked count root m₀ m changed k u h cs a =
+    let q : k ≡ length cs = omega (arith, u .under, a .many) in
+    sym (u .left cs a ∙ ap (λ x. joinAll root m (drop x cs)) q ∙ ap (λ x. joinAll root m x) (drop-length cs))
+
+-- k rounds are behind
+pub record Rounding (sources dests asked : List ℕ) (count root many : ℕ) (m₀ m : Marks) (k : ℕ) : Type 0 where
+  pub under : k ≤ many
+  pub long : length m ≡ length m₀
+  pub left : (cs : List Copy) → CopiesAt sources dests asked count cs → rounds root many m₀ cs ≡ rounds root (many - k) m cs
+
+pub round-start : (sources dests asked : List ℕ) (count root many : ℕ) (m : Marks) → Rounding sources dests asked count root many m m 0
+round-start sources dests asked count root many m = record { under = zero-le; long = refl; left = λ cs a. rw sub-zero }
+
+pub round-again : (sources dests asked : List ℕ) (count root many : ℕ) (m₀ m m′ : Marks) (k : ℕ) → Rounding sources dests asked count root many m₀ m k → k < many → ((cs : List Copy) → CopiesAt sources dests asked count cs → m′ ≡ joinAll root m cs) → length m′ ≡ length m → Rounding sources dests asked count root many m₀ m′ (k + 1)
+unfolding rounds
+round-again sources dests asked count root many m₀ m m′ k u h f l =
+    record {
+      under = omega arith;
+      long = l ∙ u .long;
+      left = λ cs a.
+          let z : many - k ≡ suc (many - (k + 1)) = omega arith in
+          u .left cs a ∙ ap (λ x. rounds root x m cs) z ∙ ap (λ x. rounds root (many - (k + 1)) x cs) (sym (f cs a));
+    }
+
+-- what the code promises of all rounds, where m₀ are the marks with the root's
+abbrev FamilyMade : List ℕ → List ℕ → List ℕ → ℕ → ℕ → ℕ → ValueId → Marks → Marks → Type 0
+FamilyMade sources dests asked count many root v clear m = (τ : Types) (is : List Instruction) → CopiesAt sources dests asked count (copies τ is) → length is ≡ many → root ≡ shape (valueRow τ v) → clear ≡ replicate (length (τ .recorded)) false → m ≡ family τ v is
+
+made : (sources dests asked : List ℕ) (count root many : ℕ) (v : ValueId) (clear m₀ m : Marks) → m₀ ≡ set clear (v .0) true → ((cs : List Copy) → CopiesAt sources dests asked count cs → m ≡ rounds root many m₀ cs) → FamilyMade sources dests asked count many root v clear m
+made sources dests asked count root many v clear m₀ m e f τ is a l s c =
+    let z : m₀ ≡ mark (replicate (length (τ .recorded)) false) v = e ∙ ap (λ x. set x (v .0) true) c in
+    f (copies τ is) a ∙ ap (λ x. rounds root many x (copies τ is)) z ∙ ap (λ x. rounds x many (mark (replicate (length (τ .recorded)) false) v) (copies τ is)) s ∙ ap (λ x. rounds (shape (valueRow τ v)) x (mark (replicate (length (τ .recorded)) false) v) (copies τ is)) (sym l) ∙ sym (family-copies τ v is)
+
+-- all rounds are behind
+pub round-done : (sources dests asked : List ℕ) (count root many : ℕ) (v : ValueId) (clear m₀ m : Marks) (k : ℕ) → m₀ ≡ set clear (v .0) true → Rounding sources dests asked count root many m₀ m k → many ≤ k → FamilyMade sources dests asked count many root v clear m
+unfolding rounds
+round-done sources dests asked count root many v clear m₀ m k e u h =
+    made sources dests asked count root many v clear m₀ m e (λ cs a. let z : many - k ≡ 0 = omega arith in sym (u .left cs a ∙ ap (λ x. rounds root x m cs) z))
+
+-- a round has changed nothing: no further one would
+pub round-still : (sources dests asked : List ℕ) (count root many : ℕ) (v : ValueId) (clear m₀ m m′ : Marks) (k : ℕ) → m₀ ≡ set clear (v .0) true → Rounding sources dests asked count root many m₀ m k → ((cs : List Copy) → CopiesAt sources dests asked count cs → m′ ≡ joinAll root m cs) → m′ ≡ m → FamilyMade sources dests asked count many root v clear m′
+round-still sources dests asked count root many v clear m₀ m m′ k e u f g =
+    made sources dests asked count root many v clear m₀ m′ e (λ cs a. g ∙ sym (u .left cs a ∙ rounds-still root (many - k) m cs (sym (f cs a) ∙ g)))
+
+-- true is not false
+pub not-both : {A : Type 0} → true ≡ false → A
+not-both e = absurd (let z : _≡_ {A = ℕ} 0 1 = cc in omega arith)

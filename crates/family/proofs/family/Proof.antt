@@ -1,0 +1,59 @@
+use borrow.Author.Needs.{needs}
+use Rattle.family.proofs.family.Statement.{statement}
+use Rattle.family.proofs.family.Tie as tie
+use Prim.Native.Nat.{_-_}
+use borrow.Author.Tests.{not-true}
+use Rattle.family.proofs.Members.{Rounding, round-start, round-again, round-done, round-still}
+
+abbrev Inv-loop : tie.InvT-loop
+Inv-loop sources dests asked count instructions shape marks₀ k₀ marks k = Rounding sources dests asked count shape instructions marks₀ marks k
+
+abbrev μ-loop : tie.MeasureT-loop
+μ-loop sources dests asked count instructions shape marks₀ k₀ marks k = instructions - k
+
+mark-requires : tie.Need-mark-requires Inv-loop μ-loop
+mark-requires c κs = search needs
+
+loop-holds : tie.Need-loop-holds Inv-loop μ-loop
+loop-holds c = round-start _ _ _ _ _ _ _
+
+sweep-requires : tie.Need-sweep-requires Inv-loop μ-loop
+sweep-requires c κs = search needs
+
+same-length : tie.Need-same-length Inv-loop μ-loop
+same-length c = search needs
+
+returns : tie.Need-returns Inv-loop μ-loop
+returns c = let a = c .before .before .before .before .before .before .before .before .before .before .before .before .before .before .before .args in let l = c .before .before .before .before .before .before .loop in round-still (a .sources .now) (a .dests .now) (a .asked .now) (a .count) (a .shape) (a .instructions) (a .v) (a .marks .now) _ (l .marks) _ (l .k) (c .before .before .before .before .before .before .before .before .before .mark .ensures) (l .inv) (c .before .before .before .sweep .ensures .0) (c .before .before .before .sweep .ensures .1 (not-true _ (c .if1 .taken)))
+
+add-k : tie.Need-add-k Inv-loop μ-loop
+add-k c = search needs
+
+loop-less : tie.Need-loop-less Inv-loop μ-loop
+loop-less c = search needs
+
+loop-again : tie.Need-loop-again Inv-loop μ-loop
+loop-again c = let a = c .before .before .before .before .before .before .before .before .before .before .before .before .before .before .before .args in let l = c .before .before .before .before .before .before .loop in round-again (a .sources .now) (a .dests .now) (a .asked .now) (a .count) (a .shape) (a .instructions) _ (l .marks) _ (l .k) (l .inv) (c .before .before .before .before .before .loop-test .taken) (c .before .before .before .sweep .ensures .0) (c .before .before .before .sweep .kept .1 .1 .1 .1 .1 .0)
+
+same-length-2 : tie.Need-same-length-2 Inv-loop μ-loop
+same-length-2 c = search needs
+
+returns-2 : tie.Need-returns-2 Inv-loop μ-loop
+returns-2 c = let a = c .before .before .before .before .before .before .before .before .before .before .args in let l = c .before .loop in round-done (a .sources .now) (a .dests .now) (a .asked .now) (a .count) (a .shape) (a .instructions) (a .v) (a .marks .now) _ (l .marks) (l .k) (c .before .before .before .before .mark .ensures) (l .inv) (c .loop-test .left)
+
+pub family-spec : {M : Type 1} → statement M
+family-spec =
+    tie.close
+    (tie.spec
+    Inv-loop
+    μ-loop
+    mark-requires
+    loop-holds
+    sweep-requires
+    same-length
+    returns
+    add-k
+    loop-less
+    loop-again
+    same-length-2
+    returns-2)

@@ -1,0 +1,57 @@
+use borrow.Author.Needs.{needs}
+use Rattle.family.proofs.note_copy.Statement.{statement}
+use Rattle.family.proofs.note_copy.Tie as tie
+use native.Mathlib.Omega.{arith}
+use mathlib.Core.Path.{ap, sym, _∙_}
+use mathlib.Core.List.{[], _++_}
+use Rattle.family.specs.Copies.{before, asCopy}
+use Rattle.family.proofs.Scan.{copies-same, copies-more}
+
+enum-told : tie.Need-enum-told
+enum-told c = search needs
+
+enum-known-c : tie.Need-enum-known-c
+enum-known-c c = search needs
+
+put-number-requires : tie.Need-put-number-requires
+put-number-requires c κs = search needs
+
+put-number-requires-2 : tie.Need-put-number-requires-2
+put-number-requires-2 c κs = search needs
+
+put-shape-requires : tie.Need-put-shape-requires
+put-shape-requires c κs = search needs
+
+add-result : tie.Need-add-result
+add-result c = search needs
+
+returns : tie.Need-returns
+returns c = let a = c .before .before .before .before .before .args in (omega arith, λ cs h x y z. rw (c .enum-told .given .1) (copies-same _ _ _ _ cs h))
+
+same-length : tie.Need-same-length
+same-length c = search needs
+
+same-length-2 : tie.Need-same-length-2
+same-length-2 c = search needs
+
+same-length-3 : tie.Need-same-length-3
+same-length-3 c = search needs
+
+returns-2 : tie.Need-returns-2
+returns-2 c = let a = c .before .before .before .before .before .before .before .before .before .before .before .before .before .before .before .before .before .before .args in (omega arith, λ cs h x y z. rw (c .before .before .before .before .before .before .before .before .before .before .before .before .before .c .given .1) (copies-more (a .sources .now) (a .dests .now) (a .asked .now) (a .n) cs _ (c .before .before .before .before .before .before .before .before .before .before .put-number .ensures) (c .before .before .before .before .before .before .put-number2 .ensures) (c .before .before .put-shape .ensures) h x y z))
+
+pub note-copy-spec : {M : Type 1} → statement M
+note-copy-spec =
+    tie.close
+    (tie.spec
+    enum-told
+    enum-known-c
+    put-number-requires
+    put-number-requires-2
+    put-shape-requires
+    add-result
+    returns
+    same-length
+    same-length-2
+    same-length-3
+    returns-2)

@@ -1,0 +1,50 @@
+use borrow.Author.Needs.{needs}
+use Rattle.family.proofs.sweep.Statement.{statement}
+use Rattle.family.proofs.sweep.Tie as tie
+use Prim.Native.Nat.{_-_}
+use Rattle.family.proofs.Members.{Sweeping, sweep-start, sweep-again, sweep-done}
+
+abbrev Inv-loop : tie.InvT-loop
+Inv-loop sources dests asked count shape marks₀ changed₀ k₀ marks changed k = Sweeping sources dests asked count shape marks₀ marks changed k
+
+abbrev μ-loop : tie.MeasureT-loop
+μ-loop sources dests asked count shape marks₀ changed₀ k₀ marks changed k = count - k
+
+loop-holds : tie.Need-loop-holds Inv-loop μ-loop
+loop-holds c = sweep-start _ _ _ _ _ _
+
+join-requires : tie.Need-join-requires Inv-loop μ-loop
+join-requires c κs = search needs
+
+either-requires : tie.Need-either-requires Inv-loop μ-loop
+either-requires c κs = search needs
+
+add-k : tie.Need-add-k Inv-loop μ-loop
+add-k c = search needs
+
+loop-less : tie.Need-loop-less Inv-loop μ-loop
+loop-less c = search needs
+
+loop-again : tie.Need-loop-again Inv-loop μ-loop
+loop-again c = let a = c .before .before .before .before .before .before .before .before .before .before .before .args in let l = c .before .before .before .before .before .before .loop in sweep-again (a .sources .now) (a .dests .now) (a .asked .now) (a .count) (a .shape) _ (l .marks) _ (l .changed) _ _ (l .k) (l .inv) (c .before .before .before .before .before .loop-test .taken) (c .before .before .before .join .ensures .0) (c .before .before .before .join .ensures .1) (c .before .before .before .join .kept .1 .1 .1 .1 .1 .0) (c .either .ensures)
+
+same-length : tie.Need-same-length Inv-loop μ-loop
+same-length c = search needs
+
+returns : tie.Need-returns Inv-loop μ-loop
+returns c = let a = c .before .before .before .before .before .before .args in let l = c .before .loop in (sweep-done (a .sources .now) (a .dests .now) (a .asked .now) (a .count) (a .shape) _ (l .marks) (l .changed) (l .k) (l .inv) (c .loop-test .left), l .inv .still)
+
+pub sweep-spec : {M : Type 1} → statement M
+sweep-spec =
+    tie.close
+    (tie.spec
+    Inv-loop
+    μ-loop
+    loop-holds
+    join-requires
+    either-requires
+    add-k
+    loop-less
+    loop-again
+    same-length
+    returns)

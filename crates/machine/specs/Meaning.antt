@@ -1,0 +1,44 @@
+-- What document 01 leaves open, as one record: "Scalar operations have any fixed meaning." A run takes any such record.
+use Prim.Native.Nat.{ℕ}
+use mathlib.Core.Path.{_≡_}
+use mathlib.Core.Bool.{Bool}
+use mathlib.Core.Option.{Option, none, some}
+use mathlib.Core.List.{List}
+use Rattle.wire.specs.declared.TypeId.{TypeId}
+use Rattle.wire.specs.declared.Literal.{Literal}
+use Rattle.wire.specs.declared.Value.{Value}
+use Rattle.types.specs.Syntax.{MirType}
+use Rattle.eligibility.specs.Lookup.{asConstInteger}
+use Rattle.machine.specs.Values.{Val}
+
+-- what an operation answers: a value, a stop with a cause of its own, or that its result is the next reply
+pub data Answer (A : Type 0) : Type 0 where
+  gives : Val A → Answer A
+  fails : ℕ → Answer A
+  asks : Answer A
+
+-- what a comparison says, or a cause of its own
+pub data Verdict : Type 0 where
+  says : Bool → Verdict
+  balks : ℕ → Verdict
+
+-- what is taken from the outside list for a value of a type: a value and the list that is left, or none of that type, or
+-- nothing is left
+pub data Taken (A : Type 0) : Type 0 where
+  took : Val A → List (Val A) → Taken A
+  refuses : Taken A
+  exhausted : Taken A
+
+-- all that is left open; demand 3 is for every one. Its one law: an Index literal names the part of its number
+pub record Meaning (A : Type 0) : Type 0 where
+  pub literal : Literal → Option MirType → Val A  -- a literal, where it stands at a type
+  pub unary : ℕ → Option MirType → Val A → Answer A  -- by the operation and the type of the dest
+  pub binary : ℕ → Option MirType → Val A → Val A → Answer A
+  pub cast : Option MirType → Option MirType → Val A → Answer A  -- by the two named types
+  pub truth : Val A → Bool  -- of If
+  pub compare : ℕ → Val A → Val A → Verdict  -- of BranchCmp
+  pub same : A → A → Bool  -- equal scalars
+  pub position : Val A → Option ℕ  -- the part that an Index value names
+  pub literal-position : (l : Literal) (k : ℕ) → asConstInteger (Value.Literal l) ≡ some k → position (literal l none) ≡ some k
+  pub take : List MirType → Option TypeId → List (Val A) → Taken A  -- "a reply or parameter .. of its recorded type"
+  pub debug : Bool  -- whether Debug is recorded

@@ -1,0 +1,1 @@
+// The machine of document 01 is a definition: see specs.

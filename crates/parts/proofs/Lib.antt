@@ -1,0 +1,4 @@
+pub mod Tables
+pub mod Loops
+pub mod ByName
+pub mod Builds

@@ -1,0 +1,52 @@
+use Rattle.parts.proofs.clear.Statement.{statement}
+use Rattle.parts.proofs.clear.Tie as tie
+use borrow.Author.Needs.{needs}
+use Prim.Native.Nat.{_-_}
+use lib.ListN.{length}
+use Rattle.parts.proofs.Tables.{rep-clear}
+use Rattle.parts.proofs.Loops.{Cleared, clearing, cleared-more, cleared-all}
+
+abbrev Inv-loop : tie.InvT-loop
+Inv-loop counts₀ i₀ counts i = Cleared counts₀ counts i
+
+abbrev μ-loop : tie.MeasureT-loop
+μ-loop counts₀ i₀ counts i = length counts₀ - i
+
+loop-holds : tie.Need-loop-holds Inv-loop μ-loop
+loop-holds c = clearing _
+
+mul-counts : tie.Need-mul-counts Inv-loop μ-loop
+mul-counts c = search needs
+
+slice-write-counts : tie.Need-slice-write-counts Inv-loop μ-loop
+slice-write-counts c = search needs
+
+add-i : tie.Need-add-i Inv-loop μ-loop
+add-i c = search needs
+
+loop-less : tie.Need-loop-less Inv-loop μ-loop
+loop-less c = search needs
+
+loop-again : tie.Need-loop-again Inv-loop μ-loop
+loop-again c = cleared-more (c .before .loop .inv) (c .loop-test .taken)
+
+same-length : tie.Need-same-length Inv-loop μ-loop
+same-length c = c .before .loop .inv .size
+
+returns : tie.Need-returns Inv-loop μ-loop
+returns c = λ next s firsts pool used h. rep-clear (cleared-all (c .before .loop .inv) (c .loop-test .left)) h
+
+pub clear-spec : {M : Type 1} → statement M
+clear-spec =
+    tie.close
+    (tie.spec
+    Inv-loop
+    μ-loop
+    loop-holds
+    mul-counts
+    slice-write-counts
+    add-i
+    loop-less
+    loop-again
+    same-length
+    returns)

@@ -1,0 +1,83 @@
+use borrow.Author.Needs.{needs}
+use Rattle.parts.proofs.put_named.Statement.{statement}
+use Rattle.parts.proofs.put_named.Tie as tie
+use Prim.Native.Nat.{_-_}
+use borrow.Author.Tests.{not-true, not-false}
+use Rattle.parts.proofs.ByName.{Naming, naming, named-more, named-missing, named-all}
+
+abbrev Inv-loop : tie.InvT-loop
+Inv-loop s at n types names m pool₀ to i₀ pool i = Naming s at n types names m pool₀ to pool i
+
+abbrev μ-loop : tie.MeasureT-loop
+μ-loop s at n types names m pool₀ to i₀ pool i = m - i
+
+loop-holds : tie.Need-loop-holds Inv-loop μ-loop
+loop-holds c = naming _ _ _ _ _ _ _ _
+
+cast-u16-at : tie.Need-cast-u16-at Inv-loop μ-loop
+cast-u16-at c = search needs
+
+mul-u16-at : tie.Need-mul-u16-at Inv-loop μ-loop
+mul-u16-at c = search needs
+
+add-u16-at : tie.Need-add-u16-at Inv-loop μ-loop
+add-u16-at c = search needs
+
+u16-at-requires : tie.Need-u16-at-requires Inv-loop μ-loop
+u16-at-requires c κs = search needs
+
+find-init-requires : tie.Need-find-init-requires Inv-loop μ-loop
+find-init-requires c κs = search needs
+
+same-length : tie.Need-same-length Inv-loop μ-loop
+same-length c = c .before .before .before .before .before .loop .inv .grown .size
+
+returns : tie.Need-returns Inv-loop μ-loop
+returns c = (c .before .before .before .before .before .loop .inv .grown, named-missing (c .before .before .before .before .before .loop .inv) _ (c .before .before .before .before .loop-test .taken) (c .before .before .before .u16-at .ensures) (c .before .before .find-init .ensures) (not-true _ (c .if1 .taken)))
+
+cast-put-place : tie.Need-cast-put-place Inv-loop μ-loop
+cast-put-place c = search needs
+
+add-put-place : tie.Need-add-put-place Inv-loop μ-loop
+add-put-place c = search needs
+
+put-place-requires : tie.Need-put-place-requires Inv-loop μ-loop
+put-place-requires c κs = search needs
+
+add-i : tie.Need-add-i Inv-loop μ-loop
+add-i c = search needs
+
+loop-less : tie.Need-loop-less Inv-loop μ-loop
+loop-less c = search needs
+
+loop-again : tie.Need-loop-again Inv-loop μ-loop
+loop-again c = named-more (c .before .before .before .before .before .before .before .before .before .loop .inv) _ (c .before .before .before .before .before .before .before .before .loop-test .taken) (c .before .before .before .before .before .before .before .u16-at .ensures) (c .before .before .before .before .before .before .find-init .ensures) (not-false _ (c .before .before .before .before .if1 .left)) (c .before .before .put-place .ensures)
+
+same-length-2 : tie.Need-same-length-2 Inv-loop μ-loop
+same-length-2 c = c .before .loop .inv .grown .size
+
+returns-2 : tie.Need-returns-2 Inv-loop μ-loop
+returns-2 c = (c .before .loop .inv .grown, named-all (c .before .loop .inv) (c .loop-test .left))
+
+pub put-named-spec : {M : Type 1} → statement M
+put-named-spec =
+    tie.close
+    (tie.spec
+    Inv-loop
+    μ-loop
+    loop-holds
+    cast-u16-at
+    mul-u16-at
+    add-u16-at
+    u16-at-requires
+    find-init-requires
+    same-length
+    returns
+    cast-put-place
+    add-put-place
+    put-place-requires
+    add-i
+    loop-less
+    loop-again
+    same-length-2
+    returns-2)

@@ -1,0 +1,80 @@
+-- How the code keeps the parts of tracked values: the places of values in the input, in rows of a pool that only grows.
+use Prim.Native.Nat.{ℕ, suc, _+_, _*_, _≤_, _<_}
+use mathlib.Core.Path.{_≡_}
+use mathlib.Core.List.{List}
+use mathlib.Core.Option.{Option, none, some}
+use lib.ListN.{length, getD, drop}
+use Rattle.wire.specs.Parse.{ok}
+use Rattle.wire.specs.Number.{at16}
+use Rattle.wire.specs.Value.{valueOf}
+use Rattle.wire.specs.declared.Value.{Value}
+use Rattle.wire.specs.declared.ValueId.{ValueId}
+use Rattle.types.specs.Syntax.{StructField}
+use Rattle.form.specs.Syntax.{FieldInit}
+use Rattle.lookup.specs.Fields.{after, valueStep}
+use Rattle.eligibility.specs.Climb.{isSome}
+use Rattle.rewriting.specs.State.{AggStates, insertState}
+use Rattle.parts.specs.declared.Init.{Init}
+
+-- a value stands at a place of the input
+pub data ValueAt (next : ℕ) (s : List ℕ) (at : ℕ) (x : Value) : Type 0 where
+  stands : (n : ℕ) → valueOf next (drop at s) ≡ ok x n → ValueAt next s at x
+
+-- the places of the values xs stand in the pool from `from` on
+pub record RowAt (next : ℕ) (s pool : List ℕ) (from : ℕ) (xs : List Value) : Type 0 where
+  pub each : (k : ℕ) → k < length xs → ValueAt next s (getD pool (from + k) 0) (getD xs k Value.Error)
+
+-- what the tables say of one value: 0 where it is not tracked, else one more than the number of its parts
+pub data Entry (next : ℕ) (s pool : List ℕ) (from used : ℕ) : ℕ → Option (List Value) → Type 0 where
+  untracked : Entry next s pool from used 0 none
+  row : (xs : List Value) → RowAt next s pool from xs → from + length xs ≤ used → length xs ≤ 16 → Entry next s pool from used (suc (length xs)) (some xs)
+
+-- the tables hold the states; the pool is used up to `used`
+pub record Rep (next : ℕ) (s counts firsts pool : List ℕ) (used : ℕ) (S : AggStates) : Type 0 where
+  pub entries : (v : ℕ) → Entry next s pool (getD firsts v 0) used (getD counts v 0) (S v)
+  pub room : used ≤ length pool
+
+-- the number that the tables have for a state
+abbrev pub counted : Option (List Value) → ℕ
+counted none = 0
+counted (some xs) = suc (length xs)
+
+-- d is a number of the tables, and the pool has room for one more row
+pub record Room (counts firsts pool : List ℕ) (used d : ℕ) : Type 0 where
+  pub count : d < length counts
+  pub first : d < length firsts
+  pub places : used + 16 ≤ length pool
+
+-- the place of thing k of those that stand one behind another from `at` on, each a value with `before` bytes before it
+abbrev pub placeOf : List ℕ → ℕ → ℕ → ℕ → ℕ
+placeOf s before at k = after (valueStep s before 0) k at
+
+-- the values xs stand so
+pub record Values (next : ℕ) (s : List ℕ) (before at : ℕ) (xs : List Value) : Type 0 where
+  pub each : (k : ℕ) → k < length xs → ValueAt next s (placeOf s before at k + before) (getD xs k Value.Error)
+
+-- past the end of a list of inits, and of a list of fields
+abbrev pub noInit : FieldInit
+noInit = record { name = record { 0 = 0 }; value = Value.Error }
+
+abbrev pub noField : StructField
+noField = record { name = record { 0 = 0 }; part = record { 0 = 0 } }
+
+-- the inits fs stand one behind another from `at` on, each a name and a value
+pub record Inits (next : ℕ) (s : List ℕ) (at : ℕ) (fs : List FieldInit) : Type 0 where
+  pub named : (k : ℕ) → k < length fs → at16 s (placeOf s 2 at k) ≡ getD fs k noInit .name .0
+  pub each : (k : ℕ) → k < length fs → ValueAt next s (placeOf s 2 at k + 2) (getD fs k noInit .value)
+
+-- the names of a struct type's fields stand four bytes apart from `names` on
+pub record Names (s : List ℕ) (names : ℕ) (ts : List StructField) : Type 0 where
+  pub each : (k : ℕ) → k < length ts → at16 s (names + 4 * k) ≡ getD ts k noField .name .0
+
+-- what is found of a name: whether it is given, and where its value stands
+pub record InitAt (next : ℕ) (s : List ℕ) (o : Option Value) (r : Init) : Type 0 where
+  pub told : r .given ≡ isSome o
+  pub stands : (x : Value) → o ≡ some x → ValueAt next s (r .place) x
+
+-- the states where d is given these parts, if there are any
+unfoldable pub givenParts : AggStates → ValueId → Option (List Value) → AggStates
+givenParts S d none = S
+givenParts S d (some xs) = insertState S d xs

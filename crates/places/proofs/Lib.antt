@@ -1,0 +1,2 @@
+pub mod Relax
+pub mod Laws

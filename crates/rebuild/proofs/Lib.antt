@@ -1,0 +1,4 @@
+pub mod Writing
+pub mod Heads
+pub mod Shape
+pub mod Rebuilding

@@ -1,0 +1,43 @@
+use borrow.Author.Needs.{needs}
+use Rattle.rebuild.proofs.put_struct.Statement.{statement}
+use Rattle.rebuild.proofs.put_struct.Tie as tie
+use mathlib.Core.Path.{_∙_, sym}
+use native.Mathlib.Omega.{arith}
+use Rattle.rebuild.proofs.Heads.{struct-writes}
+
+byte-at-requires : tie.Need-byte-at-requires
+byte-at-requires c κs = search needs
+
+put-head-requires : tie.Need-put-head-requires
+put-head-requires c κs = search needs
+
+add-put-fields : tie.Need-add-put-fields
+add-put-fields c = search needs
+
+put-fields-requires : tie.Need-put-fields-requires
+put-fields-requires c κs = search needs
+
+put-type-id-requires : tie.Need-put-type-id-requires
+put-type-id-requires c κs = search needs
+
+add-result : tie.Need-add-result
+add-result c = search needs
+
+same-length : tie.Need-same-length
+same-length c = search needs
+
+returns : tie.Need-returns
+returns c = (omega (arith, c .before .before .before .before .before .before .put-fields .ensures .0), λ fs xs r l m n. let k = m ∙ sym (c .before .before .before .before .before .before .before .before .before .before .before .before .byte-at .ensures) in struct-writes _ _ (c .before .before .before .before .before .before .before .before .before .before .before .before .before .before .before .before .before .args .d) (c .before .before .before .before .before .before .before .before .before .before .before .before .before .before .before .before .before .args .out .now) _ _ xs _ _ fs (c .before .before .before .before .before .before .before .before .before .before .before .before .before .before .before .before .before .args .t) k (c .before .before .before .before .before .before .before .before .before .before .put-head .ensures) (c .before .before .before .before .before .before .put-fields .ensures .1 fs xs r l k n) (c .before .before .put-type-id .ensures))
+
+pub put-struct-spec : {M : Type 1} → statement M
+put-struct-spec =
+    tie.close
+    (tie.spec
+    byte-at-requires
+    put-head-requires
+    add-put-fields
+    put-fields-requires
+    put-type-id-requires
+    add-result
+    same-length
+    returns)

@@ -1,0 +1,283 @@
+// The rebuild of an aggregate from its parts: sroa.rs, `materialize`. The parts are places of values in the input.
+use wire::Literal;
+use wire::NameId;
+use wire::ReadValue;
+use wire::TypeId;
+use wire::Value;
+use wire::ValueId;
+ghost use mathlib.Core.Path.{_≡_};
+ghost use mathlib.Core.List.{List, [], _∷_, _++_};
+ghost use mathlib.Core.Bool.{false};
+ghost use mathlib.Core.Option.{some};
+ghost use Prim.Native.Nat.{ℕ, _+_, _*_, _≤_, _<_};
+ghost use lib.ListN.{length, getD};
+ghost use lib.Seq.{sets};
+ghost use Rattle.wire.specs.Parse.{ok};
+ghost use Rattle.wire.specs.Value.{valueBytes, unit};
+ghost use Rattle.wire.specs.WellFormed.{Bytes};
+ghost use Rattle.form.specs.Syntax.{InstructionKind};
+ghost use Rattle.form.specs.Encode.{eachBytes, valueIdBytes, fieldInitBytes, instructionBytes};
+ghost use Rattle.types.specs.Syntax.{StructField, MirType};
+ghost use Rattle.types.specs.Decode.{typeOf};
+ghost use Rattle.types.specs.Index.{TypesAt};
+ghost use Rattle.eligibility.specs.Lookup.{Types};
+ghost use Rattle.rewriting.specs.Rebuild.{plain, fitted, named, rebuildAt, clashes};
+ghost use Rattle.parts.specs.Rows.{ValueAt, RowAt};
+ghost use Rattle.rebuild.specs.Written.{Writes, NamesIn, Rebuilds};
+
+// The place behind a rebuild, and whether it met an array of another count.
+pub struct Rebuilt {
+    pub to: usize,
+    pub clash: bool,
+}
+
+// The value that stands at a place; Error where none does.
+fn value_at(s: &[u8], at: usize, next: u16) -> Value
+    ensures { λ r. ⌜ ((x : Value) → ValueAt next (now (s .entry)) at x → r ≡ x) ⌝ }
+{
+    match wire::read_value(form::tail(s, at), next) {
+        ReadValue::Got(x, _) => x,
+        ReadValue::Refused(_, _) => Value::Error,
+    }
+}
+
+// Writes the value that stands at a place of the input, and returns the place behind it.
+pub fn put_value_at(out: &mut [u8], to: usize, s: &[u8], at: usize, next: u16) -> usize
+    requires { ⌜ to < 1099511627776 ⌝ }
+    ensures { λ r. ⌜ r ≤ to + 5 ⌝ }
+    ensures { λ r. ⌜ ((x : Value) → ValueAt next (now (s .entry)) at x → Writes (valueBytes x) (now (out .entry)) (now (out .exit)) to r) ⌝ }
+{
+    emit::put_value(out, to, value_at(s, at, next))
+}
+
+// The place in a slot of the pool; past the end 0.
+fn place_at(pool: &[usize], k: usize) -> usize
+    ensures { λ r. ⌜ r ≡ getD (now (pool .entry)) k 0 ⌝ }
+{
+    if k < pool.len() { pool[k] } else { 0 }
+}
+
+// Part k of the `have` parts whose row begins at `from`; past them Unit.
+fn put_part(
+    out: &mut [u8],
+    to: usize,
+    s: &[u8],
+    next: u16,
+    pool: &[usize],
+    from: usize,
+    have: u16,
+    k: u8,
+) -> usize
+    requires { ⌜ (to < 1099511627776) × (from < 1099511627776) ⌝ }
+    ensures { λ r. ⌜ r ≤ to + 5 ⌝ }
+    ensures { λ r. ⌜ ((xs : List Value) → RowAt next (now (s .entry)) (now (pool .entry)) from xs → length xs ≡ have → Writes (valueBytes (getD xs k unit)) (now (out .entry)) (now (out .exit)) to r) ⌝ }
+{
+    if (k as u16) < have {
+        let at = place_at(pool, from + k as usize);
+        return put_value_at(out, to, s, at, next);
+    }
+    emit::put_value(out, to, Value::Literal(Literal::Unit))
+}
+
+// `want` parts: those of the row, then Units.
+fn put_parts(
+    out: &mut [u8],
+    to: usize,
+    s: &[u8],
+    next: u16,
+    pool: &[usize],
+    from: usize,
+    have: u16,
+    want: u8,
+) -> usize
+    requires { ⌜ (to < 549755813888) × (from < 1099511627776) ⌝ }
+    ensures { λ r. ⌜ r ≤ to + 5 * want ⌝ }
+    ensures { λ r. ⌜ ((xs : List Value) → RowAt next (now (s .entry)) (now (pool .entry)) from xs → length xs ≡ have → Writes (eachBytes valueBytes (fitted want xs)) (now (out .entry)) (now (out .exit)) to r) ⌝ }
+{
+    let mut p = to;
+    let mut i: u8 = 0;
+    while i < want {
+        p = put_part(out, p, s, next, pool, from, have, i);
+        i = i + 1;
+    }
+    p
+}
+
+// The parts of a struct, each behind its name; `row` is the struct's type, from its kind on.
+fn put_fields(
+    out: &mut [u8],
+    to: usize,
+    s: &[u8],
+    next: u16,
+    pool: &[usize],
+    from: usize,
+    have: u16,
+    row: &[u8],
+    want: u8,
+) -> usize
+    requires { ⌜ (to < 549755813888) × (from < 1099511627776) ⌝ }
+    ensures { λ r. ⌜ r ≤ to + 7 * want ⌝ }
+    ensures { λ r. ⌜ ((fs : List StructField) (xs : List Value) → RowAt next (now (s .entry)) (now (pool .entry)) from xs → length xs ≡ have → length fs ≡ want → NamesIn (now (row .entry)) fs → Writes (eachBytes fieldInitBytes (named fs xs)) (now (out .entry)) (now (out .exit)) to r) ⌝ }
+{
+    let mut p = to;
+    let mut i: u8 = 0;
+    while i < want {
+        let name = wire::u16_at(row, 4 + 4 * (i as usize));
+        emit::put_name_id(out, p, NameId(name));
+        p = put_part(out, p + 2, s, next, pool, from, have, i);
+        i = i + 1;
+    }
+    p
+}
+
+// What a Make of n parts begins with: no bits, its kind, what it defines and the count.
+fn put_head(out: &mut [u8], to: usize, kind: u8, d: ValueId, n: u8)
+    requires { ⌜ to < 549755813888 ⌝ }
+    ensures { λ _. ⌜ now (out .exit) ≡ sets (now (out .entry)) to (0 ∷ kind ∷ (valueIdBytes d ++ (n ∷ []))) ⌝ }
+{
+    emit::put_u8(out, to, 0);
+    emit::put_u8(out, to + 1, kind);
+    emit::put_value_id(out, to + 2, d);
+    emit::put_u8(out, to + 4, n);
+}
+
+// A tuple of `want` parts.
+fn put_tuple(
+    out: &mut [u8],
+    to: usize,
+    s: &[u8],
+    next: u16,
+    d: ValueId,
+    pool: &[usize],
+    from: usize,
+    have: u16,
+    want: u8,
+) -> usize
+    requires { ⌜ (to < 274877906944) × (from < 1099511627776) ⌝ }
+    ensures { λ r. ⌜ r ≤ to + 1792 ⌝ }
+    ensures { λ r. ⌜ ((xs : List Value) → RowAt next (now (s .entry)) (now (pool .entry)) from xs → length xs ≡ have → Writes (instructionBytes (plain (InstructionKind.MakeTuple d (fitted want xs)))) (now (out .entry)) (now (out .exit)) to r) ⌝ }
+{
+    put_head(out, to, 10, d, want);
+    put_parts(out, to + 5, s, next, pool, from, have, want)
+}
+
+// A struct of the fields of type t; `row` is that type, from its kind on.
+fn put_struct(
+    out: &mut [u8],
+    to: usize,
+    s: &[u8],
+    next: u16,
+    d: ValueId,
+    pool: &[usize],
+    from: usize,
+    have: u16,
+    row: &[u8],
+    t: TypeId,
+) -> usize
+    requires { ⌜ (to < 274877906944) × (from < 1099511627776) ⌝ }
+    ensures { λ r. ⌜ r ≤ to + 1792 ⌝ }
+    ensures { λ r. ⌜ ((fs : List StructField) (xs : List Value) → RowAt next (now (s .entry)) (now (pool .entry)) from xs → length xs ≡ have → length fs ≡ getD (now (row .entry)) 3 0 → NamesIn (now (row .entry)) fs → Writes (instructionBytes (plain (InstructionKind.MakeStruct d (named fs xs) t))) (now (out .entry)) (now (out .exit)) to r) ⌝ }
+{
+    let want = wire::byte_at(row, 3);
+    put_head(out, to, 12, d, want);
+    let at = put_fields(out, to + 5, s, next, pool, from, have, row, want);
+    emit::put_type_id(out, at, t);
+    at + 2
+}
+
+// An array of all the parts there are, at most 255.
+fn put_array(
+    out: &mut [u8],
+    to: usize,
+    s: &[u8],
+    next: u16,
+    d: ValueId,
+    pool: &[usize],
+    from: usize,
+    have: u16,
+    e: TypeId,
+) -> usize
+    requires { ⌜ (to < 274877906944) × (from < 1099511627776) ⌝ }
+    ensures { λ r. ⌜ r ≤ to + 1792 ⌝ }
+    ensures { λ r. ⌜ ((xs : List Value) → RowAt next (now (s .entry)) (now (pool .entry)) from xs → length xs ≡ have → have < 256 → Writes (instructionBytes (plain (InstructionKind.MakeFixedArray d xs e false))) (now (out .entry)) (now (out .exit)) to r) ⌝ }
+{
+    let n = (have % 256) as u8;
+    put_head(out, to, 16, d, n);
+    let at = put_parts(out, to + 5, s, next, pool, from, have, n);
+    emit::put_type_id(out, at, e);
+    at + 2
+}
+
+// Type `row`, from its kind on, is an array of another count than `have`.
+fn array_clashes(row: &[u8], have: u16) -> bool
+    ensures { λ r. ⌜ ((most own n : ℕ) (T : MirType) (xs : List Value) → Bytes (now (row .entry)) → typeOf most own (now (row .entry)) ≡ ok T n → length xs ≡ have → r ≡ clashes xs (some T)) ⌝ }
+{
+    if wire::byte_at(row, 0) != 5 {
+        return false;
+    }
+    (have as u32) != wire::u32_at(row, 3)
+}
+
+// Writes the rebuild of d at type t; `row` is the type, from its kind on.
+fn put_make(
+    out: &mut [u8],
+    to: usize,
+    s: &[u8],
+    next: u16,
+    row: &[u8],
+    t: TypeId,
+    d: ValueId,
+    pool: &[usize],
+    from: usize,
+    have: u16,
+) -> usize
+    requires { ⌜ (to < 274877906944) × (from < 1099511627776) ⌝ }
+    ensures { λ r. ⌜ r ≤ to + 1792 ⌝ }
+    ensures { λ r. ⌜ ((most own n : ℕ) (T : MirType) (xs : List Value) → Bytes (now (row .entry)) → typeOf most own (now (row .entry)) ≡ ok T n → RowAt next (now (s .entry)) (now (pool .entry)) from xs → length xs ≡ have → have ≤ 16 → Writes (eachBytes instructionBytes (rebuildAt d xs t (some T))) (now (out .entry)) (now (out .exit)) to r) ⌝ }
+{
+    let kind = wire::byte_at(row, 0);
+    if kind == 3 {
+        let want = wire::byte_at(row, 1);
+        return put_tuple(out, to, s, next, d, pool, from, have, want);
+    }
+    if kind == 4 {
+        return put_struct(out, to, s, next, d, pool, from, have, row, t);
+    }
+    if kind == 5 {
+        let e = TypeId(wire::u16_at(row, 1));
+        return put_array(out, to, s, next, d, pool, from, have, e);
+    }
+    to
+}
+
+// Writes the rebuild of d at type t from `have` parts whose row in the pool begins at `from`. A type that is no
+// aggregate has none; an array of another count clashes. `types` has the types' places.
+pub fn put_rebuild(
+    out: &mut [u8],
+    to: usize,
+    s: &[u8],
+    next: u16,
+    types: &[usize],
+    t: TypeId,
+    d: ValueId,
+    pool: &[usize],
+    from: usize,
+    have: u16,
+) -> Rebuilt
+    requires { ⌜ (to < 274877906944) × (from < 1099511627776) ⌝ }
+    ensures { λ r. ⌜ r .to ≤ to + 1792 ⌝ }
+    ensures { λ r. ⌜ ((most : ℕ) (τ : Types) (xs : List Value) → Bytes (now (s .entry)) → TypesAt most (now (s .entry)) (now (types .entry)) (τ .rows) → t .0 < length (τ .rows) → RowAt next (now (s .entry)) (now (pool .entry)) from xs → length xs ≡ have → have ≤ 16 → Rebuilds τ d xs t (now (out .entry)) (now (out .exit)) to r) ⌝ }
+{
+    let row = form::tail(s, types::type_place(types, t));
+    if array_clashes(row, have) {
+        return Rebuilt {
+            to: to,
+            clash: true,
+        };
+    }
+    let p = put_make(out, to, s, next, row, t, d, pool, from, have);
+    Rebuilt {
+        to: p,
+        clash: false,
+    }
+}

@@ -1,0 +1,4 @@
+pub mod Tests
+pub mod Typing
+pub mod Static
+pub mod Statement

@@ -1,0 +1,39 @@
+-- Demand 3, as a statement: both runs give the same record and stand alike.
+use Prim.Native.Nat.{ℕ}
+use mathlib.Core.Path.{_≡_}
+use mathlib.Core.List.{List}
+use Rattle.routine.specs.Routine.{Routine}
+use Rattle.eligibility.specs.declared.Settings.{Settings}
+use Rattle.rewriting.specs.Run.{Choice, rewriteWith}
+use Rattle.machine.specs.Values.{Val}
+use Rattle.machine.specs.Meaning.{Meaning}
+use Rattle.machine.specs.Records.{Cause, noValue, noSource, noReply, unwritten, missing, own, Standing, standsAt, ended, stopped, Trace}
+use Rattle.machine.specs.Run.{run}
+use Rattle.simulation.specs.Static.{rewriting}
+
+-- the run did not stop at an unwritten value or a missing part
+abbrev pub FineCause : Cause → Type 0
+FineCause noValue = Unit {0}
+FineCause noSource = Unit {0}
+FineCause noReply = Unit {0}
+FineCause unwritten = ⊥
+FineCause missing = ⊥
+FineCause (own c) = Unit {0}
+
+-- of a whole run
+abbrev pub FineStanding : Standing → Type 0
+FineStanding (standsAt b) = Unit {0}
+FineStanding (ended e) = Unit {0}
+FineStanding (stopped c) = FineCause c
+
+-- the original gets through the n blocks so
+abbrev pub Fine : {A : Type 0} → Trace A → Type 0
+Fine t = FineStanding (t .standing)
+
+-- the rewritten routine, its fresh numbers recorded
+unfoldable pub rewritten : Settings → Choice → Routine → Routine
+rewritten σ c r = rewriteWith (rewriting σ c r) r
+
+-- "record and standing of both runs, under the same list and the same meaning of operations, for every list and every n"
+unfoldable pub RunsAlike : {A : Type 0} → Meaning A → Routine → Routine → Type 0
+RunsAlike {A} M r q = (w : List (Val A)) (n : ℕ) → Fine (run M r w n) → run M r w n ≡ run M q w n

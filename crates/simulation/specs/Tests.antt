@@ -1,0 +1,21 @@
+-- Tests on lists that compute.
+use Prim.Native.Nat.{ℕ}
+use mathlib.Core.Bool.{Bool, true, false, _&&_, _||_}
+use mathlib.Core.List.{List, [], _∷_}
+use lib.Dec.{eqb}
+use Rattle.wire.specs.declared.ValueId.{ValueId}
+
+-- each element passes
+abbrev pub every : {A : Type 0} → (A → Bool) → List A → Bool
+every p [] = true
+every p (x ∷ xs) = p x && every p xs
+
+-- each element, as a statement
+abbrev pub All : {A : Type 0} → (A → Type 0) → List A → Type 0
+All P [] = Unit {0}
+All P (x ∷ xs) = P x × All P xs
+
+-- the value of that number is in the list
+abbrev pub among : ℕ → List ValueId → Bool
+among x [] = false
+among x (v ∷ vs) = eqb x (v .0) || among x vs

@@ -1,0 +1,1 @@
+// The simulation is a theorem: see specs for its statement and proofs for its proof.

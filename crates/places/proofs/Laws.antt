@@ -26,7 +26,7 @@ use Rattle.block.specs.declared.Mosts.{Mosts}
 use Rattle.block.proofs.Laws.{instructions-length}
 use Rattle.block.proofs.Sizes.{size-instruction}
 use Rattle.places.specs.Places.{noInstruction, InstructionsAt, BlockPlaces, IndexedBlock}
-use Rattle.places.proofs.Relax.{relax}
+use Rattle.lookup.proofs.Relax.{relax}
 
 -- an instruction wherever it stands
 abbrev pub alone : Bounds → List ℕ → Parse Instruction

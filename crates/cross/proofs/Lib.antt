@@ -1,0 +1,3 @@
+pub mod Unite
+pub mod Builds
+pub mod Crossing

@@ -1,0 +1,4 @@
+pub mod Elsewhere
+pub mod Few
+pub mod Noting
+pub mod Blocks

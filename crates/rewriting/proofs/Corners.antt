@@ -16,7 +16,7 @@ use Rattle.routine.specs.Routine.{Routine}
 use Rattle.eligibility.specs.declared.Settings.{Settings}
 use Rattle.eligibility.specs.Lookup.{asConstInteger}
 use Rattle.rewriting.specs.Rebuild.{plain}
-use Rattle.rewriting.specs.Step.{Counts}
+use Rattle.rewriting.specs.declared.Counts.{Counts}
 use Rattle.rewriting.specs.Run.{rewrittenBlocks}
 use Rattle.rewriting.proofs.Examples.{defaults, all-open}
 

@@ -18,7 +18,8 @@ use Rattle.eligibility.specs.declared.Settings.{Settings}
 use Rattle.eligibility.specs.Lookup.{Types, rowOf, isTuple, isStruct, isArray, isAggregate, shape}
 use Rattle.rewriting.specs.State.{AggStates, stateOf, onSome}
 use Rattle.rewriting.specs.Rebuild.{Rebuilt, plain, rebuildAt, keepValue, rebuildValue, oneValue, rebuildAll, aggregateType, wantedArguments, returnType, wantedReturns}
-use Rattle.rewriting.specs.Step.{Counts, noCounts, materialized, Piece, kept, left, tracked, assigned, stepBuild, stepInsert, handOn, stepExtract, stepLoaded, stepLoad, storeRebuilt, storeKept, stepStore, stepAssign, stepCall, guarded, stepKind, step}
+use Rattle.rewriting.specs.declared.Counts.{Counts}
+use Rattle.rewriting.specs.Step.{noCounts, materialized, Piece, kept, left, tracked, assigned, stepBuild, stepInsert, handOn, stepExtract, stepLoaded, stepLoad, storeRebuilt, storeKept, stepStore, stepAssign, stepCall, guarded, stepKind, step}
 use Rattle.rewriting.specs.Sum.{beforeStore, before}
 use Rattle.rewriting.specs.Lowers.{Rebuild, Rebuilds, Stands, Leaves}
 

@@ -9,7 +9,7 @@ use Rattle.routine.specs.Routine.{Routine}
 use Rattle.routine.specs.Decode.{mosts, wholeOf}
 use Rattle.routine.specs.Encode.{encode}
 use Rattle.eligibility.specs.declared.Settings.{Settings}
-use Rattle.rewriting.specs.Step.{Counts}
+use Rattle.rewriting.specs.declared.Counts.{Counts}
 use Rattle.rewriting.specs.Run.{Rewritten, rewrittenBlocks, rewriteWith}
 
 -- a refusal's number and offset, or the result, the counts and the bytes of the rewritten routine

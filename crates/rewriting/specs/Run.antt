@@ -19,7 +19,8 @@ use Rattle.eligibility.specs.Climb.{buildOf}
 use Rattle.eligibility.specs.Fold.{foldsTuple, foldsStruct, foldsArray, behindPhis, phisOf, skipped}
 use Rattle.rewriting.specs.State.{AggStates, noStates}
 use Rattle.rewriting.specs.Rebuild.{Rebuilt, rebuildAll, wantedReturns}
-use Rattle.rewriting.specs.Step.{Counts, noCounts, materialized, Piece, step}
+use Rattle.rewriting.specs.declared.Counts.{Counts}
+use Rattle.rewriting.specs.Step.{noCounts, materialized, Piece, step}
 
 abbrev pub addCounts : Counts → Counts → Counts
 addCounts a b =

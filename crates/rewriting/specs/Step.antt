@@ -14,16 +14,9 @@ use Rattle.form.specs.Syntax.{MakeTuple, ExtractTupleElement, MakeStruct, Extra
 use Rattle.eligibility.specs.declared.Settings.{Settings}
 use Rattle.eligibility.specs.Lookup.{Types, rowOf, valueRow, fieldIndex, isStruct}
 use Rattle.eligibility.specs.Climb.{structParts}
+use Rattle.rewriting.specs.declared.Counts.{Counts}
 use Rattle.rewriting.specs.State.{AggStates, insertState, stateOf, onSome, replaced, chain, firstInteger, forwardStore}
 use Rattle.rewriting.specs.Rebuild.{Rebuilt, plain, rebuildAll, wantedArguments, aggregateType}
-
--- sroa.rs, `Stats`
-pub record Counts : Type 0 where
-  pub builds : ℕ
-  pub extracts : ℕ
-  pub inserts : ℕ
-  pub assigns : ℕ
-  pub materializations : ℕ
 
 abbrev pub noCounts : Counts
 noCounts = record { builds = 0; extracts = 0; inserts = 0; assigns = 0; materializations = 0 }

@@ -15,7 +15,8 @@ use Rattle.form.specs.Syntax.{MakeTuple, ExtractTupleElement, MakeStruct, Extra
 use Rattle.form.specs.Reads.{reads, dests}
 use Rattle.eligibility.specs.Lookup.{Types, rowOf, recordedType, valueRow}
 use Rattle.rewriting.specs.State.{AggStates, insertState, stateOf}
-use Rattle.rewriting.specs.Step.{Piece, Counts, noCounts, kept, left, tracked}
+use Rattle.rewriting.specs.declared.Counts.{Counts}
+use Rattle.rewriting.specs.Step.{Piece, noCounts, kept, left, tracked}
 use Rattle.rewriting.specs.Run.{Walked, glue}
 use Rattle.machine.specs.Values.{Val, Vals, aggregate}
 use Rattle.machine.specs.Records.{Env, write, writeAll, Event, Cause, goes, stops, log}

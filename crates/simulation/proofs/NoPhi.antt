@@ -22,7 +22,8 @@ use Rattle.eligibility.specs.Fold.{behindPhis, phisOf}
 use Rattle.rewriting.specs.State.{AggStates, stateOf, onSome, chain, firstInteger, forwardStore}
 use Rattle.rewriting.specs.State as St
 use Rattle.rewriting.specs.Rebuild.{Rebuilt, plain, rebuildAt, keepValue, rebuildValue, oneValue, Wanted, rebuildAll, aggregateType, wantedArguments, wantedReturns}
-use Rattle.rewriting.specs.Step.{Piece, Counts, kept, left, tracked, assigned, stepBuild, foldedParts, stepInsert, handOn, stepExtract, extractIndex, stepLoaded, stepLoad, storeRebuilt, storeKept, stepStore, stepAssign, stepCall, guarded, stepKind, step}
+use Rattle.rewriting.specs.declared.Counts.{Counts}
+use Rattle.rewriting.specs.Step.{Piece, kept, left, tracked, assigned, stepBuild, foldedParts, stepInsert, handOn, stepExtract, extractIndex, stepLoaded, stepLoad, storeRebuilt, storeKept, stepStore, stepAssign, stepCall, guarded, stepKind, step}
 use Rattle.rewriting.specs.Run.{ends, returned, finish, glue, walk}
 use Rattle.simulation.specs.Static.{noPhi}
 use Rattle.simulation.proofs.Tools.{and-l, and-r, and-i, split, passes, fails, cond-yes, cond-no}

@@ -1,0 +1,59 @@
+-- Effects one after another are one effect.
+use Prim.Native.Nat.{ℕ, suc, _+_}
+use mathlib.Core.Path.{_≡_, refl, ap, _∙_, sym}
+use mathlib.Core.List.{List, [], _∷_, _++_, append-assoc, append-nil}
+use native.Mathlib.Omega.{arith}
+use native.Mathlib.Nat.{add-assoc, add-zero}
+use lib.ListN.{length, length-append}
+use lib.Seq.{sets}
+use Rattle.wire.specs.declared.ValueId.{ValueId}
+use Rattle.wire.specs.declared.TypeId.{TypeId}
+use Rattle.form.specs.Syntax.{Instruction}
+use Rattle.form.specs.Encode.{eachBytes, instructionBytes, terminatorBytes}
+use Rattle.emit.proofs.Sets.{sets-append}
+use Rattle.eligibility.specs.Family.{Marks, mark}
+use Rattle.rewriting.specs.declared.Counts.{Counts}
+use Rattle.rewriting.specs.Step.{Piece, noCounts}
+use Rattle.rewriting.specs.Run.{Walked, addCounts, glue}
+use Rattle.progress.specs.declared.Progress.{Progress}
+use Rattle.progress.specs.Effect.{Effect, Output, markAll, numbersOf, further, behind, thenEffect, noEffect, pieceEffect, walkedEffect}
+
+pub each-append : {A : Type 0} (enc : A → List ℕ) (xs ys : List A) → eachBytes enc (xs ++ ys) ≡ eachBytes enc xs ++ eachBytes enc ys
+each-append enc [] ys = refl
+each-append enc (x ∷ xs) ys = ap (λ w. enc x ++ w) (each-append enc xs ys) ∙ sym (append-assoc (enc x) (eachBytes enc xs) (eachBytes enc ys))
+
+pub mark-append : (m : Marks) (xs ys : List ValueId) → markAll m (xs ++ ys) ≡ markAll (markAll m xs) ys
+unfolding markAll
+mark-append m [] ys = refl
+mark-append m (x ∷ xs) ys = mark-append (mark m x) xs ys
+
+pub numbers-append : (xs ys : List TypeId) → numbersOf (xs ++ ys) ≡ numbersOf xs ++ numbersOf ys
+unfolding numbersOf
+numbers-append [] ys = refl
+numbers-append (x ∷ xs) ys = ap (λ w. x .0 ∷ w) (numbers-append xs ys)
+
+pub numbers-length : (xs : List TypeId) → length (numbersOf xs) ≡ length xs
+unfolding numbersOf
+numbers-length [] = refl
+numbers-length (x ∷ xs) = ap (λ n. suc n) (numbers-length xs)
+
+add-counts-assoc : (a b c : Counts) → addCounts (addCounts a b) c ≡ addCounts a (addCounts b c)
+add-counts-assoc a b c = simp (add-assoc)
+
+pub further-then : (p : Progress) (e f : Effect) → further (further p e) f ≡ further p (thenEffect e f)
+unfolding further thenEffect
+further-then p e f = simp (length-append, add-assoc)
+
+pub behind-then : (o : Output) (e f : Effect) → behind (behind o e) f ≡ behind o (thenEffect e f)
+unfolding behind further thenEffect
+behind-then o e f =
+    rw (← further-then (o .progress) e f, sets-append (o .buffer) (o .progress .to) (e .bytes) (f .bytes), mark-append (o .dropped) (e .dropped) (f .dropped), numbers-append (e .fresh) (f .fresh), sets-append (o .types) (o .progress .fresh) (numbersOf (e .fresh)) (numbersOf (f .fresh)), numbers-length (e .fresh)) refl
+
+pub behind-none : (o : Output) → behind o noEffect ≡ o
+unfolding behind further markAll numbersOf
+behind-none o = simp (add-zero)
+
+-- a piece, then what is left of the block
+pub glue-effect : (p : Piece) (w : Walked) → walkedEffect (glue p w) ≡ thenEffect (pieceEffect p) (walkedEffect w)
+unfolding walkedEffect pieceEffect thenEffect glue
+glue-effect p w = rw (each-append instructionBytes (p .out) (w .out), length-append (p .out) (w .out), append-assoc (eachBytes instructionBytes (p .out)) (eachBytes instructionBytes (w .out)) (terminatorBytes (w .terminator)))

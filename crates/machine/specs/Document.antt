@@ -12,7 +12,7 @@ use Rattle.wire.specs.declared.Value.{Value}
 use Rattle.types.specs.Syntax.{MirType, Felt, Bool, U32, Tuple, Struct, FixedArray, Pointer, Function, Unit, Error, Unknown}
 use Rattle.eligibility.specs.Lookup.{Types, rowOf, asConstInteger}
 use Rattle.machine.specs.Values.{Val, scalar, aggregate, Vals, ends, then}
-use Rattle.machine.specs.Places.{partType, partCount, counts}
+use Rattle.shelf.specs.Parts.{partType, partCount, counts}
 use Rattle.machine.specs.Meaning.{Meaning, gives, says, Taken, took, refuses, exhausted}
 
 -- the part of a meaning that document 01 leaves open

@@ -11,7 +11,8 @@ use Rattle.eligibility.specs.Climb.{structRow, structParts}
 use Rattle.machine.specs.Values.{Val, Vals, aggregate, equal, partOf, withPart}
 use Rattle.machine.specs.Meaning.{Meaning, Answer, gives, fails, asks, Taken, took, refuses, exhausted}
 use Rattle.machine.specs.Records.{Env, Writes, Event, called, allocated, loaded, stored, asserted, printed, Cause, noValue, noSource, noReply, unwritten, missing, own, unequalSides, Out, goes, ends, stops}
-use Rattle.machine.specs.Places.{partRow, argumentRow, noRow, operandRow, rowAt, isPointer, walked, changed}
+use Rattle.shelf.specs.Parts.{operandRow, isPointer}
+use Rattle.machine.specs.Places.{partRow, argumentRow, noRow, rowAt, walked, changed}
 use Rattle.machine.specs.Evaluate.{eval, evalAll, evalSteps}
 
 -- what is not there stops the machine

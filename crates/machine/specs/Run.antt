@@ -18,7 +18,8 @@ use Rattle.eligibility.specs.Fold.{behindPhis, phisOf}
 use Rattle.machine.specs.Values.{Val}
 use Rattle.machine.specs.Meaning.{Meaning, Verdict, says, balks, Taken, took, refuses, exhausted}
 use Rattle.machine.specs.Records.{Env, write, Writes, writeAll, Event, returned, Cause, noValue, noSource, noReply, unwritten, own, atReturn, atUnreachable, standsAt, ended, stopped, Trace, Out, goes, ends, stops, Left, next, over, halt, log}
-use Rattle.machine.specs.Places.{noRow, operandRow}
+use Rattle.shelf.specs.Parts.{operandRow}
+use Rattle.machine.specs.Places.{noRow}
 use Rattle.machine.specs.Evaluate.{eval, evalAll}
 use Rattle.machine.specs.Exec.{exec}
 

@@ -21,8 +21,9 @@ use Rattle.machine.specs.Records.{Env, Writes, writeAll, Event, Cause, noSource
 use Rattle.machine.specs.Records as R
 use Rattle.machine.specs.Evaluate.{eval}
 use Rattle.machine.specs.Run.{needed, sourceFrom, PhiOf, phiOf, readPhi, readPhis, execBlock, trace, runBlock, runBlocks}
-use Rattle.simulation.specs.Tests.{every, All}
-use Rattle.simulation.specs.Static.{countedReads, below, noPhi, clean, cleanTerminator}
+use Rattle.shelf.specs.Lists.{every, All}
+use Rattle.shelf.specs.Reads.{countedReads, clean, cleanTerminator}
+use Rattle.simulation.specs.Static.{below, noPhi}
 use Rattle.simulation.specs.Statement.{Fine}
 use Rattle.simulation.proofs.Tools.{and-l, and-r, none-some, cond-yes, every-l, every-r}
 use Rattle.simulation.proofs.Frame.{eval-same, write-both}

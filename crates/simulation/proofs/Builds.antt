@@ -20,12 +20,14 @@ use Rattle.rewriting.specs.Rebuild.{aggregateType}
 use Rattle.rewriting.specs.Step.{oneBuild, oneAssign, stepBuild, foldedParts, stepAssign, stepKind}
 use Rattle.machine.specs.Values.{Val, Vals}
 use Rattle.machine.specs.Records.{Env, goes, unwritten}
-use Rattle.machine.specs.Places.{fieldType, partType, partCount, counts, partRow}
+use Rattle.shelf.specs.Parts.{fieldType, partType, partCount, counts}
+use Rattle.machine.specs.Places.{partRow}
 use Rattle.machine.specs.Evaluate.{eval, evalAll}
 use Rattle.machine.specs.Exec.{need, built, exec}
-use Rattle.simulation.specs.Tests.{every, among}
-use Rattle.simulation.specs.Typing.{sameType, fits, allFit, partsFit, Whole, givenFits, fieldsFit, typed}
-use Rattle.simulation.specs.Static.{definedIn}
+use Rattle.shelf.specs.Lists.{every, among}
+use Rattle.shelf.specs.Fits.{sameType, fits, allFit, partsFit, givenFits, fieldsFit}
+use Rattle.simulation.specs.Typing.{Whole, typed}
+use Rattle.shelf.specs.Reads.{definedIn}
 use Rattle.simulation.proofs.Tools.{and-l, and-r, none-some, all→every, every→all}
 use Rattle.simulation.proofs.Frame.{is-part, consPart-inv, cond-some, parts-in, changes, changedBase}
 use Rattle.simulation.proofs.Invariant.{Ctx, Parts}

@@ -24,9 +24,10 @@ use Rattle.machine.specs.Places.{argumentRow}
 use Rattle.machine.specs.Evaluate.{evalAll}
 use Rattle.machine.specs.Exec.{exec}
 use Rattle.machine.specs.Run.{onward, execAll}
-use Rattle.simulation.specs.Tests.{every, All, among}
-use Rattle.simulation.specs.Typing.{fits, argumentsFit, typed}
-use Rattle.simulation.specs.Static.{countedReads}
+use Rattle.shelf.specs.Lists.{every, All, among}
+use Rattle.shelf.specs.Fits.{fits, argumentsFit}
+use Rattle.simulation.specs.Typing.{typed}
+use Rattle.shelf.specs.Reads.{countedReads}
 use Rattle.simulation.proofs.Tools.{and-l, and-r, none-some}
 use Rattle.simulation.proofs.Frame.{changes, changedBase}
 use Rattle.simulation.proofs.Retype.{retyped, Alike, exec-later}

@@ -20,13 +20,16 @@ use Rattle.rewriting.specs.Step.{Piece, noCounts, kept, left, tracked}
 use Rattle.rewriting.specs.Run.{Walked, glue}
 use Rattle.machine.specs.Values.{Val, Vals, aggregate}
 use Rattle.machine.specs.Records.{Env, write, writeAll, Event, Cause, goes, stops, log}
-use Rattle.machine.specs.Places.{isPointer, partRow}
+use Rattle.shelf.specs.Parts.{isPointer}
+use Rattle.machine.specs.Places.{partRow}
 use Rattle.machine.specs.Evaluate.{eval, evalAll}
 use Rattle.machine.specs.Exec.{exec}
 use Rattle.machine.specs.Run.{onward, execAll}
-use Rattle.simulation.specs.Tests.{every, All, among}
-use Rattle.simulation.specs.Typing.{Whole, typed, sameType, fits}
-use Rattle.simulation.specs.Static.{countedReads, definedIn, once, ordered, partsTaken, apart}
+use Rattle.shelf.specs.Lists.{every, All, among}
+use Rattle.shelf.specs.Fits.{sameType, fits}
+use Rattle.simulation.specs.Typing.{Whole, typed}
+use Rattle.shelf.specs.Reads.{countedReads, definedIn, ordered, partsTaken, apart}
+use Rattle.simulation.specs.Static.{once}
 use Rattle.simulation.specs.Statement.{FineCause}
 use Rattle.simulation.proofs.Tools.{and-l, and-r, nor-i, none-some, split, passes, fails, cond-yes, change-other, change-same, differ, differ′}
 use Rattle.simulation.proofs.Frame.{changedBase, changes, exec-same}

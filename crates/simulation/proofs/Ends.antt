@@ -22,13 +22,15 @@ use Rattle.machine.specs.Values.{Val, Vals}
 use Rattle.machine.specs.Meaning.{Verdict, says, balks}
 use Rattle.machine.specs.Records.{Env, writeAll, Event, unwritten, own, Out, goes, stops, log}
 use Rattle.machine.specs.Records as R
-use Rattle.machine.specs.Places.{noRow, operandRow}
+use Rattle.shelf.specs.Parts.{operandRow}
+use Rattle.machine.specs.Places.{noRow}
 use Rattle.machine.specs.Evaluate.{eval, evalAll}
 use Rattle.machine.specs.Exec.{exec}
 use Rattle.machine.specs.Run.{onward, needed, branch, judged, execTerminator, execAll}
-use Rattle.simulation.specs.Tests.{every, All}
-use Rattle.simulation.specs.Typing.{sameType, fits}
-use Rattle.simulation.specs.Static.{countedReads, below, clean, cleanTerminator}
+use Rattle.shelf.specs.Lists.{every, All}
+use Rattle.shelf.specs.Fits.{sameType, fits}
+use Rattle.shelf.specs.Reads.{countedReads, clean, cleanTerminator}
+use Rattle.simulation.specs.Static.{below}
 use Rattle.simulation.proofs.Tools.{and-l, and-r, none-some}
 use Rattle.simulation.proofs.Frame.{Same, rest-of, eval-same, evalAll-same, exec-same, write-both}
 use Rattle.simulation.proofs.Retype.{retyped, Alike, looks-in, exec-later, terminator-later}

@@ -20,11 +20,12 @@ use Rattle.machine.specs.Values.{Val, Vals}
 use Rattle.machine.specs.Meaning.{Meaning, Answer, gives, asks, Taken, took, refuses, exhausted}
 use Rattle.machine.specs.Meaning as Mg
 use Rattle.machine.specs.Records.{Env, write, Writes, writeAll, Event, Cause, Out, goes, ends, stops}
-use Rattle.machine.specs.Places.{isPointer, partRow}
+use Rattle.shelf.specs.Parts.{isPointer}
+use Rattle.machine.specs.Places.{partRow}
 use Rattle.machine.specs.Evaluate.{eval, evalAll, evalStep, evalSteps}
 use Rattle.machine.specs.Exec.{need, choose, received, asserting, replies, answered, built, extracted, inserted, exec}
-use Rattle.simulation.specs.Tests.{every, All, among}
-use Rattle.simulation.specs.Static.{countedReads}
+use Rattle.shelf.specs.Lists.{every, All, among}
+use Rattle.shelf.specs.Reads.{countedReads}
 use Rattle.simulation.proofs.Tools.{and-l, and-r, and-i, nor-l, nor-r, none-some, split, passes, fails, cond-yes, cond-no, change-other, every→All, all-l, all-r}
 
 -- both sides have the value alike

@@ -17,11 +17,12 @@ use Rattle.machine.specs.Values.{Val}
 use Rattle.machine.specs.Meaning.{Meaning, Verdict, says, balks}
 use Rattle.machine.specs.Records.{Env, Writes, writeAll, Event, Cause, Out, goes, stops, Left, next, Trace, log}
 use Rattle.machine.specs.Records as R
-use Rattle.machine.specs.Places.{noRow, operandRow}
+use Rattle.shelf.specs.Parts.{operandRow}
+use Rattle.machine.specs.Places.{noRow}
 use Rattle.machine.specs.Run.{onward, needed, branch, judged, sourceFrom, PhiOf, phiOf, readPhi, readPhis, execTerminator, execAll, execBlock, trace, runBlock, runBlocks}
 use Rattle.machine.specs.Exec.{exec}
-use Rattle.simulation.specs.Tests.{every, All}
-use Rattle.simulation.specs.Static.{countedReads, clean, cleanTerminator}
+use Rattle.shelf.specs.Lists.{every, All}
+use Rattle.shelf.specs.Reads.{countedReads, clean, cleanTerminator}
 use Rattle.simulation.proofs.Tools.{and-l, and-r, every→All, every-at, cond-yes}
 use Rattle.simulation.proofs.Frame.{Same, rest-of, eval-same, evalAll-same, AgreeOff, write-both, keep-agrees}
 use Rattle.simulation.proofs.Phis.{phi-reads, phi-counted, from-in, clean-behind, clean-phis}

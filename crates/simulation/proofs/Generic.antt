@@ -22,9 +22,10 @@ use Rattle.machine.specs.Records.{Env, writeAll, Event, End, Cause, Out, goes, 
 use Rattle.machine.specs.Records as R
 use Rattle.machine.specs.Exec.{exec}
 use Rattle.machine.specs.Run.{onward, execAll}
-use Rattle.simulation.specs.Tests.{every, All, among}
+use Rattle.shelf.specs.Lists.{every, All, among}
 use Rattle.simulation.specs.Typing.{typed}
-use Rattle.simulation.specs.Static.{countedReads, below, once, ordered, apart, shallow, clean, cleanTerminator}
+use Rattle.shelf.specs.Reads.{countedReads, ordered, apart, shallow, clean, cleanTerminator}
+use Rattle.simulation.specs.Static.{below, once}
 use Rattle.simulation.specs.Statement.{FineCause}
 use Rattle.simulation.proofs.Tools.{and-l, and-r, and-i, every-r, every-two→All}
 use Rattle.simulation.proofs.Frame.{Same, changes, write-both}

@@ -20,9 +20,10 @@ use Rattle.machine.specs.Records.{Env, Writes, writeAll, Event, goes}
 use Rattle.machine.specs.Places.{partRow}
 use Rattle.machine.specs.Evaluate.{evalAll}
 use Rattle.machine.specs.Exec.{exec}
-use Rattle.simulation.specs.Tests.{every, among}
+use Rattle.shelf.specs.Lists.{every, among}
 use Rattle.simulation.specs.Typing.{Whole}
-use Rattle.simulation.specs.Static.{definedIn, fieldsOnce}
+use Rattle.shelf.specs.Reads.{definedIn}
+use Rattle.simulation.specs.Static.{fieldsOnce}
 use Rattle.simulation.proofs.Tools.{every-two→All, every-imp, among-l, among-r, none-of}
 use Rattle.simulation.proofs.Frame.{Same, evalAll-same, Keeps, changes, exec-keeps}
 use Rattle.simulation.proofs.Retype.{Alike}

@@ -19,11 +19,13 @@ use Rattle.rewriting.specs.Rebuild.{aggregateType}
 use Rattle.rewriting.specs.Step.{handOn, stepLoaded, stepLoad, stepKind}
 use Rattle.machine.specs.Values.{Val, Vals, aggregate, nth, partOf}
 use Rattle.machine.specs.Records.{Env, goes, Step, index, field, tuple}
-use Rattle.machine.specs.Places.{partType, partCount, partRow, isPointer, onto, stepPosition, walked}
+use Rattle.shelf.specs.Parts.{partType, partCount, isPointer, onto}
+use Rattle.machine.specs.Places.{partRow, stepPosition, walked}
 use Rattle.machine.specs.Evaluate.{eval, indexed, evalStep, consStep, evalSteps}
 use Rattle.machine.specs.Exec.{need, choose, exec}
-use Rattle.simulation.specs.Tests.{every}
-use Rattle.simulation.specs.Typing.{sameType, fits, Whole, fieldTypeOf, stepType, placeType, typed}
+use Rattle.shelf.specs.Lists.{every}
+use Rattle.shelf.specs.Fits.{sameType, fits, fieldTypeOf, stepType, placeType}
+use Rattle.simulation.specs.Typing.{Whole, typed}
 use Rattle.simulation.proofs.Tools.{and-l, and-r, and-i, none-some, is-none, is-some, opt}
 use Rattle.simulation.proofs.Frame.{changedBase, cond-some}
 use Rattle.simulation.proofs.Invariant.{Ctx, Tracked, Tracks}

@@ -11,9 +11,11 @@ use Rattle.eligibility.specs.Lookup.{structFieldsOf}
 use Rattle.eligibility.specs.Fold.{behindPhis}
 use Rattle.rewriting.specs.Run.{Choice, typesIn}
 use Rattle.machine.proofs.Examples.{machine, numbers, number, indexOf}
-use Rattle.simulation.specs.Tests.{every, among}
+use Rattle.shelf.specs.Lists.{every, among}
 use Rattle.simulation.specs.Static.{fieldsOnce, rewriting}
 use Rattle.simulation.specs.Static as Sc
+use Rattle.shelf.specs.Reads as Re
+use Rattle.shelf.specs.Fits as Fi
 use Rattle.simulation.specs.Typing as Ty
 use Rattle.simulation.specs.Statement as Sm
 use Rattle.eligibility.specs.Lookup as Lk
@@ -43,16 +45,16 @@ facts debug σ c r =
     ∷ every (λ k. Sc.once (behindPhis (k .instructions))) bs
     ∷ every (λ k. Sc.noPhi (behindPhis (k .instructions))) bs
     ∷ every (λ k. every (λ i. Ty.typed (typesIn r) (i .kind)) (behindPhis (k .instructions))) bs
-    ∷ every (λ k. Sc.ordered (behindPhis (k .instructions))) bs
-    ∷ every (λ k. Sc.apart (λ x. among x (Sc.bases (typesIn r) bs)) (behindPhis (k .instructions))) bs
-    ∷ every (λ k. every (λ i. Sc.shallow dr (i .kind)) (behindPhis (k .instructions))) bs
-    ∷ every (λ k. Sc.clean debug dr (k .instructions)) ((rewriting σ c r) .blocks)
-    ∷ every (λ k. Sc.cleanTerminator dr (k .terminator)) ((rewriting σ c r) .blocks)
+    ∷ every (λ k. Re.ordered (behindPhis (k .instructions))) bs
+    ∷ every (λ k. Re.apart (λ x. among x (Re.bases (typesIn r) bs)) (behindPhis (k .instructions))) bs
+    ∷ every (λ k. every (λ i. Re.shallow dr (i .kind)) (behindPhis (k .instructions))) bs
+    ∷ every (λ k. Re.clean debug dr (k .instructions)) ((rewriting σ c r) .blocks)
+    ∷ every (λ k. Re.cleanTerminator dr (k .terminator)) ((rewriting σ c r) .blocks)
     ∷ []
 
 -- the static facts
 unfoldable pub shelf : Unit {0}
-unfolding pass facts Ty.literalKind Ty.scalarKind Ty.sameType Ty.fits Ty.allFit Ty.partsFit Ty.fieldTypeOf Ty.stepType Ty.placeType Ty.givenFits Ty.fieldsFit Ty.argumentsFit Ty.typed Sc.definedIn Sc.below Sc.once Sc.noPhi Sc.unlike Sc.fieldsOnce Sc.ordered Sc.aggregateBase Sc.basesIn Sc.bases Sc.apart Sc.isDeep Sc.shallow Sc.clean Sc.cleanTerminator machine
+unfolding pass facts Fi.literalKind Fi.scalarKind Fi.sameType Fi.fits Fi.allFit Fi.partsFit Fi.fieldTypeOf Fi.stepType Fi.placeType Fi.givenFits Fi.fieldsFit Fi.argumentsFit Ty.typed Re.definedIn Sc.below Sc.once Sc.noPhi Sc.unlike Sc.fieldsOnce Re.ordered Re.aggregateBase Re.basesIn Re.bases Re.apart Re.isDeep Re.shallow Re.clean Re.cleanTerminator machine
 shelf = tt
 
 -- the facts, the pass and the machine on numbers

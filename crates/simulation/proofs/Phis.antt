@@ -13,8 +13,9 @@ use Rattle.form.specs.Reads.{operand, operands, reads, dests, counted, sourceVa
 use Rattle.wire.specs.declared.BlockId.{BlockId}
 use Rattle.eligibility.specs.Fold.{behindPhis, phisOf}
 use Rattle.machine.specs.Run.{sourceFor, sourceFrom, PhiOf, phiOf}
-use Rattle.simulation.specs.Tests.{every}
-use Rattle.simulation.specs.Static.{countedReads, below, clean}
+use Rattle.shelf.specs.Lists.{every}
+use Rattle.shelf.specs.Reads.{countedReads, clean}
+use Rattle.simulation.specs.Static.{below}
 use Rattle.simulation.proofs.Tools.{and-l, and-r, and-i, none-some, split, passes, fails, cond-yes, cond-no}
 use Rattle.simulation.proofs.Frame.{test-head, test-rest}
 

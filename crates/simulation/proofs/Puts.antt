@@ -19,12 +19,14 @@ use Rattle.rewriting.specs.State as St
 use Rattle.rewriting.specs.Step.{oneInsert, stepInsert, stepKind}
 use Rattle.machine.specs.Values.{Val, Vals, aggregate, then, consVal, put, asAggregate, withPart}
 use Rattle.machine.specs.Records.{Env, goes, stops, unwritten}
-use Rattle.machine.specs.Places.{partType, partRow, rowAt}
+use Rattle.shelf.specs.Parts.{partType}
+use Rattle.machine.specs.Places.{partRow, rowAt}
 use Rattle.machine.specs.Evaluate.{eval, evalAll}
 use Rattle.machine.specs.Exec.{need, inserted, exec}
-use Rattle.simulation.specs.Tests.{every, among}
-use Rattle.simulation.specs.Typing.{sameType, fits, Whole, fieldTypeOf, typed}
-use Rattle.simulation.specs.Static.{definedIn}
+use Rattle.shelf.specs.Lists.{every, among}
+use Rattle.shelf.specs.Fits.{sameType, fits, fieldTypeOf}
+use Rattle.simulation.specs.Typing.{Whole, typed}
+use Rattle.shelf.specs.Reads.{definedIn}
 use Rattle.simulation.proofs.Tools.{and-l, and-r, none-some}
 use Rattle.simulation.proofs.Frame.{changes, changedBase, test-head, test-rest, test-cons}
 use Rattle.simulation.proofs.Invariant.{Ctx, Parts, Tracked}

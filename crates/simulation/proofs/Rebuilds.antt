@@ -20,13 +20,15 @@ use Rattle.rewriting.specs.State.{AggStates, stateOf}
 use Rattle.rewriting.specs.Rebuild.{plain, fitted, named, rebuildAt, Rebuilt, keepValue, rebuildValue, oneValue, Wanted, rebuildAll}
 use Rattle.machine.specs.Values.{Val, Vals, aggregate, consVal}
 use Rattle.machine.specs.Records.{Env, write, writeAll, Event, log}
-use Rattle.machine.specs.Places.{partCount, partRow}
+use Rattle.shelf.specs.Parts.{partCount}
+use Rattle.machine.specs.Places.{partRow}
 use Rattle.machine.specs.Evaluate.{eval, evalAll}
 use Rattle.machine.specs.Exec.{need, built, exec}
 use Rattle.machine.specs.Run.{onward, execAll}
-use Rattle.simulation.specs.Tests.{every}
-use Rattle.simulation.specs.Typing.{fits}
-use Rattle.simulation.specs.Static.{unlike, fieldsOnce, clean}
+use Rattle.shelf.specs.Lists.{every}
+use Rattle.shelf.specs.Fits.{fits}
+use Rattle.shelf.specs.Reads.{clean}
+use Rattle.simulation.specs.Static.{unlike, fieldsOnce}
 use Rattle.simulation.proofs.Tools.{and-l, and-r, none-some, split, passes, fails, cond-yes, cond-no, change-other, change-same}
 use Rattle.simulation.proofs.Frame.{evalAll-same, eval-same, test-head, test-rest}
 use Rattle.simulation.proofs.Retype.{retyped, evalAll-rows, rowOf-later, partRow-later}

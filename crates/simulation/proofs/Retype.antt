@@ -16,12 +16,13 @@ use Rattle.eligibility.specs.Climb.{structRow, structParts}
 use Rattle.machine.specs.Values.{Val, partOf}
 use Rattle.machine.specs.Meaning.{Meaning, Answer, gives, asks, Taken, took, refuses, exhausted}
 use Rattle.machine.specs.Records.{Env, Writes, Event, loaded, Step, Cause, missing, Out, goes}
-use Rattle.machine.specs.Places.{partRow, argumentRow, operandRow, rowAt, isPointer, onto, stepPosition, walked, changed}
+use Rattle.shelf.specs.Parts.{operandRow, isPointer, onto}
+use Rattle.machine.specs.Places.{partRow, argumentRow, rowAt, stepPosition, walked, changed}
 use Rattle.machine.specs.Evaluate.{evalAll}
 use Rattle.machine.specs.Exec.{need, choose, received, replies, answered, built, extracted, inserted, exec}
 use Rattle.machine.specs.Run.{execTerminator}
 use Rattle.machine.specs.Meaning as Mg
-use Rattle.simulation.specs.Tests.{All}
+use Rattle.shelf.specs.Lists.{All}
 use Rattle.simulation.proofs.Frame.{rest-of}
 
 -- the same rows, other recorded types

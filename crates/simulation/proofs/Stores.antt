@@ -21,12 +21,14 @@ use Rattle.rewriting.specs.Step.{Piece, oneInsert, noCounts, left, storeRebuilt
 use Rattle.rewriting.specs.Run.{glue}
 use Rattle.machine.specs.Values.{Val, Vals, ends, then, consVal, nth, put, partOf, asAggregate, withPart}
 use Rattle.machine.specs.Records.{Env}
-use Rattle.machine.specs.Places.{partType, partRow, isPointer, onto, stepPosition, changed}
+use Rattle.shelf.specs.Parts.{partType, isPointer, onto}
+use Rattle.machine.specs.Places.{partRow, stepPosition, changed}
 use Rattle.machine.specs.Evaluate.{eval, evalAll, indexed, evalStep, consStep, evalSteps}
 use Rattle.machine.specs.Exec.{need, choose, exec}
-use Rattle.simulation.specs.Tests.{every, among}
-use Rattle.simulation.specs.Typing.{sameType, fits, stepType, placeType, typed}
-use Rattle.simulation.specs.Static.{countedReads, definedIn, isDeep, shallow}
+use Rattle.shelf.specs.Lists.{every, among}
+use Rattle.shelf.specs.Fits.{sameType, fits, stepType, placeType}
+use Rattle.simulation.specs.Typing.{typed}
+use Rattle.shelf.specs.Reads.{countedReads, definedIn, isDeep, shallow}
 use Rattle.simulation.proofs.Tools.{and-l, and-r, and-i, none-some, every-l, every-r, differ′}
 use Rattle.simulation.proofs.Frame.{evalSteps-same, cond-some}
 use Rattle.simulation.proofs.Retype.{retyped, exec-later}

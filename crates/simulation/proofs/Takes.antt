@@ -19,11 +19,13 @@ use Rattle.rewriting.specs.Rebuild.{plain}
 use Rattle.rewriting.specs.Step.{Piece, oneExtract, assigned, handOn, stepExtract, extractIndex, guarded, stepKind}
 use Rattle.machine.specs.Values.{Val, Vals, aggregate, then, consVal, nth, partOf}
 use Rattle.machine.specs.Records.{Env, goes}
-use Rattle.machine.specs.Places.{partType, partRow, operandRow, onto}
+use Rattle.shelf.specs.Parts.{partType, operandRow, onto}
+use Rattle.machine.specs.Places.{partRow}
 use Rattle.machine.specs.Evaluate.{eval, evalAll}
 use Rattle.machine.specs.Exec.{need, extracted, exec}
-use Rattle.simulation.specs.Tests.{every, among}
-use Rattle.simulation.specs.Typing.{sameType, fits, fieldTypeOf, typed}
+use Rattle.shelf.specs.Lists.{every, among}
+use Rattle.shelf.specs.Fits.{sameType, fits, fieldTypeOf}
+use Rattle.simulation.specs.Typing.{typed}
 use Rattle.simulation.proofs.Tools.{and-l, and-r, none-some}
 use Rattle.simulation.proofs.Frame.{changes, changedBase, test-head, test-rest}
 use Rattle.simulation.proofs.Invariant.{Ctx, Tracked, Tracks}

@@ -21,12 +21,14 @@ use Rattle.rewriting.specs.Run.{Choice, allBlocks, typesIn, rewriteWith, choice
 use Rattle.machine.specs.Values.{Val}
 use Rattle.machine.specs.Meaning.{Meaning, Taken, took, refuses, exhausted}
 use Rattle.machine.specs.Records.{Env, write, Trace}
-use Rattle.machine.specs.Places.{isPointer}
+use Rattle.shelf.specs.Parts.{isPointer}
 use Rattle.machine.specs.Document.{Operations, document01}
 use Rattle.machine.specs.Run.{taking, takeAll, noneWritten, run}
-use Rattle.simulation.specs.Tests.{every, All, among}
-use Rattle.simulation.specs.Typing.{sameType, fits, placeType, typed}
-use Rattle.simulation.specs.Static.{below, once, noPhi, fieldsOnce, ordered, aggregateBase, basesIn, bases, apart, shallow, clean, cleanTerminator, rewriting, Static}
+use Rattle.shelf.specs.Lists.{every, All, among}
+use Rattle.shelf.specs.Fits.{sameType, fits, placeType}
+use Rattle.simulation.specs.Typing.{typed}
+use Rattle.shelf.specs.Reads.{ordered, aggregateBase, basesIn, bases, apart, shallow, clean, cleanTerminator}
+use Rattle.simulation.specs.Static.{below, once, noPhi, fieldsOnce, rewriting, Static}
 use Rattle.simulation.specs.Statement.{Fine, rewritten, RunsAlike}
 use Rattle.simulation.proofs.Tools.{and-l, and-r, and-i, split, passes, fails, cond-yes, cond-no, every-l, every-r, every-at, all-among}
 use Rattle.simulation.proofs.Frame.{changes, changedBase}

@@ -7,7 +7,7 @@ use mathlib.Core.List.{List, [], _∷_, _++_}
 use lib.Dec.{T, T-not, eqb, eqb→eq, eqb-refl}
 use lib.ListN.{getElem?}
 use Rattle.wire.specs.declared.ValueId.{ValueId}
-use Rattle.simulation.specs.Tests.{every, All, among}
+use Rattle.shelf.specs.Lists.{every, All, among}
 
 -- both, so the first
 pub and-l : (a b : Bool) → T (a && b) → T a

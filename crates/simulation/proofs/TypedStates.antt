@@ -19,9 +19,10 @@ use Rattle.rewriting.specs.State.{AggStates, noStates, insertState, stateOf, on
 use Rattle.rewriting.specs.State as St
 use Rattle.rewriting.specs.Rebuild.{Rebuilt, rebuildAll, aggregateType, wantedArguments}
 use Rattle.rewriting.specs.Step.{Piece, kept, left, tracked, assigned, stepBuild, foldedParts, stepInsert, handOn, stepExtract, extractIndex, stepLoaded, stepLoad, storeRebuilt, storeKept, stepStore, stepAssign, stepCall, guarded, stepKind, step}
-use Rattle.machine.specs.Places.{partType, operandRow, isPointer}
-use Rattle.simulation.specs.Tests.{every}
-use Rattle.simulation.specs.Typing.{sameType, fits, Whole, fieldTypeOf, stepType, placeType, fieldsFit, typed, TypedStates, statesAfter}
+use Rattle.shelf.specs.Parts.{partType, operandRow, isPointer}
+use Rattle.shelf.specs.Lists.{every}
+use Rattle.shelf.specs.Fits.{sameType, fits, fieldTypeOf, stepType, placeType, fieldsFit}
+use Rattle.simulation.specs.Typing.{Whole, typed, TypedStates, statesAfter}
 use Rattle.simulation.proofs.Tools.{and-l, and-r, none-some, split, passes, fails, cond-yes, change-other, is-none, is-some, opt}
 use Rattle.simulation.proofs.Frame.{cond-some}
 use Rattle.simulation.proofs.Cases.{sameType→eq, fits-type, same-row}

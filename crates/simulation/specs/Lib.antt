@@ -1,4 +1,3 @@
-pub mod Tests
 pub mod Typing
 pub mod Static
 pub mod Statement

@@ -1,0 +1,131 @@
+-- The static facts of the runs, from a decoded routine of shelf reason 0.
+use Prim.Native.Nat.{ℕ, zero, suc, _+_, _≤_}
+use mathlib.Core.Path.{_≡_, refl, ap, _∙_, sym}
+use mathlib.Core.Option.{some}
+use mathlib.Core.List.{List, [], _∷_}
+use mathlib.Core.Bool.{Bool, true, false, cond, _&&_}
+use native.Mathlib.Omega.{arith}
+use lib.Dec.{T, ltb}
+use lib.ListN.{length, length-replicate}
+use Rattle.form.specs.Syntax.{Instruction, Block}
+use Rattle.form.specs.Reads.{terminatorReads, isPhi}
+use Rattle.form.specs.declared.Bounds.{Bounds}
+use Rattle.block.specs.Decode.{marks, blockMarks}
+use Rattle.block.specs.declared.Mosts.{Mosts}
+use Rattle.block.specs.WellFormed.{FitCode}
+use Rattle.form.specs.Reads.{dests}
+use Rattle.routine.specs.Routine.{Routine}
+use Rattle.whole.specs.WellFormed.{FitBlocks, bounds, unmarked, WellFormed}
+use Rattle.eligibility.specs.declared.Settings.{Settings}
+use Rattle.eligibility.specs.Lookup.{Types, recordedType}
+use Rattle.eligibility.specs.Climb.{isSome}
+use Rattle.eligibility.specs.Fold.{behindPhis}
+use Rattle.rewriting.specs.Run.{Choice, typesIn}
+use Rattle.output.proofs.Marks.{marks-length}
+use Rattle.shelf.specs.Lists.{every, among}
+use Rattle.shelf.specs.Reads.{clean, cleanTerminator}
+use Rattle.shelf.specs.Agrees.{agrees, endAgrees, blockAgrees}
+use Rattle.shelf.specs.Reason.{typesAgree, inOrder, keptApart, noDeepStore, readsNoDropped, shelfReason}
+use Rattle.simulation.specs.Typing.{typed}
+use Rattle.simulation.specs.Static.{below, once, noPhi, rewriting, Static}
+use Rattle.simulation.proofs.Tools.{and-l, and-r, and-i, split, passes, fails, cond-yes, cond-no}
+use Rattle.claim.proofs.Typed.{agrees-typed}
+use Rattle.claim.proofs.Accepted.{instructions-below, end-below, news-low}
+use Rattle.claim.proofs.Defined.{types-once, behind-once, phis-first}
+
+-- ---- the byte form
+
+-- what holds of each block of a decoded routine
+each-block : (m : Mosts) (b : Bounds) (total : ℕ) (seen : List Bool) (ks : List Block) (p : Block → Bool) → b .next ≤ length seen
+    → ((total : ℕ) (seen : List Bool) (k : Block) → b .next ≤ length seen → FitCode m b total seen k → T (p k)) → FitBlocks m b total seen ks → T (every p ks)
+each-block m b total seen [] p l f h = tt
+each-block m b total seen (k ∷ ks) p l f h =
+    and-i (p k) (every p ks) (f total seen k l (h .0))
+    (each-block m b (total + length (k .instructions)) (blockMarks seen (k .instructions)) ks p (rw (block-length seen (k .instructions)) l) f (h .1))
+  where
+    block-length : (seen : List Bool) (is : List Instruction) → length (blockMarks seen is) ≡ length seen
+    block-length seen [] = refl
+    block-length seen (i ∷ is) = block-length (marks seen (dests (i .kind))) is ∙ marks-length seen (dests (i .kind))
+
+-- ---- reason 0
+
+pub record Passed (a b c d e : Bool) : Type 0 where
+  pub types : T a
+  pub order : T b
+  pub apart : T c
+  pub deep : T d
+  pub clean : T e
+
+all-passed : (a b c d e : Bool) → _≡_ {A = ℕ} (cond a (cond b (cond c (cond d (cond e 0 5) 4) 3) 2) 1) 0 → Passed a b c d e
+all-passed true true true true true h = record { types = tt; order = tt; apart = tt; deep = tt; clean = tt }
+all-passed true true true true false h = absurd (ne h)
+  where
+    ne : _≡_ {A = ℕ} 5 0 → ⊥
+    ne e = omega (arith, e)
+all-passed true true true false e h = absurd (ne h)
+  where
+    ne : _≡_ {A = ℕ} 4 0 → ⊥
+    ne e = omega (arith, e)
+all-passed true true false d e h = absurd (ne h)
+  where
+    ne : _≡_ {A = ℕ} 3 0 → ⊥
+    ne e = omega (arith, e)
+all-passed true false c d e h = absurd (ne h)
+  where
+    ne : _≡_ {A = ℕ} 2 0 → ⊥
+    ne e = omega (arith, e)
+all-passed false b c d e h = absurd (ne h)
+  where
+    ne : _≡_ {A = ℕ} 1 0 → ⊥
+    ne e = omega (arith, e)
+
+-- types agree behind the phis too
+typed-behind : (τ : Types) (is : List Instruction) → T (every (λ i. agrees τ (i .kind)) is) → T (every (λ i. typed τ (i .kind)) (behindPhis is))
+unfolding behindPhis
+typed-behind τ [] h = tt
+typed-behind τ (i ∷ is) h =
+    elim (split (isPhi (i .kind))) [
+      | passes y ↦ rw (cond-yes (isPhi (i .kind)) (behindPhis is) (i ∷ is) y) (typed-behind τ is (and-r (agrees τ (i .kind)) (every (λ i. agrees τ (i .kind)) is) h))
+      | fails y ↦ rw (cond-no (isPhi (i .kind)) (behindPhis is) (i ∷ is) y) (typed-all (i ∷ is) h)
+    ]
+  where
+    typed-all : (is : List Instruction) → T (every (λ i. agrees τ (i .kind)) is) → T (every (λ i. typed τ (i .kind)) is)
+    typed-all [] h = tt
+    typed-all (i ∷ is) h =
+        and-i (typed τ (i .kind)) _ (agrees-typed τ (i .kind) (and-l (agrees τ (i .kind)) (every (λ i. agrees τ (i .kind)) is) h))
+        (typed-all is (and-r (agrees τ (i .kind)) (every (λ i. agrees τ (i .kind)) is) h))
+
+typed-blocks : (τ : Types) (ks : List Block) → T (every (blockAgrees τ) ks) → T (every (λ k. every (λ i. typed τ (i .kind)) (behindPhis (k .instructions))) ks)
+unfolding blockAgrees
+typed-blocks τ [] h = tt
+typed-blocks τ (k ∷ ks) h =
+    and-i (every (λ i. typed τ (i .kind)) (behindPhis (k .instructions))) _
+    (typed-behind τ (k .instructions) (and-l (every (λ i. agrees τ (i .kind)) (k .instructions)) (endAgrees τ (k .terminator)) (and-l (blockAgrees τ k) (every (blockAgrees τ) ks) h)))
+    (typed-blocks τ ks (and-r (blockAgrees τ k) (every (blockAgrees τ) ks) h))
+
+-- ---- all of them
+
+pub static : (m : Mosts) (debug : Bool) (σ : Settings) (c : Choice) (r : Routine) → WellFormed m r → shelfReason debug r (rewriting σ c r) ≡ 0 → Static debug σ c r
+unfolding shelfReason typesAgree inOrder keptApart noDeepStore readsNoDropped
+static m debug σ c r w h =
+    let b = bounds m r in
+    let seen = marks (unmarked r) (r .parameters) in
+    let l : r .next ≤ length seen = rw (marks-length (unmarked r) (r .parameters), length-replicate {A = Bool} (r .next) false) (omega arith) in
+    let z = all-passed (typesAgree r) (inOrder r) (keptApart r) (noDeepStore ((rewriting σ c r) .dropped) r) (readsNoDropped debug ((rewriting σ c r) .dropped) ((rewriting σ c r) .blocks)) h in
+    let reads = every (λ k. clean debug (λ x. among x ((rewriting σ c r) .dropped)) (k .instructions)) ((rewriting σ c r) .blocks) in
+    let ends = every (λ k. cleanTerminator (λ x. among x ((rewriting σ c r) .dropped)) (k .terminator)) ((rewriting σ c r) .blocks) in
+    record {
+      recorded = w .many-recorded;
+      parameters = news-low b (unmarked r) (r .parameters) (w .parameters);
+      below = each-block m b 0 seen (r .blocks) (λ k. below (r .next) (k .instructions)) l (λ total seen k l f. instructions-below b seen false (k .instructions) (f .instructions)) (w .blocks);
+      belowEnds = each-block m b 0 seen (r .blocks) (λ k. every (λ v. ltb (v .0) (r .next)) (terminatorReads (k .terminator))) l (λ total seen k l f. end-below b (k .terminator) (f .terminator)) (w .blocks);
+      fields = types-once (m .list) [] (r .types) (w .types);
+      once = each-block m b 0 seen (r .blocks) (λ k. once (behindPhis (k .instructions))) l (λ total seen k l f. behind-once b seen false (k .instructions) l (f .instructions)) (w .blocks);
+      phisFirst = each-block m b 0 seen (r .blocks) (λ k. noPhi (behindPhis (k .instructions))) l (λ total seen k l f. phis-first b seen false (k .instructions) (f .instructions)) (w .blocks);
+      typed = typed-blocks (typesIn r) (r .blocks) (and-r (every (λ v. isSome (recordedType (typesIn r) v)) (r .parameters)) (every (blockAgrees (typesIn r)) (r .blocks)) (z .types));
+      ordered = z .order;
+      apart = z .apart;
+      shallow = z .deep;
+      clean = and-l reads ends (z .clean);
+      cleanEnds = and-r reads ends (z .clean);
+    }

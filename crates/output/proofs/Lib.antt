@@ -1,0 +1,9 @@
+pub mod Wider
+pub mod Parts
+pub mod Rebuilt
+pub mod Pieces
+pub mod Steps
+pub mod Marks
+pub mod Blocks
+pub mod Counts
+pub mod Whole

@@ -1,0 +1,29 @@
+-- What a call gives, the shelf reason too: demand 1 whole.
+use Prim.Native.Nat.{ℕ}
+use mathlib.Core.List.{List}
+use mathlib.Core.Bool.{Bool, false}
+use Rattle.wire.specs.Parse.{Parse, ok, bad}
+use Rattle.routine.specs.Routine.{Routine}
+use Rattle.routine.specs.Decode.{mosts, wholeOf}
+use Rattle.eligibility.specs.declared.Settings.{Settings}
+use Rattle.rewriting.specs.declared.Counts.{Counts}
+use Rattle.rewriting.specs.Run.{rewrittenBlocks}
+use Rattle.rewriting.specs.Outcome.{Outcome, outcome}
+use Rattle.shelf.specs.Reason.{shelfReason}
+
+-- a refusal's number and offset, or the result, the counts, the shelf reason and the bytes of the rewritten routine
+pub data Answer : Type 0 where
+  refused : ℕ → ℕ → Answer
+  lowered : Bool → Counts → ℕ → List ℕ → Answer
+
+-- the reason of the routine that the input is
+unfoldable pub reasonOf : Settings → Parse Routine → ℕ
+reasonOf σ (ok r n) = shelfReason false r (rewrittenBlocks σ r)
+reasonOf σ (bad c o) = 0
+
+unfoldable pub withReason : ℕ → Outcome → Answer
+withReason k (Outcome.refused n o) = refused n o
+withReason k (Outcome.lowered w c bytes) = lowered w c k bytes
+
+unfoldable pub answer : Settings → ℕ → List ℕ → Answer
+answer σ room s = withReason (reasonOf σ (wholeOf mosts s)) (outcome σ room s)

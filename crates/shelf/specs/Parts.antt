@@ -1,0 +1,77 @@
+-- The parts that a type has.
+use Prim.Native.Nat.{ℕ}
+use mathlib.Core.Option.{Option, none, some}
+use mathlib.Core.Bool.{true, false}
+use mathlib.Core.Bool as B
+use lib.ListN.{length, getElem?}
+use lib.Dec.{eqb}
+use Rattle.wire.specs.declared.TypeId.{TypeId}
+use Rattle.wire.specs.declared.Value.{Value}
+use Rattle.types.specs.Syntax.{StructField, MirType, Felt, Bool, U32, Tuple, Struct, FixedArray, Pointer, Function, Unit, Error, Unknown}
+use Rattle.eligibility.specs.Lookup.{Types, valueRow}
+
+-- the type of a field that is there
+unfoldable pub fieldType : Option StructField → Option TypeId
+fieldType none = none
+fieldType (some f) = some (f .part)
+
+-- the type of part k
+unfoldable pub partType : Option MirType → ℕ → Option TypeId
+partType none k = none
+partType (some Felt) k = none
+partType (some Bool) k = none
+partType (some U32) k = none
+partType (some (Tuple ts)) k = getElem? ts k
+partType (some (Struct n fs)) k = fieldType (getElem? fs k)
+partType (some (FixedArray t size)) k = some t
+partType (some (Pointer t)) k = none
+partType (some (Function ps r)) k = none
+partType (some Unit) k = none
+partType (some Error) k = none
+partType (some Unknown) k = none
+
+-- how many parts a type has; none where it is no aggregate
+unfoldable pub partCount : Option MirType → Option ℕ
+partCount none = none
+partCount (some Felt) = none
+partCount (some Bool) = none
+partCount (some U32) = none
+partCount (some (Tuple ts)) = some (length ts)
+partCount (some (Struct n fs)) = some (length fs)
+partCount (some (FixedArray t size)) = some size
+partCount (some (Pointer t)) = none
+partCount (some (Function ps r)) = none
+partCount (some Unit) = none
+partCount (some Error) = none
+partCount (some Unknown) = none
+
+-- that many parts, of a type that has parts
+unfoldable pub counts : Option ℕ → ℕ → B.Bool
+counts none k = false
+counts (some n) k = eqb n k
+
+-- the recorded row of a value that is an operand
+unfoldable pub operandRow : Types → Value → Option MirType
+operandRow τ (Value.Literal l) = none
+operandRow τ (Value.Operand v) = valueRow τ v
+operandRow τ Value.Error = none
+
+-- "Load or Store on a Pointer base" goes by this, of the base's recorded type
+unfoldable pub isPointer : Option MirType → B.Bool
+isPointer none = false
+isPointer (some Felt) = false
+isPointer (some Bool) = false
+isPointer (some U32) = false
+isPointer (some (Tuple ts)) = false
+isPointer (some (Struct n fs)) = false
+isPointer (some (FixedArray t size)) = false
+isPointer (some (Pointer t)) = true
+isPointer (some (Function ps r)) = false
+isPointer (some Unit) = false
+isPointer (some Error) = false
+isPointer (some Unknown) = false
+
+-- a lookup behind another
+unfoldable pub onto : {A B : Type 0} → Option A → (A → Option B) → Option B
+onto none f = none
+onto (some a) f = f a

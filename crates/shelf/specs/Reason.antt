@@ -1,0 +1,43 @@
+-- The shelf test: "Reason 0 is passed; else the lowest that holds".
+use Prim.Native.Nat.{ℕ}
+use mathlib.Core.List.{List}
+use mathlib.Core.Bool.{Bool, true, false, cond, _&&_}
+use Rattle.wire.specs.declared.ValueId.{ValueId}
+use Rattle.form.specs.Syntax.{Block}
+use Rattle.routine.specs.Routine.{Routine}
+use Rattle.eligibility.specs.Lookup.{Types, recordedType}
+use Rattle.eligibility.specs.Climb.{isSome}
+use Rattle.eligibility.specs.Fold.{behindPhis}
+use Rattle.rewriting.specs.Run.{Rewritten, typesIn}
+use Rattle.shelf.specs.Lists.{every, among}
+use Rattle.shelf.specs.Reads.{ordered, bases, apart, shallow, clean, cleanTerminator}
+use Rattle.shelf.specs.Agrees.{blockAgrees}
+
+-- 1. "Types disagree"; a parameter is defined, so that it has a recorded type
+unfoldable pub typesAgree : Routine → Bool
+typesAgree r = every (λ v. isSome (recordedType (typesIn r) v)) (r .parameters) && every (blockAgrees (typesIn r)) (r .blocks)
+
+-- 2. "A block reads a value that it defines there or later, phis and Debug aside": phis stand in front
+unfoldable pub inOrder : Routine → Bool
+inOrder r = every (λ k. ordered (behindPhis (k .instructions))) (r .blocks)
+
+-- 3. "An aggregate that is a Store's base is also a build's part, an insert's new value or a Store's value"
+unfoldable pub keptApart : Routine → Bool
+keptApart r = every (λ k. apart (λ x. among x (bases (typesIn r) (r .blocks))) (behindPhis (k .instructions))) (r .blocks)
+
+-- 4. "A Store of two or more projections has a dropped base"
+unfoldable pub noDeepStore : List ValueId → Routine → Bool
+noDeepStore dropped r = every (λ k. every (λ i. shallow (λ x. among x dropped) (i .kind)) (behindPhis (k .instructions))) (r .blocks)
+
+-- 5. "The output reads a dropped value anywhere but in Debug"; with the flag, in Debug too
+unfoldable pub readsNoDropped : Bool → List ValueId → List Block → Bool
+readsNoDropped debug dropped ks =
+    every (λ k. clean debug (λ x. among x dropped) (k .instructions)) ks && every (λ k. cleanTerminator (λ x. among x dropped) (k .terminator)) ks
+
+unfoldable pub shelfReason : Bool → Routine → Rewritten → ℕ
+shelfReason debug r w =
+    cond (typesAgree r)
+    (cond (inOrder r)
+    (cond (keptApart r)
+    (cond (noDeepStore (w .dropped) r)
+    (cond (readsNoDropped debug (w .dropped) (w .blocks)) 0 5) 4) 3) 2) 1

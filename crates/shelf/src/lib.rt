@@ -1,0 +1,1 @@
+// The shelf test: which rewritten routines the claim of equal runs covers; the definitions are in specs/.

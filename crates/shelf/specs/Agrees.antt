@@ -1,5 +1,6 @@
 -- Shelf reason 1, "Types disagree", as a test for each kind that passes where they agree. "A value read or defined lacks a
--- recorded type, or Error stands as a value" is part of each test: proofs/Recorded.antt.
+-- recorded type, or Error stands as a value" needs no test of its own: what fits a type or is a scalar has a recorded type
+-- or is a literal, and so do the dests (proofs/Recorded.antt).
 use Prim.Native.Nat.{ℕ}
 use mathlib.Core.Option.{Option, none, some}
 use mathlib.Core.List.{List, [], _∷_}

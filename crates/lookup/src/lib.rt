@@ -160,7 +160,7 @@ fn projection_end(t: &[u8], at: usize) -> usize
 }
 
 // The place behind `k` projections.
-fn projections_end(t: &[u8], at: usize, k: u8) -> usize
+pub fn projections_end(t: &[u8], at: usize, k: u8) -> usize
     requires { ⌜ at < 1048576 ⌝ }
     ensures { λ r. ⌜ (r ≡ after (projectionEnd (now (t .entry))) k at) × (r < 2097152) ⌝ }
 {

@@ -19,7 +19,7 @@ const TIMES: usize = 25;
 const FEW: usize = 5;
 
 /// What is measured: whether a routine is accepted.
-type Reader<'a> = &'a dyn Fn(&[u8]) -> bool;
+pub type Reader<'a> = &'a dyn Fn(&[u8]) -> bool;
 
 /// Prints nanoseconds for each routine, and the ratio where there is a `check`.
 pub fn command(args: &Args, check: Option<Check>) -> Result<bool, String> {
@@ -62,7 +62,7 @@ fn row(size: usize, routines: &[Vec<u8>], check: Option<Check>) -> Result<(), St
 
 /// The time of each reader for one routine, in nanoseconds: few routines at a time and the readers
 /// in turn, so that other work on the machine spoils single measurements and not the middle one.
-fn middle<const N: usize>(routines: &[Vec<u8>], readers: [Reader; N]) -> [f64; N] {
+pub fn middle<const N: usize>(routines: &[Vec<u8>], readers: [Reader; N]) -> [f64; N] {
     let mut sums = [0.0; N];
     for few in routines.chunks(FEW) {
         let mut times = [[0; TIMES]; N];

@@ -2,10 +2,13 @@
 
 mod args;
 mod bench;
+mod bench_lower;
 mod check_diff;
 mod coverage;
 mod histogram;
+mod lower_diff;
 mod one;
+mod runs;
 mod tally;
 
 use std::process::ExitCode;
@@ -17,6 +20,9 @@ const USAGE: &str = "usage: driver COMMAND [--NAME VALUE]...
   histogram   --count N --seed S [--sort SORT]   how often each case is met
   coverage    --count N --seed S [--sort SORT]   the lines of sroa.rs that no routine reaches
   bench       --count N --seed S                 check against the oracle's reader, in time
+  lower-diff  --count N --seed S [--sort SORT]   the static library's lower against the Rust
+  bench-lower --count N --seed S                 lower against the Rust, in time
+  runs        --count N --seed S                 original and rewritten routine on the machine
   run         --hex HEX [--tuples N] [--structs N] [--max N] [--lent N]
                                                  what the Rust makes of one input
 sorts: typed, wild, near, damaged, bytes; without one, a mix of all";
@@ -27,6 +33,17 @@ type Check = fn(&[u8]) -> (u8, u64);
 const CHECK: Option<Check> = Some(pass::check);
 #[cfg(not(feature = "pass"))]
 const CHECK: Option<Check> = None;
+
+/// What `lower` answers: refusal number, offset, result, the five counts, output length.
+type Answer = [u64; 9];
+
+/// The static library's `lower`, where the driver was built with it: input, output, and the
+/// settings tuples, structs and most.
+type Lower = fn(&[u8], &mut [u8], [u64; 3]) -> Answer;
+#[cfg(feature = "lower")]
+const LOWER: Option<Lower> = Some(pass::lower);
+#[cfg(not(feature = "lower"))]
+const LOWER: Option<Lower> = None;
 
 fn main() -> ExitCode {
     let mut words = std::env::args().skip(1);
@@ -52,6 +69,12 @@ fn dispatch(command: &str, args: &Args) -> Result<bool, String> {
         "histogram" => histogram::command(args),
         "coverage" => coverage::command(args),
         "bench" => bench::command(args, CHECK),
+        "lower-diff" => {
+            let lower = LOWER.ok_or("built without `lower`: add `--features lower`")?;
+            lower_diff::command(args, lower)
+        }
+        "bench-lower" => bench_lower::command(args, LOWER),
+        "runs" => runs::command(args),
         "run" => one::command(args),
         _ => Err(USAGE.to_string()),
     }

@@ -1,5 +1,6 @@
 //! Routines from a seed: well typed, wild, near every most, damaged, and plain bytes.
 
+mod churn;
 mod damage;
 mod damage_routine;
 mod draft;
@@ -7,17 +8,22 @@ mod fields;
 mod near;
 mod rng;
 mod shrink;
+mod shrink_routine;
 mod tables;
+mod twist;
 mod typed;
 mod typed_steps;
 mod wild;
 mod wild_nest;
 mod wild_steps;
+mod work;
 
 use oracle::form::Routine;
 
 pub use rng::Rng;
 pub use shrink::smallest;
+pub use shrink_routine::smaller;
+pub use work::{Work, WORKS};
 
 /// What sort of input is made.
 #[derive(Debug, Clone, Copy, PartialEq, Eq)]
@@ -97,6 +103,20 @@ fn routine(rng: &mut Rng, sort: Sort) -> Routine {
 /// A well-typed routine of about `size` instructions, for measuring.
 pub fn sized(rng: &mut Rng, size: usize) -> Vec<u8> {
     oracle::write(&typed::routine(rng, size))
+}
+
+/// A well-typed routine with a twist: types agree as a rule, but values are read where they do not
+/// reach, and blocks entered from anywhere.
+pub fn twisted(rng: &mut Rng) -> Vec<u8> {
+    let mut routine = routine(rng, Sort::Typed);
+    twist::twist(rng, &mut routine);
+    oracle::write(&routine)
+}
+
+/// A well-typed routine that changes a few aggregates again and again, and then shows them.
+pub fn churned(rng: &mut Rng) -> Vec<u8> {
+    let size = rng.within(3, 40);
+    oracle::write(&churn::routine(rng, size))
 }
 
 /// Short rows of bytes, small ones more often, at times behind the beginning of a routine.

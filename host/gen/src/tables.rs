@@ -12,13 +12,18 @@ pub const UNIT: TypeNo = TypeNo(3);
 
 /// A table whose aggregates can all be built: small counts, array sizes that a list can hold.
 pub fn buildable(rng: &mut Rng, rows: usize) -> Vec<Type> {
+    buildable_of(rng, rows, |rng| rng.below(10))
+}
+
+/// The same with kinds chosen by `kind`: to 3 a tuple, to 6 a struct, to 8 an array, 9 a pointer.
+pub fn buildable_of(rng: &mut Rng, rows: usize, kind: impl Fn(&mut Rng) -> usize) -> Vec<Type> {
     let mut types = vec![Type::Felt, Type::Bool, Type::U32, Type::Unit];
     grow(rng, &mut types, rows, |rng, own| {
         let width = if rng.chance(6) { rng.pick(&[7, 8, 9, 16]) } else { rng.below(5) };
         let part = |rng: &mut Rng| {
             TypeNo(if rng.chance(50) { rng.below(3) } else { rng.below(own) } as u16)
         };
-        match rng.below(10) {
+        match kind(rng) {
             0..=3 => Type::Tuple((0..width).map(|_| part(rng)).collect()),
             4..=6 => structure(rng, width, part),
             7..=8 => Type::FixedArray { element: part(rng), size: width as u32 },

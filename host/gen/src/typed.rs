@@ -11,6 +11,11 @@ use crate::typed_steps::{literal_or_reaching, Typed};
 pub fn routine(rng: &mut Rng, size: usize) -> Routine {
     let rows = rng.within(6, 18);
     let types = tables::buildable(rng, rows);
+    routine_over(rng, types, size)
+}
+
+/// A routine over a table that begins with the rows of [`tables`].
+pub fn routine_over(rng: &mut Rng, types: Vec<Type>, size: usize) -> Routine {
     let mut typed = Typed::new(Draft::new(rng, types, size.min(most::IN_ALL)));
     let parameters = typed.draft.rng.below(5);
     typed.parameters(parameters);

@@ -247,7 +247,52 @@ impl Type {
 
     /// "Only Tuple, Struct and FixedArray can be taken apart."
     pub fn is_aggregate(&self) -> bool {
-        matches!(self, Type::Tuple(_) | Type::Struct { .. } | Type::FixedArray { .. })
+        self.count().is_some()
+    }
+
+    /// How many parts an aggregate has.
+    pub fn count(&self) -> Option<usize> {
+        match self {
+            Type::Tuple(parts) => Some(parts.len()),
+            Type::Struct { fields, .. } => Some(fields.len()),
+            Type::FixedArray { size, .. } => Some(*size as usize),
+            _ => None,
+        }
+    }
+
+    /// The type of part `at`; an array has one for every place.
+    pub fn part(&self, at: usize) -> Option<TypeNo> {
+        match self {
+            Type::Tuple(parts) => parts.get(at).copied(),
+            Type::Struct { fields, .. } => fields.get(at).map(|(_, ty)| *ty),
+            Type::FixedArray { element, .. } => Some(*element),
+            _ => None,
+        }
+    }
+
+    /// Where a struct has the field.
+    pub fn position(&self, field: NameNo) -> Option<usize> {
+        match self {
+            Type::Struct { fields, .. } => fields.iter().position(|(name, _)| *name == field),
+            _ => None,
+        }
+    }
+}
+
+impl Routine {
+    /// The row of a type number, if there is one.
+    pub fn row(&self, ty: Option<TypeNo>) -> Option<&Type> {
+        self.types.get(ty?.index())
+    }
+
+    /// The recorded type of a value.
+    pub fn recorded_type(&self, value: ValueNo) -> Option<TypeNo> {
+        self.recorded.get(value.index()).copied().flatten()
+    }
+
+    /// All instructions, in order.
+    pub fn instructions(&self) -> impl Iterator<Item = &Instruction> {
+        self.blocks.iter().flat_map(|block| &block.instructions)
     }
 }
 

@@ -9,6 +9,7 @@ use mir::passes::MirPass;
 use mir::MirFunction;
 
 use crate::cursor::{cause, Refusal};
+use crate::form::Routine;
 use crate::from_mir::routine_of;
 use crate::read::read;
 use crate::to_mir::function_of;
@@ -65,16 +66,30 @@ pub fn run_oracle(input: &[u8], settings: Settings, output_len: usize) -> Outcom
         Ok(routine) => routine,
         Err(refusal) => return Outcome::Refused(refusal),
     };
-    let table = TypeTable::new(&routine.types);
-    let mut function = function_of(&routine, &table);
-    let Some((result, counts)) = run_pass(&mut function, settings) else {
+    let Some(Lowered { result, counts, routine }) = run_routine(routine, settings) else {
         return refused(cause::ARRAY_REBUILD);
     };
-    let output = write(&routine_of(function, routine.types, &table));
+    let output = write(&routine);
     if output.len() > output_len {
         return refused(cause::OUTPUT_LONGER);
     }
     Outcome::Lowered { result, counts, output }
+}
+
+/// What a run leaves, before it is bytes again: it may pass the mosts, which `read` holds.
+#[derive(Debug, Clone, PartialEq, Eq)]
+pub struct Lowered {
+    pub result: bool,
+    pub counts: Counts,
+    pub routine: Routine,
+}
+
+/// What the Rust makes of a routine; nothing where an array rebuild met another count.
+pub fn run_routine(routine: Routine, settings: Settings) -> Option<Lowered> {
+    let table = TypeTable::new(&routine.types);
+    let mut function = function_of(&routine, &table);
+    let (result, counts) = run_pass(&mut function, settings)?;
+    Some(Lowered { result, counts, routine: routine_of(function, routine.types, &table) })
 }
 
 /// Runs `MirPass::run`; nothing where an array rebuild met another count.

@@ -1,5 +1,11 @@
 //! The entries of the proved static library, as safe functions.
 
+#[cfg(feature = "lower")]
+mod lower;
+
+#[cfg(feature = "lower")]
+pub use lower::lower;
+
 mod entries {
     extern "C" {
         /// 0 and offset 0 for an accepted routine, else the refusal's number and its offset.

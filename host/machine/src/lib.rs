@@ -1,0 +1,20 @@
+//! Document 01's machine, run plainly: what a routine does, as a record and a standing.
+
+mod aggregate;
+mod datum;
+mod event;
+mod exec;
+mod hashed;
+mod meaning;
+mod place;
+mod plain;
+mod run;
+mod state;
+
+pub use datum::Datum;
+pub use event::{Cause, End, Event, Standing, Step, Trace};
+pub use hashed::Hashed;
+pub use meaning::{Answer, Literal, Meaning};
+pub use plain::Plain;
+pub use run::{run, Run};
+pub use state::{List, Outside};

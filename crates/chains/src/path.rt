@@ -1,0 +1,226 @@
+// The steps of a chain of projections.
+use crate::Position;
+use crate::Walked;
+use form::Bounds;
+use lookup::Step;
+use parts::Init;
+use wire::Literal;
+use wire::ReadValue;
+use wire::Value;
+use wire::ValueId;
+ghost use mathlib.Core.Path.{_≡_};
+ghost use mathlib.Core.List.{List};
+ghost use mathlib.Core.Option.{some};
+ghost use Prim.Native.Nat.{ℕ, _+_, _≤_, _<_};
+ghost use lib.ListN.{length, take};
+ghost use Rattle.wire.specs.WellFormed.{Bytes};
+ghost use Rattle.wire.specs.declared.Value.{Value as AnyValue};
+ghost use Rattle.form.specs.Syntax.{Projection};
+ghost use Rattle.lookup.specs.Fields.{asStep};
+ghost use Rattle.eligibility.specs.Lookup.{Types, asConstInteger};
+ghost use Rattle.rewriting.specs.State.{AggStates, stepIndex, stepPart, chain};
+ghost use Rattle.parts.specs.Rows.{ValueAt, Rep, InitAt};
+ghost use Rattle.progress.specs.Ground.{Ground};
+ghost use Rattle.chains.specs.Chained.{asPosition, LeadsTo, hasPart, partAt, Walking, StepsAt, integerStep, held};
+
+// value.rs, `as_const_integer`.
+fn const_integer(x: Value) -> Position
+    ensures { λ r. ⌜ asPosition r ≡ asConstInteger x ⌝ }
+{
+    match x {
+        Value::Literal(l) => match l {
+            Literal::Integer(k) => Position::At(k),
+            Literal::Boolean(b) => Position::At(b as u32),
+            Literal::Unit => Position::Nothing,
+        },
+        Value::Operand(_) => Position::Nothing,
+        Value::Error => Position::Nothing,
+    }
+}
+
+// Which part of `v` a projection names.
+pub fn step_index(
+    s: &[u8],
+    b: Bounds,
+    types: &[usize],
+    recorded: &[u16],
+    v: ValueId,
+    p: Step,
+) -> Position
+    ensures { λ r. ⌜ ((τ : Types) (q : Projection) → Ground b (now (s .entry)) (now (types .entry)) (now (recorded .entry)) τ → v .0 < b .next → asStep p ≡ some q → asPosition r ≡ stepIndex τ v q) ⌝ }
+{
+    match p {
+        Step::Index(x) => const_integer(x),
+        Step::Field(name) => crate::value_field_index(s, types, b.types, recorded, v, name),
+        Step::Tuple(k) => Position::At(k),
+        Step::Nothing => Position::Nothing,
+    }
+}
+
+// A value is tracked and has part `k`.
+pub fn has_part(counts: &[u16], v: ValueId, k: u32) -> bool
+    ensures { λ r. ⌜ ((next : ℕ) (s firsts pool : List ℕ) (used : ℕ) (S : AggStates) → Rep next s (now (counts .entry)) firsts pool used S → r ≡ hasPart (S (v .0)) k) ⌝ }
+{
+    let n = parts::tracked(counts, v);
+    if n == 0 {
+        return false;
+    }
+    k < n as u32 - 1
+}
+
+// A value's part at a position, where it is tracked and has that part.
+fn part_at(counts: &[u16], firsts: &[u16], pool: &[usize], v: ValueId, q: Position) -> Init
+    ensures { λ r. ⌜ ((next : ℕ) (s : List ℕ) (used : ℕ) (S : AggStates) → Rep next s (now (counts .entry)) (now (firsts .entry)) (now (pool .entry)) used S → InitAt next s (partAt S v (asPosition q)) r) ⌝ }
+{
+    match q {
+        Position::Nothing => Init {
+            given: false,
+            place: 0,
+        },
+        Position::At(k) => {
+            if has_part(counts, v, k) {
+                return Init {
+                    given: true,
+                    place: parts::part_place(firsts, pool, v, k),
+                };
+            }
+            Init {
+                given: false,
+                place: 0,
+            }
+        }
+    }
+}
+
+// One step of a chain: the part of `v` that a projection names.
+pub fn step_part(
+    s: &[u8],
+    b: Bounds,
+    types: &[usize],
+    recorded: &[u16],
+    counts: &[u16],
+    firsts: &[u16],
+    pool: &[usize],
+    v: ValueId,
+    p: Step,
+) -> Init
+    ensures { λ r. ⌜ ((τ : Types) (S : AggStates) (q : Projection) → Walking b (now (s .entry)) (now (types .entry)) (now (recorded .entry)) (now (counts .entry)) (now (firsts .entry)) (now (pool .entry)) τ S → v .0 < b .next → asStep p ≡ some q → InitAt (b .next) (now (s .entry)) (stepPart τ S (AnyValue.Operand v) q) r) ⌝ }
+{
+    part_at(counts, firsts, pool, v, step_index(s, b, types, recorded, v, p))
+}
+
+// The value that stands at a place, where it is an operand.
+fn operand_at(s: &[u8], at: usize, next: u16) -> Walked
+    ensures { λ r. ⌜ ((x : AnyValue) → Bytes (now (s .entry)) → next ≤ 65536 → ValueAt next (now (s .entry)) at x → LeadsTo next (some x) r) ⌝ }
+{
+    match wire::read_value(form::tail(s, at), next) {
+        ReadValue::Refused(_, _) => Walked::Nothing,
+        ReadValue::Got(x, _) => match x {
+            Value::Literal(_) => Walked::Nothing,
+            Value::Operand(v) => Walked::Operand(v),
+            Value::Error => Walked::Nothing,
+        },
+    }
+}
+
+// The operand that one step leads to.
+fn step_operand(
+    s: &[u8],
+    b: Bounds,
+    types: &[usize],
+    recorded: &[u16],
+    counts: &[u16],
+    firsts: &[u16],
+    pool: &[usize],
+    v: ValueId,
+    p: Step,
+) -> Walked
+    ensures { λ r. ⌜ ((τ : Types) (S : AggStates) (q : Projection) → Walking b (now (s .entry)) (now (types .entry)) (now (recorded .entry)) (now (counts .entry)) (now (firsts .entry)) (now (pool .entry)) τ S → v .0 < b .next → asStep p ≡ some q → LeadsTo (b .next) (stepPart τ S (AnyValue.Operand v) q) r) ⌝ }
+{
+    let part = step_part(s, b, types, recorded, counts, firsts, pool, v, p);
+    if !part.given {
+        return Walked::Nothing;
+    }
+    operand_at(s, part.place, b.next)
+}
+
+// The operand that the first `k` projections of the instruction `t` lead to, from `base` on.
+fn walk(
+    s: &[u8],
+    t: &[u8],
+    b: Bounds,
+    types: &[usize],
+    recorded: &[u16],
+    counts: &[u16],
+    firsts: &[u16],
+    pool: &[usize],
+    base: ValueId,
+    k: u8,
+) -> Walked
+    ensures { λ r. ⌜ ((τ : Types) (S : AggStates) (ps : List Projection) → Walking b (now (s .entry)) (now (types .entry)) (now (recorded .entry)) (now (counts .entry)) (now (firsts .entry)) (now (pool .entry)) τ S → StepsAt b (now (t .entry)) ps → base .0 < b .next → k ≤ length ps → LeadsTo (b .next) (chain τ S (AnyValue.Operand base) (take k ps)) r) ⌝ }
+{
+    let mut v = base.0;
+    let mut i: u8 = 0;
+    while i < k {
+        let p = lookup::projection(t, b, i);
+        match step_operand(
+            s,
+            b,
+            types,
+            recorded,
+            counts,
+            firsts,
+            pool,
+            ValueId(v),
+            p,
+        ) {
+            Walked::Nothing => return Walked::Nothing,
+            Walked::Operand(w) => {
+                v = w.0;
+            }
+        }
+        i = i + 1;
+    }
+    Walked::Operand(ValueId(v))
+}
+
+// The projection is an Index by an Integer literal.
+fn is_integer(p: Step) -> bool
+    ensures { λ r. ⌜ r ≡ integerStep (asStep p) ⌝ }
+{
+    match p {
+        Step::Index(x) => match x {
+            Value::Literal(l) => match l {
+                Literal::Integer(_) => true,
+                Literal::Boolean(_) => false,
+                Literal::Unit => false,
+            },
+            Value::Operand(_) => false,
+            Value::Error => false,
+        },
+        Step::Field(_) => false,
+        Step::Tuple(_) => false,
+        Step::Nothing => false,
+    }
+}
+
+// The value of which the last projection, number `last`, names a part. The first one is an Integer literal.
+pub fn holder(
+    s: &[u8],
+    t: &[u8],
+    b: Bounds,
+    types: &[usize],
+    recorded: &[u16],
+    counts: &[u16],
+    firsts: &[u16],
+    pool: &[usize],
+    base: ValueId,
+    last: u8,
+) -> Walked
+    ensures { λ r. ⌜ ((τ : Types) (S : AggStates) (ps : List Projection) → Walking b (now (s .entry)) (now (types .entry)) (now (recorded .entry)) (now (counts .entry)) (now (firsts .entry)) (now (pool .entry)) τ S → StepsAt b (now (t .entry)) ps → base .0 < b .next → length ps ≡ last + 1 → LeadsTo (b .next) (held τ S base ps last) r) ⌝ }
+{
+    if is_integer(lookup::projection(t, b, 0)) {
+        return walk(s, t, b, types, recorded, counts, firsts, pool, base, last);
+    }
+    Walked::Nothing
+}

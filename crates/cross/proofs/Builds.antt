@@ -1,15 +1,13 @@
 -- The builds of a block, and their families.
-use Prim.Native.Nat.{ℕ, zero, suc, _+_, _-_, _≤_, _<_, zero-le}
+use Prim.Native.Nat.{ℕ, _<_}
 use mathlib.Core.Path.{_≡_, refl, ap, _∙_, sym}
-use mathlib.Core.List.{List, [], _∷_, map}
-use mathlib.Core.Bool.{Bool, true, false, cond, not}
-use mathlib.Core.Option.{Option, none, some}
-use native.Mathlib.Numerals.{add-one}
+use mathlib.Core.List.{List, []}
+use mathlib.Core.Bool.{Bool, true, false, not}
+use mathlib.Core.Option.{none, some}
 use native.Mathlib.Omega.{arith}
 use borrow.Author.Tests.{not-true, not-false}
 use lib.ListN.{length, getD, drop, replicate}
-use lib.Seq.{drop-cons, drop-length}
-use Rattle.wire.specs.Parse.{Parse, ok, andThen, mapParse}
+use Rattle.wire.specs.Parse.{ok, andThen, mapParse}
 use Rattle.wire.specs.Number.{below, at16}
 use Rattle.wire.specs.Value.{valueOf, valueIdOf}
 use Rattle.wire.specs.declared.Cause.{Cause}
@@ -21,14 +19,11 @@ use Rattle.form.specs.Syntax.{MakeTuple, ExtractTupleElement, MakeStruct, Extra
 use Rattle.form.specs.Reads.{kindNumber}
 use Rattle.form.specs.Decode.{definedOf, typeIdOf, listOf, fieldInitOf, instructionOf, makeTupleOf, makeStructOf, makeArrayOf, bit}
 use Rattle.form.specs.declared.Bounds.{Bounds}
-use Rattle.places.specs.Places.{noInstruction, InstructionsAt}
 use Rattle.lookup.specs.Fields.{fieldsPlace}
-use Rattle.lookup.proofs.Instruction.{chosen, KindAt, instruction-fields}
+use Rattle.lookup.proofs.Instruction.{chosen, instruction-fields}
 use Rattle.eligibility.specs.Lookup.{Types, valueRow, shape, isScalarizable}
-use Rattle.eligibility.specs.Tables.{FactsAt}
-use Rattle.eligibility.specs.Family.{Marks, family, buildDest, union, readElsewhere, crossFamily, crossBuild, crossBuilds}
+use Rattle.eligibility.specs.Family.{Marks, family, buildDest, union, readElsewhere, crossFamily, crossBuild}
 use Rattle.eligibility.specs.declared.Settings.{Settings}
-use Rattle.family.specs.Copies.{copies, CopiesAt}
 use Rattle.family.proofs.Sweeps.{family-length}
 use Rattle.family.proofs.Fields.{dest-at}
 use Rattle.cross.specs.declared.BuildRead.{BuildRead}

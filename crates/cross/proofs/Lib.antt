@@ -1,3 +1,4 @@
-pub mod Unite
+pub mod Uniting
 pub mod Builds
+pub mod Idle
 pub mod Crossing

@@ -2,11 +2,12 @@
 use Prim.Native.Nat.{ℕ, _<_, _≤_}
 use mathlib.Core.Path.{_≡_}
 use mathlib.Core.List.{List}
-use mathlib.Core.Bool.{Bool}
+use mathlib.Core.Bool.{Bool, false}
 use mathlib.Core.Option.{Option, none, some}
-use lib.ListN.{length, replicate}
+use lib.ListN.{length, getD, replicate}
 use Rattle.wire.specs.declared.ValueId.{ValueId}
-use Rattle.form.specs.Syntax.{InstructionKind, Block}
+use Rattle.form.specs.Syntax.{InstructionKind, Instruction, Block}
+use Rattle.places.specs.Places.{noInstruction}
 use Rattle.eligibility.specs.Lookup.{Types}
 use Rattle.eligibility.specs.Tables.{FactsAt}
 use Rattle.eligibility.specs.Family.{buildDest}
@@ -31,9 +32,9 @@ pub record Built (next : ℕ) (r : BuildRead) (i : InstructionKind) : Type 0 whe
   pub dest : asDest r ≡ buildDest i
   pub low : (v : ℕ) → r ≡ BuildRead.Dest v → v < next
 
--- the tables for work have room for n instructions
-pub record Room (n : ℕ) (places sources dests asked : List ℕ) : Type 0 where
-  pub of-places : n < length places
-  pub of-sources : n ≤ length sources
-  pub of-dests : n ≤ length dests
-  pub of-asked : n ≤ length asked
+-- no build of an eligible type
+pub record Idle (eligible : List Bool) (next : ℕ) (i : InstructionKind) : Type 0 where
+  pub each : (v : ValueId) → buildDest i ≡ some v → (v .0 < next) × (getD eligible (v .0) false ≡ false)
+
+pub record IdleAll (eligible : List Bool) (next : ℕ) (is : List Instruction) : Type 0 where
+  pub each : (k : ℕ) → k < length is → Idle eligible next (getD is k noInstruction .kind)

@@ -1,27 +1,20 @@
 -- The loops over the instructions of a block and over the blocks.
-use Prim.Native.Nat.{ℕ, zero, suc, _+_, _-_, _≤_, _<_, zero-le}
+use Prim.Native.Nat.{ℕ, suc, _+_, _-_, _≤_, _<_, zero-le}
 use mathlib.Core.Path.{_≡_, refl, ap, _∙_, sym}
 use mathlib.Core.List.{List, [], _∷_}
-use mathlib.Core.Bool.{Bool, true, false, _&&_}
+use mathlib.Core.Bool.{false}
 use native.Mathlib.Numerals.{add-one}
 use native.Mathlib.Omega.{arith}
-use borrow.Author.Tests.{leb-true}
-use lib.ListN.{length, getD, drop, replicate}
+use lib.ListN.{length, getD, drop}
 use lib.Seq.{drop-cons, drop-length}
-use lib.Dec.{leb}
-use Rattle.wire.specs.Parse.{Parse, ok, andThen, mapParse}
-use Rattle.wire.specs.Number.{u16Of}
-use Rattle.wire.specs.declared.Cause.{Cause}
-use Rattle.wire.proofs.Inv.{both, image, and-inv, map-inv, checked-inv}
-use Rattle.form.specs.Syntax.{Instruction, InstructionKind, Terminator, Block}
+use Rattle.wire.specs.Parse.{ok}
+use Rattle.form.specs.Syntax.{Instruction, Terminator, Block}
 use Rattle.form.specs.Reads.{terminatorReads}
 use Rattle.form.specs.Decode.{instructionOf, terminatorOf}
 use Rattle.form.specs.declared.Bounds.{Bounds}
-use Rattle.block.specs.Decode.{instructionsOf, blockCountOf, blockOf}
-use Rattle.block.specs.declared.Mosts.{Mosts}
-use Rattle.block.proofs.Laws.{instructions-length}
-use Rattle.routine.specs.Index.{noBlock, BlockAt, standing, BlocksAt}
-use Rattle.places.specs.Places.{noInstruction, InstructionsAt, BlockPlaces, IndexedBlock}
+use Rattle.routine.specs.Index.{noBlock}
+use Rattle.places.specs.Places.{noInstruction, InstructionsAt, BlockPlaces}
+use Rattle.index.specs.Code.{CodeAt, standing}
 use Rattle.readers.specs.Readers.{readVia, readInstruction, readInstructions, readBlock, readBlocks}
 
 -- an instruction of a block, where the code finds it
@@ -60,62 +53,34 @@ reading-done s b places count own r₀ r r′ k at t u h ea et f size x a m g =
     let here : t ≡ drop (getD places (length is) 0) s = et ∙ ap (λ y. drop y s) (ea ∙ ap (λ y. getD places y 0) (sym m)) in
     f (x .terminator) size (ap (λ y. terminatorOf b y) here ∙ a .terminator) g ∙ ap (λ y. readVia own y (terminatorReads (x .terminator))) e
 
--- a block keeps to its most
-pub block-most : (m : Mosts) (b : Bounds) (total : ℕ) (seen : List Bool) (s : List ℕ) {x : Block} {n : ℕ} → blockOf m b total seen s ≡ ok x n → length (x .instructions) ≤ m .block
-unfolding blockOf
-block-most m b total seen s {x} e =
-    elim (and-inv s (blockCountOf m total s) (λ n s. andThen s (instructionsOf b seen false n s) (λ is s. mapParse (λ e. record { instructions = is; terminator = e }) (terminatorOf b s))) e) [
-      | both k j i p q r ↦
-          elim (and-inv (drop j s) (instructionsOf b seen false k (drop j s)) (λ is s. mapParse (λ e. record { instructions = is; terminator = e }) (terminatorOf b s)) q) [
-            | both is l o p2 q2 r2 ↦
-                elim (map-inv (λ e. record { instructions = is; terminator = e }) (terminatorOf b (drop l (drop j s))) q2)
-                [ image y f g ↦ omega (arith, ap (λ x. length (x .instructions)) g, instructions-length b seen false k (drop j s) p2, fits k (checked-inv Cause.TooMany (λ n. leb n (m .block) && leb (total + n) (m .all)) (u16Of s) p .1)) ]
-          ]
-    ]
-  where
-    first-holds : (x y : Bool) → (x && y) ≡ true → x ≡ true
-    first-holds true y h = refl
-    first-holds false y h = absurd (let z : _≡_ {A = ℕ} 0 1 = cc in omega arith)
-
-    fits : (k : ℕ) → (leb k (m .block) && leb (total + k) (m .all)) ≡ true → k ≤ m .block
-    fits k h = leb-true k (m .block) (first-holds (leb k (m .block)) (leb (total + k) (m .all)) h)
-
--- a block that stands somewhere gives what index_block promises of it
-pub block-indexed : (m : Mosts) (b : Bounds) (s blocks places₀ places : List ℕ) (xs : List Block) (k at count : ℕ) → BlocksAt m b s blocks xs → k < length xs → at ≡ getD blocks k 0 → m .block < length places₀ → ((m : Mosts) (total : ℕ) (seen : List Bool) (x : Block) (n : ℕ) → blockOf m b total seen (drop at s) ≡ ok x n → length (x .instructions) < length places₀ → IndexedBlock b s count places x) → IndexedBlock b s count places (getD xs k noBlock)
-block-indexed m b s blocks places₀ places xs k at count a h ea l f =
-    elim (a .each k h) [
-      | standing total seen e ↦
-          let z : blockOf m b total seen (drop at s) ≡ ok (getD xs k noBlock) (getD blocks (suc k) 0 - getD blocks k 0) = ap (λ q. blockOf m b total seen (drop q s)) ea ∙ e in
-          f m total seen (getD xs k noBlock) _ z (omega (arith, block-most m b total seen (drop at s) z))
-    ]
-
 -- k blocks have noted their reads
-pub record Noting (s : List ℕ) (b : Bounds) (blocks : List ℕ) (many : ℕ) (places₀ places : List ℕ) (r₀ r : List ℕ) (k : ℕ) : Type 0 where
+pub record Noting (s : List ℕ) (b : Bounds) (places starts : List ℕ) (many : ℕ) (r₀ r : List ℕ) (k : ℕ) : Type 0 where
   pub under : k ≤ many
   pub long : length r ≡ length r₀
-  pub room : length places ≡ length places₀
-  pub left : (m : Mosts) (xs : List Block) → BlocksAt m b s blocks xs → length xs ≡ many → m .block < length places₀ → b .list + b .projections ≤ 30 → readBlocks 0 r₀ xs ≡ readBlocks k r (drop k xs)
+  pub left : (xs : List Block) → CodeAt b s places starts xs → length xs ≡ many → b .list + b .projections ≤ 30 → many < 254 → readBlocks 0 r₀ xs ≡ readBlocks k r (drop k xs)
 
-pub noting-start : (s : List ℕ) (b : Bounds) (blocks : List ℕ) (many : ℕ) (places r : List ℕ) → Noting s b blocks many places places r r 0
-noting-start s b blocks many places r = record { under = zero-le; long = refl; room = refl; left = λ m xs a l f g. refl }
+pub noting-start : (s : List ℕ) (b : Bounds) (places starts : List ℕ) (many : ℕ) (r : List ℕ) → Noting s b places starts many r r 0
+noting-start s b places starts many r = record { under = zero-le; long = refl; left = λ xs a l f g. refl }
 
-pub noting-again : (s : List ℕ) (b : Bounds) (blocks : List ℕ) (many : ℕ) (places₀ places places′ : List ℕ) (r₀ r r′ : List ℕ) (k own at count : ℕ) → Noting s b blocks many places₀ places r₀ r k → k < many → own ≡ k → at ≡ getD blocks k 0 → ((m : Mosts) (total : ℕ) (seen : List Bool) (x : Block) (n : ℕ) → blockOf m b total seen (drop at s) ≡ ok x n → length (x .instructions) < length places → IndexedBlock b s count places′ x) → ((size : ℕ) (x : Block) → BlockPlaces b s places′ size x → length (x .instructions) ≡ count → b .list + b .projections ≤ 30 → r′ ≡ readBlock own r x) → length places′ ≡ length places → length r′ ≡ length r → Noting s b blocks many places₀ places′ r₀ r′ (k + 1)
+pub noting-again : (s : List ℕ) (b : Bounds) (places starts : List ℕ) (many : ℕ) (r₀ r r′ : List ℕ) (k own count : ℕ) (mine : List ℕ) → Noting s b places starts many r₀ r k → k < many → (k < 254 → own ≡ k) → mine ≡ drop (getD starts k 0) places → ((b : Bounds) (s places : List ℕ) (ks : List Block) → CodeAt b s places starts ks → k < length ks → count ≡ length (getD ks k noBlock .instructions)) → ((size : ℕ) (x : Block) → BlockPlaces b s mine size x → length (x .instructions) ≡ count → b .list + b .projections ≤ 30 → r′ ≡ readBlock own r x) → length r′ ≡ length r → Noting s b places starts many r₀ r′ (k + 1)
 unfolding readBlocks
-noting-again s b blocks many places₀ places places′ r₀ r r′ k own at count u h eo ea f g lp lr =
+noting-again s b places starts many r₀ r r′ k own count mine u h eo em ec g lr =
     record {
       under = omega arith;
       long = lr ∙ u .long;
-      room = lp ∙ u .room;
-      left = λ m xs a l j e.
+      left = λ xs a l e f.
+          let x = getD xs k noBlock in
           let p : k < length xs = omega arith in
-          let q : drop k xs ≡ getD xs k noBlock ∷ drop (k + 1) xs = rw (add-one k) (drop-cons xs k noBlock p) in
-          let i = block-indexed m b s blocks places places′ xs k at count a p ea (omega (arith, u .room)) f in
-          let z : r′ ≡ readBlock k r (getD xs k noBlock) = g (i .size) (getD xs k noBlock) (i .standing) (sym (i .many)) e ∙ ap (λ y. readBlock y r (getD xs k noBlock)) eo in
-          u .left m xs a l j e ∙ ap (λ y. readBlocks k r y) q ∙ ap (λ y. readBlocks (suc k) y (drop (k + 1) xs)) (sym z) ∙ ap (λ y. readBlocks y r′ (drop (k + 1) xs)) (sym (add-one k));
+          let q : drop k xs ≡ x ∷ drop (k + 1) xs = rw (add-one k) (drop-cons xs k noBlock p) in
+          let z : r′ ≡ readBlock k r x =
+          elim (a .each k p) [
+            | standing size y ↦ g size x (rw em y) (sym (ec b s places xs a p)) e ∙ ap (λ y. readBlock y r x) (eo (omega arith))
+          ] in
+          u .left xs a l e f ∙ ap (λ y. readBlocks k r y) q ∙ ap (λ y. readBlocks (suc k) y (drop (k + 1) xs)) (sym z) ∙ ap (λ y. readBlocks y r′ (drop (k + 1) xs)) (sym (add-one k));
     }
 
-pub noting-done : (s : List ℕ) (b : Bounds) (blocks : List ℕ) (many : ℕ) (places₀ places : List ℕ) (r₀ r : List ℕ) (k : ℕ) → Noting s b blocks many places₀ places r₀ r k → many ≤ k → (m : Mosts) (xs : List Block) → BlocksAt m b s blocks xs → length xs ≡ many → m .block < length places₀ → b .list + b .projections ≤ 30 → r ≡ readBlocks 0 r₀ xs
+pub noting-done : (s : List ℕ) (b : Bounds) (places starts : List ℕ) (many : ℕ) (r₀ r : List ℕ) (k : ℕ) → Noting s b places starts many r₀ r k → many ≤ k → (xs : List Block) → CodeAt b s places starts xs → length xs ≡ many → b .list + b .projections ≤ 30 → many < 254 → r ≡ readBlocks 0 r₀ xs
 unfolding readBlocks
-noting-done s b blocks many places₀ places r₀ r k u h m xs a l j e =
+noting-done s b places starts many r₀ r k u h xs a l e f =
     let q : k ≡ length xs = omega (arith, u .under) in
-    sym (u .left m xs a l j e ∙ ap (λ y. readBlocks k r (drop y xs)) q ∙ ap (λ y. readBlocks k r y) (drop-length xs))
+    sym (u .left xs a l e f ∙ ap (λ y. readBlocks k r (drop y xs)) q ∙ ap (λ y. readBlocks k r y) (drop-length xs))

@@ -1,11 +1,11 @@
 -- A family is read elsewhere where some member's reader is another block, or several are.
 use Prim.Native.Nat.{ℕ, zero, suc, _+_, _≤_, _<_}
 use mathlib.Core.Path.{_≡_, refl, ap, _∙_, sym}
-use mathlib.Core.List.{List, [], _∷_, map}
+use mathlib.Core.List.{List, [], _∷_}
 use mathlib.Core.Bool.{Bool, true, false, cond, not, _&&_, _||_}
 use native.Mathlib.Omega.{arith}
 use borrow.Author.Tests.{eqb-true, eqb-false, eq-eqb, ne-eqb}
-use lib.ListN.{length, getD, set, replicate, length-set, length-replicate}
+use lib.ListN.{length, getD, set, replicate, length-set, length-replicate, List·getD-eq-default}
 use lib.Dec.{eqb}
 use Rattle.wire.specs.declared.ValueId.{ValueId}
 use Rattle.form.specs.Syntax.{InstructionKind, Instruction, Block}
@@ -174,3 +174,24 @@ foreign-of own (x ∷ r) (suc k) = foreign-of own r k
 -- and so the code's answer is the definition's
 pub elsewhere-found : (m : Marks) (own : ℕ) (reader : List ℕ) {r : Bool} → own < 254 → r ≡ meets m (foreigners own reader) → (r ≡ meets m (foreigners own reader)) × ((n : ℕ) (ks : List Block) → reader ≡ readBlocks 0 (replicate n 0) ks → length m ≡ n → r ≡ readElsewhere m own 0 ks)
 elsewhere-found m own reader l e = (e, λ n ks f h. e ∙ ap (λ q. meets m (foreigners own q)) f ∙ elsewhere m own n ks l h)
+
+-- whether a number says that another block reads, by cases
+pub foreign-unread : (own x : ℕ) → x ≡ 0 → false ≡ foreign own x
+foreign-unread own x h = rw (eq-eqb x 0 h)
+
+pub foreign-read : (own x : ℕ) → (x ≡ 0 → ⊥) → not (eqb x (own + 1)) ≡ foreign own x
+foreign-read own x h = rw (ne-eqb x 0 h)
+
+-- whether a value is marked and read abroad, by cases
+module _ (m : Marks) (own : ℕ) (reader : List ℕ) (k : ℕ) where
+  pub abroad-past : length m ≤ k → false ≡ (getD m k false && foreign own (getD reader k 0))
+  abroad-past h = rw (List·getD-eq-default m false h)
+
+  pub abroad-unmarked : getD m k false ≡ false → false ≡ (getD m k false && foreign own (getD reader k 0))
+  abroad-unmarked h = rw h
+
+  pub abroad-marked : {r : Bool} {x : ℕ} → getD m k false ≡ true → r ≡ foreign own x → x ≡ getD reader k 0 → r ≡ (getD m k false && foreign own (getD reader k 0))
+  abroad-marked h e f = rw h (e ∙ ap (λ y. foreign own y) f)
+
+  pub abroad-meets : {r : Bool} → r ≡ (getD m k false && foreign own (getD reader k 0)) → r ≡ (getD m k false && getD (foreigners own reader) k false)
+  abroad-meets e = e ∙ ap (λ y. getD m k false && y) (sym (foreign-of own reader k))

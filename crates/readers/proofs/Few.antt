@@ -1,10 +1,9 @@
 -- How many values an instruction or a terminator reads at most.
-use Prim.Native.Nat.{ℕ, zero, suc, _+_, _≤_, _<_, zero-le}
-use mathlib.Core.Path.{_≡_, refl, ap, _∙_, sym}
-use mathlib.Core.List.{List, [], _∷_, _++_, map}
+use Prim.Native.Nat.{ℕ, zero, suc, _+_, _≤_, zero-le}
+use mathlib.Core.Path.{_≡_, ap, _∙_}
+use mathlib.Core.List.{List, [], _∷_, map}
 use mathlib.Core.Bool.{Bool, false}
 use native.Mathlib.Omega.{arith}
-use native.Mathlib.Nat.{le-trans}
 use borrow.Author.Tests.{leb-true}
 use lib.ListN.{length, getD, drop, length-append, length-map}
 use lib.Dec.{leb}
@@ -15,10 +14,10 @@ use Rattle.wire.specs.declared.Cause.{Cause}
 use Rattle.wire.specs.declared.Value.{Value}
 use Rattle.wire.specs.declared.ValueId.{ValueId}
 use Rattle.wire.proofs.Inv.{no-ok, both, behind, image, later-inv, and-inv, map-inv, checked-inv, tagged-inv}
-use Rattle.form.specs.Syntax.{Projection, Index, Field, Tuple, Place, Instruction, InstructionKind, Terminator}
-use Rattle.form.specs.Syntax.{Assign, UnaryOp, BinaryOp, Call, Cast, Load, Store, Debug, Nop, Phi}
+use Rattle.form.specs.Syntax.{Projection, Index, Field, Tuple, Instruction, InstructionKind, Terminator}
+use Rattle.form.specs.Syntax.{Assign, UnaryOp, BinaryOp, Call, Cast, Load, Store, Debug, Phi}
 use Rattle.form.specs.Syntax.{MakeTuple, ExtractTupleElement, MakeStruct, ExtractStructField, InsertField, InsertTuple, MakeFixedArray, AssertEq, HeapAllocCells}
-use Rattle.form.specs.Syntax.{Jump, If, BranchCmp, Return, Unreachable}
+use Rattle.form.specs.Syntax.{Jump, If, BranchCmp, Return}
 use Rattle.form.specs.Reads.{operand, operands, indices, placeReads, sourceValues, initValues, reads, terminatorReads}
 use Rattle.form.specs.Decode.{countOf, typeIdOf, nameIdOf, blockIdOf, definedOf, definedsOf, operationOf, returnsOf, listOf, projectionOf, placeOf, sourceOf, fieldInitOf, kinds, instructionOf, terminators, terminatorOf}
 use Rattle.form.specs.Decode.{assignOf, unaryOf, binaryOf, callOf, castOf, loadOf, storeOf, debugOf, phiOf, makeTupleOf, extractTupleOf, makeStructOf, extractFieldOf, insertFieldOf, insertTupleOf, makeArrayOf, assertEqOf, heapAllocOf}

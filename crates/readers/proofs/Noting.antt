@@ -1,27 +1,26 @@
 -- The reads of an instruction stand in the buffer, and are noted from it.
-use Prim.Native.Nat.{ℕ, zero, suc, _+_, _-_, _≤_, _<_, zero-le}
+use Prim.Native.Nat.{ℕ, zero, suc, _+_, _≤_, _<_, zero-le}
 use mathlib.Core.Path.{_≡_, refl, ap, _∙_, sym}
 use mathlib.Core.List.{List, [], _∷_}
-use mathlib.Core.Bool.{Bool, true, false, cond, not}
+use mathlib.Core.Bool.{Bool, false}
 use native.Mathlib.Numerals.{add-one}
 use native.Mathlib.Nat.{add-zero, zero-add}
 use native.Mathlib.Omega.{arith}
 use borrow.Author.Tests.{lt-ltb, eq-eqb, ne-eqb}
-use lib.ListN.{length, getD, set, drop, replicate, length-set, length-replicate}
+use lib.ListN.{length, getD, set, drop, length-set}
 use lib.Seq.{getD-set-same, getD-set-other, drop-cons, drop-length}
-use lib.Dec.{eqb, ltb}
-use Rattle.wire.specs.Parse.{Parse, ok, mapParse}
+use Rattle.wire.specs.Parse.{ok, mapParse}
 use Rattle.wire.specs.declared.Cause.{Cause}
 use Rattle.wire.specs.declared.ValueId.{ValueId}
 use Rattle.wire.proofs.Inv.{no-ok}
-use Rattle.form.specs.Syntax.{Instruction, InstructionKind, Terminator}
-use Rattle.form.specs.Reads.{reads, counted, kindNumber, terminatorReads}
+use Rattle.form.specs.Syntax.{Instruction, Terminator}
+use Rattle.form.specs.Reads.{reads, kindNumber, terminatorReads}
 use Rattle.form.specs.Decode.{instructionOf, terminatorOf}
 use Rattle.form.specs.Walk.{Walk, walkOf, uses, fold, leaves, asScan}
 use Rattle.form.specs.declared.Bounds.{Bounds}
 use Rattle.form.specs.declared.Scan.{Scan}
 use Rattle.lookup.proofs.Instruction.{instruction-fields}
-use Rattle.readers.specs.Readers.{noteReader, readVia, readInstruction, Buffered}
+use Rattle.readers.specs.Readers.{seenBy, noteReader, readVia, readInstruction, Buffered}
 use Rattle.readers.proofs.Few.{few-reads, few-terminator}
 
 abbrev noValue : ValueId
@@ -123,3 +122,13 @@ unfolding readVia
 via-done own buffer n r₀ r k u h vs a =
     let q : k ≡ length vs = omega (arith, u .under, a .many) in
     sym (u .left vs a ∙ ap (λ y. readVia own r (drop y vs)) q ∙ ap (λ y. readVia own r y) (drop-length vs))
+
+-- a value's number behind a read, by cases
+pub seen-first : (own x : ℕ) → x ≡ 0 → own + 1 ≡ seenBy own x
+seen-first own x h = rw (eq-eqb x 0 h)
+
+pub seen-same : (own x : ℕ) → (x ≡ 0 → ⊥) → x ≡ own + 1 → x ≡ seenBy own x
+seen-same own x f h = rw (ne-eqb x 0 f, eq-eqb x (own + 1) h)
+
+pub seen-several : (own x : ℕ) → (x ≡ 0 → ⊥) → (x ≡ own + 1 → ⊥) → 255 ≡ seenBy own x
+seen-several own x f g = rw (ne-eqb x 0 f, ne-eqb x (own + 1) g)

@@ -9,6 +9,7 @@ mod histogram;
 mod lower_diff;
 mod one;
 mod runs;
+mod store;
 mod tally;
 
 use std::process::ExitCode;
@@ -23,6 +24,8 @@ const USAGE: &str = "usage: driver COMMAND [--NAME VALUE]...
   lower-diff  --count N --seed S [--sort SORT]   the static library's lower against the Rust
   bench-lower --count N --seed S                 lower against the Rust, in time
   runs        --count N --seed S                 original and rewritten routine on the machine
+  store       --count N --seed S --times N --to FILE
+                                                 stored answers for the program `replay`
   run         --hex HEX [--tuples N] [--structs N] [--max N] [--lent N]
                                                  what the Rust makes of one input
 sorts: typed, wild, near, damaged, bytes; without one, a mix of all";
@@ -75,6 +78,7 @@ fn dispatch(command: &str, args: &Args) -> Result<bool, String> {
         }
         "bench-lower" => bench_lower::command(args, LOWER),
         "runs" => runs::command(args),
+        "store" => store::command(args),
         "run" => one::command(args),
         _ => Err(USAGE.to_string()),
     }

@@ -1,12 +1,12 @@
 -- Marks united one after another.
 use Prim.Native.Nat.{ℕ, zero, suc, _+_, _-_, _≤_, _<_, zero-le}
 use mathlib.Core.Path.{_≡_, refl, ap, _∙_, sym}
-use mathlib.Core.List.{List, [], _∷_}
-use mathlib.Core.Bool.{Bool, true, false, cond, not, _&&_, _||_}
+use mathlib.Core.List.{[], _∷_}
+use mathlib.Core.Bool.{Bool, true, false, cond, _||_}
 use mathlib.Core.Logic.{⊎-elim}
-use native.Mathlib.Nat.{eq-or-lt-of-le}
+use native.Mathlib.Nat.{eq-or-lt-of-le, sub-zero}
 use native.Mathlib.Omega.{arith}
-use lib.ListN.{length, getD, set, replicate, take, length-set}
+use lib.ListN.{length, getD, set, replicate, take, length-set, List·getD-eq-default}
 use lib.Seq.{getD-set-same, getD-set-other, ext-getD}
 use Rattle.eligibility.specs.Family.{Marks, union}
 
@@ -67,8 +67,21 @@ unite-done m c₀ c k u h l =
     ext-getD false c (union m c₀) (u .long ∙ sym (union-length m c₀ l))
     (λ j q. u .low l j (omega (arith, u .long)) ∙ sym (union-at m c₀ j l))
 
--- a part of clear marks is clear
-pub clear-part : (n k : ℕ) → n ≤ k → take n (replicate k false) ≡ replicate n false
-clear-part zero k h = refl
-clear-part (suc n) zero h = absurd (omega arith)
-clear-part (suc n) (suc k) h = ap (λ x. false ∷ x) (clear-part n k (omega arith))
+-- a part of a clear table is clear
+part : {A : Type 0} (a : A) (n k : ℕ) → n ≤ k → take n (replicate k a) ≡ replicate n a
+part a zero k h = refl
+part a (suc n) zero h = absurd (omega arith)
+part a (suc n) (suc k) h = ap (λ x. a ∷ x) (part a n k (omega arith))
+
+pub clear-part : {A : Type 0} (a : A) (n k : ℕ) → n ≤ k → take (n - 0) (replicate k a) ≡ replicate n a
+clear-part a n k h = rw sub-zero (part a n k h)
+
+-- one mark as the code sets it, by cases
+pub one-past : (m c : Marks) (k : ℕ) → length m ≤ k → c ≡ cond (getD m k false) (set c k true) c
+one-past m c k h = rw (List·getD-eq-default m false h)
+
+pub one-set : (m c : Marks) (k : ℕ) {c′ : Marks} → getD m k false ≡ true → c′ ≡ set c k true → c′ ≡ cond (getD m k false) (set c k true) c
+one-set m c k h e = rw h e
+
+pub one-kept : (m c : Marks) (k : ℕ) → getD m k false ≡ false → c ≡ cond (getD m k false) (set c k true) c
+one-kept m c k h = rw h

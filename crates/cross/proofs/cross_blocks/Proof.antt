@@ -1,0 +1,25 @@
+use borrow.Author.Needs.{needs}
+use Rattle.cross.proofs.cross_blocks.Statement.{statement}
+use Rattle.cross.proofs.cross_blocks.Tie as tie
+use native.Mathlib.Omega.{arith}
+use Rattle.cross.proofs.Crossing.{crossed-all}
+
+note-readers-requires : tie.Need-note-readers-requires
+note-readers-requires c κs = search needs
+
+cross-read-requires : tie.Need-cross-read-requires
+cross-read-requires c κs = search needs
+
+same-length : tie.Need-same-length
+same-length c = search needs
+
+same-length-2 : tie.Need-same-length-2
+same-length-2 c = search needs
+
+returns : tie.Need-returns
+returns c = let a = c .before .before .before .before .before .before .before .before .before .before .before .before .before .before .before .before .before .args in λ most σ τ ks ta tm v n fa code l few each small er ec. crossed-all σ τ ks (a .shapes .now) (a .eligible .now) (a .readers .now) _ (a .b .next) (a .marks .now) _ (c .before .before .before .before .before .before .before .note-readers .ensures ks code l small (omega arith)) er ec fa v n (λ ready long. c .before .before .cross-read .ensures most σ τ ks ready ta tm code l (omega arith) each long)
+
+pub cross-blocks-spec : {M : Type 1} → statement M
+cross-blocks-spec =
+    tie.close
+    (tie.spec note-readers-requires cross-read-requires same-length same-length-2 returns)

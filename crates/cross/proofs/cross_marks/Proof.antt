@@ -1,0 +1,42 @@
+use borrow.Author.Needs.{needs}
+use Rattle.cross.proofs.cross_marks.Statement.{statement}
+use Rattle.cross.proofs.cross_marks.Tie as tie
+use native.Mathlib.Omega.{arith}
+use Rattle.cross.proofs.Uniting.{clear-part}
+
+returns : tie.Need-returns
+returns c = let t = c .if1 .taken in λ σ τ ks ta tm v n. absurd (omega arith)
+
+cast-n : tie.Need-cast-n
+cast-n c = search needs
+
+sub-cross-blocks : tie.Need-sub-cross-blocks
+sub-cross-blocks c = search needs
+
+part-table-start : tie.Need-part-table-start
+part-table-start c = search needs
+
+part-table-end : tie.Need-part-table-end
+part-table-end c = search needs
+
+cross-blocks-requires : tie.Need-cross-blocks-requires
+cross-blocks-requires c κs = search needs
+
+same-length : tie.Need-same-length
+same-length c = search needs
+
+returns-2 : tie.Need-returns-2
+returns-2 c = let a = c .before .before .before .before .before .before .before .before .before .before .before .before .before .before .before .before .args in λ σ τ ks ta tm v n fa code l few each small ec. c .before .before .before .cross-blocks .ensures (a .b .list) σ τ ks ta tm v n fa code l few each small (clear-part 0 (a .b .next) 256 n) ec
+
+pub cross-marks-spec : {M : Type 1} → statement M
+cross-marks-spec =
+    tie.close
+    (tie.spec
+    returns
+    cast-n
+    sub-cross-blocks
+    part-table-start
+    part-table-end
+    cross-blocks-requires
+    same-length
+    returns-2)

@@ -1,0 +1,41 @@
+use borrow.Author.Needs.{needs}
+use Rattle.cross.proofs.cross_members.Statement.{statement}
+use Rattle.cross.proofs.cross_members.Tie as tie
+use Rattle.cross.proofs.Builds.{family-apart, family-crosses}
+
+family-requires : tie.Need-family-requires
+family-requires c κs = search needs
+
+read-elsewhere-requires : tie.Need-read-elsewhere-requires
+read-elsewhere-requires c κs = search needs
+
+unite-requires : tie.Need-unite-requires
+unite-requires c κs = search needs
+
+same-length : tie.Need-same-length
+same-length c = search needs
+
+same-length-2 : tie.Need-same-length-2
+same-length-2 c = search needs
+
+returns : tie.Need-returns
+returns c = let a = c .before .before .before .before .before .before .before .before .before .before .before .before .before .before .before .before .before .before .args in λ τ ks x cp l sh m r lm. family-crosses (a .own) (a .v) _ (a .marks .now) (a .readers .now) _ (c .before .before .before .before .before .before .read-elsewhere .ensures .1) (c .before .before .before .before .before .if1 .taken) _ (c .before .before .unite .ensures) τ ks x (c .before .before .before .before .before .before .before .before .before .before .family .ensures τ (x .instructions) cp l sh m) r lm
+
+same-length-3 : tie.Need-same-length-3
+same-length-3 c = search needs
+
+returns-2 : tie.Need-returns-2
+returns-2 c = let a = c .before .before .before .before .before .before .before .before .before .before .before .before .before .args in λ τ ks x cp l sh m r lm. family-apart (a .own) (a .v) _ (a .marks .now) (a .readers .now) _ (c .before .read-elsewhere .ensures .1) (c .if1 .left) τ ks x (c .before .before .before .before .before .family .ensures τ (x .instructions) cp l sh m) r
+
+pub cross-members-spec : {M : Type 1} → statement M
+cross-members-spec =
+    tie.close
+    (tie.spec
+    family-requires
+    read-elsewhere-requires
+    unite-requires
+    same-length
+    same-length-2
+    returns
+    same-length-3
+    returns-2)

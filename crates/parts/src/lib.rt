@@ -205,7 +205,7 @@ pub fn replace(
 }
 
 // The first init of a name, among the `n` that stand one behind another from `at` on.
-fn find_init(s: &[u8], at: usize, n: u8, name: NameId) -> Init
+pub fn find_init(s: &[u8], at: usize, n: u8, name: NameId) -> Init
     requires { ⌜ at < 4611686018427387904 ⌝ }
     ensures { λ r. ⌜ ((next : ℕ) (fs : List FieldInit) → Inits next (now (s .entry)) at fs → length fs ≡ n → InitAt next (now (s .entry)) (given name fs) r) ⌝ }
 {

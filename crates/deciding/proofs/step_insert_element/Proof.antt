@@ -1,0 +1,57 @@
+use borrow.Author.Needs.{needs}
+use Rattle.deciding.proofs.step_insert_element.Statement.{statement}
+use Rattle.deciding.proofs.step_insert_element.Tie as tie
+use mathlib.Core.Path.{_∙_}
+use native.Mathlib.Omega.{arith}
+use borrow.Author.Tests.{not-true, not-false}
+use Rattle.deciding.proofs.Actions.{stays}
+use Rattle.deciding.proofs.Stepping.{insert-element-step, insert-element-off}
+
+returns : tie.Need-returns
+returns c = (omega arith, λ types recorded τ S σ folds m i n h k o. stays (insert-element-off h σ folds m k (o ∙ not-true _ (c .if1 .taken))) (h .rep))
+
+first-operand-requires : tie.Need-first-operand-requires
+first-operand-requires c κs = search needs
+
+add-value-end : tie.Need-add-value-end
+add-value-end c = search needs
+
+value-end-requires : tie.Need-value-end-requires
+value-end-requires c κs = search needs
+
+u32-at-requires : tie.Need-u32-at-requires
+u32-at-requires c κs = search needs
+
+add-insert : tie.Need-add-insert
+add-insert c = search needs
+
+insert-requires : tie.Need-insert-requires
+insert-requires c κs = search needs
+
+same-length : tie.Need-same-length
+same-length c = search needs
+
+same-length-2 : tie.Need-same-length-2
+same-length-2 c = search needs
+
+same-length-3 : tie.Need-same-length-3
+same-length-3 c = search needs
+
+returns-2 : tie.Need-returns-2
+returns-2 c = (c .before .before .before .before .before .before .insert .ensures .0, λ types recorded τ S σ folds m i n h k o. insert-element-step h σ folds m _ _ _ _ k (o ∙ not-false _ (c .before .before .before .before .before .before .before .before .before .before .before .before .before .before .if1 .left)) _ _ _ (c .before .before .before .before .before .before .before .before .before .before .before .before .before .first-operand .ensures) (c .before .before .before .before .before .before .before .before .before .before .before .value-end .ensures .0) (c .before .before .before .before .before .before .before .before .before .before .u32-at .ensures) (c .before .before .before .before .before .before .insert .ensures .1))
+
+pub step-insert-element-spec : {M : Type 1} → statement M
+step-insert-element-spec =
+    tie.close
+    (tie.spec
+    returns
+    first-operand-requires
+    add-value-end
+    value-end-requires
+    u32-at-requires
+    add-insert
+    insert-requires
+    same-length
+    same-length-2
+    same-length-3
+    returns-2)

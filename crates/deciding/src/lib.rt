@@ -1,0 +1,337 @@
+// What becomes of one instruction, all kinds but Call and Store: sroa.rs 796 to 1305. The parts of what it defines, if
+// they are tracked then, go into the rows.
+pub mod pieces;
+
+use chains::Position;
+use eligibility::Settings;
+use form::Bounds;
+use wire::NameId;
+use wire::TypeId;
+use wire::ValueId;
+ghost use mathlib.Core.Path.{_≡_};
+ghost use mathlib.Core.List.{List, []};
+ghost use mathlib.Core.Bool.{Bool, false};
+ghost use mathlib.Core.Option.{some};
+ghost use Prim.Native.Nat.{ℕ, _+_, _-_, _≤_, _<_};
+ghost use lib.ListN.{drop};
+ghost use Rattle.wire.specs.Parse.{ok};
+ghost use Rattle.wire.specs.declared.ValueId.{ValueId as IdOf};
+ghost use Rattle.form.specs.Syntax.{Instruction};
+ghost use Rattle.form.specs.Reads.{kindNumber};
+ghost use Rattle.form.specs.Decode.{instructionOf};
+ghost use Rattle.eligibility.specs.declared.Settings.{Settings as SettingsOf};
+ghost use Rattle.eligibility.specs.Lookup.{Types};
+ghost use Rattle.eligibility.specs.Family.{buildDest};
+ghost use Rattle.rewriting.specs.State.{AggStates};
+ghost use Rattle.rewriting.specs.Step.{step};
+ghost use Rattle.parts.specs.Rows.{Rep};
+ghost use Rattle.progress.specs.Ground.{Ground, Tables};
+ghost use Rattle.deciding.specs.Decided.{Decided, SpotAt, Here, Built};
+
+// What an instruction that is left out counts as.
+pub enum Counted {
+    Build,
+    Extract,
+    Insert,
+    Assign,
+}
+
+// The instruction stays; or it is left out and its dest is tracked; or an Assign stands for it, of the value that stands
+// at a place of the input.
+pub enum Action {
+    Keep,
+    Track(ValueId, Counted),
+    Assign(ValueId, usize, TypeId),
+}
+
+// What to do, and how much of the pool is used then.
+pub struct Decision {
+    pub action: Action,
+    pub used: usize,
+}
+
+// A value that is tracked, or any other.
+pub enum Source {
+    Tracked(ValueId),
+    Untracked,
+}
+
+// An instruction: where it stands, where its own fields begin, what its first field defines, its kind.
+pub struct Spot {
+    pub at: usize,
+    pub off: usize,
+    pub dest: ValueId,
+    pub kind: u8,
+}
+
+// The instruction at a place.
+fn find_spot(s: &[u8], at: usize) -> Spot
+    requires { ⌜ at < 1099511627776 ⌝ }
+    ensures { λ r. ⌜ (r .off < 2199023255552) × SpotAt (now (s .entry)) at r ⌝ }
+{
+    let i = form::tail(s, at);
+    let off = at + lookup::fields_place(i);
+    Spot {
+        at: at,
+        off: off,
+        dest: ValueId(wire::u16_at(s, off)),
+        kind: wire::byte_at(i, 1),
+    }
+}
+
+// An Assign.
+fn step_assign(
+    s: &[u8],
+    p: Spot,
+    b: Bounds,
+    types: &[usize],
+    counts: &mut [u16],
+    firsts: &mut [u16],
+    used: usize,
+) -> Decision
+    ensures { λ r. ⌜ r .used ≡ used ⌝ }
+    ensures { λ r. ⌜ ((recorded pool : List ℕ) (τ : Types) (S : AggStates) (σ : SettingsOf) (folds : IdOf → Bool) (m : ℕ) (i : Instruction) (n : ℕ) → Here b (now (s .entry)) (now (types .entry)) recorded (now (counts .entry)) (now (firsts .entry)) pool used τ S p i n → p .kind ≡ 0 → Decided (b .next) (now (s .entry)) (now (counts .exit)) (now (firsts .exit)) pool S i (step σ τ folds S m i) r) ⌝ }
+{
+    let x = pieces::first_operand(s, p.at, b);
+    let t = pieces::last_type(s, p.at, b);
+    let whole = pieces::is_aggregate(s, types, b.types, t);
+    pieces::assign(p.dest, x, whole, counts, firsts, used)
+}
+
+// A Load, where tuples are taken apart.
+fn step_load(
+    s: &[u8],
+    p: Spot,
+    b: Bounds,
+    on: bool,
+    types: &[usize],
+    recorded: &[u16],
+    counts: &mut [u16],
+    firsts: &mut [u16],
+    pool: &[usize],
+    used: usize,
+) -> Decision
+    ensures { λ r. ⌜ r .used ≡ used ⌝ }
+    ensures { λ r. ⌜ ((τ : Types) (S : AggStates) (σ : SettingsOf) (folds : IdOf → Bool) (m : ℕ) (i : Instruction) (n : ℕ) → Here b (now (s .entry)) (now (types .entry)) (now (recorded .entry)) (now (counts .entry)) (now (firsts .entry)) (now (pool .entry)) used τ S p i n → p .kind ≡ 5 → σ .tuples ≡ on → Decided (b .next) (now (s .entry)) (now (counts .exit)) (now (firsts .exit)) (now (pool .entry)) S i (step σ τ folds S m i) r) ⌝ }
+{
+    if !on {
+        return Decision {
+            action: Action::Keep,
+            used: used,
+        };
+    }
+    let init = chains::load_part(s, p.at, b, types, recorded, counts, firsts, pool);
+    let t = pieces::last_type(s, p.at, b);
+    let whole = pieces::is_aggregate(s, types, b.types, t);
+    pieces::take(s, b.next, init, p.dest, t, whole, counts, firsts, used)
+}
+
+// A build of a tuple or an array.
+fn step_build(
+    s: &[u8],
+    p: Spot,
+    b: Bounds,
+    fold: bool,
+    counts: &mut [u16],
+    firsts: &mut [u16],
+    pool: &mut [usize],
+    used: usize,
+) -> Decision
+    requires { ⌜ (used < 60000) × (p .off < 2199023255552) ⌝ }
+    ensures { λ r. ⌜ r .used ≤ used + 16 ⌝ }
+    ensures { λ r. ⌜ ((types recorded : List ℕ) (τ : Types) (S : AggStates) (σ : SettingsOf) (folds : IdOf → Bool) (m : ℕ) (i : Instruction) (n : ℕ) → Here b (now (s .entry)) types recorded (now (counts .entry)) (now (firsts .entry)) (now (pool .entry)) used τ S p i n → Built (p .kind) → ((d : IdOf) → buildDest (i .kind) ≡ some d → fold ≡ folds d) → Decided (b .next) (now (s .entry)) (now (counts .exit)) (now (firsts .exit)) (now (pool .exit)) S i (step σ τ folds S m i) r) ⌝ }
+{
+    pieces::build(s, p.off, p.dest, fold, counts, firsts, pool, used)
+}
+
+// A build of a struct.
+fn step_struct(
+    s: &[u8],
+    p: Spot,
+    b: Bounds,
+    fold: bool,
+    types: &[usize],
+    recorded: &[u16],
+    counts: &mut [u16],
+    firsts: &mut [u16],
+    pool: &mut [usize],
+    used: usize,
+) -> Decision
+    requires { ⌜ (used < 60000) × (p .off < 2199023255552) ⌝ }
+    ensures { λ r. ⌜ r .used ≤ used + 16 ⌝ }
+    ensures { λ r. ⌜ ((τ : Types) (S : AggStates) (σ : SettingsOf) (folds : IdOf → Bool) (m : ℕ) (i : Instruction) (n : ℕ) → Here b (now (s .entry)) (now (types .entry)) (now (recorded .entry)) (now (counts .entry)) (now (firsts .entry)) (now (pool .entry)) used τ S p i n → p .kind ≡ 12 → ((d : IdOf) → buildDest (i .kind) ≡ some d → fold ≡ folds d) → Decided (b .next) (now (s .entry)) (now (counts .exit)) (now (firsts .exit)) (now (pool .exit)) S i (step σ τ folds S m i) r) ⌝ }
+{
+    let t = pieces::last_type(s, p.at, b);
+    pieces::build_struct(
+        s,
+        p.off,
+        p.dest,
+        t,
+        b,
+        types,
+        recorded,
+        fold,
+        counts,
+        firsts,
+        pool,
+        used,
+    )
+}
+
+// An extract of a tuple's element.
+fn step_element(
+    s: &[u8],
+    p: Spot,
+    b: Bounds,
+    on: bool,
+    counts: &mut [u16],
+    firsts: &mut [u16],
+    pool: &[usize],
+    used: usize,
+) -> Decision
+    requires { ⌜ p .off < 2199023255552 ⌝ }
+    ensures { λ r. ⌜ r .used ≡ used ⌝ }
+    ensures { λ r. ⌜ ((types recorded : List ℕ) (τ : Types) (S : AggStates) (σ : SettingsOf) (folds : IdOf → Bool) (m : ℕ) (i : Instruction) (n : ℕ) → Here b (now (s .entry)) types recorded (now (counts .entry)) (now (firsts .entry)) (now (pool .entry)) used τ S p i n → p .kind ≡ 11 → σ .tuples ≡ on → Decided (b .next) (now (s .entry)) (now (counts .exit)) (now (firsts .exit)) (now (pool .entry)) S i (step σ τ folds S m i) r) ⌝ }
+{
+    if !on {
+        return Decision {
+            action: Action::Keep,
+            used: used,
+        };
+    }
+    let x = pieces::first_operand(s, p.at, b);
+    let k = wire::u32_at(s, pieces::value_end(s, p.off + 2));
+    let init = pieces::part(counts, firsts, pool, x, k);
+    let t = pieces::last_type(s, p.at, b);
+    pieces::take(s, b.next, init, p.dest, t, true, counts, firsts, used)
+}
+
+// An extract of a struct's field.
+fn step_field(
+    s: &[u8],
+    p: Spot,
+    b: Bounds,
+    on: bool,
+    types: &[usize],
+    recorded: &[u16],
+    counts: &mut [u16],
+    firsts: &mut [u16],
+    pool: &[usize],
+    used: usize,
+) -> Decision
+    requires { ⌜ p .off < 2199023255552 ⌝ }
+    ensures { λ r. ⌜ r .used ≡ used ⌝ }
+    ensures { λ r. ⌜ ((τ : Types) (S : AggStates) (σ : SettingsOf) (folds : IdOf → Bool) (m : ℕ) (i : Instruction) (n : ℕ) → Here b (now (s .entry)) (now (types .entry)) (now (recorded .entry)) (now (counts .entry)) (now (firsts .entry)) (now (pool .entry)) used τ S p i n → p .kind ≡ 13 → σ .structs ≡ on → Decided (b .next) (now (s .entry)) (now (counts .exit)) (now (firsts .exit)) (now (pool .entry)) S i (step σ τ folds S m i) r) ⌝ }
+{
+    if !on {
+        return Decision {
+            action: Action::Keep,
+            used: used,
+        };
+    }
+    let x = pieces::first_operand(s, p.at, b);
+    let name = NameId(wire::u16_at(s, pieces::value_end(s, p.off + 2)));
+    let init = pieces::field_part(s, types, b.types, recorded, counts, firsts, pool, x, name);
+    let t = pieces::last_type(s, p.at, b);
+    pieces::take(s, b.next, init, p.dest, t, true, counts, firsts, used)
+}
+
+// An insert of a struct's field.
+fn step_insert_field(
+    s: &[u8],
+    p: Spot,
+    b: Bounds,
+    on: bool,
+    types: &[usize],
+    counts: &mut [u16],
+    firsts: &mut [u16],
+    pool: &mut [usize],
+    used: usize,
+) -> Decision
+    requires { ⌜ (used < 60000) × (p .off < 2199023255552) ⌝ }
+    ensures { λ r. ⌜ r .used ≤ used + 16 ⌝ }
+    ensures { λ r. ⌜ ((recorded : List ℕ) (τ : Types) (S : AggStates) (σ : SettingsOf) (folds : IdOf → Bool) (m : ℕ) (i : Instruction) (n : ℕ) → Here b (now (s .entry)) (now (types .entry)) recorded (now (counts .entry)) (now (firsts .entry)) (now (pool .entry)) used τ S p i n → p .kind ≡ 14 → σ .structs ≡ on → Decided (b .next) (now (s .entry)) (now (counts .exit)) (now (firsts .exit)) (now (pool .exit)) S i (step σ τ folds S m i) r) ⌝ }
+{
+    if !on {
+        return Decision {
+            action: Action::Keep,
+            used: used,
+        };
+    }
+    let x = pieces::first_operand(s, p.at, b);
+    let end = pieces::value_end(s, p.off + 2);
+    let t = pieces::last_type(s, p.at, b);
+    match chains::field_index(s, types, b.types, t.0, NameId(wire::u16_at(s, end))) {
+        Position::Nothing => Decision {
+            action: Action::Keep,
+            used: used,
+        },
+        Position::At(k) => pieces::insert(p.dest, x, k, end + 2, counts, firsts, pool, used),
+    }
+}
+
+// An insert of a tuple's element.
+fn step_insert_element(
+    s: &[u8],
+    p: Spot,
+    b: Bounds,
+    on: bool,
+    counts: &mut [u16],
+    firsts: &mut [u16],
+    pool: &mut [usize],
+    used: usize,
+) -> Decision
+    requires { ⌜ (used < 60000) × (p .off < 2199023255552) ⌝ }
+    ensures { λ r. ⌜ r .used ≤ used + 16 ⌝ }
+    ensures { λ r. ⌜ ((types recorded : List ℕ) (τ : Types) (S : AggStates) (σ : SettingsOf) (folds : IdOf → Bool) (m : ℕ) (i : Instruction) (n : ℕ) → Here b (now (s .entry)) types recorded (now (counts .entry)) (now (firsts .entry)) (now (pool .entry)) used τ S p i n → p .kind ≡ 15 → σ .tuples ≡ on → Decided (b .next) (now (s .entry)) (now (counts .exit)) (now (firsts .exit)) (now (pool .exit)) S i (step σ τ folds S m i) r) ⌝ }
+{
+    if !on {
+        return Decision {
+            action: Action::Keep,
+            used: used,
+        };
+    }
+    let x = pieces::first_operand(s, p.at, b);
+    let end = pieces::value_end(s, p.off + 2);
+    let k = wire::u32_at(s, end);
+    pieces::insert(p.dest, x, k, end + 4, counts, firsts, pool, used)
+}
+
+// What becomes of the instruction at a place, where it is no Call and no Store. `fold`: it is a build that is taken apart.
+pub fn decide(
+    s: &[u8],
+    at: usize,
+    b: Bounds,
+    settings: Settings,
+    types: &[usize],
+    recorded: &[u16],
+    fold: bool,
+    counts: &mut [u16],
+    firsts: &mut [u16],
+    pool: &mut [usize],
+    used: usize,
+) -> Decision
+    requires { ⌜ (used < 60000) × (at < 1099511627776) ⌝ }
+    ensures { λ r. ⌜ r .used ≤ used + 16 ⌝ }
+    ensures { λ r. ⌜ ((τ : Types) (S : AggStates) (folds : IdOf → Bool) (m : ℕ) (i : Instruction) (n : ℕ) → Ground b (now (s .entry)) (now (types .entry)) (now (recorded .entry)) τ → Rep (b .next) (now (s .entry)) (now (counts .entry)) (now (firsts .entry)) (now (pool .entry)) used S → Tables (now (counts .entry)) (now (firsts .entry)) (now (pool .entry)) used → instructionOf b [] false (drop at (now (s .entry))) ≡ ok i n → (kindNumber (i .kind) ≡ 3 → ⊥) → (kindNumber (i .kind) ≡ 6 → ⊥) → ((d : IdOf) → buildDest (i .kind) ≡ some d → fold ≡ folds d) → Decided (b .next) (now (s .entry)) (now (counts .exit)) (now (firsts .exit)) (now (pool .exit)) S i (step settings τ folds S m i) r) ⌝ }
+{
+    let p = find_spot(s, at);
+    let tuples = settings.tuples;
+    let named = settings.structs;
+    let kind = p.kind;
+    match kind {
+        0 => step_assign(s, p, b, types, counts, firsts, used),
+        5 => step_load(s, p, b, tuples, types, recorded, counts, firsts, pool, used),
+        10 => step_build(s, p, b, fold, counts, firsts, pool, used),
+        11 => step_element(s, p, b, tuples, counts, firsts, pool, used),
+        12 => step_struct(s, p, b, fold, types, recorded, counts, firsts, pool, used),
+        13 => step_field(s, p, b, named, types, recorded, counts, firsts, pool, used),
+        14 => step_insert_field(s, p, b, named, types, counts, firsts, pool, used),
+        15 => step_insert_element(s, p, b, tuples, counts, firsts, pool, used),
+        16 => step_build(s, p, b, fold, counts, firsts, pool, used),
+        _ => Decision {
+            action: Action::Keep,
+            used: used,
+        },
+    }
+}

@@ -1,0 +1,256 @@
+-- The builds of a list, one value after another.
+use Prim.Native.Nat.{ℕ, suc, _+_, _*_, _≤_, _<_}
+use mathlib.Core.Path.{_≡_, refl, ap, _∙_, sym}
+use mathlib.Core.List.{List, [], _∷_, _++_, append-nil}
+use mathlib.Core.Bool.{Bool, true, false, _||_}
+use mathlib.Core.Option.{Option, none, some}
+use native.Mathlib.Nat.{add-zero, add-assoc}
+use native.Mathlib.Numerals.{add-one}
+use native.Mathlib.Omega.{arith}
+use lib.ListN.{length, getD, length-append, set}
+use Rattle.wire.specs.declared.ValueId.{ValueId}
+use Rattle.wire.specs.declared.TypeId.{TypeId}
+use Rattle.wire.specs.declared.Value.{Value}
+use Rattle.form.specs.Syntax.{Instruction}
+use Rattle.form.specs.Encode.{eachBytes, instructionBytes}
+use Rattle.form.specs.declared.Bounds.{Bounds}
+use Rattle.types.specs.Syntax.{MirType, Felt, Bool as TBool, U32, Tuple, Struct, FixedArray, Pointer, Function, Unit, Error, Unknown}
+use Rattle.lookup.specs.Fields.{valueEnd}
+use Rattle.eligibility.specs.Lookup.{Types, rowOf}
+use Rattle.eligibility.specs.Family.{Marks}
+use Rattle.rewriting.specs.State.{AggStates}
+use Rattle.rewriting.specs.Rebuild.{Rebuilt, untouched, rebuildAt, clashes, rebuildValue, rebuildAll}
+use Rattle.parts.specs.Rows.{ValueAt, RowAt, Rep}
+use Rattle.parts.proofs.Tables.{found-row}
+use Rattle.rebuild.specs.declared.Rebuilt.{Rebuilt as Answer}
+use Rattle.rebuild.specs.Written.{Writes, rebuildBytes, Rebuilds}
+use Rattle.progress.specs.declared.Progress.{Progress}
+use Rattle.progress.specs.declared.Put.{Put}
+use Rattle.progress.specs.Effect.{Output, outputOf, rebuiltEffect, behind, further, markAll, numbersOf, Puts, Low}
+use Rattle.progress.proofs.Laws.{behind-then, behind-none}
+use Rattle.wanting.specs.declared.Asks.{Asks}
+use Rattle.wanting.specs.declared.Wants.{Wants}
+use Rattle.wanting.specs.Asked.{askedAt, askedList, Told}
+use Rattle.listing.specs.Lists.{Few, PutFew, Roomy, Setting, Lies, _&_, lineCount, oneAsked}
+use Rattle.listing.proofs.Copying.{line-none, line-one}
+use Rattle.listing.proofs.Joining.{joined, join-first, join-effect, built, one-built}
+
+pub no-true : true ≡ false → ⊥
+no-true e = let z : _≡_ {A = ℕ} 0 1 = cc in omega arith
+
+pub no-went : {p : Progress} → Put.Clash ≡ Put.Went p → ⊥
+no-went {p} e = let z : _≡_ {A = ℕ} 0 1 = cc in omega arith
+
+pub no-clash : {p : Progress} → Put.Went p ≡ Put.Clash → ⊥
+no-clash {p} e = let z : _≡_ {A = ℕ} 0 1 = cc in omega arith
+
+or-false : (b : Bool) → b || false ≡ b
+or-false true = refl
+or-false false = refl
+
+-- one instruction is a line
+one-line : (i : Instruction) (a b : ℕ) → b ≡ a + length (eachBytes instructionBytes (i ∷ [])) → lineCount a b ≡ 1
+unfolding instructionBytes
+one-line i a b e = line-one a b (λ z. omega arith)
+
+-- as many lines as the rebuild has
+lines-of : (d : ValueId) (xs : List Value) (t : TypeId) (o : Option MirType) (a b : ℕ) → b ≡ a + length (eachBytes instructionBytes (rebuildAt d xs t o)) → lineCount a b ≡ length (rebuildAt d xs t o)
+unfolding rebuildAt
+lines-of d xs t none a b e = line-none a b (omega arith)
+lines-of d xs t (some Felt) a b e = line-none a b (omega arith)
+lines-of d xs t (some TBool) a b e = line-none a b (omega arith)
+lines-of d xs t (some U32) a b e = line-none a b (omega arith)
+lines-of d xs t (some (Tuple ts)) a b e = one-line _ a b e
+lines-of d xs t (some (Struct n fs)) a b e = one-line _ a b e
+lines-of d xs t (some (FixedArray u k)) a b e = one-line _ a b e
+lines-of d xs t (some (Pointer u)) a b e = line-none a b (omega arith)
+lines-of d xs t (some (Function ps r)) a b e = line-none a b (omega arith)
+lines-of d xs t (some Unit) a b e = line-none a b (omega arith)
+lines-of d xs t (some Error) a b e = line-none a b (omega arith)
+lines-of d xs t (some Unknown) a b e = line-none a b (omega arith)
+
+-- the row of a tracked value
+pub row-from : (next : ℕ) (s counts firsts pool : List ℕ) (used : ℕ) (S : AggStates) (v : ValueId) (from : ℕ) (xs : List Value) → Rep next s counts firsts pool used S → S (v .0) ≡ some xs → from ≡ getD firsts (v .0) 0 → RowAt next s pool from xs
+row-from next s counts firsts pool used S v from xs r e f = rw f (found-row r (v .0) e .parts)
+
+-- one rebuild, under the number n
+module _ (τ : Types) (n : ℕ) (t : TypeId) (xs : List Value) (out out′ : List ℕ) (p : Progress) (r : Answer) (d : ℕ) (e : d ≡ n) (w : Rebuilds τ (record { 0 = d }) xs t out out′ (p .to) r) where
+  R : Rebuilt
+  R = rebuildValue τ n t xs (untouched [])
+
+  -- a clash
+  pub build-clash : (fresh fresh′ : List ℕ) (dropped : Marks) → r .clash ≡ true → Puts (outputOf out fresh dropped p) (rebuiltEffect (rebuildValue τ n t xs (untouched []))) (rebuildValue τ n t xs (untouched []) .clash) out′ fresh′ dropped Put.Clash
+  unfolding rebuildValue
+  build-clash fresh fresh′ dropped c =
+      record { clashed = λ _. or-false (clashes xs (rowOf τ (some t))) ∙ sym (w .clashed) ∙ c; went = λ q z. absurd (no-went z) }
+
+  -- else it is written
+  pub build-made : (fresh fresh′ : List ℕ) (dropped : Marks) (lines : ℕ) → r .clash ≡ false → fresh′ ≡ set fresh (p .fresh) (t .0) → lines ≡ lineCount (p .to) (r .to)
+      → Puts (outputOf out fresh dropped p) (rebuiltEffect (rebuildValue τ n t xs (untouched []))) (rebuildValue τ n t xs (untouched []) .clash) out′ fresh′ dropped (Put.Went (record { to = r .to; lines = p .lines + lines; fresh = p .fresh + 1; counts = p .counts }))
+  unfolding rebuildValue rebuiltEffect behind further markAll numbersOf
+  build-made fresh fresh′ dropped lines c f l =
+      let v : Writes (rebuildBytes τ (record { 0 = n }) xs t) out out′ (p .to) (r .to) = rw (← e) (w .written c) in
+      let m : lines ≡ length (rebuildAt (record { 0 = n }) xs t (rowOf τ (some t))) = l ∙ lines-of (record { 0 = n }) xs t (rowOf τ (some t)) (p .to) (r .to) (v .0) in
+      record {
+        clashed = λ z. absurd (no-clash z);
+        went = λ q z.
+            let y : q ≡ record { to = r .to; lines = p .lines + lines; fresh = p .fresh + 1; counts = p .counts } = cc in
+            (or-false (clashes xs (rowOf τ (some t))) ∙ sym (w .clashed) ∙ c, rw (y, f, m, v .0, v .1, append-nil) (simp (add-zero)));
+      }
+
+-- what is left of the list, where o is the output so far: values from number i on, which stand from `here` on
+pub record Left (next : ℕ) (t : List ℕ) (asks : Asks) (τ : Types) (S : AggStates) (many : ℕ) (o₀ : Output) (R₀ : Rebuilt) (o : Output) (here i : ℕ) : Type 0 where
+  pub rest : List Value
+  pub lies : Lies next t here rest
+  pub left : i + length rest ≡ many
+  pub clash : R₀ .clash ≡ rebuildAll τ S (next + o .progress .fresh) (askedList τ t asks i rest) .clash
+  pub effect : behind o (rebuiltEffect (rebuildAll τ S (next + o .progress .fresh) (askedList τ t asks i rest))) ≡ behind o₀ (rebuiltEffect R₀)
+  pub number : o .progress .fresh + length (rebuildAll τ S (next + o .progress .fresh) (askedList τ t asks i rest) .fresh) ≡ o₀ .progress .fresh + length (R₀ .fresh)
+
+spent : (o : Output) (A : Rebuilt) → behind o (rebuiltEffect A) .progress .fresh ≡ o .progress .fresh + length (A .fresh)
+unfolding behind further rebuiltEffect
+spent o A = refl
+
+module _ (next : ℕ) (t : List ℕ) (asks : Asks) (τ : Types) (S : AggStates) (many : ℕ) (o₀ : Output) (R₀ : Rebuilt) where
+  -- all of it is left
+  pub left-start : (first : ℕ) (xs : List Value) → Lies next t first xs → length xs ≡ many → R₀ ≡ rebuildAll τ S (next + o₀ .progress .fresh) (askedList τ t asks 0 xs) → Left next t asks τ S many o₀ R₀ o₀ first 0
+  left-start first xs l m e =
+      record { rest = xs; lies = l; left = omega (arith, m); clash = ap (λ R. R .clash) e; effect = ap (λ R. behind o₀ (rebuiltEffect R)) (sym e); number = ap (λ R. o₀ .progress .fresh + length (R .fresh)) (sym e) }
+
+  module _ (o : Output) (here i : ℕ) (c : Left next t asks τ S many o₀ R₀ o here i) where
+    -- one more is done
+    pub left-again : (o′ : Output) (there : ℕ) → i < many → there ≡ valueEnd t here → next + o₀ .progress .fresh + length (R₀ .fresh) < 65536
+        → ((x : Value) → ValueAt next t here x → next + o .progress .fresh + length (oneAsked τ S t asks i (next + o .progress .fresh) x .fresh) < 65536 → (oneAsked τ S t asks i (next + o .progress .fresh) x .clash ≡ false) × (o′ ≡ behind o (rebuiltEffect (oneAsked τ S t asks i (next + o .progress .fresh) x))))
+        → Left next t asks τ S many o₀ R₀ o′ there (i + 1)
+    unfolding askedList
+    left-again o′ there h e small f = go (c .rest) (c .lies) (c .left) (c .clash) (c .effect) (c .number)
+      where
+        go : (ys : List Value) → Lies next t here ys → i + length ys ≡ many → R₀ .clash ≡ rebuildAll τ S (next + o .progress .fresh) (askedList τ t asks i ys) .clash → behind o (rebuiltEffect (rebuildAll τ S (next + o .progress .fresh) (askedList τ t asks i ys))) ≡ behind o₀ (rebuiltEffect R₀) → o .progress .fresh + length (rebuildAll τ S (next + o .progress .fresh) (askedList τ t asks i ys) .fresh) ≡ o₀ .progress .fresh + length (R₀ .fresh) → Left next t asks τ S many o₀ R₀ o′ there (i + 1)
+        go [] l m k b u = absurd (omega arith)
+        go (x ∷ ys) (v & l) m k b u =
+            let n = next + o .progress .fresh in
+            let A = oneAsked τ S t asks i n x in
+            let B = rebuildAll τ S (n + length (A .fresh)) (askedList τ t asks (suc i) ys) in
+            let j : rebuildAll τ S n (askedList τ t asks i (x ∷ ys)) ≡ joined A B = join-first τ S n (record { value = x; at = askedAt τ t asks i x }) (askedList τ t asks (suc i) ys) in
+            let u′ : o .progress .fresh + length (A .fresh ++ B .fresh) ≡ o₀ .progress .fresh + length (R₀ .fresh) = rw j at u in
+            let g = f x v (omega (arith, u′, length-append (A .fresh) (B .fresh))) in
+            let far : o′ .progress .fresh ≡ o .progress .fresh + length (A .fresh) = ap (λ z. z .progress .fresh) (g .1) ∙ spent o A in
+            let same : next + o′ .progress .fresh ≡ n + length (A .fresh) = ap (λ z. next + z) far ∙ sym (add-assoc next (o .progress .fresh) (length (A .fresh))) in
+            record {
+              rest = ys;
+              lies = rw e l;
+              left = omega arith;
+              clash = rw (same, add-one i) (k ∙ ap (λ R. R .clash) j ∙ ap (λ z. z || B .clash) (g .0));
+              effect = rw (same, add-one i, g .1) (behind-then o (rebuiltEffect A) (rebuiltEffect B) ∙ ap (behind o) (sym (join-effect A B)) ∙ ap (λ R. behind o (rebuiltEffect R)) (sym j) ∙ b);
+              number = rw (same, add-one i, far) (omega (arith, u′, length-append (A .fresh) (B .fresh)));
+            }
+
+    -- a clash now is one of the whole
+    pub left-clash : i < many → next + o₀ .progress .fresh + length (R₀ .fresh) < 65536
+        → ((x : Value) → ValueAt next t here x → next + o .progress .fresh + length (oneAsked τ S t asks i (next + o .progress .fresh) x .fresh) < 65536 → oneAsked τ S t asks i (next + o .progress .fresh) x .clash ≡ true)
+        → R₀ .clash ≡ true
+    unfolding askedList
+    left-clash h small f = go (c .rest) (c .lies) (c .left) (c .clash) (c .number)
+      where
+        go : (ys : List Value) → Lies next t here ys → i + length ys ≡ many → R₀ .clash ≡ rebuildAll τ S (next + o .progress .fresh) (askedList τ t asks i ys) .clash → o .progress .fresh + length (rebuildAll τ S (next + o .progress .fresh) (askedList τ t asks i ys) .fresh) ≡ o₀ .progress .fresh + length (R₀ .fresh) → R₀ .clash ≡ true
+        go [] l m k u = absurd (omega arith)
+        go (x ∷ ys) (v & l) m k u =
+            let n = next + o .progress .fresh in
+            let A = oneAsked τ S t asks i n x in
+            let B = rebuildAll τ S (n + length (A .fresh)) (askedList τ t asks (suc i) ys) in
+            let j : rebuildAll τ S n (askedList τ t asks i (x ∷ ys)) ≡ joined A B = join-first τ S n (record { value = x; at = askedAt τ t asks i x }) (askedList τ t asks (suc i) ys) in
+            let u′ : o .progress .fresh + length (A .fresh ++ B .fresh) ≡ o₀ .progress .fresh + length (R₀ .fresh) = rw j at u in
+            k ∙ ap (λ R. R .clash) j ∙ ap (λ z. z || B .clash) (f x v (omega (arith, u′, length-append (A .fresh) (B .fresh))))
+
+    -- nothing is left
+    pub left-done : many ≤ i → (R₀ .clash ≡ false) × (o ≡ behind o₀ (rebuiltEffect R₀))
+    unfolding askedList rebuildAll rebuiltEffect
+    left-done h = go (c .rest) (c .left) (c .clash) (c .effect)
+      where
+        go : (ys : List Value) → i + length ys ≡ many → R₀ .clash ≡ rebuildAll τ S (next + o .progress .fresh) (askedList τ t asks i ys) .clash → behind o (rebuiltEffect (rebuildAll τ S (next + o .progress .fresh) (askedList τ t asks i ys))) ≡ behind o₀ (rebuiltEffect R₀) → (R₀ .clash ≡ false) × (o ≡ behind o₀ (rebuiltEffect R₀))
+        go [] m k b = (k, sym (behind-none o) ∙ b)
+        go (x ∷ ys) m k b = absurd (omega arith)
+
+-- the loop over the values
+pub record Building (b : Bounds) (s t types recorded counts firsts pool : List ℕ) (asks : Asks) (first many : ℕ) (out₀ fresh₀ : List ℕ) (p₀ : Progress) (out fresh : List ℕ) (p : Progress) (here i : ℕ) : Type 0 where
+  pub under : i ≤ many
+  pub few : Few p₀ i p
+  pub near : here ≤ first + 5 * i
+  pub len : length out ≡ length out₀
+  pub len-fresh : length fresh ≡ length fresh₀
+  pub left : (τ : Types) (S : AggStates) (xs : List Value) (dropped : Marks) → Setting b s types recorded counts firsts pool asks τ S → Lies (b .next) t first xs → length xs ≡ many → b .next + p₀ .fresh + length (rebuildAll τ S (b .next + p₀ .fresh) (askedList τ t asks 0 xs) .fresh) < 65536
+      → Left (b .next) t asks τ S many (outputOf out₀ fresh₀ dropped p₀) (rebuildAll τ S (b .next + p₀ .fresh) (askedList τ t asks 0 xs)) (outputOf out fresh dropped p) here i
+
+-- one more, behind some
+few-more : (p q r : Progress) (i : ℕ) → Few p i q → Few q 1 r → Few p (i + 1) r
+few-more p q r i a b = record { to = omega (arith, a .to, b .to); lines = omega (arith, a .lines, b .lines); fresh = omega (arith, a .fresh, b .fresh); taken = omega (arith, a .taken, b .taken); counts = b .counts ∙ a .counts }
+
+few-all : (p q : Progress) (i many : ℕ) → i ≤ many → Few p i q → Few p many q
+few-all p q i many h a = record { to = omega (arith, a .to); lines = omega (arith, a .lines); fresh = omega (arith, a .fresh); taken = a .taken; counts = a .counts }
+
+-- there is room for one more behind fewer than 255
+pub roomy-on : (p q : Progress) (i : ℕ) → Low 8000 p → Few p i q → i < 255 → Roomy q
+roomy-on p q i l f h = record { to = omega (arith, l .to, f .to); lines = omega (arith, l .lines, f .lines); fresh = omega (arith, l .fresh, f .fresh) }
+
+pub few-put : (p q : Progress) (k : ℕ) (r : Put) → PutFew p k r → r ≡ Put.Went q → Few p k q
+few-put p q k Put.Clash f e = absurd (no-went e)
+few-put p q k (Put.Went z) f e = let y : q ≡ z = cc in rw y f
+
+pub few-none : (p : Progress) (k : ℕ) → Few p k p
+few-none p k = record { to = omega arith; lines = omega arith; fresh = omega arith; taken = omega arith; counts = refl }
+
+-- what put_one promises of value i
+abbrev pub OnePut : (b : Bounds) (s t types recorded counts firsts pool : List ℕ) (asks : Asks) (out fresh : List ℕ) (p : Progress) (here i : ℕ) (out′ fresh′ : List ℕ) (r : Put) → Type 0
+OnePut b s t types recorded counts firsts pool asks out fresh p here i out′ fresh′ r =
+    (τ : Types) (S : AggStates) (x : Value) (dropped : Marks) → Setting b s types recorded counts firsts pool asks τ S → ValueAt (b .next) t here x → b .next + p .fresh + length (oneAsked τ S t asks i (b .next + p .fresh) x .fresh) < 65536 → Puts (outputOf out fresh dropped p) (rebuiltEffect (oneAsked τ S t asks i (b .next + p .fresh) x)) (oneAsked τ S t asks i (b .next + p .fresh) x .clash) out′ fresh′ dropped r
+
+-- and put_builds of all of them
+abbrev pub AllPut : (b : Bounds) (s t types recorded counts firsts pool : List ℕ) (asks : Asks) (first many : ℕ) (out fresh : List ℕ) (p : Progress) (out′ fresh′ : List ℕ) (r : Put) → Type 0
+AllPut b s t types recorded counts firsts pool asks first many out fresh p out′ fresh′ r =
+    (τ : Types) (S : AggStates) (xs : List Value) (dropped : Marks) → Setting b s types recorded counts firsts pool asks τ S → Lies (b .next) t first xs → length xs ≡ many → b .next + p .fresh + length (rebuildAll τ S (b .next + p .fresh) (askedList τ t asks 0 xs) .fresh) < 65536 → Puts (outputOf out fresh dropped p) (rebuiltEffect (rebuildAll τ S (b .next + p .fresh) (askedList τ t asks 0 xs))) (rebuildAll τ S (b .next + p .fresh) (askedList τ t asks 0 xs) .clash) out′ fresh′ dropped r
+
+module _ (b : Bounds) (s t types recorded counts firsts pool : List ℕ) (asks : Asks) (first many : ℕ) (out₀ fresh₀ : List ℕ) (p₀ : Progress) where
+  pub building : Building b s t types recorded counts firsts pool asks first many out₀ fresh₀ p₀ out₀ fresh₀ p₀ first 0
+  building = record { under = omega arith; few = few-none p₀ 0; near = omega arith; len = refl; len-fresh = refl; left = λ τ S xs dropped e l m h. left-start (b .next) t asks τ S many (outputOf out₀ fresh₀ dropped p₀) _ first xs l m refl }
+
+  module _ (out fresh : List ℕ) (p : Progress) (here i : ℕ) (c : Building b s t types recorded counts firsts pool asks first many out₀ fresh₀ p₀ out fresh p here i) (out′ fresh′ : List ℕ) (r : Put) (h : i < many) (f : OnePut b s t types recorded counts firsts pool asks out fresh p here i out′ fresh′ r) where
+    pub building-again : (q : Progress) (there : ℕ) → r ≡ Put.Went q → Few p 1 q → length out′ ≡ length out → length fresh′ ≡ length fresh → there ≡ valueEnd t here → there ≤ here + 5
+        → Building b s t types recorded counts firsts pool asks first many out₀ fresh₀ p₀ out′ fresh′ q there (i + 1)
+    building-again q there e few k l v n = record {
+      under = omega arith;
+      few = few-more p₀ p q i (c .few) few;
+      near = omega (arith, c .near);
+      len = k ∙ c .len;
+      len-fresh = l ∙ c .len-fresh;
+      left = λ τ S xs dropped g a m small. left-again (b .next) t asks τ S many (outputOf out₀ fresh₀ dropped p₀) _ (outputOf out fresh dropped p) here i (c .left τ S xs dropped g a m small) (outputOf out′ fresh′ dropped q) there h v small (λ x y w. f τ S x dropped g y w .went q e);
+    }
+
+    pub building-clash : r ≡ Put.Clash → AllPut b s t types recorded counts firsts pool asks first many out₀ fresh₀ p₀ out′ fresh′ Put.Clash
+    building-clash e = λ τ S xs dropped g a m small.
+        record {
+          clashed = λ _. left-clash (b .next) t asks τ S many (outputOf out₀ fresh₀ dropped p₀) _ (outputOf out fresh dropped p) here i (c .left τ S xs dropped g a m small) h small (λ x y w. f τ S x dropped g y w .clashed e);
+          went = λ q z. absurd (no-went z);
+        }
+
+  pub building-done : (out fresh : List ℕ) (p : Progress) (here i : ℕ) (c : Building b s t types recorded counts firsts pool asks first many out₀ fresh₀ p₀ out fresh p here i) → many ≤ i → many < 256 → Few p₀ 255 p × AllPut b s t types recorded counts firsts pool asks first many out₀ fresh₀ p₀ out fresh (Put.Went p)
+  building-done out fresh p here i c h n =
+      (few-all p₀ p i 255 (omega (arith, c .under)) (c .few), λ τ S xs dropped g a m small.
+      record {
+        clashed = λ z. absurd (no-clash z);
+        went = λ q z.
+            let y : q ≡ p = cc in
+            rw y (left-done (b .next) t asks τ S many (outputOf out₀ fresh₀ dropped p₀) _ (outputOf out fresh dropped p) here i (c .left τ S xs dropped g a m small) h);
+      })
+
+-- a value that stays puts nothing out
+pub none-put : (R : Rebuilt) (x : Value) (out fresh : List ℕ) (dropped : Marks) (p : Progress) → R ≡ untouched (x ∷ []) → Puts (outputOf out fresh dropped p) (rebuiltEffect R) (R .clash) out fresh dropped (Put.Went p)
+unfolding rebuiltEffect
+none-put R x out fresh dropped p e =
+    record { clashed = λ z. absurd (no-clash z); went = λ q z. let y : q ≡ p = cc in rw (e, y) (refl, sym (behind-none (outputOf out fresh dropped p))) }
+
+-- one that is rebuilt puts its build out
+pub one-put : (next : ℕ) (τ : Types) (S : AggStates) (t : List ℕ) (asks : Asks) (i : ℕ) (x : Value) (v : ValueId) (u : TypeId) (out out′ fresh fresh′ : List ℕ) (dropped : Marks) (p : Progress) (r : Put) (w : Wants) → Told τ S x (askedAt τ t asks i x) w → w ≡ Wants.Build v u → next + p .fresh + length (oneAsked τ S t asks i (next + p .fresh) x .fresh) < 65536
+    → ((xs : List Value) → S (v .0) ≡ some xs → u .0 < length (τ .rows) → next + p .fresh < 65536 → Puts (outputOf out fresh dropped p) (rebuiltEffect (rebuildValue τ (next + p .fresh) u xs (untouched []))) (rebuildValue τ (next + p .fresh) u xs (untouched []) .clash) out′ fresh′ dropped r)
+    → Puts (outputOf out fresh dropped p) (rebuiltEffect (oneAsked τ S t asks i (next + p .fresh) x)) (oneAsked τ S t asks i (next + p .fresh) x .clash) out′ fresh′ dropped r
+one-put next τ S t asks i x v u out out′ fresh fresh′ dropped p r w a e h f =
+    elim (one-built τ S (next + p .fresh) x (askedAt τ t asks i x) v u a e) [ built xs y l z ↦ rw z (f xs y l (omega arith)) ]

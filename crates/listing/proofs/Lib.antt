@@ -1,0 +1,4 @@
+pub mod Joining
+pub mod Building
+pub mod Valuing
+pub mod Copying

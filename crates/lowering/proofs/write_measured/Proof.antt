@@ -1,0 +1,97 @@
+use borrow.Author.Needs.{needs}
+use Rattle.lowering.proofs.write_measured.Statement.{statement}
+use Rattle.lowering.proofs.write_measured.Tie as tie
+use mathlib.Core.Path.{sym}
+use native.Mathlib.Omega.{arith}
+use Rattle.rewriting.specs.Run.{rewrittenBlocks}
+use Rattle.lowering.proofs.Accepted.{many-types, next-is, blocks-few, short-input, types-within, canon}
+use Rattle.lowering.proofs.Answered.{tabled, head-asks, answers-long, answers-written, never-clashes}
+
+types-end-requires : tie.Need-types-end-requires
+types-end-requires c κs = let a = c .before .before .before .before .before .before .before .before .before .before .before .pre .chosen .accepted in omega (arith, types-within a, short-input a)
+
+put-head-requires : tie.Need-put-head-requires
+put-head-requires c κs = let a = c .before .before .before .before .before .before .before .before .before .before .before .before .before .before .pre .chosen .accepted in
+    head-asks (c .before .before .before .before .before .before .before .before .before .before .before .before .before .before .pre) _ (c .before .before .types-end .ensures 16 (c .before .before .before .before .before .before .before .before .before .before .before .before .before .before .args .s .now) (a .routine .types) (a .bytes) (a .rows) (sym (many-types a)))
+
+add-if1 : tie.Need-add-if1
+add-if1 c = search needs
+
+same-length : tie.Need-same-length
+same-length c = search needs
+
+same-length-2 : tie.Need-same-length-2
+same-length-2 c = search needs
+
+returns : tie.Need-returns
+returns c = let m = c .before .before .before .before .before .before .before .before .before .before .before .before .before .before .before .before .before .before .before .pre in
+    let a = m .chosen .accepted in
+    let x = a .routine in
+    let e = c .before .before .before .before .before .before .before .types-end .ensures 16 (c .before .before .before .before .before .before .before .before .before .before .before .before .before .before .before .before .before .before .before .args .s .now) (x .types) (a .bytes) (a .rows) (sym (many-types a)) in
+    answers-long m (c .before .before .before .before .before .before .before .before .before .before .before .before .before .before .before .before .before .before .before .args .out .now) _ (c .before .before .before .before .put-head .ensures .1 x ((rewrittenBlocks (c .before .before .before .before .before .before .before .before .before .before .before .before .before .before .before .before .before .before .before .args .settings) x) .fresh) (canon a) (sym e) (sym (next-is a)) (tabled m) .0) (c .if1 .taken)
+
+put-head-requires-2 : tie.Need-put-head-requires-2
+put-head-requires-2 c κs = let a = c .before .before .before .before .before .before .before .before .before .before .before .before .before .before .before .before .before .before .before .before .before .pre .chosen .accepted in
+    head-asks (c .before .before .before .before .before .before .before .before .before .before .before .before .before .before .before .before .before .before .before .before .before .pre) _ (c .before .before .before .before .before .before .before .before .before .types-end .ensures 16 (c .before .before .before .before .before .before .before .before .before .before .before .before .before .before .before .before .before .before .before .before .before .args .s .now) (a .routine .types) (a .bytes) (a .rows) (sym (many-types a)))
+
+run-blocks-requires : tie.Need-run-blocks-requires
+run-blocks-requires c κs = let a = c .before .before .before .before .before .before .before .before .before .before .before .before .before .before .before .before .before .before .before .before .before .before .before .before .before .before .pre .chosen .accepted in
+    (omega (arith, c .before .before .before .before .put-head2 .ensures .0, short-input a), blocks-few a)
+
+enum-told : tie.Need-enum-told
+enum-told c = search needs
+
+enum-known-q : tie.Need-enum-known-q
+enum-known-q c = search needs
+
+same-length-3 : tie.Need-same-length-3
+same-length-3 c = search needs
+
+same-length-4 : tie.Need-same-length-4
+same-length-4 c = search needs
+
+same-length-5 : tie.Need-same-length-5
+same-length-5 c = search needs
+
+returns-2 : tie.Need-returns-2
+returns-2 c = let m = c .before .before .before .before .before .before .before .before .before .before .before .before .before .before .before .before .before .before .before .before .before .before .before .before .before .before .before .before .before .before .before .before .before .pre in never-clashes m (c .before .before .before .before .before .before .before .before .before .before .before .before .before .before .before .before .before .before .before .before .before .before .before .before .before .before .before .before .before .before .before .before .before .args .out .now) (c .before .before .before .before .before .before .run-blocks .ensures .1 (m .chosen) .clashed (c .enum-told .given .1))
+
+same-length-6 : tie.Need-same-length-6
+same-length-6 c = search needs
+
+same-length-7 : tie.Need-same-length-7
+same-length-7 c = c .before .before .before .before .before .before .before .before .before .before .before .before .before .before .before .before .before .before .before .before .nothing .given
+
+same-length-8 : tie.Need-same-length-8
+same-length-8 c = search needs
+
+returns-3 : tie.Need-returns-3
+returns-3 c = let m = c .before .before .before .before .before .before .before .before .before .before .before .before .before .before .before .before .before .before .before .before .before .before .before .before .before .before .before .before .before .before .before .before .before .before .before .before .pre in
+    let a = m .chosen .accepted in
+    let x = a .routine in
+    let e = c .before .before .before .before .before .before .before .before .before .before .before .before .before .before .before .before .before .before .before .before .before .before .before .before .types-end .ensures 16 (c .before .before .before .before .before .before .before .before .before .before .before .before .before .before .before .before .before .before .before .before .before .before .before .before .before .before .before .before .before .before .before .before .before .before .before .before .args .s .now) (x .types) (a .bytes) (a .rows) (sym (many-types a)) in
+    let t = (rewrittenBlocks (c .before .before .before .before .before .before .before .before .before .before .before .before .before .before .before .before .before .before .before .before .before .before .before .before .before .before .before .before .before .before .before .before .before .before .before .before .args .settings) x) .fresh in
+    answers-written m (c .before .before .before .before .before .before .before .before .before .before .before .before .before .before .before .before .before .before .before .before .before .before .before .before .before .before .before .before .before .before .before .before .before .before .before .before .args .out .now) _ (c .before .before .before .before .before .before .before .before .before .before .before .before .before .before .before .before .before .before .before .before .before .put-head .ensures .1 x t (canon a) (sym e) (sym (next-is a)) (tabled m) .0) (c .before .before .before .before .before .before .before .before .before .before .before .before .before .before .before .before .before .if1 .left) _ _ _ _ _ (c .before .before .before .before .before .before .before .before .before .before .before .before .before .before .put-head2 .ensures .1 x t (canon a) (sym e) (sym (next-is a)) (tabled m)) (c .before .before .before .before .before .before .before .before .before .run-blocks .ensures .1 (m .chosen) .went _ (c .before .before .before .q .given .1))
+
+pub write-measured-spec : {M : Type 1} → statement M
+write-measured-spec =
+    tie.close
+    (tie.spec
+    types-end-requires
+    put-head-requires
+    add-if1
+    same-length
+    same-length-2
+    returns
+    put-head-requires-2
+    run-blocks-requires
+    enum-told
+    enum-known-q
+    same-length-3
+    same-length-4
+    same-length-5
+    returns-2
+    same-length-6
+    same-length-7
+    same-length-8
+    returns-3)

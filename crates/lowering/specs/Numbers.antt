@@ -1,0 +1,69 @@
+-- What a call answers, as numbers, and what it leaves in the output.
+use Prim.Native.Nat.{ℕ}
+use mathlib.Core.Path.{_≡_}
+use mathlib.Core.List.{List, [], _∷_}
+use lib.ListN.{length}
+use lib.Seq.{sets}
+use Rattle.wire.specs.Value.{boolByte}
+use Rattle.rewriting.specs.Outcome.{Outcome, refused, lowered}
+use Rattle.lowering.specs.declared.Answer.{Answer}
+
+-- a refusal's number and offset, the result, the five counts, and how many bytes the rewritten routine has
+pub record Numbers : Type 0 where
+  pub number : ℕ
+  pub offset : ℕ
+  pub result : ℕ
+  pub builds : ℕ
+  pub extracts : ℕ
+  pub inserts : ℕ
+  pub assigns : ℕ
+  pub materializations : ℕ
+  pub size : ℕ
+
+abbrev pub refusal : ℕ → ℕ → Numbers
+refusal n o = record { number = n; offset = o; result = 0; builds = 0; extracts = 0; inserts = 0; assigns = 0; materializations = 0; size = 0 }
+
+abbrev pub numbersOf : Outcome → Numbers
+numbersOf (refused n o) = refusal n o
+numbersOf (lowered w c bytes) =
+    record {
+      number = 0;
+      offset = 0;
+      result = boolByte w;
+      builds = c .builds;
+      extracts = c .extracts;
+      inserts = c .inserts;
+      assigns = c .assigns;
+      materializations = c .materializations;
+      size = length bytes;
+    }
+
+-- a refusal leaves the output as it was; else the bytes stand from its first place on
+abbrev pub leaves : Outcome → List ℕ → List ℕ
+leaves (refused n o) out = out
+leaves (lowered w c bytes) out = sets out 0 bytes
+
+-- what the code answers
+abbrev pub asAnswer : Answer → Numbers
+asAnswer (Answer.Refused n o) = refusal n o
+asAnswer (Answer.Lowered w c size) =
+    record {
+      number = 0;
+      offset = 0;
+      result = boolByte w;
+      builds = c .builds;
+      extracts = c .extracts;
+      inserts = c .inserts;
+      assigns = c .assigns;
+      materializations = c .materializations;
+      size = size;
+    }
+
+-- the numbers in the order in which the entry gives them
+abbrev pub inOrder : Numbers → List ℕ
+inOrder n = n .number ∷ n .offset ∷ n .result ∷ n .builds ∷ n .extracts ∷ n .inserts ∷ n .assigns ∷ n .materializations ∷ n .size ∷ []
+
+-- the code answers an outcome, and leaves what it should
+pub record Answers (o : Outcome) (r : Answer) (out out′ : List ℕ) : Type 0 where
+  pub says : asAnswer r ≡ numbersOf o
+  pub left : out′ ≡ leaves o out

@@ -1,0 +1,315 @@
+// The whole pass, bytes to bytes: reads a routine, chooses, measures the output, and writes it.
+mod folds;
+mod numbers;
+
+use eligibility::Settings;
+use form::Bounds;
+use progress::Progress;
+use progress::Put;
+use rewriting::Counts;
+use routine::Checked;
+use routine::Layout;
+use wire::TypeId;
+ghost use mathlib.Core.Path.{_≡_};
+ghost use mathlib.Core.List.{List};
+ghost use Prim.Native.Nat.{ℕ, _+_, _≤_, _<_};
+ghost use lib.ListN.{length, getD};
+ghost use lib.Seq.{sets};
+ghost use Rattle.wire.specs.WellFormed.{Bytes};
+ghost use Rattle.types.specs.Syntax.{MirType};
+ghost use Rattle.types.specs.Index.{TypesAt};
+ghost use Rattle.types.specs.Encode.{typesBytes};
+ghost use Rattle.rewriting.specs.Run.{rewrittenBlocks};
+ghost use Rattle.rewriting.specs.Outcome.{settingsOf, outcome};
+ghost use Rattle.progress.specs.Effect.{PutLow};
+ghost use Rattle.lowering.specs.Numbers.{numbersOf, inOrder, leaves, Answers};
+ghost use Rattle.lowering.specs.Tables.{Accepted, Chosen, startAt, Runs, Measured};
+
+// A refusal's number and offset; or the result, the counts, and how many bytes the rewritten routine has.
+pub enum Answer {
+    Refused(u8, usize),
+    Lowered(bool, Counts, usize),
+}
+
+// The place behind the type table, whose `many` types stand at `types`.
+fn types_end(types: &[usize], many: u16) -> usize
+    requires { ⌜ getD (now types) many 0 < 1099511627776 ⌝ }
+    ensures { λ r. ⌜ ((most : ℕ) (s : List ℕ) (ts : List MirType) → Bytes s → TypesAt most s (now (types .entry)) ts → length ts ≡ many → r ≡ length (typesBytes ts)) ⌝ }
+{
+    let from = types::type_place(types, TypeId(0));
+    let to = types::type_place(types, TypeId(many));
+    if to < from {
+        return 0;
+    }
+    2 + (to - from)
+}
+
+// Nothing is written yet, and the output is to begin at `to`.
+fn start_at(to: usize) -> Progress
+    ensures { λ r. ⌜ r ≡ startAt to ⌝ }
+{
+    let none = Counts {
+        builds: 0,
+        extracts: 0,
+        inserts: 0,
+        assigns: 0,
+        materializations: 0,
+    };
+    Progress {
+        to: to,
+        lines: 0,
+        fresh: 0,
+        counts: none,
+    }
+}
+
+// Writes the blocks from `to` on, with working tables of its own; `fresh` is given the types of the fresh numbers.
+fn run_blocks(
+    s: &[u8],
+    b: Bounds,
+    settings: Settings,
+    types: &[usize],
+    recorded: &[u16],
+    blocks: &[usize],
+    places: &[usize],
+    starts: &[u16],
+    folded: &[bool],
+    skips: &[bool],
+    out: &mut [u8],
+    to: usize,
+    fresh: &mut [u16],
+) -> Put
+    requires { ⌜ (to ≤ 67108864) × (b .blocks ≤ 32) ⌝ }
+    ensures { λ r. ⌜ PutLow 4300 r ⌝ }
+    ensures { λ r. ⌜ ((h : Chosen settings (now (s .entry)) (now (types .entry)) (now (recorded .entry)) (now (blocks .entry)) b (now (places .entry)) (now (starts .entry)) (now (folded .entry)) (now (skips .entry))) → Runs (rewrittenBlocks settings (h .accepted .routine)) to (now (out .entry)) (now (fresh .entry)) (now (out .exit)) (now (fresh .exit)) r) ⌝ }
+{
+    let mut counts: [u16; 256] = [0; 256];
+    let mut firsts: [u16; 256] = [0; 256];
+    let mut pool: [usize; 2048] = [0; 2048];
+    let mut dropped: [bool; 256] = [false; 256];
+    walking::put_blocks(
+        s,
+        b,
+        settings,
+        types,
+        recorded,
+        blocks,
+        places,
+        starts,
+        b.blocks,
+        folded,
+        skips,
+        &mut counts,
+        &mut firsts,
+        &mut pool,
+        out,
+        start_at(to),
+        fresh,
+        &mut dropped,
+    )
+}
+
+// Writes the output where it has room; `p` and `fresh` are what a run over `nothing` gave, which has no bytes.
+fn write_measured(
+    s: &[u8],
+    b: Bounds,
+    settings: Settings,
+    types: &[usize],
+    recorded: &[u16],
+    blocks: &[usize],
+    places: &[usize],
+    starts: &[u16],
+    folded: &[bool],
+    skips: &[bool],
+    fresh: &mut [u16],
+    p: Progress,
+    nothing: &mut [u8],
+    out: &mut [u8],
+) -> Answer
+    requires { ⌜ Measured settings (now s) (now types) (now recorded) (now blocks) b (now places) (now starts) (now folded) (now skips) (now fresh) p ⌝ }
+    ensures { λ r. ⌜ Answers (outcome settings (length (now (out .entry))) (now (s .entry))) r (now (out .entry)) (now (out .exit)) ⌝ }
+{
+    let at = types_end(types, b.types);
+    let head = head::put_head(nothing, s, at, recorded, b.next, fresh, p.fresh);
+    if out.len() < head + p.to {
+        return Answer::Refused(11, 0);
+    }
+    let to = head::put_head(out, s, at, recorded, b.next, fresh, p.fresh);
+    match run_blocks(
+        s,
+        b,
+        settings,
+        types,
+        recorded,
+        blocks,
+        places,
+        starts,
+        folded,
+        skips,
+        out,
+        to,
+        fresh,
+    ) {
+        Put::Clash => Answer::Refused(10, 0),
+        Put::Went(q) => {
+            let c = q.counts;
+            Answer::Lowered(0 < c.builds, c, q.to)
+        }
+    }
+}
+
+// Measures the output, then writes it.
+fn lower_chosen(
+    s: &[u8],
+    b: Bounds,
+    settings: Settings,
+    types: &[usize],
+    recorded: &[u16],
+    blocks: &[usize],
+    places: &[usize],
+    starts: &[u16],
+    folded: &[bool],
+    skips: &[bool],
+    out: &mut [u8],
+) -> Answer
+    requires { ⌜ Chosen settings (now s) (now types) (now recorded) (now blocks) b (now places) (now starts) (now folded) (now skips) ⌝ }
+    ensures { λ r. ⌜ Answers (outcome settings (length (now (out .entry))) (now (s .entry))) r (now (out .entry)) (now (out .exit)) ⌝ }
+{
+    let mut fresh: [u16; 4608] = [0; 4608];
+    let mut nothing: [u8; 0] = [0; 0];
+    match run_blocks(
+        s,
+        b,
+        settings,
+        types,
+        recorded,
+        blocks,
+        places,
+        starts,
+        folded,
+        skips,
+        &mut nothing,
+        0,
+        &mut fresh,
+    ) {
+        Put::Clash => Answer::Refused(10, 0),
+        Put::Went(p) => write_measured(
+            s,
+            b,
+            settings,
+            types,
+            recorded,
+            blocks,
+            places,
+            starts,
+            folded,
+            skips,
+            &mut fresh,
+            p,
+            &mut nothing,
+            out,
+        ),
+    }
+}
+
+// Lowers an accepted routine, whose tables are given.
+fn lower_read(
+    s: &[u8],
+    b: Bounds,
+    settings: Settings,
+    types: &[usize],
+    recorded: &[u16],
+    blocks: &[usize],
+    out: &mut [u8],
+) -> Answer
+    requires { ⌜ Accepted (now s) (now types) (now recorded) (now blocks) b × (settings .most ≤ 16) ⌝ }
+    ensures { λ r. ⌜ Answers (outcome settings (length (now (out .entry))) (now (s .entry))) r (now (out .entry)) (now (out .exit)) ⌝ }
+{
+    let mut places: [usize; 288] = [0; 288];
+    let mut starts: [u16; 33] = [0; 33];
+    index::index_routine(s, blocks, b.blocks, b, &mut places, &mut starts);
+    let mut folded: [bool; 288] = [false; 288];
+    let mut skips: [bool; 32] = [false; 32];
+    folds::choose_folds(
+        s,
+        b,
+        settings,
+        types,
+        recorded,
+        &places,
+        &starts,
+        &mut folded,
+        &mut skips,
+    );
+    lower_chosen(
+        s,
+        b,
+        settings,
+        types,
+        recorded,
+        blocks,
+        &places,
+        &starts,
+        &folded,
+        &skips,
+        out,
+    )
+}
+
+// What the numbers of an accepted routine stay below.
+fn bounds_of(l: Layout) -> Bounds
+    ensures { λ r. ⌜ r ≡ record { types = l .types; next = l .next; blocks = l .blocks; list = 16; projections = 8 } ⌝ }
+{
+    Bounds {
+        types: l.types,
+        next: l.next,
+        blocks: l.blocks,
+        list: 16,
+        projections: 8,
+    }
+}
+
+// The whole pass: 12, then 1 to 9, then 10, then 11; else the rewritten routine from the output's first byte on.
+pub fn lower_into(input: &[u8], out: &mut [u8], settings: Settings) -> Answer
+    ensures { λ r. ⌜ Answers (outcome settings (length (now (out .entry))) (now (input .entry))) r (now (out .entry)) (now (out .exit)) ⌝ }
+{
+    if 16 < settings.most {
+        return Answer::Refused(12, 0);
+    }
+    let mut types: [usize; 65] = [0; 65];
+    let mut recorded: [u16; 256] = [0; 256];
+    let mut blocks: [usize; 33] = [0; 33];
+    match routine::read_routine(
+        input,
+        routine::MOSTS,
+        &mut types,
+        &mut recorded,
+        &mut blocks,
+    ) {
+        Checked::Refused(c, o) => Answer::Refused(wire::cause_number(c), o),
+        Checked::Accepted(l) => {
+            let b = bounds_of(l);
+            lower_read(input, b, settings, &types, &recorded, &blocks, out)
+        }
+    }
+}
+
+// The entry for any caller: a flag is on when its number is not 0. For every input and every number, `answer` is given
+// the refusal's number and offset, the result, the five counts and the length of the rewritten routine, as far as it has
+// room for them; `output` is given the rewritten routine, or stays as it was.
+#[no_mangle]
+pub extern "C" fn lower(
+    input: &[u8],
+    output: &mut [u8],
+    tuples: u64,
+    structs: u64,
+    most: u64,
+    answer: &mut [u64],
+)
+    ensures { λ _. ⌜ now (answer .exit) ≡ sets (now (answer .entry)) 0 (inOrder (numbersOf (outcome (settingsOf tuples structs most) (length (now (output .entry))) (now (input .entry))))) ⌝ }
+    ensures { λ _. ⌜ now (output .exit) ≡ leaves (outcome (settingsOf tuples structs most) (length (now (output .entry))) (now (input .entry))) (now (output .entry)) ⌝ }
+{
+    let settings = numbers::settings_of(tuples, structs, most);
+    let a = lower_into(input, output, settings);
+    numbers::put_answer(answer, a);
+}

@@ -1,0 +1,7 @@
+pub mod Fields
+pub mod Standing
+pub mod Returning
+pub mod Effects
+pub mod Whole
+pub mod Calling
+pub mod Storing

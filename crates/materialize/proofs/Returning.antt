@@ -1,0 +1,63 @@
+-- What stands where in a Return.
+use Prim.Native.Nat.{ℕ, suc, _≤_}
+use mathlib.Core.Path.{_≡_, refl, ap}
+use mathlib.Core.List.{List, [], _∷_, _++_, append-nil}
+use native.Mathlib.Omega.{arith}
+use lib.ListN.{length, getD, take, drop}
+use Rattle.wire.specs.Parse.{ok, later}
+use Rattle.wire.specs.Value.{valueOf, valueBytes}
+use Rattle.wire.specs.WellFormed.{Bytes}
+use Rattle.wire.specs.declared.Value.{Value}
+use Rattle.wire.proofs.Inv.{behind, image, later-inv, map-inv, tagged-inv}
+use Rattle.form.specs.Syntax.{Terminator, Return}
+use Rattle.form.specs.Decode.{listOf, returnOf, terminators, terminatorOf}
+use Rattle.form.specs.Encode.{eachBytes, terminatorBytes}
+use Rattle.form.specs.declared.Bounds.{Bounds}
+use Rattle.canon.proofs.Instruction.{terminator-canon}
+use Rattle.eligibility.specs.Lookup.{Types}
+use Rattle.rewriting.specs.Rebuild.{wantedReturns}
+use Rattle.wanting.specs.declared.Asks.{Asks}
+use Rattle.wanting.specs.Asked.{askedList}
+use Rattle.listing.specs.Lists.{Lies}
+use Rattle.materialize.proofs.Fields.{to-lies, values-field}
+use Rattle.materialize.proofs.Standing.{over}
+
+-- the recorded types are asked for
+pub asked-returns : (τ : Types) (t : List ℕ) (i : ℕ) (xs : List Value) → askedList τ t Asks.Recorded i xs ≡ wantedReturns τ xs
+unfolding askedList wantedReturns
+asked-returns τ t i [] = refl
+asked-returns τ t i (x ∷ xs) = rw (asked-returns τ t (suc i) xs) refl
+
+module _ (b : Bounds) (t : List ℕ) (xs : List Value) (n : ℕ) (h : Bytes t) (e : terminatorOf b t ≡ ok (Return xs) n) where
+  -- its bytes, and what follows
+  shown : t ≡ (3 ∷ length xs ∷ eachBytes valueBytes xs) ++ drop n t
+  unfolding terminatorBytes
+  shown = over (terminatorBytes (Return xs)) t n (terminator-canon b t h e)
+
+  kind : getD t 0 0 ≡ 3
+  kind = ap (λ l. getD l 0 0) shown
+
+  pub return-many : getD t 1 0 ≡ length xs
+  return-many = ap (λ l. getD l 1 0) shown
+
+  pub return-long : 2 ≤ length t
+  return-long = omega (arith, ap length shown)
+
+  pub return-bytes : (ys : List Value) → length ys ≡ length xs → take 2 t ++ (eachBytes valueBytes ys ++ []) ≡ terminatorBytes (Return ys)
+  unfolding terminatorBytes
+  return-bytes ys j =
+      let a : take 2 t ≡ 3 ∷ length xs ∷ [] = ap (take 2) shown in
+      rw (a, append-nil, ← j) refl
+
+  pub return-lies : Lies (b .next) t 2 xs
+  unfolding terminatorOf returnOf
+  return-lies =
+      let c : later 1 (returnOf b (drop 1 t)) ≡ ok (Return xs) n = rw kind at (tagged-inv (terminators b) t e .1) in
+      elim (later-inv 1 (returnOf b (drop 1 t)) c) [
+        | behind k q l ↦
+            elim (map-inv Terminator.Return (listOf (b .list) (valueOf (b .next)) (drop 1 t)) q) [
+              | image ys p r ↦
+                  let z : xs ≡ ys = cc in
+                  rw z (to-lies (values-field b [] t {p = 1} .each ys k p .0 .0))
+            ]
+      ]

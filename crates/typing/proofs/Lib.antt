@@ -1,0 +1,4 @@
+pub mod Told
+pub mod Bytes
+pub mod Numbers
+pub mod Fitted

@@ -1,0 +1,24 @@
+use borrow.Author.Needs.{needs}
+use Rattle.typing.proofs.row_place.Statement.{statement}
+use Rattle.typing.proofs.row_place.Tie as tie
+use Rattle.typing.proofs.Told.{no-row, past-row, the-row}
+use mathlib.Core.Path.{refl}
+use native.Mathlib.Omega.{arith}
+
+returns : tie.Need-returns
+returns c = λ τ o a l e. no-row (c .before .before .before .args .b .list) (c .before .before .before .args .b .types) (c .before .before .before .args .s .now) (c .before .before .before .args .types .now) τ o (c .if1 .taken) e refl
+
+returns-2 : tie.Need-returns-2
+returns-2 c = λ τ o a l e. past-row (c .before .before .before .before .before .args .b .list) (c .before .before .before .before .before .args .b .types) (c .before .before .before .before .before .args .s .now) (c .before .before .before .before .before .args .types .now) τ o (c .if2 .taken) l e refl
+
+sub-t6 : tie.Need-sub-t6
+sub-t6 c = search needs
+
+type-place-requires : tie.Need-type-place-requires
+type-place-requires c κs = search needs
+
+returns-3 : tie.Need-returns-3
+returns-3 c = λ τ o a l e. the-row (c .before .before .before .before .before .before .args .b .list) (c .before .before .before .before .before .before .args .b .types) (c .before .before .before .before .before .before .args .s .now) (c .before .before .before .before .before .before .args .types .now) τ o (c .before .before .before .if1 .left) (c .before .if2 .left) (omega (arith, c .before .before .before .before .before .before .fits)) (c .type-place .ensures) a l e
+
+pub row-place-spec : {M : Type 1} → statement M
+row-place-spec = tie.close (tie.spec returns returns-2 sub-t6 type-place-requires returns-3)

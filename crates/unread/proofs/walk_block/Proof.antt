@@ -1,0 +1,80 @@
+use Rattle.unread.proofs.walk_block.Statement.{statement}
+use Rattle.unread.proofs.walk_block.Tie as tie
+use Prim.Native.Nat.{_-_}
+use native.Mathlib.Omega.{arith}
+use borrow.Author.Needs.{needs}
+use borrow.Author.Tests.{not-true, not-false}
+use Rattle.unread.proofs.Walk.{Walking, walk-start, no-room, walk-reads, walk-again, walk-done}
+
+abbrev Inv-loop : tie.InvT-loop
+Inv-loop s at b dropped count here₀ k₀ here k = Walking b s at dropped count k here
+
+abbrev μ-loop : tie.MeasureT-loop
+μ-loop s at b dropped count here₀ k₀ here k = count - k
+
+returns : tie.Need-returns Inv-loop μ-loop
+returns c = let a = c .before .before .before .args in no-room (a .b) (a .s .now) (a .at) (a .dropped .now) (omega arith)
+
+sub-if2 : tie.Need-sub-if2 Inv-loop μ-loop
+sub-if2 c = search needs
+
+returns-2 : tie.Need-returns-2 Inv-loop μ-loop
+returns-2 c = let a = c .before .before .before .before .args in no-room (a .b) (a .s .now) (a .at) (a .dropped .now) (omega arith)
+
+u16-at-requires : tie.Need-u16-at-requires Inv-loop μ-loop
+u16-at-requires c κs = search needs
+
+add-here : tie.Need-add-here Inv-loop μ-loop
+add-here c = search needs
+
+loop-holds : tie.Need-loop-holds Inv-loop μ-loop
+loop-holds c = let a = c .before .before .before .before .before .args in walk-start (a .b) (a .s .now) (a .at) (a .dropped .now) (c .u16-at .ensures)
+
+tail-requires : tie.Need-tail-requires Inv-loop μ-loop
+tail-requires c κs = search needs
+
+clean-instruction-requires : tie.Need-clean-instruction-requires Inv-loop μ-loop
+clean-instruction-requires c κs = search needs
+
+returns-3 : tie.Need-returns-3 Inv-loop μ-loop
+returns-3 c = let a = c .before .before .before .before .before .before .before .before .before .before .args in let l = c .before .before .before .before .loop in walk-reads (a .b) (a .s .now) (a .at) (a .dropped .now) _ (l .k) (l .here) (l .inv) (c .before .before .before .loop-test .taken) _ (c .before .before .tail .ensures) _ (c .before .clean-instruction .ensures) (not-true _ (c .if3 .taken))
+
+instruction-end-requires : tie.Need-instruction-end-requires Inv-loop μ-loop
+instruction-end-requires c κs = search needs
+
+add-k : tie.Need-add-k Inv-loop μ-loop
+add-k c = search needs
+
+loop-less : tie.Need-loop-less Inv-loop μ-loop
+loop-less c = search needs
+
+loop-again : tie.Need-loop-again Inv-loop μ-loop
+loop-again c = let a = c .before .before .before .before .before .before .before .before .before .before .before .args in let l = c .before .before .before .before .before .loop in walk-again (a .b) (a .s .now) (a .at) (a .dropped .now) _ (l .k) (l .here) (l .inv) (c .before .before .before .before .loop-test .taken) _ (c .before .before .before .tail .ensures) _ (c .before .before .clean-instruction .ensures) (not-false _ (c .before .if3 .left)) _ (c .instruction-end .ensures .1)
+
+walk-terminator-requires : tie.Need-walk-terminator-requires Inv-loop μ-loop
+walk-terminator-requires c κs = search needs
+
+returns-4 : tie.Need-returns-4 Inv-loop μ-loop
+returns-4 c = let a = c .before .before .before .before .before .before .before .before .args in let l = c .before .before .loop in walk-done (a .b) (a .s .now) (a .at) (a .dropped .now) _ (l .k) (l .here) (l .inv) (c .before .loop-test .left) _ (c .walk-terminator .ensures)
+
+pub walk-block-spec : {M : Type 1} → statement M
+walk-block-spec =
+    tie.close
+    (tie.spec
+    Inv-loop
+    μ-loop
+    returns
+    sub-if2
+    returns-2
+    u16-at-requires
+    add-here
+    loop-holds
+    tail-requires
+    clean-instruction-requires
+    returns-3
+    instruction-end-requires
+    add-k
+    loop-less
+    loop-again
+    walk-terminator-requires
+    returns-4)

@@ -1,7 +1,7 @@
 //! Tells the linker where the proved static library is.
 
 use std::env;
-use std::path::PathBuf;
+use std::path::{Path, PathBuf};
 
 /// Names the folder that holds the archive, where it is not the usual one.
 const OVERRIDE: &str = "POELVIGU_LIB_DIR";
@@ -9,20 +9,26 @@ const OVERRIDE: &str = "POELVIGU_LIB_DIR";
 /// The usual folder, from this crate: the repository's own target folder.
 const USUAL: &str = "../../target/staticlib";
 
-const ARCHIVE: &str = "libroutine.a";
-
 fn main() {
     println!("cargo:rerun-if-env-changed={OVERRIDE}");
     let manifest = PathBuf::from(env::var_os("CARGO_MANIFEST_DIR").expect("cargo sets it"));
     let folder = env::var_os(OVERRIDE).map_or_else(|| manifest.join(USUAL), PathBuf::from);
-    let archive = folder.join(ARCHIVE);
+    println!("cargo:rustc-link-search=native={}", folder.display());
+    link(&folder, "routine");
+    if env::var_os("CARGO_FEATURE_LOWER").is_some() {
+        link(&folder, "lowering");
+    }
+}
+
+/// Links the archive of one crate.
+fn link(folder: &Path, name: &str) {
+    let archive = folder.join(format!("lib{name}.a"));
     assert!(
         archive.is_file(),
-        "{} is missing: make it with `rt staticlib routine` in the repository's root, or set \
-         {OVERRIDE} to the folder that holds {ARCHIVE}",
+        "{} is missing: make it with `rt staticlib {name}` in the repository's root, or set \
+         {OVERRIDE} to the folder that holds it",
         archive.display()
     );
     println!("cargo:rerun-if-changed={}", archive.display());
-    println!("cargo:rustc-link-search=native={}", folder.display());
-    println!("cargo:rustc-link-lib=static=routine");
+    println!("cargo:rustc-link-lib=static={name}");
 }

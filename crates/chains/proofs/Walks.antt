@@ -57,7 +57,7 @@ pub data Next (ps : List Projection) (k i : ℕ) : Type 0 where
 pub next-of : (ps : List Projection) (k i : ℕ) → i < k → k ≤ length ps → Next ps k i
 next-of [] k i h l = absurd (omega arith)
 next-of (p ∷ ps) zero i h l = absurd (omega arith)
-next-of (p ∷ ps) (suc k) zero h l = 
+next-of (p ∷ ps) (suc k) zero h l =
     let a : suc k - 0 ≡ suc k = omega arith in
     let z : suc k - (0 + 1) ≡ k = omega arith in
     this p refl (rw (a, z) refl)

@@ -251,7 +251,17 @@ pub fn forward_store(
             let p = lookup::projection(t, b, n - 1);
             let place = stored_place(s, at);
             store_last(
-                s, b, types, recorded, counts, firsts, pool, used, v, p, place,
+                s,
+                b,
+                types,
+                recorded,
+                counts,
+                firsts,
+                pool,
+                used,
+                v,
+                p,
+                place,
             )
         }
     }

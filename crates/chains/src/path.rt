@@ -106,7 +106,13 @@ pub fn step_part(
 ) -> Init
     ensures { λ r. ⌜ ((τ : Types) (S : AggStates) (q : Projection) → Walking b (now (s .entry)) (now (types .entry)) (now (recorded .entry)) (now (counts .entry)) (now (firsts .entry)) (now (pool .entry)) τ S → v .0 < b .next → asStep p ≡ some q → InitAt (b .next) (now (s .entry)) (stepPart τ S (AnyValue.Operand v) q) r) ⌝ }
 {
-    part_at(counts, firsts, pool, v, step_index(s, b, types, recorded, v, p))
+    part_at(
+        counts,
+        firsts,
+        pool,
+        v,
+        step_index(s, b, types, recorded, v, p),
+    )
 }
 
 // The value that stands at a place, where it is an operand.
@@ -163,17 +169,7 @@ fn walk(
     let mut i: u8 = 0;
     while i < k {
         let p = lookup::projection(t, b, i);
-        match step_operand(
-            s,
-            b,
-            types,
-            recorded,
-            counts,
-            firsts,
-            pool,
-            ValueId(v),
-            p,
-        ) {
+        match step_operand(s, b, types, recorded, counts, firsts, pool, ValueId(v), p) {
             Walked::Nothing => return Walked::Nothing,
             Walked::Operand(w) => {
                 v = w.0;

@@ -125,7 +125,22 @@ fn choose_tables(
         &mut blocked,
     );
     choose_copies(
-        s, b, types, places, count, settings, shapes, &children, &parents, &tuples, edges, &buildable, &blocked, dynamic, folded, start,
+        s,
+        b,
+        types,
+        places,
+        count,
+        settings,
+        shapes,
+        &children,
+        &parents,
+        &tuples,
+        edges,
+        &buildable,
+        &blocked,
+        dynamic,
+        folded,
+        start,
     );
 }
 
@@ -152,7 +167,17 @@ fn choose_block(
         return;
     }
     let mut marks: [bool; 128] = [false; 128];
-    structs::fill_structs(s, b, types, recorded, settings, places, count, cross, &mut marks);
+    structs::fill_structs(
+        s,
+        b,
+        types,
+        recorded,
+        settings,
+        places,
+        count,
+        cross,
+        &mut marks,
+    );
     let mut dynamic: [bool; 256] = [false; 256];
     choose_tables(
         s,
@@ -236,7 +261,19 @@ pub fn choose(
     let mut k: u16 = 0;
     while k < many {
         choose_one(
-            s, b, types, recorded, places, starts, k, settings, shapes, eligible, cross, folded, skips,
+            s,
+            b,
+            types,
+            recorded,
+            places,
+            starts,
+            k,
+            settings,
+            shapes,
+            eligible,
+            cross,
+            folded,
+            skips,
         );
         k = k + 1;
     }

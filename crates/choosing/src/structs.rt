@@ -91,7 +91,14 @@ fn told_by(s: &[u8], types: &[usize], many: u16, y: u16, t: &[u8]) -> bool
     }
     let u = form::tail(s, types::type_place(types, TypeId(y)));
     let off = lookup::fields_place(t);
-    all_given(t, off + 3, wire::byte_at(t, off + 2), u, 4, wire::byte_at(u, 3))
+    all_given(
+        t,
+        off + 3,
+        wire::byte_at(t, off + 2),
+        u,
+        4,
+        wire::byte_at(u, 3),
+    )
 }
 
 // Whether the MakeStruct `t` of `size` bytes passes its conditions: its named type stands last.

@@ -44,10 +44,13 @@ name-unlike own n names (f ∷ fs) t h =
     behind : (b : B.Bool) → T (hasName n names) → T (b || hasName n names)
     behind true t = tt
     behind false t = t
+
     at-name : (x : ℕ) → n .0 ≡ x → T (hasName n names) → T (hasName (record { 0 = x }) names)
     at-name x e t = rw e at t
+
     clash : T (hasName (f .name) names) → ⊥
     clash c = rw (h .1) at c
+
     differs : (b : B.Bool) → (T b → n .0 ≡ f .name .0) → T (not b)
     differs true e = absurd (clash (at-name (f .name .0) (e tt) t))
     differs false e = tt
@@ -61,6 +64,7 @@ fields-once own names (f ∷ fs) h =
     same : (b c : B.Bool) → T b → T (b || c)
     same true c t = tt
     same false c t = absurd t
+
     first : (n : NameId) (ns : List NameId) → T (hasName n (n ∷ ns))
     first n ns = same (eqb (n .0) (n .0)) (hasName n ns) (eqb-refl (n .0))
 
@@ -102,6 +106,7 @@ among-append v (x ∷ xs) ys s t = nor-i (eqb v (x .0)) (among v (xs ++ ys)) (fi
     first : (b : B.Bool) → T (not (b || among v xs)) → T (not b)
     first true h = h
     first false h = tt
+
     rest : (b : B.Bool) → T (not (b || among v xs)) → T (not (among v xs))
     rest true h = absurd h
     rest false h = h

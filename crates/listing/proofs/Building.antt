@@ -233,14 +233,16 @@ module _ (b : Bounds) (s t types recorded counts firsts pool : List ℕ) (asks :
         }
 
   pub building-done : (out fresh : List ℕ) (p : Progress) (here i : ℕ) (c : Building b s t types recorded counts firsts pool asks first many out₀ fresh₀ p₀ out fresh p here i) → many ≤ i → many < 256 → Few p₀ 255 p × AllPut b s t types recorded counts firsts pool asks first many out₀ fresh₀ p₀ out fresh (Put.Went p)
-  building-done out fresh p here i c h n =
-      (few-all p₀ p i 255 (omega (arith, c .under)) (c .few), λ τ S xs dropped g a m small.
-      record {
-        clashed = λ z. absurd (no-clash z);
-        went = λ q z.
-            let y : q ≡ p = cc in
-            rw y (left-done (b .next) t asks τ S many (outputOf out₀ fresh₀ dropped p₀) _ (outputOf out fresh dropped p) here i (c .left τ S xs dropped g a m small) h);
-      })
+  building-done out fresh p here i c h n = (
+    few-all p₀ p i 255 (omega (arith, c .under)) (c .few),
+    λ τ S xs dropped g a m small.
+        record {
+          clashed = λ z. absurd (no-clash z);
+          went = λ q z.
+              let y : q ≡ p = cc in
+              rw y (left-done (b .next) t asks τ S many (outputOf out₀ fresh₀ dropped p₀) _ (outputOf out fresh dropped p) here i (c .left τ S xs dropped g a m small) h);
+        },
+  )
 
 -- a value that stays puts nothing out
 pub none-put : (R : Rebuilt) (x : Value) (out fresh : List ℕ) (dropped : Marks) (p : Progress) → R ≡ untouched (x ∷ []) → Puts (outputOf out fresh dropped p) (rebuiltEffect R) (R .clash) out fresh dropped (Put.Went p)

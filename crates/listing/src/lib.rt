@@ -165,7 +165,20 @@ pub fn put_builds(
     let mut i: u8 = 0;
     while i < many {
         q = match put_one(
-            out, q, s, t, here, i, b, types, recorded, counts, firsts, pool, fresh, asks,
+            out,
+            q,
+            s,
+            t,
+            here,
+            i,
+            b,
+            types,
+            recorded,
+            counts,
+            firsts,
+            pool,
+            fresh,
+            asks,
         ) {
             Put::Clash => return Put::Clash,
             Put::Went(next) => next,
@@ -241,7 +254,18 @@ fn put_values(
     let mut i: u8 = 0;
     while i < many {
         w = put_one_value(
-            out, w.to, w.fresh, s, t, here, i, b, types, recorded, counts, asks,
+            out,
+            w.to,
+            w.fresh,
+            s,
+            t,
+            here,
+            i,
+            b,
+            types,
+            recorded,
+            counts,
+            asks,
         );
         here = wanting::value_end(t, here);
         i = i + 1;
@@ -274,8 +298,18 @@ pub fn put_around(
 {
     let p = copy_bytes(out, to, head, before);
     let q = put_values(
-        out, p, taken, s, t, first, many, b, types, recorded, counts, asks,
+        out,
+        p,
+        taken,
+        s,
+        t,
+        first,
+        many,
+        b,
+        types,
+        recorded,
+        counts,
+        asks,
     );
     copy_bytes(out, q, rest, after)
 }
-

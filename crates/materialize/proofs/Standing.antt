@@ -14,7 +14,6 @@ use Rattle.wire.specs.WellFormed.{Bytes}
 use Rattle.wire.specs.declared.ValueId.{ValueId}
 use Rattle.wire.specs.declared.TypeId.{TypeId}
 use Rattle.wire.specs.declared.Value.{Value}
-
 use Rattle.wire.proofs.Canon.{Canon, bytes-drop}
 use Rattle.form.specs.Syntax.{Place, Instruction, InstructionKind, Call, Store}
 use Rattle.form.specs.Reads.{kindNumber}

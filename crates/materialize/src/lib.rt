@@ -82,7 +82,20 @@ pub fn put_call(
     let asks = Asks::Types(behind + 1, wire::byte_at(f, behind));
     let none: [u16; 0] = [0; 0];
     let q = match listing::put_builds(
-        out, p, s, f, first, many, b, types, &none, counts, firsts, pool, fresh, asks,
+        out,
+        p,
+        s,
+        f,
+        first,
+        many,
+        b,
+        types,
+        &none,
+        counts,
+        firsts,
+        pool,
+        fresh,
+        asks,
     ) {
         Put::Clash => return Put::Clash,
         Put::Went(q) => q,
@@ -142,7 +155,20 @@ pub fn put_store(
     let asks = Asks::Types(behind, 1);
     let none: [u16; 0] = [0; 0];
     let q = match listing::put_builds(
-        out, p, s, f, first, 1, b, types, &none, counts, firsts, pool, fresh, asks,
+        out,
+        p,
+        s,
+        f,
+        first,
+        1,
+        b,
+        types,
+        &none,
+        counts,
+        firsts,
+        pool,
+        fresh,
+        asks,
     ) {
         Put::Clash => return Put::Clash,
         Put::Went(q) => q,
@@ -195,13 +221,41 @@ pub fn put_return(
     let many = wire::byte_at(t, 1);
     let asks = Asks::Recorded;
     let q = match listing::put_builds(
-        out, p, s, t, 2, many, b, types, recorded, counts, firsts, pool, fresh, asks,
+        out,
+        p,
+        s,
+        t,
+        2,
+        many,
+        b,
+        types,
+        recorded,
+        counts,
+        firsts,
+        pool,
+        fresh,
+        asks,
     ) {
         Put::Clash => return Put::Clash,
         Put::Went(q) => q,
     };
     let to = listing::put_around(
-        out, q.to, p.fresh, s, t, 2, many, b, types, recorded, counts, asks, t, 2, t, 0,
+        out,
+        q.to,
+        p.fresh,
+        s,
+        t,
+        2,
+        many,
+        b,
+        types,
+        recorded,
+        counts,
+        asks,
+        t,
+        2,
+        t,
+        0,
     );
     Put::Went(put_further(q, to, 0, q.fresh - p.fresh))
 }

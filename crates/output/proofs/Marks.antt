@@ -64,10 +64,12 @@ mark-stays seen d v h =
         no : (b : B.Bool) → T b → T (not b) → ⊥
         no true s t = t
         no false s t = s
+
     below : (l : List B.Bool) (k : ℕ) → getD l k false ≡ true → k < length l
     below [] k e = absurd (true-false (sym e))
     below (x ∷ l) zero e = omega arith
     below (x ∷ l) (suc k) e = omega (arith, below l k e)
+
     there : v ≡ d .0 → getD (set seen (d .0) true) v false ≡ true
     there e = ap (λ k. getD (set seen (d .0) true) k false) e ∙ getD-set-same seen (d .0) true false (below seen (d .0) (sym (ap (λ k. getD seen k false) e) ∙ h))
 

@@ -164,11 +164,14 @@ module _ (b c : Bounds) (w : Wider b c) (τ : Types) (g : Typed c τ) where
     call-fit ds f xs ps rs r [] e a k s u v x = piece-kept S i h l
     call-fit ds f xs ps rs r (t ∷ ts) e a k s u v x =
         record {
-          out = each-append (Loose c) (r .before) _ u (record {
-            beside = (tt, tt, tt);
-            other = refl;
-            fits = λ m y. let z = k m y in (z .0, z .1, (omega (arith, s, z .2 .0), v), z .3, z .4, z .5);
-          }, tt);
+          out = each-append (Loose c) (r .before) _ u (
+            record {
+              beside = (tt, tt, tt);
+              other = refl;
+              fits = λ m y. let z = k m y in (z .0, z .1, (omega (arith, s, z .2 .0), v), z .3, z .4, z .5);
+            },
+            tt,
+          );
           states = h;
           fresh = x;
         }
@@ -210,6 +213,7 @@ module _ (b c : Bounds) (w : Wider b c) (τ : Types) (g : Typed c τ) where
       few : (o : Option (List Value)) → Holds (λ ys. (length ys ≡ length (structFieldsOf (structRow τ d t))) × Each fit ys) o → Holds parts o
       few none q = tt
       few (some ys) q = (omega (arith, q .0, struct-few d t), q .1)
+
       at : (x : B.Bool) → Holds parts (fromStructFields fs (structFieldsOf (structRow τ d t))) → Holds parts (cond x (fromStructFields fs (structFieldsOf (structRow τ d t))) none)
       at true q = q
       at false q = tt

@@ -154,12 +154,15 @@ module _ (b c : Bounds) (w : Wider b c) (τ : Types) (g : Typed c τ) (σ : Sett
           let y = block-fit b c w τ g σ (q .folds k) n seen marked false (k .instructions) (k .terminator) (f .0 .instructions) (f .0 .terminator) (u .both) (omega (arith, e, z)) in
           let x = r (n + length (v .fresh)) (put + length (phisOf (k .instructions) ++ v .out)) (blockMarks marked (phisOf (k .instructions) ++ v .out)) (record { both = y .fits .both; sum = omega (arith, u .sum, y .count) }) (omega (arith, e, z)) in
           record {
-            blocks = (record {
-              own = omega (arith, y .count, f .0 .all, a, d, e, z, u .both .start, base-low);
-              all = omega (arith, u .sum, y .count, f .0 .all, a, d, e, z);
-              instructions = y .fits .fit;
-              terminator = y .terminator;
-            }, x .blocks);
+            blocks = (
+              record {
+                own = omega (arith, y .count, f .0 .all, a, d, e, z, u .both .start, base-low);
+                all = omega (arith, u .sum, y .count, f .0 .all, a, d, e, z);
+                instructions = y .fits .fit;
+                terminator = y .terminator;
+              },
+              x .blocks,
+            );
             fresh = each-append (FitType c) (v .fresh) (rest .fresh) (y .fresh) (x .fresh);
           }
 
@@ -225,9 +228,9 @@ well-formed σ q r h =
     let w : Wider b c = record { types = omega arith; next = omega arith; blocks = omega (arith, many); list = omega arith; projections = omega arith; top = omega (arith, top) } in
     let g : Typed c τ = record { rows = λ t T e. first-fit (r .types) t T (h .types) e; count = omega arith; recorded = λ x. recorded-fit b (r .recorded) (x .0) (h .recorded) } in
     let u : Both (b .next) (r .next) (unmarked r) (unmarked o) =
-      record { long = rw (length-replicate {A = Bool} (r .next) false) (omega arith); start = omega arith; fewer = λ x l e. unmarked-clear (o .next) x; above = λ x l. unmarked-clear (o .next) x } in
+    record { long = rw (length-replicate {A = Bool} (r .next) false) (omega arith); start = omega arith; fewer = λ x l e. unmarked-clear (o .next) x; above = λ x l. unmarked-clear (o .next) x } in
     let y = blocks-fit b c w τ g σ q mosts (r .next) (r .next) 0 0 (marks (unmarked r) (r .parameters)) (marks (unmarked o) (r .parameters)) (r .blocks) (omega arith) (omega (arith, few, all, h .many-blocks)) (omega arith)
-          (record { both = both-kept b c (w .next) (r .next) (unmarked r) (unmarked o) (r .parameters) (h .parameters) u; sum = omega arith }) (h .blocks) (omega arith) in
+    (record { both = both-kept b c (w .next) (r .next) (unmarked r) (unmarked o) (r .parameters) (h .parameters) u; sum = omega arith }) (h .blocks) (omega arith) in
     record {
       many-types = h .many-types;
       types = h .types;

@@ -59,9 +59,12 @@ same-length-3 : tie.Need-same-length-3
 same-length-3 c = search needs
 
 returns-2 : tie.Need-returns-2
-returns-2 c = (omega arith, λ τ S i n p x y g r tb e k.
-    let R = store-read _ (c .before .before .before .before .before .before .before .before .before .before .before .before .before .before .before .before .before .before .args .s .now) _ _ (c .before .before .before .before .before .before .before .before .before .before .before .before .before .before .before .before .before .before .args .at) _ i n p (c .before .before .before .before .before .before .before .before .before .before .before .tail .ensures) e (c .before .before .before .before .before .before .before .before .before .tail2 .ensures) (c .before .before .before .before .before .before .before .before .before .before .fields-place .ensures) k (c .before .before .before .before .before .before .u16-at .ensures) (c .before .before .before .before .before .before .before .before .byte-at .ensures) in
-    both-facts (forwards-none (store-stuck τ S p x R (c .before .before .before .before .before .before .before .if1 .left) (c .before .before .holder .ensures τ S (p .projections) (record { ground = g; used = _; rep = r }) (R .steps) (R .below) (last-long (p .projections) (R .long) (c .before .before .before .before .before .before .before .if1 .left))) (c .enum-told .given .1)) r))
+returns-2 c = (
+  omega arith,
+  λ τ S i n p x y g r tb e k.
+      let R = store-read _ (c .before .before .before .before .before .before .before .before .before .before .before .before .before .before .before .before .before .before .args .s .now) _ _ (c .before .before .before .before .before .before .before .before .before .before .before .before .before .before .before .before .before .before .args .at) _ i n p (c .before .before .before .before .before .before .before .before .before .before .before .tail .ensures) e (c .before .before .before .before .before .before .before .before .before .tail2 .ensures) (c .before .before .before .before .before .before .before .before .before .before .fields-place .ensures) k (c .before .before .before .before .before .before .u16-at .ensures) (c .before .before .before .before .before .before .before .before .byte-at .ensures) in
+      both-facts (forwards-none (store-stuck τ S p x R (c .before .before .before .before .before .before .before .if1 .left) (c .before .before .holder .ensures τ S (p .projections) (record { ground = g; used = _; rep = r }) (R .steps) (R .below) (last-long (p .projections) (R .long) (c .before .before .before .before .before .before .before .if1 .left))) (c .enum-told .given .1)) r),
+)
 
 same-length-4 : tie.Need-same-length-4
 same-length-4 c = search needs
@@ -73,9 +76,12 @@ same-length-6 : tie.Need-same-length-6
 same-length-6 c = search needs
 
 returns-3 : tie.Need-returns-3
-returns-3 c = (c .before .before .before .before .before .before .store-last .ensures .0, λ τ S i n p x y g r tb e k.
-    let R = store-read _ (c .before .before .before .before .before .before .before .before .before .before .before .before .before .before .before .before .before .before .before .before .before .before .before .before .before .before .before .before .before .before .before .args .s .now) _ _ (c .before .before .before .before .before .before .before .before .before .before .before .before .before .before .before .before .before .before .before .before .before .before .before .before .before .before .before .before .before .before .before .args .at) _ i n p (c .before .before .before .before .before .before .before .before .before .before .before .before .before .before .before .before .before .before .before .before .before .before .before .before .tail .ensures) e (c .before .before .before .before .before .before .before .before .before .before .before .before .before .before .before .before .before .before .before .before .before .before .tail2 .ensures) (c .before .before .before .before .before .before .before .before .before .before .before .before .before .before .before .before .before .before .before .before .before .before .before .fields-place .ensures) k (c .before .before .before .before .before .before .before .before .before .before .before .before .before .before .before .before .before .before .before .u16-at .ensures) (c .before .before .before .before .before .before .before .before .before .before .before .before .before .before .before .before .before .before .before .before .before .byte-at .ensures) in
-    both-facts (store-ends τ S p x R (c .before .before .before .before .before .before .before .before .before .before .before .before .before .before .before .before .before .before .before .before .if1 .left) _ (c .before .before .before .before .before .before .before .before .before .before .before .before .before .before .before .holder .ensures τ S (p .projections) (record { ground = g; used = _; rep = r }) (R .steps) (R .below) (last-long (p .projections) (R .long) (c .before .before .before .before .before .before .before .before .before .before .before .before .before .before .before .before .before .before .before .before .if1 .left))) (c .before .before .before .before .before .before .before .before .before .before .before .before .before .v .given .1) (c .before .before .before .before .before .before .before .before .before .before .before .projection .result) (looked _ _ _ (c .before .before .before .before .before .before .before .before .before .before .before .projection .result) (c .before .before .before .before .before .before .before .before .before .before .before .projection .ensures) (p .projections) (R .steps)) (λ q h f. c .before .before .before .before .before .before .store-last .ensures .1 τ S q x g r tb h f (c .before .before .before .before .before .before .before .before .before .before .stored-place .ensures _ i n p x y e k))))
+returns-3 c = (
+  c .before .before .before .before .before .before .store-last .ensures .0,
+  λ τ S i n p x y g r tb e k.
+      let R = store-read _ (c .before .before .before .before .before .before .before .before .before .before .before .before .before .before .before .before .before .before .before .before .before .before .before .before .before .before .before .before .before .before .before .args .s .now) _ _ (c .before .before .before .before .before .before .before .before .before .before .before .before .before .before .before .before .before .before .before .before .before .before .before .before .before .before .before .before .before .before .before .args .at) _ i n p (c .before .before .before .before .before .before .before .before .before .before .before .before .before .before .before .before .before .before .before .before .before .before .before .before .tail .ensures) e (c .before .before .before .before .before .before .before .before .before .before .before .before .before .before .before .before .before .before .before .before .before .before .tail2 .ensures) (c .before .before .before .before .before .before .before .before .before .before .before .before .before .before .before .before .before .before .before .before .before .before .before .fields-place .ensures) k (c .before .before .before .before .before .before .before .before .before .before .before .before .before .before .before .before .before .before .before .u16-at .ensures) (c .before .before .before .before .before .before .before .before .before .before .before .before .before .before .before .before .before .before .before .before .before .byte-at .ensures) in
+      both-facts (store-ends τ S p x R (c .before .before .before .before .before .before .before .before .before .before .before .before .before .before .before .before .before .before .before .before .if1 .left) _ (c .before .before .before .before .before .before .before .before .before .before .before .before .before .before .before .holder .ensures τ S (p .projections) (record { ground = g; used = _; rep = r }) (R .steps) (R .below) (last-long (p .projections) (R .long) (c .before .before .before .before .before .before .before .before .before .before .before .before .before .before .before .before .before .before .before .before .if1 .left))) (c .before .before .before .before .before .before .before .before .before .before .before .before .before .v .given .1) (c .before .before .before .before .before .before .before .before .before .before .before .projection .result) (looked _ _ _ (c .before .before .before .before .before .before .before .before .before .before .before .projection .result) (c .before .before .before .before .before .before .before .before .before .before .before .projection .ensures) (p .projections) (R .steps)) (λ q h f. c .before .before .before .before .before .before .store-last .ensures .1 τ S q x g r tb h f (c .before .before .before .before .before .before .before .before .before .before .stored-place .ensures _ i n p x y e k))),
+)
 
 pub forward-store-spec : {M : Type 1} → statement M
 forward-store-spec =

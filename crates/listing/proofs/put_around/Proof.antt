@@ -29,12 +29,15 @@ same-length c = search needs
 
 -- src/lib.rt:253:1
 returns : tie.Need-returns
-returns c = (omega (arith, c .before .before .copy-bytes2 .ensures .0, c .before .before .before .before .before .before .put-values .ensures .0, c .before .before .before .before .before .before .before .before .before .before .copy-bytes .ensures .0, c .before .before .before .before .before .before .before .before .before .before .before .before .before .before .before .before .before .before .before .before .fits .many), λ τ S firsts pool xs e l m h u v w y.
-    let a = c .before .before .before .before .before .before .before .before .before .before .before .before .before .before .before .before .before .before .before .before .args in
-    let h1 = take (a .before) (a .head .now) in
-    let h2 = eachBytes valueBytes (rebuildAll τ S (a .b .next + a .taken) (askedList τ (a .t .now) (a .asks) 0 xs) .values) in
-    let h3 = take (a .after) (a .rest .now) in
-    writes-and h1 (h2 ++ h3) (a .out .now) (c .before .before .before .before .before .before .before .before .before .before .copy-bytes .last .0) _ _ _ _ (c .before .before .before .before .before .before .before .before .before .before .copy-bytes .ensures .1 u v) (writes-and h2 h3 (c .before .before .before .before .before .before .before .before .before .before .copy-bytes .last .0) (c .before .before .before .before .before .before .put-values .last .0) _ _ _ _ (c .before .before .before .before .before .before .put-values .ensures .1 τ S firsts pool xs e l m h) (c .before .before .copy-bytes2 .ensures .1 w y)))
+returns c = (
+  omega (arith, c .before .before .copy-bytes2 .ensures .0, c .before .before .before .before .before .before .put-values .ensures .0, c .before .before .before .before .before .before .before .before .before .before .copy-bytes .ensures .0, c .before .before .before .before .before .before .before .before .before .before .before .before .before .before .before .before .before .before .before .before .fits .many),
+  λ τ S firsts pool xs e l m h u v w y.
+      let a = c .before .before .before .before .before .before .before .before .before .before .before .before .before .before .before .before .before .before .before .before .args in
+      let h1 = take (a .before) (a .head .now) in
+      let h2 = eachBytes valueBytes (rebuildAll τ S (a .b .next + a .taken) (askedList τ (a .t .now) (a .asks) 0 xs) .values) in
+      let h3 = take (a .after) (a .rest .now) in
+      writes-and h1 (h2 ++ h3) (a .out .now) (c .before .before .before .before .before .before .before .before .before .before .copy-bytes .last .0) _ _ _ _ (c .before .before .before .before .before .before .before .before .before .before .copy-bytes .ensures .1 u v) (writes-and h2 h3 (c .before .before .before .before .before .before .before .before .before .before .copy-bytes .last .0) (c .before .before .before .before .before .before .put-values .last .0) _ _ _ _ (c .before .before .before .before .before .before .put-values .ensures .1 τ S firsts pool xs e l m h) (c .before .before .copy-bytes2 .ensures .1 w y)),
+)
 
 pub put-around-spec : {M : Type 1} → statement M
 put-around-spec =

@@ -1,0 +1,26 @@
+use Rattle.ordering.proofs.read_at.Statement.{statement}
+use Rattle.ordering.proofs.read_at.Tie as tie
+use borrow.Author.Needs.{needs}
+use mathlib.Core.Path.{sym}
+use lib.ListN.{List·getD-eq-default}
+
+mul-result : tie.Need-mul-result
+mul-result c = search needs
+
+shared-slice-read-result : tie.Need-shared-slice-read-result
+shared-slice-read-result c = search needs
+
+returns : tie.Need-returns
+returns c = search needs
+
+returns-2 : tie.Need-returns-2
+returns-2 c = sym (List·getD-eq-default (c .before .args .buffer .now) 0 (c .if1 .left))
+
+pub read-at-spec : {M : Type 1} → statement M
+read-at-spec =
+    tie.close
+    (tie.spec
+    mul-result
+    shared-slice-read-result
+    returns
+    returns-2)

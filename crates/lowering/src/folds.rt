@@ -29,7 +29,7 @@ fn choose_crossed(
 )
     ensures { λ _. ⌜ ((blocks : List ℕ) (a : Accepted (now (s .entry)) (now (types .entry)) (now (recorded .entry)) blocks b) → CodeAt b (now (s .entry)) (now (places .entry)) (now (starts .entry)) (a .routine .blocks) → FactsAt settings (typesIn (a .routine)) (now (shapes .entry)) (now (eligible .entry)) → now (marks .entry) ≡ replicate (b .next) false → 32 ≤ length (now (skips .entry)) → length (now (places .entry)) ≤ length (now (folded .entry)) → Follows (choice settings (a .routine)) (now (starts .entry)) (now (folded .exit)) (now (skips .exit)) (a .routine .blocks)) ⌝ }
 {
-    crate::cross::cross_marks(
+    cross::cross_marks(
         s,
         b,
         types,
@@ -40,7 +40,7 @@ fn choose_crossed(
         eligible,
         marks,
     );
-    crate::choosing::choose(
+    choosing::choose(
         s,
         b,
         types,

@@ -79,7 +79,7 @@ fn run_blocks(
     to: usize,
     fresh: &mut [u16],
 ) -> Put
-    requires { ⌜ (to ≤ 67108864) × (b .blocks ≤ 32) ⌝ }
+    requires { ⌜ (to ≤ 67108864) × ((b .blocks ≤ 32) × (length (now s) < 1099511627776)) ⌝ }
     ensures { λ r. ⌜ PutLow 4300 r ⌝ }
     ensures { λ r. ⌜ ((h : Chosen settings (now (s .entry)) (now (types .entry)) (now (recorded .entry)) (now (blocks .entry)) b (now (places .entry)) (now (starts .entry)) (now (folded .entry)) (now (skips .entry))) → Runs (rewrittenBlocks settings (h .accepted .routine)) to (now (out .entry)) (now (fresh .entry)) (now (out .exit)) (now (fresh .exit)) r) ⌝ }
 {

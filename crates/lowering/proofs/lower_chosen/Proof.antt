@@ -4,7 +4,7 @@ use Rattle.lowering.proofs.lower_chosen.Tie as tie
 use Prim.Native.Nat.{ℕ}
 use lib.ListN.{length-replicate}
 use native.Mathlib.Omega.{arith}
-use Rattle.lowering.proofs.Accepted.{blocks-few}
+use Rattle.lowering.proofs.Accepted.{blocks-few, short-input}
 use Rattle.lowering.proofs.Answered.{measured, answers-clash}
 
 slice-aggregate-run-blocks : tie.Need-slice-aggregate-run-blocks
@@ -14,7 +14,9 @@ slice-aggregate-run-blocks-2 : tie.Need-slice-aggregate-run-blocks-2
 slice-aggregate-run-blocks-2 c = search needs
 
 run-blocks-requires : tie.Need-run-blocks-requires
-run-blocks-requires c κs = (omega arith, blocks-few (c .before .before .before .before .before .before .before .before .before .before .before .pre .accepted))
+run-blocks-requires c κs =
+    let a = c .before .before .before .before .before .before .before .before .before .before .before .pre .accepted in
+    (omega arith, (blocks-few a, omega (arith, short-input a)))
 
 enum-told : tie.Need-enum-told
 enum-told c = search needs

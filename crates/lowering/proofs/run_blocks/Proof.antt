@@ -27,7 +27,7 @@ slice-aggregate-put-blocks-4 : tie.Need-slice-aggregate-put-blocks-4
 slice-aggregate-put-blocks-4 c = search needs
 
 put-blocks-requires : tie.Need-put-blocks-requires
-put-blocks-requires c κs = (low-start _ _ (c .before .before .start-at .ensures) (c .before .before .before .before .before .before .before .before .before .before .before .before .before .before .before .before .before .pre .0), (c .before .before .before .before .before .before .before .before .before .before .before .before .before .before .before .before .before .pre .1, (omega (arith, length-replicate {A = ℕ} 256 0), (omega (arith, length-replicate {A = ℕ} 256 0), omega (arith, length-replicate {A = ℕ} 2048 0)))))
+put-blocks-requires c κs = (low-start _ _ (c .before .before .start-at .ensures) (c .before .before .before .before .before .before .before .before .before .before .before .before .before .before .before .before .before .pre .0), (c .before .before .before .before .before .before .before .before .before .before .before .before .before .before .before .before .before .pre .1 .0, (omega (arith, length-replicate {A = ℕ} 256 0), (omega (arith, length-replicate {A = ℕ} 256 0), (omega (arith, length-replicate {A = ℕ} 2048 0), c .before .before .before .before .before .before .before .before .before .before .before .before .before .before .before .before .before .pre .1 .1)))))
 
 same-length : tie.Need-same-length
 same-length c = search needs

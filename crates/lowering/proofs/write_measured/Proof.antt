@@ -36,7 +36,7 @@ put-head-requires-2 c κs = let a = c .before .before .before .before .before .b
 
 run-blocks-requires : tie.Need-run-blocks-requires
 run-blocks-requires c κs = let a = c .before .before .before .before .before .before .before .before .before .before .before .before .before .before .before .before .before .before .before .before .before .before .before .before .before .before .pre .chosen .accepted in
-    (omega (arith, c .before .before .before .before .put-head2 .ensures .0, short-input a), blocks-few a)
+    (omega (arith, c .before .before .before .before .put-head2 .ensures .0, short-input a), (blocks-few a, omega (arith, short-input a)))
 
 enum-told : tie.Need-enum-told
 enum-told c = search needs

@@ -1,0 +1,149 @@
+use Rattle.agreeing.proofs.agrees.Statement.{statement}
+use Rattle.agreeing.proofs.agrees.Tie as tie
+use Rattle.agreeing.proofs.Whole.{other-agrees}
+use borrow.Author.Needs.{needs}
+
+assign-requires : tie.Need-assign-requires
+assign-requires c κs = search needs
+
+unary-requires : tie.Need-unary-requires
+unary-requires c κs = search needs
+
+binary-requires : tie.Need-binary-requires
+binary-requires c κs = search needs
+
+call-requires : tie.Need-call-requires
+call-requires c κs = search needs
+
+cast-requires : tie.Need-cast-requires
+cast-requires c κs = search needs
+
+load-requires : tie.Need-load-requires
+load-requires c κs = search needs
+
+store-requires : tie.Need-store-requires
+store-requires c κs = search needs
+
+phi-requires : tie.Need-phi-requires
+phi-requires c κs = search needs
+
+make-tuple-requires : tie.Need-make-tuple-requires
+make-tuple-requires c κs = search needs
+
+extract-tuple-requires : tie.Need-extract-tuple-requires
+extract-tuple-requires c κs = search needs
+
+make-struct-requires : tie.Need-make-struct-requires
+make-struct-requires c κs = search needs
+
+extract-field-requires : tie.Need-extract-field-requires
+extract-field-requires c κs = search needs
+
+insert-field-requires : tie.Need-insert-field-requires
+insert-field-requires c κs = search needs
+
+insert-tuple-requires : tie.Need-insert-tuple-requires
+insert-tuple-requires c κs = search needs
+
+make-array-requires : tie.Need-make-array-requires
+make-array-requires c κs = search needs
+
+assert-eq-requires : tie.Need-assert-eq-requires
+assert-eq-requires c κs = search needs
+
+heap-alloc-requires : tie.Need-heap-alloc-requires
+heap-alloc-requires c κs = search needs
+
+returns : tie.Need-returns
+returns c = λ τ seen k i n g e. c .assign .ensures τ seen i n g (rw (c .before .match .keys1) at e)
+
+returns-2 : tie.Need-returns-2
+returns-2 c = λ τ seen k i n g e. c .unary .ensures τ seen i n g (rw (c .before .match .keys2) at e)
+
+returns-3 : tie.Need-returns-3
+returns-3 c = λ τ seen k i n g e. c .binary .ensures τ seen i n g (rw (c .before .match .keys3) at e)
+
+returns-4 : tie.Need-returns-4
+returns-4 c = λ τ seen k i n g e. c .call .ensures τ seen i n g (rw (c .before .match .keys4) at e)
+
+returns-5 : tie.Need-returns-5
+returns-5 c = λ τ seen k i n g e. c .cast .ensures τ seen i n g (rw (c .before .match .keys5) at e)
+
+returns-6 : tie.Need-returns-6
+returns-6 c = λ τ seen k i n g e. c .load .ensures τ seen i n g (rw (c .before .match .keys6) at e)
+
+returns-7 : tie.Need-returns-7
+returns-7 c = λ τ seen k i n g e. c .store .ensures τ seen i n g (rw (c .before .match .keys7) at e)
+
+returns-8 : tie.Need-returns-8
+returns-8 c = λ τ seen k i n g e. c .phi .ensures τ seen i n g (rw (c .before .match .keys8) at e)
+
+returns-9 : tie.Need-returns-9
+returns-9 c = λ τ seen k i n g e. c .make-tuple .ensures τ seen i n g (rw (c .before .match .keys9) at e)
+
+returns-10 : tie.Need-returns-10
+returns-10 c = λ τ seen k i n g e. c .extract-tuple .ensures τ seen i n g (rw (c .before .match .keys10) at e)
+
+returns-11 : tie.Need-returns-11
+returns-11 c = λ τ seen k i n g e. c .make-struct .ensures τ seen i n g (rw (c .before .match .keys11) at e)
+
+returns-12 : tie.Need-returns-12
+returns-12 c = λ τ seen k i n g e. c .extract-field .ensures τ seen i n g (rw (c .before .match .keys12) at e)
+
+returns-13 : tie.Need-returns-13
+returns-13 c = λ τ seen k i n g e. c .insert-field .ensures τ seen i n g (rw (c .before .match .keys13) at e)
+
+returns-14 : tie.Need-returns-14
+returns-14 c = λ τ seen k i n g e. c .insert-tuple .ensures τ seen i n g (rw (c .before .match .keys14) at e)
+
+returns-15 : tie.Need-returns-15
+returns-15 c = λ τ seen k i n g e. c .make-array .ensures τ seen k i n g (rw (c .before .match .keys15) at e)
+
+returns-16 : tie.Need-returns-16
+returns-16 c = λ τ seen k i n g e. c .assert-eq .ensures τ seen i n g (rw (c .before .match .keys16) at e)
+
+returns-17 : tie.Need-returns-17
+returns-17 c = λ τ seen k i n g e. c .heap-alloc .ensures τ seen i n g (rw (c .before .match .keys17) at e)
+
+returns-18 : tie.Need-returns-18
+returns-18 c = λ τ seen k i n g e. other-agrees (c .before .before .before .before .before .args .b) seen k τ (c .before .before .before .before .before .args .t .now) i n _ (c .match .rest .0 .0 .0 .0 .0 .0 .0 .0 .0 .0 .0 .0 .0 .0 .0 .0 .1) (c .match .rest .0 .0 .0 .0 .0 .0 .0 .0 .0 .0 .0 .0 .0 .0 .0 .1) (c .match .rest .0 .0 .0 .0 .0 .0 .0 .0 .0 .0 .0 .0 .0 .0 .1) (c .match .rest .0 .0 .0 .0 .0 .0 .0 .0 .0 .0 .0 .0 .0 .1) (c .match .rest .0 .0 .0 .0 .0 .0 .0 .0 .0 .0 .0 .0 .1) (c .match .rest .0 .0 .0 .0 .0 .0 .0 .0 .0 .0 .0 .1) (c .match .rest .0 .0 .0 .0 .0 .0 .0 .0 .0 .0 .1) (c .match .rest .0 .0 .0 .0 .0 .0 .0 .0 .0 .1) (c .match .rest .0 .0 .0 .0 .0 .0 .0 .0 .1) (c .match .rest .0 .0 .0 .0 .0 .0 .0 .1) (c .match .rest .0 .0 .0 .0 .0 .0 .1) (c .match .rest .0 .0 .0 .0 .0 .1) (c .match .rest .0 .0 .0 .0 .1) (c .match .rest .0 .0 .0 .1) (c .match .rest .0 .0 .1) (c .match .rest .0 .1) (c .match .rest .1) e
+
+pub agrees-spec : {M : Type 1} → statement M
+agrees-spec =
+    tie.close
+    (tie.spec
+    assign-requires
+    unary-requires
+    binary-requires
+    call-requires
+    cast-requires
+    load-requires
+    store-requires
+    phi-requires
+    make-tuple-requires
+    extract-tuple-requires
+    make-struct-requires
+    extract-field-requires
+    insert-field-requires
+    insert-tuple-requires
+    make-array-requires
+    assert-eq-requires
+    heap-alloc-requires
+    returns
+    returns-2
+    returns-3
+    returns-4
+    returns-5
+    returns-6
+    returns-7
+    returns-8
+    returns-9
+    returns-10
+    returns-11
+    returns-12
+    returns-13
+    returns-14
+    returns-15
+    returns-16
+    returns-17
+    returns-18)

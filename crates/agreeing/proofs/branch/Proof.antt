@@ -1,0 +1,33 @@
+use Rattle.agreeing.proofs.branch.Statement.{statement}
+use Rattle.agreeing.proofs.branch.Tie as tie
+use mathlib.Core.Path.{_∙_}
+use Rattle.agreeing.proofs.Lines.{and-both}
+use Rattle.agreeing.proofs.Single.{value-moved}
+use mathlib.Core.List.{[]}
+use Rattle.agreeing.proofs.Long.{branch-agrees}
+use borrow.Author.Needs.{needs}
+
+value-scalar-requires : tie.Need-value-scalar-requires
+value-scalar-requires c κs = search needs
+
+value-end-requires : tie.Need-value-end-requires
+value-end-requires c κs = search needs
+
+value-scalar-requires-2 : tie.Need-value-scalar-requires-2
+value-scalar-requires-2 c κs = search needs
+
+both-requires : tie.Need-both-requires
+both-requires c κs = search needs
+
+returns : tie.Need-returns
+returns c = λ τ i n g e. branch-agrees (c .before .before .before .before .before .before .before .before .args .b) (c .before .before .before .before .before .before .before .before .args .t .now) [] τ (λ x y p q. c .both .ensures ∙ and-both (c .before .before .before .value-scalar .ensures τ x g p) (c .before .value-scalar2 .ensures τ y g (value-moved (c .before .before .value-end .ensures .0) q))) .each i n e
+
+pub branch-spec : {M : Type 1} → statement M
+branch-spec =
+    tie.close
+    (tie.spec
+    value-scalar-requires
+    value-end-requires
+    value-scalar-requires-2
+    both-requires
+    returns)

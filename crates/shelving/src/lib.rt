@@ -1,0 +1,61 @@
+// The shelf test: the reason of a rewritten routine.
+use form::Bounds;
+ghost use mathlib.Core.Path.{_≡_};
+ghost use mathlib.Core.List.{List, _++_};
+ghost use mathlib.Core.Bool.{Bool, false};
+ghost use Prim.Native.Nat.{ℕ, _≤_};
+ghost use lib.ListN.{length, getD, drop};
+ghost use Rattle.form.specs.Encode.{eachBytes};
+ghost use Rattle.block.specs.Encode.{blockBytes};
+ghost use Rattle.routine.specs.Routine.{Routine};
+ghost use Rattle.rewriting.specs.Run.{Rewritten};
+ghost use Rattle.shelf.specs.Reason.{shelfReason};
+ghost use Rattle.shelving.specs.Shelved.{Shelved};
+
+// What the numbers of the output stay below: its next value is higher.
+fn widened(b: Bounds, next: u16) -> Bounds
+    ensures { λ r. ⌜ r ≡ record { types = b .types; next = next; blocks = b .blocks; list = b .list; projections = b .projections } ⌝ }
+{
+    Bounds {
+        types: b.types,
+        next: next,
+        blocks: b.blocks,
+        list: b.list,
+        projections: b.projections,
+    }
+}
+
+// "Reason 0 is passed; else the lowest that holds". The input `s` has its tables beside it, its parameters stand at `parameters`; the
+// blocks of the output stand at `at` of `out`, and its next value is `next`. `dropped` has a mark for each value left out.
+pub fn reason(
+    s: &[u8],
+    b: Bounds,
+    types: &[usize],
+    recorded: &[u16],
+    parameters: usize,
+    places: &[usize],
+    starts: &[u16],
+    out: &[u8],
+    at: usize,
+    next: u16,
+    dropped: &[bool],
+) -> u8
+    ensures { λ r. ⌜ ((x : Routine) (w : Rewritten) → Shelved (now (s .entry)) b (now (types .entry)) (now (recorded .entry)) parameters (now (places .entry)) (now (starts .entry)) (now (out .entry)) at next (now (dropped .entry)) x w → r ≡ shelfReason false x w) ⌝ }
+{
+    if !agreeing::types_agree(s, b, types, recorded, parameters, places, starts, b.blocks) {
+        return 1;
+    }
+    if !ordering::in_order(s, b, places, starts, b.blocks) {
+        return 2;
+    }
+    if !ordering::kept_apart(s, b, types, recorded, places, starts, b.blocks) {
+        return 3;
+    }
+    if !ordering::no_deep_store(s, b, places, starts, b.blocks, dropped) {
+        return 4;
+    }
+    if !unread::reads_no_dropped(out, at, widened(b, next), b.blocks, dropped) {
+        return 5;
+    }
+    0
+}

@@ -61,7 +61,7 @@ module _ {s types recorded blocks : List ℕ} {b : Bounds} (a : Accepted s types
   abbrev r : Routine
   r = a .routine
 
-  fit : WellFormed mosts r
+  pub fit : WellFormed mosts r
   fit = whole-fit mosts s wide (a .bytes) (a .reads)
 
   pub many-types : b .types ≡ length (r .types)
@@ -116,7 +116,7 @@ module _ {s types recorded blocks : List ℕ} {b : Bounds} (a : Accepted s types
         projected = omega (arith, projections-is);
       }
 
-  code : FitBlocks mosts b 0 (marks (unmarked r) (r .parameters)) (r .blocks)
+  pub code : FitBlocks mosts b 0 (marks (unmarked r) (r .parameters)) (r .blocks)
   code = subst (λ (x : Bounds). FitBlocks mosts x 0 (marks (unmarked r) (r .parameters)) (r .blocks)) (sym (a .bounded)) (fit .blocks)
 
   few-instructions : instructionCount (r .blocks) ≤ 256

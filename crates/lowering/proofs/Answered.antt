@@ -6,10 +6,10 @@ use mathlib.Core.Bool.{Bool, true, false, not}
 use native.Mathlib.Nat.{zero-add}
 use native.Mathlib.Omega.{arith}
 use borrow.Author.Tests.{ltb-true, ltb-false, lt-ltb, ne-eqb}
-use lib.ListN.{length, getD, drop, length-append, List·getD-append}
+use lib.ListN.{length, getD, drop, replicate, length-append, List·getD-append}
 use lib.Seq.{sets, sets-eq}
 use lib.Dec.{ltb, eqb}
-use Rattle.wire.specs.Parse.{bad, numberOfCause}
+use Rattle.wire.specs.Parse.{ok, bad, numberOfCause}
 use Rattle.wire.specs.declared.Cause.{Cause}
 use Rattle.form.specs.Encode.{eachBytes}
 use Rattle.form.specs.declared.Bounds.{Bounds}
@@ -24,7 +24,10 @@ use Rattle.eligibility.specs.declared.Settings.{Settings}
 use Rattle.eligibility.specs.Family.{Marks}
 use Rattle.rewriting.specs.declared.Counts.{Counts}
 use Rattle.rewriting.specs.Run.{Rewritten, typesIn, choice, allBlocks, rewrittenBlocks, rewriteWith, rewrite}
-use Rattle.rewriting.specs.Outcome.{Outcome, refused, lowered, outcome}
+use Rattle.rewriting.specs.Outcome.{Outcome, outcome}
+use Rattle.rewriting.specs.Outcome as O
+use Rattle.shelf.specs.Reason.{shelfReason}
+use Rattle.shelf.specs.Answer.{Answer as Given, refused, lowered, reasonOf, withReason, answer as given}
 use Rattle.rewriting.proofs.Bound.{block-count}
 use Rattle.rewriting.proofs.Outcomes.{too-large, refused-input, clashing, too-long, accepted}
 use Rattle.rewriting.proofs.Result.{result-count}
@@ -38,11 +41,13 @@ use Rattle.head.proofs.Front.{front-within}
 use Rattle.lowering.specs.declared.Answer.{Answer}
 use Rattle.lowering.specs.Numbers.{numbersOf, leaves, asAnswer, inOrder, Answers}
 use Rattle.lowering.specs.Tables.{Accepted, Chosen, startAt, Ran, Runs, Measured}
+use Rattle.shelving.specs.Shelved.{Shelved}
+use Rattle.lowering.proofs.Shelf.{shelved}
 use Rattle.lowering.proofs.Accepted.{next-is, next-few, recorded-many, canon, short-input, few-fresh}
 
 -- ## A run over the blocks
 
-runs-from : (w : Rewritten) (to : ℕ) (out fresh out′ fresh′ : List ℕ) (dropped dropped′ : Marks) (r : Put) → Puts (outputOf out fresh dropped (startAt to)) (rewrittenEffect w) (w .clash) out′ fresh′ dropped′ r → Runs w to out fresh out′ fresh′ r
+runs-from : (w : Rewritten) (to : ℕ) (out fresh out′ fresh′ : List ℕ) (dropped dropped′ : Marks) (r : Put) → Puts (outputOf out fresh dropped (startAt to)) (rewrittenEffect w) (w .clash) out′ fresh′ dropped′ r → Runs w to out fresh dropped out′ fresh′ dropped′ r
 unfolding behind further rewrittenEffect
 runs-from w to out fresh out′ fresh′ dropped dropped′ r h =
     record {
@@ -56,6 +61,7 @@ runs-from w to out fresh out′ fresh′ dropped dropped′ r h =
             place = ap (λ (o : Output). o .progress .to) (q .1);
             many = ap (λ (o : Output). o .progress .fresh) (q .1) ∙ zero-add (length (w .fresh));
             counted = ap (λ (o : Output). o .progress .counts) (q .1) ∙ simp (zero-add);
+            marks = ap (λ (o : Output). o .dropped) (q .1);
           };
     }
 
@@ -70,7 +76,7 @@ module _ {s types recorded blocks : List ℕ} {b : Bounds} (a : Accepted s types
   pub run-bound : (to : ℕ) (p : Progress) → p ≡ startAt to → b .next + p .fresh + length ((allBlocks σ (typesIn (a .routine)) (choice σ (a .routine)) (b .next + p .fresh) (a .routine .blocks)) .fresh) < 65536
   run-bound to p e = rw (e, same-run) (omega (arith, next-few a, few-fresh a σ))
 
-  pub runs-chosen : (to : ℕ) (p : Progress) (out fresh out′ fresh′ : List ℕ) (dropped dropped′ : Marks) (r : Put) → p ≡ startAt to → let w = allBlocks σ (typesIn (a .routine)) (choice σ (a .routine)) (b .next + p .fresh) (a .routine .blocks) in Puts (outputOf out fresh dropped p) (rewrittenEffect w) (w .clash) out′ fresh′ dropped′ r → Runs (rewrittenBlocks σ (a .routine)) to out fresh out′ fresh′ r
+  pub runs-chosen : (to : ℕ) (p : Progress) (out fresh out′ fresh′ : List ℕ) (dropped dropped′ : Marks) (r : Put) → p ≡ startAt to → let w = allBlocks σ (typesIn (a .routine)) (choice σ (a .routine)) (b .next + p .fresh) (a .routine .blocks) in Puts (outputOf out fresh dropped p) (rewrittenEffect w) (w .clash) out′ fresh′ dropped′ r → Runs (rewrittenBlocks σ (a .routine)) to out fresh dropped out′ fresh′ dropped′ r
   runs-chosen to p out fresh out′ fresh′ dropped dropped′ r e h =
       let w = allBlocks σ (typesIn (a .routine)) (choice σ (a .routine)) (b .next + 0) (a .routine .blocks) in
       let g : Puts (outputOf out fresh dropped (startAt to)) (rewrittenEffect w) (w .clash) out′ fresh′ dropped′ r = rw e at h in
@@ -80,6 +86,10 @@ module _ {s types recorded blocks : List ℕ} {b : Bounds} (a : Accepted s types
 pub low-start : (to : ℕ) (p : Progress) → p ≡ startAt to → to ≤ 67108864 → Low 64 p
 low-start to p e l =
     rw e (record { to = omega arith; lines = omega arith; fresh = omega arith; builds = omega arith; extracts = omega arith; inserts = omega arith; assigns = omega arith; materializations = omega arith })
+
+-- and so are those of one that went through
+pub went-low : (r : Put) (p : Progress) → PutLow 4300 r → r ≡ Put.Went p → p .fresh < 4294901760
+went-low r p low e = let k : Low 4300 p = rw e at low in omega (arith, k .fresh)
 
 -- ## The bytes
 
@@ -132,8 +142,8 @@ module _ {σ : Settings} {s types recorded blocks : List ℕ} {b : Bounds} {plac
   head-asks at e = (front-within r s at (canon a) (sym e), omega (arith, short-input a), many-few)
 
 -- a run from the first byte of no output on measures
-pub measured : {σ : Settings} {s types recorded blocks : List ℕ} {b : Bounds} {places starts : List ℕ} {folded skips : List Bool} (h : Chosen σ s types recorded blocks b places starts folded skips) (out zeros out′ fresh′ : List ℕ) (r : Put) (p : Progress) → 4608 ≤ length zeros → PutLow 4300 r → Runs (rewrittenBlocks σ (h .accepted .routine)) 0 out zeros out′ fresh′ r → r ≡ Put.Went p → Measured σ s types recorded blocks b places starts folded skips fresh′ p
-measured {σ} h out zeros out′ fresh′ r p l low q e =
+pub measured : {σ : Settings} {s types recorded blocks : List ℕ} {b : Bounds} {places starts : List ℕ} {folded skips : List Bool} (h : Chosen σ s types recorded blocks b places starts folded skips) (out zeros out′ fresh′ : List ℕ) (dropped dropped′ : Marks) (r : Put) (p : Progress) → 4608 ≤ length zeros → PutLow 4300 r → Runs (rewrittenBlocks σ (h .accepted .routine)) 0 out zeros dropped out′ fresh′ dropped′ r → r ≡ Put.Went p → Measured σ s types recorded blocks b places starts folded skips fresh′ p
+measured {σ} h out zeros out′ fresh′ dropped dropped′ r p l low q e =
     let g = q .went p e in
     let k : Low 4300 p = rw e at low in
     let w = rewrittenBlocks σ (h .accepted .routine) in
@@ -150,21 +160,30 @@ measured {σ} h out zeros out′ fresh′ r p l low q e =
 
 -- ## The answer
 
-answers : (o o′ : Outcome) (r : Answer) (out out′ : List ℕ) → o ≡ o′ → asAnswer r ≡ numbersOf o′ → out′ ≡ leaves o′ out → Answers o r out out′
+answers : (o o′ : Given) (r : Answer) (out out′ : List ℕ) → o ≡ o′ → asAnswer r ≡ numbersOf o′ → out′ ≡ leaves o′ out → Answers o r out out′
 answers o o′ r out out′ e f g = rw e (record { says = f; left = g })
 
-pub answers-large : (σ : Settings) (s out : List ℕ) → 16 < σ .most → Answers (outcome σ (length out) s) (Answer.Refused 12 0) out out
-answers-large σ s out h = answers _ (refused 12 0) _ out out (too-large σ (length out) s h) refl refl
+-- a refusal has no reason
+given-refused : (σ : Settings) (room : ℕ) (s : List ℕ) (n o : ℕ) → outcome σ room s ≡ O.refused n o → given σ room s ≡ refused n o
+unfolding given withReason
+given-refused σ room s n o e = rw e
 
-pub answers-input : (σ : Settings) (s out : List ℕ) (c : Cause) (n o : ℕ) → σ .most ≤ 16 → wholeOf mosts s ≡ bad c o → n ≡ numberOfCause c → Answers (outcome σ (length out) s) (Answer.Refused n o) out out
-answers-input σ s out c n o h e f = answers _ (refused (numberOfCause c) o) _ out out (refused-input σ (length out) s h c o e) (rw f) refl
+given-lowered : (σ : Settings) (room : ℕ) (s : List ℕ) (x : Routine) (n k : ℕ) (w : Bool) (c : Counts) (bytes : List ℕ) → wholeOf mosts s ≡ ok x n → k ≡ shelfReason false x (rewrittenBlocks σ x) → outcome σ room s ≡ O.lowered w c bytes → given σ room s ≡ lowered w c k bytes
+unfolding given withReason reasonOf
+given-lowered σ room s x n k w c bytes e f g = rw (e, g, f)
+
+pub answers-large : (σ : Settings) (s out : List ℕ) → 16 < σ .most → Answers (given σ (length out) s) (Answer.Refused 12 0) out out
+answers-large σ s out h = answers _ (refused 12 0) _ out out (given-refused σ (length out) s 12 0 (too-large σ (length out) s h)) refl refl
+
+pub answers-input : (σ : Settings) (s out : List ℕ) (c : Cause) (n o : ℕ) → σ .most ≤ 16 → wholeOf mosts s ≡ bad c o → n ≡ numberOfCause c → Answers (given σ (length out) s) (Answer.Refused n o) out out
+answers-input σ s out c n o h e f = answers _ (refused (numberOfCause c) o) _ out out (given-refused σ (length out) s (numberOfCause c) o (refused-input σ (length out) s h c o e)) (rw f) refl
 
 module _ {σ : Settings} {s types recorded blocks : List ℕ} {b : Bounds} {places starts : List ℕ} {folded skips : List Bool} (h : Chosen σ s types recorded blocks b places starts folded skips) (out : List ℕ) where
   abbrev routine : Routine
   routine = h .accepted .routine
 
-  pub answers-clash : (rewrittenBlocks σ routine) .clash ≡ true → Answers (outcome σ (length out) s) (Answer.Refused 10 0) out out
-  answers-clash e = answers _ (refused 10 0) _ out out (clashing σ (length out) s (h .small) routine (h .accepted .used) (h .accepted .reads) e) refl refl
+  pub answers-clash : (rewrittenBlocks σ routine) .clash ≡ true → Answers (given σ (length out) s) (Answer.Refused 10 0) out out
+  answers-clash e = answers _ (refused 10 0) _ out out (given-refused σ (length out) s 10 0 (clashing σ (length out) s (h .small) routine (h .accepted .used) (h .accepted .reads) e)) refl refl
 
 -- one is folded where the count is not 0
 pub some-folded : (n : ℕ) → ltb 0 n ≡ not (eqb n 0)
@@ -172,8 +191,8 @@ some-folded zero = refl
 some-folded (suc n) = rw (lt-ltb 0 (suc n) (omega arith), ne-eqb (suc n) 0 (λ e. omega arith))
 
 -- the numbers of a run that went through
-numbers-of : (w : Bool) (c d : Counts) (n : ℕ) (bytes : List ℕ) → c ≡ d → w ≡ not (eqb (d .builds) 0) → n ≡ length bytes → asAnswer (Answer.Lowered (ltb 0 (c .builds)) c n) ≡ numbersOf (lowered w d bytes)
-numbers-of w c d n bytes e f g = rw (e, f, g, some-folded (d .builds))
+numbers-of : (w : Bool) (c d : Counts) (k n : ℕ) (bytes : List ℕ) → c ≡ d → w ≡ not (eqb (d .builds) 0) → n ≡ length bytes → asAnswer (Answer.Lowered (ltb 0 (c .builds)) c k n) ≡ numbersOf (lowered w d k bytes)
+numbers-of w c d k n bytes e f g = rw (e, f, g, some-folded (d .builds))
 
 module _ {σ : Settings} {s types recorded blocks : List ℕ} {b : Bounds} {places starts : List ℕ} {folded skips : List Bool} {fresh : List ℕ} {p : Progress} (m : Measured σ s types recorded blocks b places starts folded skips fresh p) (out : List ℕ) where
   abbrev x : Routine
@@ -189,16 +208,30 @@ module _ {σ : Settings} {s types recorded blocks : List ℕ} {b : Bounds} {plac
   whole-length = ap length (rewritten-bytes σ x) ∙ length-append head body
 
   -- where it is too long
-  pub answers-long : (n : ℕ) → n ≡ 0 + length head → length out < n + p .to → Answers (outcome σ (length out) s) (Answer.Refused 11 0) out out
-  answers-long n e l = answers _ (refused 11 0) _ out out (too-long σ (length out) s (m .chosen .small) x (m .chosen .accepted .used) (m .chosen .accepted .reads) (m .calm) (omega (arith, whole-length, m .place))) refl refl
+  pub answers-long : (n : ℕ) → n ≡ 0 + length head → length out < n + p .to → Answers (given σ (length out) s) (Answer.Refused 11 0) out out
+  answers-long n e l = answers _ (refused 11 0) _ out out (given-refused σ (length out) s 11 0 (too-long σ (length out) s (m .chosen .small) x (m .chosen .accepted .used) (m .chosen .accepted .reads) (m .calm) (omega (arith, whole-length, m .place)))) refl refl
 
-  -- where it has room
-  pub answers-written : (n : ℕ) → n ≡ 0 + length head → n + p .to ≤ length out → (out₁ out₂ fresh′ : List ℕ) (to : ℕ) (q : Progress) → Writes head out out₁ 0 to → Ran (rewrittenBlocks σ x) to out₁ fresh out₂ fresh′ q → Answers (outcome σ (length out) s) (Answer.Lowered (ltb 0 (q .counts .builds)) (q .counts) (q .to)) out out₂
-  answers-written n e l out₁ out₂ fresh′ to q w g =
-      let i : q .to ≡ length (encode (rewrite σ x)) = omega (arith, whole-length, g .place, w .0) in
+  -- where it has room, the output is the rewritten routine's bytes
+  written-all : (out₁ out₂ fresh′ : List ℕ) (dropped dropped′ : Marks) (to : ℕ) (q : Progress) → Writes head out out₁ 0 to → Ran (rewrittenBlocks σ x) to out₁ fresh dropped out₂ fresh′ dropped′ q → out₂ ≡ sets out 0 (head ++ body)
+  written-all out₁ out₂ fresh′ dropped dropped′ to q w g =
       let z : sets out 0 (head ++ body) ≡ sets (sets out 0 head) (0 + length head) body = sets-append out 0 head body in
-      let j : out₂ ≡ sets out 0 (encode (rewrite σ x)) = g .written ∙ ap (λ k. sets out₁ k body) (w .0) ∙ ap (λ t. sets t (0 + length head) body) (w .1) ∙ sym z ∙ ap (sets out 0) (sym (rewritten-bytes σ x)) in
-      answers _ (lowered ((rewrittenBlocks σ x) .changed) ((rewrittenBlocks σ x) .counts) (encode (rewrite σ x))) _ out out₂ (accepted σ (length out) s (m .chosen .small) x (m .chosen .accepted .used) (m .chosen .accepted .reads) (m .calm) (omega (arith, whole-length, m .place))) (numbers-of ((rewrittenBlocks σ x) .changed) (q .counts) ((rewrittenBlocks σ x) .counts) (q .to) (encode (rewrite σ x)) (g .counted) (result-count σ x) i) j
+      g .written ∙ ap (λ k. sets out₁ k body) (w .0) ∙ ap (λ t. sets t (0 + length head) body) (w .1) ∙ sym z
+
+  pub answers-written : (n : ℕ) → n ≡ 0 + length head → n + p .to ≤ length out → (out₁ out₂ fresh′ : List ℕ) (dropped dropped′ : Marks) (to k : ℕ) (q : Progress) → Writes head out out₁ 0 to → Ran (rewrittenBlocks σ x) to out₁ fresh dropped out₂ fresh′ dropped′ q → k ≡ shelfReason false x (rewrittenBlocks σ x)
+      → Answers (given σ (length out) s) (Answer.Lowered (ltb 0 (q .counts .builds)) (q .counts) k (q .to)) out out₂
+  answers-written n e l out₁ out₂ fresh′ dropped dropped′ to k q w g f =
+      let i : q .to ≡ length (encode (rewrite σ x)) = omega (arith, whole-length, g .place, w .0) in
+      let j : out₂ ≡ sets out 0 (encode (rewrite σ x)) = written-all out₁ out₂ fresh′ dropped dropped′ to q w g ∙ ap (sets out 0) (sym (rewritten-bytes σ x)) in
+      let o : outcome σ (length out) s ≡ O.lowered ((rewrittenBlocks σ x) .changed) ((rewrittenBlocks σ x) .counts) (encode (rewrite σ x)) = accepted σ (length out) s (m .chosen .small) x (m .chosen .accepted .used) (m .chosen .accepted .reads) (m .calm) (omega (arith, whole-length, m .place)) in
+      answers _ (lowered ((rewrittenBlocks σ x) .changed) ((rewrittenBlocks σ x) .counts) k (encode (rewrite σ x))) _ out out₂ (given-lowered σ (length out) s x (m .chosen .accepted .used) k _ _ _ (m .chosen .accepted .reads) f o) (numbers-of ((rewrittenBlocks σ x) .changed) (q .counts) ((rewrittenBlocks σ x) .counts) k (q .to) (encode (rewrite σ x)) (g .counted) (result-count σ x) i) j
+
+  -- and the shelf test sees it so
+  pub shelved-written : (n : ℕ) → n ≡ 0 + length head → n + p .to ≤ length out → (out₁ out₂ fresh′ : List ℕ) (dropped dropped′ : Marks) (at to next : ℕ) (q : Progress) → Writes head out out₁ 0 to → Ran (rewrittenBlocks σ x) to out₁ fresh dropped out₂ fresh′ dropped′ q → at ≡ length (typesBytes (x .types)) → (b .next + q .fresh < 65536 → next ≡ b .next + q .fresh) → dropped ≡ replicate 256 false
+      → Shelved s b types recorded (at + 6) places starts out₂ to next dropped′ x (rewrittenBlocks σ x)
+  shelved-written n e l out₁ out₂ fresh′ dropped dropped′ at to next q w g ea en ed =
+      let i : length (head ++ body) ≤ length out = omega (arith, length-append head body, m .place) in
+      let j : next ≡ b .next + length ((rewrittenBlocks σ x) .fresh) = en (omega (arith, g .many, next-few (m .chosen .accepted), few-fresh (m .chosen .accepted) σ)) ∙ ap (λ k. b .next + k) (g .many) in
+      shelved (m .chosen) (at + 6) to next out out₂ dropped dropped′ (ap (λ k. k + 6) ea) (w .0 ∙ zero-add (length head)) j (as-many σ x) i (written-all out₁ out₂ fresh′ dropped dropped′ to q w g) ed (g .marks)
 
   -- a second run meets no clash where the first met none
   pub never-clashes : {A : Type 0} → (rewrittenBlocks σ x) .clash ≡ true → A
@@ -207,14 +240,16 @@ module _ {σ : Settings} {s types recorded blocks : List ℕ} {b : Bounds} {plac
 -- ## The entry
 
 -- which settings are refused with 12 does not matter
-pub same-settings : (t u : Bool) (most r room : ℕ) (s : List ℕ) → (most ≤ 16 → r ≡ most) → (16 < most → 16 < r) → outcome (record { tuples = t; structs = u; most = r }) room s ≡ outcome (record { tuples = t; structs = u; most = most }) room s
+pub same-settings : (t u : Bool) (most r room : ℕ) (s : List ℕ) → (most ≤ 16 → r ≡ most) → (16 < most → 16 < r) → given (record { tuples = t; structs = u; most = r }) room s ≡ given (record { tuples = t; structs = u; most = most }) room s
 same-settings t u most r room s f g = split (ltb 16 most) refl
   where
-    split : (x : Bool) → ltb 16 most ≡ x → outcome (record { tuples = t; structs = u; most = r }) room s ≡ outcome (record { tuples = t; structs = u; most = most }) room s
-    split true e = too-large (record { tuples = t; structs = u; most = r }) room s (g (ltb-true 16 most e)) ∙ sym (too-large (record { tuples = t; structs = u; most = most }) room s (ltb-true 16 most e))
-    split false e = ap (λ n. outcome (record { tuples = t; structs = u; most = n }) room s) (f (ltb-false 16 most e))
+    large : (n : ℕ) → 16 < n → given (record { tuples = t; structs = u; most = n }) room s ≡ refused 12 0
+    large n h = given-refused (record { tuples = t; structs = u; most = n }) room s 12 0 (too-large (record { tuples = t; structs = u; most = n }) room s h)
+    split : (x : Bool) → ltb 16 most ≡ x → given (record { tuples = t; structs = u; most = r }) room s ≡ given (record { tuples = t; structs = u; most = most }) room s
+    split true e = large r (g (ltb-true 16 most e)) ∙ sym (large most (ltb-true 16 most e))
+    split false e = ap (λ n. given (record { tuples = t; structs = u; most = n }) room s) (f (ltb-false 16 most e))
 
--- the answer's numbers are the outcome's
-pub entry-answers : (o o′ : Outcome) (r : Answer) (out out′ answer answer′ : List ℕ) → o ≡ o′ → Answers o r out out′ → answer′ ≡ sets answer 0 (inOrder (asAnswer r)) → (answer′ ≡ sets answer 0 (inOrder (numbersOf o′))) × (out′ ≡ leaves o′ out)
+-- the answer's numbers are those that are given
+pub entry-answers : (o o′ : Given) (r : Answer) (out out′ answer answer′ : List ℕ) → o ≡ o′ → Answers o r out out′ → answer′ ≡ sets answer 0 (inOrder (asAnswer r)) → (answer′ ≡ sets answer 0 (inOrder (numbersOf o′))) × (out′ ≡ leaves o′ out)
 entry-answers o o′ r out out′ answer answer′ e h f =
     (f ∙ ap (λ n. sets answer 0 (inOrder n)) (h .says ∙ ap numbersOf e), h .left ∙ ap (λ x. leaves x out) e)

@@ -1,4 +1,4 @@
--- The nine numbers of an answer, stored one after another.
+-- The ten numbers of an answer, stored one after another.
 use Prim.Native.Nat.{ℕ}
 use mathlib.Core.Path.{_≡_, ap, _∙_}
 use mathlib.Core.Bool.{Bool}
@@ -10,14 +10,14 @@ use Rattle.rewriting.specs.declared.Counts.{Counts}
 use Rattle.lowering.specs.declared.Answer.{Answer}
 use Rattle.lowering.specs.Numbers.{asAnswer, inOrder}
 
-pub nine : (l₀ l₁ l₂ l₃ l₄ l₅ l₆ l₇ l₈ l₉ : List ℕ) (a b c d e f g h i : ℕ) → l₁ ≡ set l₀ 0 a → l₂ ≡ set l₁ 1 b → l₃ ≡ set l₂ 2 c → l₄ ≡ set l₃ 3 d → l₅ ≡ set l₄ 4 e → l₆ ≡ set l₅ 5 f → l₇ ≡ set l₆ 6 g → l₈ ≡ set l₇ 7 h → l₉ ≡ set l₈ 8 i → l₉ ≡ sets l₀ 0 (a ∷ b ∷ c ∷ d ∷ e ∷ f ∷ g ∷ h ∷ i ∷ [])
-nine l₀ l₁ l₂ l₃ l₄ l₅ l₆ l₇ l₈ l₉ a b c d e f g h i p q r s t u v w x =
-    x ∙ ap (λ l. set l 8 i) (w ∙ ap (λ l. set l 7 h) (v ∙ ap (λ l. set l 6 g) (u ∙ ap (λ l. set l 5 f) (t ∙ ap (λ l. set l 4 e) (s ∙ ap (λ l. set l 3 d) (r ∙ ap (λ l. set l 2 c) (q ∙ ap (λ l. set l 1 b) p)))))))
+pub ten : (l₀ l₁ l₂ l₃ l₄ l₅ l₆ l₇ l₈ l₉ m : List ℕ) (a b c d e f g h i j : ℕ) → l₁ ≡ set l₀ 0 a → l₂ ≡ set l₁ 1 b → l₃ ≡ set l₂ 2 c → l₄ ≡ set l₃ 3 d → l₅ ≡ set l₄ 4 e → l₆ ≡ set l₅ 5 f → l₇ ≡ set l₆ 6 g → l₈ ≡ set l₇ 7 h → l₉ ≡ set l₈ 8 i → m ≡ set l₉ 9 j → m ≡ sets l₀ 0 (a ∷ b ∷ c ∷ d ∷ e ∷ f ∷ g ∷ h ∷ i ∷ j ∷ [])
+ten l₀ l₁ l₂ l₃ l₄ l₅ l₆ l₇ l₈ l₉ m a b c d e f g h i j p q r s t u v w x y =
+    y ∙ ap (λ l. set l 9 j) (x ∙ ap (λ l. set l 8 i) (w ∙ ap (λ l. set l 7 h) (v ∙ ap (λ l. set l 6 g) (u ∙ ap (λ l. set l 5 f) (t ∙ ap (λ l. set l 4 e) (s ∙ ap (λ l. set l 3 d) (r ∙ ap (λ l. set l 2 c) (q ∙ ap (λ l. set l 1 b) p))))))))
 
 -- an answer that was looked at
 pub answered : (a a′ : Answer) (l l′ : List ℕ) → a ≡ a′ → l′ ≡ sets l 0 (inOrder (asAnswer a′)) → l′ ≡ sets l 0 (inOrder (asAnswer a))
 answered a a′ l l′ e f = rw e f
 
 -- the result as a number
-pub flagged : (w : Bool) (c : Counts) (size x : ℕ) (l l′ : List ℕ) → x ≡ boolByte w → l′ ≡ sets l 0 (0 ∷ 0 ∷ x ∷ c .builds ∷ c .extracts ∷ c .inserts ∷ c .assigns ∷ c .materializations ∷ size ∷ []) → l′ ≡ sets l 0 (inOrder (asAnswer (Answer.Lowered w c size)))
-flagged w c size x l l′ e f = f ∙ ap (λ n. sets l 0 (0 ∷ 0 ∷ n ∷ c .builds ∷ c .extracts ∷ c .inserts ∷ c .assigns ∷ c .materializations ∷ size ∷ [])) e
+pub flagged : (w : Bool) (c : Counts) (k size x : ℕ) (l l′ : List ℕ) → x ≡ boolByte w → l′ ≡ sets l 0 (0 ∷ 0 ∷ x ∷ c .builds ∷ c .extracts ∷ c .inserts ∷ c .assigns ∷ c .materializations ∷ k ∷ size ∷ []) → l′ ≡ sets l 0 (inOrder (asAnswer (Answer.Lowered w c k size)))
+flagged w c k size x l l′ e f = f ∙ ap (λ n. sets l 0 (0 ∷ 0 ∷ n ∷ c .builds ∷ c .extracts ∷ c .inserts ∷ c .assigns ∷ c .materializations ∷ k ∷ size ∷ [])) e

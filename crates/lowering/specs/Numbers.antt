@@ -5,10 +5,10 @@ use mathlib.Core.List.{List, [], _∷_}
 use lib.ListN.{length}
 use lib.Seq.{sets}
 use Rattle.wire.specs.Value.{boolByte}
-use Rattle.rewriting.specs.Outcome.{Outcome, refused, lowered}
+use Rattle.shelf.specs.Answer.{Answer as Given, refused, lowered}
 use Rattle.lowering.specs.declared.Answer.{Answer}
 
--- a refusal's number and offset, the result, the five counts, and how many bytes the rewritten routine has
+-- a refusal's number and offset, the result, the five counts, the shelf reason, and how many bytes the rewritten routine has
 pub record Numbers : Type 0 where
   pub number : ℕ
   pub offset : ℕ
@@ -18,14 +18,15 @@ pub record Numbers : Type 0 where
   pub inserts : ℕ
   pub assigns : ℕ
   pub materializations : ℕ
+  pub reason : ℕ
   pub size : ℕ
 
 abbrev pub refusal : ℕ → ℕ → Numbers
-refusal n o = record { number = n; offset = o; result = 0; builds = 0; extracts = 0; inserts = 0; assigns = 0; materializations = 0; size = 0 }
+refusal n o = record { number = n; offset = o; result = 0; builds = 0; extracts = 0; inserts = 0; assigns = 0; materializations = 0; reason = 0; size = 0 }
 
-abbrev pub numbersOf : Outcome → Numbers
+abbrev pub numbersOf : Given → Numbers
 numbersOf (refused n o) = refusal n o
-numbersOf (lowered w c bytes) =
+numbersOf (lowered w c k bytes) =
     record {
       number = 0;
       offset = 0;
@@ -35,18 +36,19 @@ numbersOf (lowered w c bytes) =
       inserts = c .inserts;
       assigns = c .assigns;
       materializations = c .materializations;
+      reason = k;
       size = length bytes;
     }
 
 -- a refusal leaves the output as it was; else the bytes stand from its first place on
-abbrev pub leaves : Outcome → List ℕ → List ℕ
+abbrev pub leaves : Given → List ℕ → List ℕ
 leaves (refused n o) out = out
-leaves (lowered w c bytes) out = sets out 0 bytes
+leaves (lowered w c k bytes) out = sets out 0 bytes
 
 -- what the code answers
 abbrev pub asAnswer : Answer → Numbers
 asAnswer (Answer.Refused n o) = refusal n o
-asAnswer (Answer.Lowered w c size) =
+asAnswer (Answer.Lowered w c k size) =
     record {
       number = 0;
       offset = 0;
@@ -56,14 +58,15 @@ asAnswer (Answer.Lowered w c size) =
       inserts = c .inserts;
       assigns = c .assigns;
       materializations = c .materializations;
+      reason = k;
       size = size;
     }
 
 -- the numbers in the order in which the entry gives them
 abbrev pub inOrder : Numbers → List ℕ
-inOrder n = n .number ∷ n .offset ∷ n .result ∷ n .builds ∷ n .extracts ∷ n .inserts ∷ n .assigns ∷ n .materializations ∷ n .size ∷ []
+inOrder n = n .number ∷ n .offset ∷ n .result ∷ n .builds ∷ n .extracts ∷ n .inserts ∷ n .assigns ∷ n .materializations ∷ n .reason ∷ n .size ∷ []
 
--- the code answers an outcome, and leaves what it should
-pub record Answers (o : Outcome) (r : Answer) (out out′ : List ℕ) : Type 0 where
+-- the code answers what is given, and leaves what it should
+pub record Answers (o : Given) (r : Answer) (out out′ : List ℕ) : Type 0 where
   pub says : asAnswer r ≡ numbersOf o
   pub left : out′ ≡ leaves o out

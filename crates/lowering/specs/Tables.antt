@@ -15,10 +15,11 @@ use Rattle.routine.specs.Routine.{Routine}
 use Rattle.routine.specs.Decode.{mosts, wholeOf, boundsOf}
 use Rattle.routine.specs.Index.{RecordedAt, BlocksAt}
 use Rattle.eligibility.specs.declared.Settings.{Settings}
+use Rattle.eligibility.specs.Family.{Marks}
 use Rattle.index.specs.Code.{CodeAt}
 use Rattle.rewriting.specs.Step.{noCounts}
 use Rattle.rewriting.specs.Run.{Rewritten, choice, rewrittenBlocks}
-use Rattle.progress.specs.Effect.{numbersOf}
+use Rattle.progress.specs.Effect.{numbersOf, markAll}
 use Rattle.progress.specs.Chosen.{Follows}
 use Rattle.progress.specs.declared.Progress.{Progress}
 use Rattle.progress.specs.declared.Put.{Put}
@@ -47,17 +48,18 @@ abbrev pub startAt : ℕ → Progress
 startAt to = record { to = to; lines = 0; fresh = 0; counts = noCounts }
 
 -- what a run over the blocks answers: a clash, or all of them are written from `to` on
-pub record Ran (w : Rewritten) (to : ℕ) (out fresh out′ fresh′ : List ℕ) (p : Progress) : Type 0 where
+pub record Ran (w : Rewritten) (to : ℕ) (out fresh : List ℕ) (dropped : Marks) (out′ fresh′ : List ℕ) (dropped′ : Marks) (p : Progress) : Type 0 where
   pub calm : w .clash ≡ false
   pub written : out′ ≡ sets out to (eachBytes blockBytes (w .blocks))
   pub taken : fresh′ ≡ sets fresh 0 (numbersOf (w .fresh))
   pub place : p .to ≡ to + length (eachBytes blockBytes (w .blocks))
   pub many : p .fresh ≡ length (w .fresh)
   pub counted : p .counts ≡ w .counts
+  pub marks : dropped′ ≡ markAll dropped (w .dropped)
 
-pub record Runs (w : Rewritten) (to : ℕ) (out fresh out′ fresh′ : List ℕ) (r : Put) : Type 0 where
+pub record Runs (w : Rewritten) (to : ℕ) (out fresh : List ℕ) (dropped : Marks) (out′ fresh′ : List ℕ) (dropped′ : Marks) (r : Put) : Type 0 where
   pub clashed : r ≡ Put.Clash → w .clash ≡ true
-  pub went : (p : Progress) → r ≡ Put.Went p → Ran w to out fresh out′ fresh′ p
+  pub went : (p : Progress) → r ≡ Put.Went p → Ran w to out fresh dropped out′ fresh′ dropped′ p
 
 -- a run over no output told how long it is
 pub record Measured (σ : Settings) (s types recorded blocks : List ℕ) (b : Bounds) (places starts : List ℕ) (folded skips : List Bool) (fresh : List ℕ) (p : Progress) : Type 0 where

@@ -20,15 +20,16 @@ ghost use Rattle.types.specs.Syntax.{MirType};
 ghost use Rattle.types.specs.Index.{TypesAt};
 ghost use Rattle.types.specs.Encode.{typesBytes};
 ghost use Rattle.rewriting.specs.Run.{rewrittenBlocks};
-ghost use Rattle.rewriting.specs.Outcome.{settingsOf, outcome};
+ghost use Rattle.rewriting.specs.Outcome.{settingsOf};
+ghost use Rattle.shelf.specs.Answer.{answer as given};
 ghost use Rattle.progress.specs.Effect.{PutLow};
 ghost use Rattle.lowering.specs.Numbers.{numbersOf, inOrder, leaves, Answers};
 ghost use Rattle.lowering.specs.Tables.{Accepted, Chosen, startAt, Runs, Measured};
 
-// A refusal's number and offset; or the result, the counts, and how many bytes the rewritten routine has.
+// A refusal's number and offset; or the result, the counts, the shelf reason, and how many bytes the rewritten routine has.
 pub enum Answer {
     Refused(u8, usize),
-    Lowered(bool, Counts, usize),
+    Lowered(bool, Counts, u8, usize),
 }
 
 // The place behind the type table, whose `many` types stand at `types`.
@@ -63,7 +64,8 @@ fn start_at(to: usize) -> Progress
     }
 }
 
-// Writes the blocks from `to` on, with working tables of its own; `fresh` is given the types of the fresh numbers.
+// Writes the blocks from `to` on, with working tables of its own; `fresh` is given the types of the fresh numbers, `dropped` the marks
+// of the values that are left out.
 fn run_blocks(
     s: &[u8],
     b: Bounds,
@@ -78,15 +80,15 @@ fn run_blocks(
     out: &mut [u8],
     to: usize,
     fresh: &mut [u16],
+    dropped: &mut [bool],
 ) -> Put
     requires { ⌜ (to ≤ 67108864) × ((b .blocks ≤ 32) × (length (now s) < 1099511627776)) ⌝ }
     ensures { λ r. ⌜ PutLow 4300 r ⌝ }
-    ensures { λ r. ⌜ ((h : Chosen settings (now (s .entry)) (now (types .entry)) (now (recorded .entry)) (now (blocks .entry)) b (now (places .entry)) (now (starts .entry)) (now (folded .entry)) (now (skips .entry))) → Runs (rewrittenBlocks settings (h .accepted .routine)) to (now (out .entry)) (now (fresh .entry)) (now (out .exit)) (now (fresh .exit)) r) ⌝ }
+    ensures { λ r. ⌜ ((h : Chosen settings (now (s .entry)) (now (types .entry)) (now (recorded .entry)) (now (blocks .entry)) b (now (places .entry)) (now (starts .entry)) (now (folded .entry)) (now (skips .entry))) → Runs (rewrittenBlocks settings (h .accepted .routine)) to (now (out .entry)) (now (fresh .entry)) (now (dropped .entry)) (now (out .exit)) (now (fresh .exit)) (now (dropped .exit)) r) ⌝ }
 {
     let mut counts: [u16; 256] = [0; 256];
     let mut firsts: [u16; 256] = [0; 256];
     let mut pool: [usize; 2048] = [0; 2048];
-    let mut dropped: [bool; 256] = [false; 256];
     walking::put_blocks(
         s,
         b,
@@ -105,8 +107,16 @@ fn run_blocks(
         out,
         start_at(to),
         fresh,
-        &mut dropped,
+        dropped,
     )
+}
+
+// The next value of the output.
+fn next_value(next: u16, fresh: u32) -> u16
+    requires { ⌜ fresh < 4294901760 ⌝ }
+    ensures { λ r. ⌜ (next + fresh < 65536 → r ≡ next + fresh) ⌝ }
+{
+    ((next as u32 + fresh) % 65536) as u16
 }
 
 // Writes the output where it has room; `p` and `fresh` are what a run over `nothing` gave, which has no bytes.
@@ -127,7 +137,7 @@ fn write_measured(
     out: &mut [u8],
 ) -> Answer
     requires { ⌜ Measured settings (now s) (now types) (now recorded) (now blocks) b (now places) (now starts) (now folded) (now skips) (now fresh) p ⌝ }
-    ensures { λ r. ⌜ Answers (outcome settings (length (now (out .entry))) (now (s .entry))) r (now (out .entry)) (now (out .exit)) ⌝ }
+    ensures { λ r. ⌜ Answers (given settings (length (now (out .entry))) (now (s .entry))) r (now (out .entry)) (now (out .exit)) ⌝ }
 {
     let at = types_end(types, b.types);
     let head = head::put_head(nothing, s, at, recorded, b.next, fresh, p.fresh);
@@ -135,6 +145,7 @@ fn write_measured(
         return Answer::Refused(11, 0);
     }
     let to = head::put_head(out, s, at, recorded, b.next, fresh, p.fresh);
+    let mut dropped: [bool; 256] = [false; 256];
     match run_blocks(
         s,
         b,
@@ -149,11 +160,26 @@ fn write_measured(
         out,
         to,
         fresh,
+        &mut dropped,
     ) {
         Put::Clash => Answer::Refused(10, 0),
         Put::Went(q) => {
             let c = q.counts;
-            Answer::Lowered(0 < c.builds, c, q.to)
+            let next = next_value(b.next, q.fresh);
+            let reason = shelving::reason(
+                s,
+                b,
+                types,
+                recorded,
+                at + 6,
+                places,
+                starts,
+                out,
+                to,
+                next,
+                &dropped,
+            );
+            Answer::Lowered(0 < c.builds, c, reason, q.to)
         }
     }
 }
@@ -173,10 +199,11 @@ fn lower_chosen(
     out: &mut [u8],
 ) -> Answer
     requires { ⌜ Chosen settings (now s) (now types) (now recorded) (now blocks) b (now places) (now starts) (now folded) (now skips) ⌝ }
-    ensures { λ r. ⌜ Answers (outcome settings (length (now (out .entry))) (now (s .entry))) r (now (out .entry)) (now (out .exit)) ⌝ }
+    ensures { λ r. ⌜ Answers (given settings (length (now (out .entry))) (now (s .entry))) r (now (out .entry)) (now (out .exit)) ⌝ }
 {
     let mut fresh: [u16; 4608] = [0; 4608];
     let mut nothing: [u8; 0] = [0; 0];
+    let mut marks: [bool; 256] = [false; 256];
     match run_blocks(
         s,
         b,
@@ -191,6 +218,7 @@ fn lower_chosen(
         &mut nothing,
         0,
         &mut fresh,
+        &mut marks,
     ) {
         Put::Clash => Answer::Refused(10, 0),
         Put::Went(p) => write_measured(
@@ -223,7 +251,7 @@ fn lower_read(
     out: &mut [u8],
 ) -> Answer
     requires { ⌜ Accepted (now s) (now types) (now recorded) (now blocks) b × (settings .most ≤ 16) ⌝ }
-    ensures { λ r. ⌜ Answers (outcome settings (length (now (out .entry))) (now (s .entry))) r (now (out .entry)) (now (out .exit)) ⌝ }
+    ensures { λ r. ⌜ Answers (given settings (length (now (out .entry))) (now (s .entry))) r (now (out .entry)) (now (out .exit)) ⌝ }
 {
     let mut places: [usize; 288] = [0; 288];
     let mut starts: [u16; 33] = [0; 33];
@@ -271,7 +299,7 @@ fn bounds_of(l: Layout) -> Bounds
 
 // The whole pass: 12, then 1 to 9, then 10, then 11; else the rewritten routine from the output's first byte on.
 pub fn lower_into(input: &[u8], out: &mut [u8], settings: Settings) -> Answer
-    ensures { λ r. ⌜ Answers (outcome settings (length (now (out .entry))) (now (input .entry))) r (now (out .entry)) (now (out .exit)) ⌝ }
+    ensures { λ r. ⌜ Answers (given settings (length (now (out .entry))) (now (input .entry))) r (now (out .entry)) (now (out .exit)) ⌝ }
 {
     if 16 < settings.most {
         return Answer::Refused(12, 0);
@@ -295,8 +323,8 @@ pub fn lower_into(input: &[u8], out: &mut [u8], settings: Settings) -> Answer
 }
 
 // The entry for any caller: a flag is on when its number is not 0. For every input and every number, `answer` is given
-// the refusal's number and offset, the result, the five counts and the length of the rewritten routine, as far as it has
-// room for them; `output` is given the rewritten routine, or stays as it was.
+// the refusal's number and offset, the result, the five counts, the shelf reason and the length of the rewritten routine, as
+// far as it has room for them; `output` is given the rewritten routine, or stays as it was.
 #[no_mangle]
 pub extern "C" fn lower(
     input: &[u8],
@@ -306,8 +334,8 @@ pub extern "C" fn lower(
     most: u64,
     answer: &mut [u64],
 )
-    ensures { λ _. ⌜ now (answer .exit) ≡ sets (now (answer .entry)) 0 (inOrder (numbersOf (outcome (settingsOf tuples structs most) (length (now (output .entry))) (now (input .entry))))) ⌝ }
-    ensures { λ _. ⌜ now (output .exit) ≡ leaves (outcome (settingsOf tuples structs most) (length (now (output .entry))) (now (input .entry))) (now (output .entry)) ⌝ }
+    ensures { λ _. ⌜ now (answer .exit) ≡ sets (now (answer .entry)) 0 (inOrder (numbersOf (given (settingsOf tuples structs most) (length (now (output .entry))) (now (input .entry))))) ⌝ }
+    ensures { λ _. ⌜ now (output .exit) ≡ leaves (given (settingsOf tuples structs most) (length (now (output .entry))) (now (input .entry))) (now (output .entry)) ⌝ }
 {
     let settings = numbers::settings_of(tuples, structs, most);
     let a = lower_into(input, output, settings);

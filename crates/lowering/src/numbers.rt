@@ -8,7 +8,8 @@ ghost use Prim.Native.Nat.{ℕ, _≤_, _<_};
 ghost use lib.ListN.{set};
 ghost use lib.Seq.{sets};
 ghost use Rattle.wire.specs.Value.{boolByte};
-ghost use Rattle.rewriting.specs.Outcome.{settingsOf, outcome};
+ghost use Rattle.rewriting.specs.Outcome.{settingsOf};
+ghost use Rattle.shelf.specs.Answer.{answer as given};
 ghost use Rattle.lowering.specs.Numbers.{asAnswer, inOrder};
 
 // The setting most: all numbers above 16 are refused alike.
@@ -22,7 +23,7 @@ fn most_of(most: u64) -> u8
 }
 
 pub fn settings_of(tuples: u64, structs: u64, most: u64) -> Settings
-    ensures { λ r. ⌜ ((room : ℕ) (s : List ℕ) → outcome r room s ≡ outcome (settingsOf tuples structs most) room s) ⌝ }
+    ensures { λ r. ⌜ ((room : ℕ) (s : List ℕ) → given r room s ≡ given (settingsOf tuples structs most) room s) ⌝ }
 {
     let small = most_of(most);
     Settings {
@@ -46,8 +47,16 @@ fn put_number(answer: &mut [u64], k: usize, x: u64)
     }
 }
 
-fn put_numbers(answer: &mut [u64], number: u64, offset: u64, result: u64, c: Counts, size: u64)
-    ensures { λ _. ⌜ now (answer .exit) ≡ sets (now (answer .entry)) 0 (inOrder (record { number = number; offset = offset; result = result; builds = c .builds; extracts = c .extracts; inserts = c .inserts; assigns = c .assigns; materializations = c .materializations; size = size })) ⌝ }
+fn put_numbers(
+    answer: &mut [u64],
+    number: u64,
+    offset: u64,
+    result: u64,
+    c: Counts,
+    reason: u64,
+    size: u64,
+)
+    ensures { λ _. ⌜ now (answer .exit) ≡ sets (now (answer .entry)) 0 (inOrder (record { number = number; offset = offset; result = result; builds = c .builds; extracts = c .extracts; inserts = c .inserts; assigns = c .assigns; materializations = c .materializations; reason = reason; size = size })) ⌝ }
 {
     put_number(answer, 0, number);
     put_number(answer, 1, offset);
@@ -57,7 +66,8 @@ fn put_numbers(answer: &mut [u64], number: u64, offset: u64, result: u64, c: Cou
     put_number(answer, 5, c.inserts as u64);
     put_number(answer, 6, c.assigns as u64);
     put_number(answer, 7, c.materializations as u64);
-    put_number(answer, 8, size);
+    put_number(answer, 8, reason);
+    put_number(answer, 9, size);
 }
 
 // An answer as numbers, from the first place on.
@@ -73,10 +83,10 @@ pub fn put_answer(answer: &mut [u64], a: Answer)
                 assigns: 0,
                 materializations: 0,
             };
-            put_numbers(answer, n as u64, o as u64, 0, none, 0);
+            put_numbers(answer, n as u64, o as u64, 0, none, 0, 0);
         }
-        Answer::Lowered(w, c, size) => {
-            put_numbers(answer, 0, 0, flag(w), c, size as u64);
+        Answer::Lowered(w, c, reason, size) => {
+            put_numbers(answer, 0, 0, flag(w), c, reason as u64, size as u64);
         }
     }
 }

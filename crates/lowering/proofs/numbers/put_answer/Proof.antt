@@ -1,7 +1,7 @@
+use Rattle.lowering.proofs.Stored.{answered, flagged}
 use borrow.Author.Needs.{needs}
 use Rattle.lowering.proofs.numbers.put_answer.Statement.{statement}
 use Rattle.lowering.proofs.numbers.put_answer.Tie as tie
-use Rattle.lowering.proofs.Stored.{answered, flagged}
 
 enum-known-a : tie.Need-enum-known-a
 enum-known-a c = search needs
@@ -18,6 +18,9 @@ enum-known-a-2 c = search needs
 flag-requires : tie.Need-flag-requires
 flag-requires c κs = search needs
 
+cast-put-numbers-2 : tie.Need-cast-put-numbers-2
+cast-put-numbers-2 c = search needs
+
 put-numbers-requires-2 : tie.Need-put-numbers-requires-2
 put-numbers-requires-2 c κs = search needs
 
@@ -33,7 +36,7 @@ same-length-2 c = search needs
 returns-2 : tie.Need-returns-2
 returns-2 c = let g = c .before .before .before .before .before .before .a2 .given in
     let l = c .before .before .before .before .before .before .before .before .before .args .answer .now in
-    answered (c .before .before .before .before .before .before .before .before .before .args .a) _ l _ (g .1) (flagged (g .0 .0) (g .0 .1 .0) (g .0 .1 .1 .0) _ l _ (c .before .before .before .flag .ensures) (c .before .before .put-numbers2 .ensures))
+    answered (c .before .before .before .before .before .before .before .before .before .args .a) _ l _ (g .1) (flagged (g .0 .0) (g .0 .1 .0) (g .0 .1 .1 .0) (g .0 .1 .1 .1 .0) _ l _ (c .before .before .before .flag .ensures) (c .before .before .put-numbers2 .ensures))
 
 pub put-answer-spec : {M : Type 1} → statement M
 put-answer-spec =
@@ -44,6 +47,7 @@ put-answer-spec =
     put-numbers-requires
     enum-known-a-2
     flag-requires
+    cast-put-numbers-2
     put-numbers-requires-2
     same-length
     returns

@@ -1,8 +1,8 @@
 use mathlib.Core.Path.{_∙_}
+use Rattle.lowering.proofs.Stored.{ten}
 use borrow.Author.Needs.{needs}
 use Rattle.lowering.proofs.numbers.put_numbers.Statement.{statement}
 use Rattle.lowering.proofs.numbers.put_numbers.Tie as tie
-use Rattle.lowering.proofs.Stored.{nine}
 
 put-number-requires : tie.Need-put-number-requires
 put-number-requires c κs = search needs
@@ -46,11 +46,14 @@ put-number-requires-8 c κs = search needs
 put-number-requires-9 : tie.Need-put-number-requires-9
 put-number-requires-9 c κs = search needs
 
+put-number-requires-10 : tie.Need-put-number-requires-10
+put-number-requires-10 c κs = search needs
+
 same-length : tie.Need-same-length
-same-length c = c .before .answer9 .given ∙ c .before .before .before .before .before .answer8 .given ∙ c .before .before .before .before .before .before .before .before .before .before .answer7 .given ∙ c .before .before .before .before .before .before .before .before .before .before .before .before .before .before .before .answer6 .given ∙ c .before .before .before .before .before .before .before .before .before .before .before .before .before .before .before .before .before .before .before .before .answer5 .given ∙ c .before .before .before .before .before .before .before .before .before .before .before .before .before .before .before .before .before .before .before .before .before .before .before .before .before .answer4 .given ∙ c .before .before .before .before .before .before .before .before .before .before .before .before .before .before .before .before .before .before .before .before .before .before .before .before .before .before .before .before .before .before .answer3 .given ∙ c .before .before .before .before .before .before .before .before .before .before .before .before .before .before .before .before .before .before .before .before .before .before .before .before .before .before .before .before .before .before .before .before .before .before .answer2 .given ∙ c .before .before .before .before .before .before .before .before .before .before .before .before .before .before .before .before .before .before .before .before .before .before .before .before .before .before .before .before .before .before .before .before .before .before .before .before .before .before .answer .given
+same-length c = c .before .answer10 .given ∙ c .before .before .before .before .before .answer9 .given ∙ c .before .before .before .before .before .before .before .before .before .answer8 .given ∙ c .before .before .before .before .before .before .before .before .before .before .before .before .before .before .answer7 .given ∙ c .before .before .before .before .before .before .before .before .before .before .before .before .before .before .before .before .before .before .before .answer6 .given ∙ c .before .before .before .before .before .before .before .before .before .before .before .before .before .before .before .before .before .before .before .before .before .before .before .before .answer5 .given ∙ c .before .before .before .before .before .before .before .before .before .before .before .before .before .before .before .before .before .before .before .before .before .before .before .before .before .before .before .before .before .answer4 .given ∙ c .before .before .before .before .before .before .before .before .before .before .before .before .before .before .before .before .before .before .before .before .before .before .before .before .before .before .before .before .before .before .before .before .before .before .answer3 .given ∙ c .before .before .before .before .before .before .before .before .before .before .before .before .before .before .before .before .before .before .before .before .before .before .before .before .before .before .before .before .before .before .before .before .before .before .before .before .before .before .answer2 .given ∙ c .before .before .before .before .before .before .before .before .before .before .before .before .before .before .before .before .before .before .before .before .before .before .before .before .before .before .before .before .before .before .before .before .before .before .before .before .before .before .before .before .before .before .answer .given
 
 returns : tie.Need-returns
-returns c = nine (c .before .before .before .before .before .before .before .before .before .before .before .before .before .before .before .before .before .before .before .before .before .before .before .before .before .before .before .before .before .before .before .before .before .before .before .before .before .before .before .before .before .before .args .answer .now) _ _ _ _ _ _ _ _ _ (c .before .before .before .before .before .before .before .before .before .before .before .before .before .before .before .before .before .before .before .before .before .before .before .before .before .before .before .before .before .before .before .before .before .before .before .before .before .before .before .before .before .before .args .number) _ _ _ _ _ _ _ _ (c .before .before .before .before .before .before .before .before .before .before .before .before .before .before .before .before .before .before .before .before .before .before .before .before .before .before .before .before .before .before .before .before .before .before .before .before .before .before .before .put-number .ensures) (c .before .before .before .before .before .before .before .before .before .before .before .before .before .before .before .before .before .before .before .before .before .before .before .before .before .before .before .before .before .before .before .before .before .before .before .put-number2 .ensures) (c .before .before .before .before .before .before .before .before .before .before .before .before .before .before .before .before .before .before .before .before .before .before .before .before .before .before .before .before .before .before .before .put-number3 .ensures) (c .before .before .before .before .before .before .before .before .before .before .before .before .before .before .before .before .before .before .before .before .before .before .before .before .before .before .put-number4 .ensures) (c .before .before .before .before .before .before .before .before .before .before .before .before .before .before .before .before .before .before .before .before .before .put-number5 .ensures) (c .before .before .before .before .before .before .before .before .before .before .before .before .before .before .before .before .put-number6 .ensures) (c .before .before .before .before .before .before .before .before .before .before .before .put-number7 .ensures) (c .before .before .before .before .before .before .put-number8 .ensures) (c .before .before .put-number9 .ensures)
+returns c = ten (c .before .before .before .before .before .before .before .before .before .before .before .before .before .before .before .before .before .before .before .before .before .before .before .before .before .before .before .before .before .before .before .before .before .before .before .before .before .before .before .before .before .before .before .before .before .before .args .answer .now) _ _ _ _ _ _ _ _ _ _ (c .before .before .before .before .before .before .before .before .before .before .before .before .before .before .before .before .before .before .before .before .before .before .before .before .before .before .before .before .before .before .before .before .before .before .before .before .before .before .before .before .before .before .before .before .before .before .args .number) _ _ _ _ _ _ _ _ _ (c .before .before .before .before .before .before .before .before .before .before .before .before .before .before .before .before .before .before .before .before .before .before .before .before .before .before .before .before .before .before .before .before .before .before .before .before .before .before .before .before .before .before .before .put-number .ensures) (c .before .before .before .before .before .before .before .before .before .before .before .before .before .before .before .before .before .before .before .before .before .before .before .before .before .before .before .before .before .before .before .before .before .before .before .before .before .before .before .put-number2 .ensures) (c .before .before .before .before .before .before .before .before .before .before .before .before .before .before .before .before .before .before .before .before .before .before .before .before .before .before .before .before .before .before .before .before .before .before .before .put-number3 .ensures) (c .before .before .before .before .before .before .before .before .before .before .before .before .before .before .before .before .before .before .before .before .before .before .before .before .before .before .before .before .before .before .put-number4 .ensures) (c .before .before .before .before .before .before .before .before .before .before .before .before .before .before .before .before .before .before .before .before .before .before .before .before .before .put-number5 .ensures) (c .before .before .before .before .before .before .before .before .before .before .before .before .before .before .before .before .before .before .before .before .put-number6 .ensures) (c .before .before .before .before .before .before .before .before .before .before .before .before .before .before .before .put-number7 .ensures) (c .before .before .before .before .before .before .before .before .before .before .put-number8 .ensures) (c .before .before .before .before .before .before .put-number9 .ensures) (c .before .before .put-number10 .ensures)
 
 pub put-numbers-spec : {M : Type 1} → statement M
 put-numbers-spec =
@@ -70,5 +73,6 @@ put-numbers-spec =
     cast-put-number-5
     put-number-requires-8
     put-number-requires-9
+    put-number-requires-10
     same-length
     returns)

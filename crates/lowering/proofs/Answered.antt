@@ -245,6 +245,7 @@ same-settings t u most r room s f g = split (ltb 16 most) refl
   where
     large : (n : ℕ) → 16 < n → given (record { tuples = t; structs = u; most = n }) room s ≡ refused 12 0
     large n h = given-refused (record { tuples = t; structs = u; most = n }) room s 12 0 (too-large (record { tuples = t; structs = u; most = n }) room s h)
+
     split : (x : Bool) → ltb 16 most ≡ x → given (record { tuples = t; structs = u; most = r }) room s ≡ given (record { tuples = t; structs = u; most = most }) room s
     split true e = large r (g (ltb-true 16 most e)) ∙ sym (large most (ltb-true 16 most e))
     split false e = ap (λ n. given (record { tuples = t; structs = u; most = n }) room s) (f (ltb-false 16 most e))

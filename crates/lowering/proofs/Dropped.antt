@@ -36,6 +36,7 @@ same-mark v d e m l ds =
     yes : (x : Bool) → T x → x ≡ true
     yes true t = refl
     yes false t = absurd t
+
     or-true : (x : Bool) → x || true ≡ true
     or-true true = refl
     or-true false = refl
@@ -49,6 +50,7 @@ other-mark v d y m ds =
     no : (x : Bool) → T x → T (not x) → ⊥
     no true s t = t
     no false s t = s
+
     off : (x : Bool) → T (not x) → x ≡ false
     off true t = absurd t
     off false t = refl

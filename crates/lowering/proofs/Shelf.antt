@@ -84,7 +84,7 @@ module _ {σ : Settings} {s types recorded blocks : List ℕ} {b : Bounds} {plac
   given =
       let e : drop (length (typesBytes (x .types)) + 6) s ≡ listBytes valueIdBytes (x .parameters) ++ (recordedBytes (x .recorded) ++ eachBytes blockBytes (x .blocks)) = ap (drop (length (typesBytes (x .types)) + 6)) (sym (canon a)) ∙ past-types x in
       let g : definedsOf 16 (x .next) (replicate (x .next) false) (listBytes valueIdBytes (x .parameters) ++ (recordedBytes (x .recorded) ++ eachBytes blockBytes (x .blocks))) ≡ ok (x .parameters) (length (listBytes valueIdBytes (x .parameters))) =
-        B.dests (bounds mosts x) (wide-input) (unmarked x) (x .parameters) (fit a .many-parameters, fit a .parameters) .says _ in
+      B.dests (bounds mosts x) (wide-input) (unmarked x) (x .parameters) (fit a .many-parameters, fit a .parameters) .says _ in
       defined-at (b .list) 16 (b .next) (x .next) _ _ (x .parameters) _ (list-is a) (next-is a) e g
     where
       wide-input : Wide (bounds mosts x)

@@ -2,7 +2,7 @@
 // rows there are and how many were answered otherwise.
 //
 // A row: enable_tuples, enable_structs, max_aggregate_size (u8 each), the lent length (u32), the input's length (u32) and bytes;
-// then nine u32 (refusal number and offset, result, five counts, the output's length) and the output's bytes.
+// then ten u32 (refusal number and offset, result, five counts, shelf reason, the output's length) and the output's bytes.
 
 ghost use Prim.Native.Nat.{_≤_, _<_};
 ghost use lib.ListN.{length};
@@ -27,10 +27,10 @@ fn number_at(answer: &[u64], i: u8) -> u64 {
     }
 }
 
-// The nine numbers of an answer are those that stand at the head of `told`.
+// The ten numbers of an answer are those that stand at the head of `told`.
 fn same_numbers(answer: &[u64], told: &[u8]) -> bool {
     let mut i: u8 = 0;
-    while i < 9 {
+    while i < 10 {
         if number_at(answer, i) != wire::u32_at(told, 4 * (i as usize)) as u64 {
             return false;
         }
@@ -58,7 +58,7 @@ fn same_bytes(out: &[u8], bytes: &[u8]) -> bool {
 
 // Calls the pass; whether it answers as is told. `row` begins with the settings.
 fn replayed(row: &[u8], input: &[u8], told: &[u8], bytes: &[u8], out: &mut [u8]) -> bool {
-    let mut answer: [u64; 9] = [0; 9];
+    let mut answer: [u64; 10] = [0; 10];
     let tuples = wire::byte_at(row, 0) as u64;
     let structs = wire::byte_at(row, 1) as u64;
     let most = wire::byte_at(row, 2) as u64;
@@ -84,8 +84,8 @@ fn otherwise(row: &[u8], n: usize, size: usize) -> u64
     requires { ⌜ n < 4294967296 ⌝ }
     ensures { λ r. ⌜ r ≤ 1 ⌝ }
 {
-    let told = part(row, 11 + n, 36);
-    if same(row, part(row, 11, n), told, part(row, 11 + n + 36, size)) {
+    let told = part(row, 11 + n, 40);
+    if same(row, part(row, 11, n), told, part(row, 11 + n + 40, size)) {
         return 0;
     }
     1
@@ -100,10 +100,10 @@ fn replay(s: &[u8])
     while at < s.len() {
         let row = part(s, at, s.len());
         let n = wire::u32_at(row, 7) as usize;
-        let size = wire::u32_at(row, 11 + n + 32) as usize;
+        let size = wire::u32_at(row, 11 + n + 36) as usize;
         others = others + otherwise(row, n, size);
         rows = rows + 1;
-        at = at + (11 + n + 36 + size);
+        at = at + (11 + n + 40 + size);
     }
     io::print_decimal(1, rows);
     io::write_all(1, b" stored answers, ");

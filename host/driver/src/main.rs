@@ -37,8 +37,8 @@ const CHECK: Option<Check> = Some(pass::check);
 #[cfg(not(feature = "pass"))]
 const CHECK: Option<Check> = None;
 
-/// What `lower` answers: refusal number, offset, result, the five counts, output length.
-type Answer = [u64; 9];
+/// What `lower` answers: refusal number, offset, result, the five counts, shelf reason, output length.
+type Answer = [u64; 10];
 
 /// The static library's `lower`, where the driver was built with it: input, output, and the
 /// settings tuples, structs and most.

@@ -4,7 +4,7 @@ use std::collections::BTreeMap;
 
 use gen::Rng;
 use oracle::form::{Kind, Routine, Type};
-use oracle::{read, run_oracle, Outcome, Settings, LENT};
+use oracle::{read, run_oracle, run_routine, Outcome, Settings, LENT};
 
 use crate::args::Args;
 
@@ -83,6 +83,7 @@ fn cases(input: &[u8], settings: Settings, outcome: &Outcome) -> Vec<String> {
     let (Ok(before), Ok(after)) = (read(input), read(output)) else {
         return cases;
     };
+    cases.push(format!("reason {}", reason(input, settings)));
     let (was, is) = (kinds(&before), kinds(&after));
     for kind in 0..19 {
         if was[kind] > 0 {
@@ -121,14 +122,21 @@ fn rebuilds(before: &Routine, after: &Routine) -> Vec<String> {
     types.chain(stored.then(|| "Store of a rebuild".to_string())).collect()
 }
 
-/// A row: settings, lent length, input, then the refusal, or result, counts and output.
+/// The shelf reason of a routine that the pass takes.
+fn reason(input: &[u8], settings: Settings) -> u8 {
+    let before = read(input).expect("the oracle took it");
+    let after = run_routine(before.clone(), settings).expect("the oracle took it").routine;
+    shelf::reason(&before, &after, &shelf::dropped(&before, &after))
+}
+
+/// A row: settings, lent length, input, then the refusal, or result, counts, shelf reason and output.
 fn row(file: &mut Vec<u8>, input: &[u8], settings: Settings, lent: usize, outcome: &Outcome) {
     let Settings { enable_tuples, enable_structs, max_aggregate_size } = settings;
     file.extend([enable_tuples, enable_structs, max_aggregate_size].map(|n| n as u8));
     file.extend((lent as u32).to_le_bytes());
     file.extend((input.len() as u32).to_le_bytes());
     file.extend(input);
-    let mut numbers = [0u32; 9];
+    let mut numbers = [0u32; 10];
     let mut bytes: &[u8] = &[];
     match outcome {
         Outcome::Refused(refusal) => {
@@ -140,7 +148,8 @@ fn row(file: &mut Vec<u8>, input: &[u8], settings: Settings, lent: usize, outcom
             for (at, count) in counts.iter().enumerate() {
                 numbers[3 + at] = *count as u32;
             }
-            numbers[8] = output.len() as u32;
+            numbers[8] = u32::from(reason(input, settings));
+            numbers[9] = output.len() as u32;
             bytes = output;
         }
     }

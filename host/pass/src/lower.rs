@@ -1,8 +1,8 @@
 //! The entry `lower`. Its signature and the order of its answer stand here alone.
 
 /// How many numbers an answer has: refusal number, offset, result, the five counts in `Stats`
-/// order, output length. A refusal has 0 behind its offset, an accepted routine before its result.
-pub const ANSWER: usize = 9;
+/// order, shelf reason, output length. A refusal has 0 behind its offset, an accepted routine before its result.
+pub const ANSWER: usize = 10;
 
 mod entries {
     extern "C" {

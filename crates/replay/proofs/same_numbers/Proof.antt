@@ -7,7 +7,7 @@ abbrev Inv-loop : tie.InvT-loop
 Inv-loop answer told i₀ i = Unit {0}
 
 abbrev μ-loop : tie.MeasureT-loop
-μ-loop answer told i₀ i = 9 - i
+μ-loop answer told i₀ i = 10 - i
 
 loop-holds : tie.Need-loop-holds Inv-loop μ-loop
 loop-holds c = tt

@@ -3,7 +3,7 @@
 use std::fmt;
 
 use gen::Rng;
-use oracle::{cause, run_oracle, Outcome, Refusal, Settings, LENT};
+use oracle::{cause, read, run_oracle, run_routine, Outcome, Refusal, Settings, LENT};
 
 use super::settings::Triple;
 use crate::{Answer, Lower};
@@ -39,19 +39,34 @@ pub fn differs(
     mut met: impl FnMut(usize),
 ) -> Option<Difference> {
     let outcome = expected(input, settings);
+    let reason = reason(input, settings);
     let mut rng = Rng::of(salt, input.len() as u64);
     lengths(&mut rng, &outcome).into_iter().find_map(|lent| {
         let expected = fitted(&outcome, lent);
-        met(numbers(&expected)[0] as usize);
-        compare(lower, input, settings, lent, &expected)
+        met(numbers(&expected, reason)[0] as usize);
+        compare(lower, input, settings, lent, &expected, reason)
     })
+}
+
+fn settings_of(settings: Triple) -> Settings {
+    let [enable_tuples, enable_structs, max_aggregate_size] = settings;
+    Settings { enable_tuples, enable_structs, max_aggregate_size }
 }
 
 /// The Rust's outcome where the output is as long as it need be.
 fn expected(input: &[u8], settings: Triple) -> Outcome {
-    let [enable_tuples, enable_structs, max_aggregate_size] = settings;
-    let settings = Settings { enable_tuples, enable_structs, max_aggregate_size };
-    run_oracle(input, settings, usize::MAX)
+    run_oracle(input, settings_of(settings), usize::MAX)
+}
+
+/// The shelf reason, by the shelf test of this folder; 0 where the pass refuses.
+pub fn reason(input: &[u8], settings: Triple) -> u8 {
+    let Ok(before) = read(input) else {
+        return 0;
+    };
+    let Some(after) = run_routine(before.clone(), settings_of(settings)) else {
+        return 0;
+    };
+    shelf::reason(&before, &after.routine, &shelf::dropped(&before, &after.routine))
 }
 
 /// The outcome where `lent` bytes are there: 11 is the last refusal.
@@ -82,8 +97,8 @@ fn lengths(rng: &mut Rng, outcome: &Outcome) -> Vec<usize> {
     }
 }
 
-/// Number, offset, result, five counts, length.
-fn numbers(outcome: &Outcome) -> Answer {
+/// Number, offset, result, five counts, shelf reason, length.
+fn numbers(outcome: &Outcome, reason: u8) -> Answer {
     let mut numbers = Answer::default();
     match outcome {
         Outcome::Refused(refusal) => {
@@ -93,7 +108,8 @@ fn numbers(outcome: &Outcome) -> Answer {
         Outcome::Lowered { result, counts, output } => {
             numbers[2] = (*result).into();
             numbers[3..8].copy_from_slice(counts);
-            numbers[8] = output.len() as u64;
+            numbers[8] = reason.into();
+            numbers[9] = output.len() as u64;
         }
     }
     numbers
@@ -106,6 +122,7 @@ fn compare(
     settings: Triple,
     lent: usize,
     outcome: &Outcome,
+    reason: u8,
 ) -> Option<Difference> {
     let mut left: Vec<u8> = (0..lent).map(|at| (at * 37 + 11) as u8).collect();
     let mut output = left.clone();
@@ -113,7 +130,7 @@ fn compare(
     if let Outcome::Lowered { output, .. } = outcome {
         left[..output.len()].copy_from_slice(output);
     }
-    let expected = numbers(outcome);
+    let expected = numbers(outcome, reason);
     let byte = (0..lent).find(|at| output[*at] != left[*at]);
     let differs = got != expected || byte.is_some();
     differs.then_some(Difference { settings, lent, expected, got, byte })

@@ -5,15 +5,16 @@ use crate::Answer;
 
 /// The Rust behind the entry's signature.
 fn rust(input: &[u8], output: &mut [u8], settings: Triple) -> Answer {
+    let reason = outcome::reason(input, settings);
     let [enable_tuples, enable_structs, max_aggregate_size] = settings;
     let settings = Settings { enable_tuples, enable_structs, max_aggregate_size };
     match run_oracle(input, settings, output.len()) {
         Outcome::Refused(refusal) => {
-            [refusal.number.into(), refusal.offset as u64, 0, 0, 0, 0, 0, 0, 0]
+            [refusal.number.into(), refusal.offset as u64, 0, 0, 0, 0, 0, 0, 0, 0]
         }
         Outcome::Lowered { result, counts: [a, b, c, d, e], output: bytes } => {
             output[..bytes.len()].copy_from_slice(&bytes);
-            [0, 0, result.into(), a, b, c, d, e, bytes.len() as u64]
+            [0, 0, result.into(), a, b, c, d, e, reason.into(), bytes.len() as u64]
         }
     }
 }
@@ -56,6 +57,11 @@ fn wrong_numbers_are_found() {
     }));
     assert!(is_found(|input, output, settings| {
         let mut answer = rust(input, output, settings);
+        answer[8] = 5 * u64::from(answer[0] == 0);
+        answer
+    }));
+    assert!(is_found(|input, output, settings| {
+        let mut answer = rust(input, output, settings);
         answer[2] = 1;
         answer
     }));
@@ -74,7 +80,7 @@ fn wrong_bytes_are_found() {
     // A byte behind the routine touched.
     assert!(is_found(|input, output, settings| {
         let answer = rust(input, output, settings);
-        if let Some(byte) = output.get_mut(answer[8] as usize).filter(|_| answer[0] == 0) {
+        if let Some(byte) = output.get_mut(answer[9] as usize).filter(|_| answer[0] == 0) {
             *byte = 0;
         }
         answer
@@ -82,7 +88,7 @@ fn wrong_bytes_are_found() {
     // The input copied, under the right counts.
     assert!(is_found(|input, output, settings| {
         let answer = rust(input, output, settings);
-        if answer[0] == 0 && answer[8] == input.len() as u64 {
+        if answer[0] == 0 && answer[9] == input.len() as u64 {
             output[..input.len()].copy_from_slice(input);
         }
         answer
@@ -111,9 +117,9 @@ fn wrong_settings_and_refusals_are_found() {
     assert!(is_found(|input, output, settings| {
         let before = output.to_vec();
         let answer = rust(input, output, settings);
-        if answer[0] == 0 && answer[8] == output.len() as u64 {
+        if answer[0] == 0 && answer[9] == output.len() as u64 {
             output.copy_from_slice(&before);
-            return [11, 0, 0, 0, 0, 0, 0, 0, 0];
+            return [11, 0, 0, 0, 0, 0, 0, 0, 0, 0];
         }
         answer
     }));

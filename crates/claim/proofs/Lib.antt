@@ -3,3 +3,4 @@ pub mod Accepted
 pub mod Defined
 pub mod Facts
 pub mod Theorem
+pub mod Corners

@@ -1,0 +1,36 @@
+-- The corner of document 01 that concerns the shelf test, by computation.
+use Prim.Native.Nat.{ℕ}
+use mathlib.Core.Path.{_≡_, refl}
+use mathlib.Core.List.{List, [], _∷_}
+use mathlib.Core.Bool.{true, false}
+use Rattle.rewriting.proofs.Examples.{defaults, all-open}
+use Rattle.shelf.specs.Parts as Pa
+use Rattle.shelf.specs.Fits as Fi
+use Rattle.shelf.specs.Agrees as Ag
+use Rattle.shelf.specs.Reads as Re
+use Rattle.shelf.specs.Reason as Rs
+use Rattle.shelf.specs.Answer as An
+use Rattle.wire.specs.Parse.{Parse, ok, bad, seqOf}
+use Rattle.wire.specs.Number.{numberOf}
+use Rattle.wire.specs.Value.{valueOf, integer}
+use Rattle.form.specs.Decode.{listOf, definedSeq, definedsOf, projectionOf, metaOf, instructionOf, terminatorOf, jumpOf, ifOf, branchOf, returnOf}
+use Rattle.form.specs.Decode.{assignOf, unaryOf, binaryOf, returnsOf, callOf, castOf, loadOf, storeOf, debugOf, phiOf, makeTupleOf, extractTupleOf, makeStructOf, extractFieldOf, insertFieldOf, insertTupleOf, makeArrayOf, assertEqOf, heapAllocOf}
+use Rattle.block.specs.Decode.{instructionsOf, blockOf}
+use Rattle.types.specs.Encode.{typeBytes, typesBytes}
+use Rattle.types.specs.Decode.{typeOf, structOf, structFields, hasType, typeSeq, typesOf}
+use Rattle.routine.specs.Decode.{mosts, mapOf, recordedOf, blocksOf, sizesOf, bodyOf, routineOf, wholeOf}
+
+-- every definition on the way, opened
+unfoldable opened : Unit {0}
+unfolding all-open wholeOf routineOf sizesOf bodyOf typesOf typeSeq typeOf structOf hasType typeBytes structFields definedsOf definedSeq mapOf recordedOf blocksOf blockOf instructionsOf instructionOf metaOf terminatorOf jumpOf ifOf branchOf returnOf listOf seqOf numberOf valueOf projectionOf assignOf unaryOf binaryOf returnsOf callOf castOf loadOf storeOf debugOf phiOf makeTupleOf extractTupleOf makeStructOf extractFieldOf insertFieldOf insertTupleOf makeArrayOf assertEqOf heapAllocOf Pa.fieldType Pa.partType Pa.partCount Pa.counts Pa.operandRow Pa.isPointer Pa.onto Fi.literalKind Fi.scalarKind Fi.sameType Fi.fits Fi.allFit Fi.partsFit Fi.fieldTypeOf Fi.stepType Fi.placeType Fi.givenFits Fi.fieldsFit Fi.argumentsFit Ag.isScalarType Ag.isScalar Ag.isIndex Ag.indexFits Ag.pointee Ag.pointed Ag.reached Ag.placeFits Ag.destsFit Ag.equalTypes Ag.agrees Ag.isCondition Ag.isKnown Ag.endAgrees Ag.blockAgrees Re.definedIn Re.ordered Re.aggregateBase Re.basesIn Re.bases Re.apart Re.isDeep Re.shallow Re.clean Re.cleanTerminator Rs.typesAgree Rs.inOrder Rs.keptApart Rs.noDeepStore Rs.readsNoDropped Rs.shelfReason An.reasonOf
+opened = tt
+
+-- "Returning a tuple of a tracked tuple leaves a read of a dropped value (P): shelf reason 5"
+pub returned-nest : _≡_ {A = ℕ} (An.reasonOf defaults (wholeOf mosts (3 ∷ 0 ∷ 0 ∷ 3 ∷ 2 ∷ 0 ∷ 0 ∷ 0 ∷ 0 ∷ 3 ∷ 2 ∷ 1 ∷ 0 ∷ 1 ∷ 0 ∷ 2 ∷ 0 ∷ 1 ∷ 0 ∷ 0 ∷ 0 ∷ 0 ∷ 3 ∷ 1 ∷ 0 ∷ 2 ∷ 0 ∷ 2 ∷ 0 ∷ 0 ∷ 10 ∷ 0 ∷ 0 ∷ 2 ∷ 0 ∷ 7 ∷ 0 ∷ 0 ∷ 0 ∷ 0 ∷ 8 ∷ 0 ∷ 0 ∷ 0 ∷ 0 ∷ 10 ∷ 1 ∷ 0 ∷ 2 ∷ 3 ∷ 0 ∷ 0 ∷ 3 ∷ 0 ∷ 0 ∷ 3 ∷ 1 ∷ 3 ∷ 1 ∷ 0 ∷ []))) 5
+unfolding opened
+returned-nest = refl
+
+-- document 01's example passes
+pub example-passes : _≡_ {A = ℕ} (An.reasonOf defaults (wholeOf mosts (2 ∷ 0 ∷ 0 ∷ 3 ∷ 2 ∷ 0 ∷ 0 ∷ 0 ∷ 0 ∷ 2 ∷ 0 ∷ 1 ∷ 0 ∷ 0 ∷ 0 ∷ 0 ∷ 3 ∷ 1 ∷ 0 ∷ 0 ∷ 0 ∷ 2 ∷ 0 ∷ 0 ∷ 10 ∷ 0 ∷ 0 ∷ 2 ∷ 0 ∷ 7 ∷ 0 ∷ 0 ∷ 0 ∷ 0 ∷ 8 ∷ 0 ∷ 0 ∷ 0 ∷ 0 ∷ 11 ∷ 1 ∷ 0 ∷ 3 ∷ 0 ∷ 0 ∷ 1 ∷ 0 ∷ 0 ∷ 0 ∷ 0 ∷ 0 ∷ 3 ∷ 1 ∷ 3 ∷ 1 ∷ 0 ∷ []))) 0
+unfolding opened
+example-passes = refl

@@ -71,7 +71,7 @@ fn show(answer: &[u64], out: &[u8]) {
 fn lower_all(input: &[u8]) {
     let mut out = [0u8; 65536];
     let mut answer: [u64; 10] = [0; 10];
-    lowering::lower(input, &mut out, 1, 1, 8, &mut answer);
+    pass::lower(input, &mut out, 1, 1, 8, &mut answer);
     show(&answer, &out);
 }
 

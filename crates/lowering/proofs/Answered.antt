@@ -39,7 +39,7 @@ use Rattle.progress.proofs.Laws.{numbers-length}
 use Rattle.head.specs.Head.{headBytes, widened, Tabled, frontEnd}
 use Rattle.head.proofs.Front.{front-within}
 use Rattle.lowering.specs.declared.Answer.{Answer}
-use Rattle.lowering.specs.Numbers.{numbersOf, leaves, asAnswer, inOrder, Answers}
+use Rattle.lowering.specs.Numbers.{numbersOf, leaves, asAnswer, Answers}
 use Rattle.lowering.specs.Tables.{Accepted, Chosen, startAt, Ran, Runs, Measured}
 use Rattle.shelving.specs.Shelved.{Shelved}
 use Rattle.lowering.proofs.Shelf.{shelved}
@@ -164,7 +164,7 @@ answers : (o o′ : Given) (r : Answer) (out out′ : List ℕ) → o ≡ o′ �
 answers o o′ r out out′ e f g = rw e (record { says = f; left = g })
 
 -- a refusal has no reason
-given-refused : (σ : Settings) (room : ℕ) (s : List ℕ) (n o : ℕ) → outcome σ room s ≡ O.refused n o → given σ room s ≡ refused n o
+pub given-refused : (σ : Settings) (room : ℕ) (s : List ℕ) (n o : ℕ) → outcome σ room s ≡ O.refused n o → given σ room s ≡ refused n o
 unfolding given withReason
 given-refused σ room s n o e = rw e
 
@@ -236,21 +236,3 @@ module _ {σ : Settings} {s types recorded blocks : List ℕ} {b : Bounds} {plac
   -- a second run meets no clash where the first met none
   pub never-clashes : {A : Type 0} → (rewrittenBlocks σ x) .clash ≡ true → A
   never-clashes e = absurd (true-false (sym e ∙ m .calm))
-
--- ## The entry
-
--- which settings are refused with 12 does not matter
-pub same-settings : (t u : Bool) (most r room : ℕ) (s : List ℕ) → (most ≤ 16 → r ≡ most) → (16 < most → 16 < r) → given (record { tuples = t; structs = u; most = r }) room s ≡ given (record { tuples = t; structs = u; most = most }) room s
-same-settings t u most r room s f g = split (ltb 16 most) refl
-  where
-    large : (n : ℕ) → 16 < n → given (record { tuples = t; structs = u; most = n }) room s ≡ refused 12 0
-    large n h = given-refused (record { tuples = t; structs = u; most = n }) room s 12 0 (too-large (record { tuples = t; structs = u; most = n }) room s h)
-
-    split : (x : Bool) → ltb 16 most ≡ x → given (record { tuples = t; structs = u; most = r }) room s ≡ given (record { tuples = t; structs = u; most = most }) room s
-    split true e = large r (g (ltb-true 16 most e)) ∙ sym (large most (ltb-true 16 most e))
-    split false e = ap (λ n. given (record { tuples = t; structs = u; most = n }) room s) (f (ltb-false 16 most e))
-
--- the answer's numbers are those that are given
-pub entry-answers : (o o′ : Given) (r : Answer) (out out′ answer answer′ : List ℕ) → o ≡ o′ → Answers o r out out′ → answer′ ≡ sets answer 0 (inOrder (asAnswer r)) → (answer′ ≡ sets answer 0 (inOrder (numbersOf o′))) × (out′ ≡ leaves o′ out)
-entry-answers o o′ r out out′ answer answer′ e h f =
-    (f ∙ ap (λ n. sets answer 0 (inOrder n)) (h .says ∙ ap numbersOf e), h .left ∙ ap (λ x. leaves x out) e)

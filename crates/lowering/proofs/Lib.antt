@@ -5,4 +5,3 @@ pub mod Choosing
 pub mod Dropped
 pub mod Shelf
 pub mod Answered
-pub mod Stored

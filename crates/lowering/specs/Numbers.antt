@@ -1,7 +1,7 @@
 -- What a call answers, as numbers, and what it leaves in the output.
 use Prim.Native.Nat.{ℕ}
 use mathlib.Core.Path.{_≡_}
-use mathlib.Core.List.{List, [], _∷_}
+use mathlib.Core.List.{List}
 use lib.ListN.{length}
 use lib.Seq.{sets}
 use Rattle.wire.specs.Value.{boolByte}
@@ -61,10 +61,6 @@ asAnswer (Answer.Lowered w c k size) =
       reason = k;
       size = size;
     }
-
--- the numbers in the order in which the entry gives them
-abbrev pub inOrder : Numbers → List ℕ
-inOrder n = n .number ∷ n .offset ∷ n .result ∷ n .builds ∷ n .extracts ∷ n .inserts ∷ n .assigns ∷ n .materializations ∷ n .reason ∷ n .size ∷ []
 
 -- the code answers what is given, and leaves what it should
 pub record Answers (o : Given) (r : Answer) (out out′ : List ℕ) : Type 0 where

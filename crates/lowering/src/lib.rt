@@ -1,6 +1,5 @@
 // The whole pass, bytes to bytes: reads a routine, chooses, measures the output, and writes it.
 mod folds;
-mod numbers;
 
 use eligibility::Settings;
 use form::Bounds;
@@ -14,16 +13,14 @@ ghost use mathlib.Core.Path.{_≡_};
 ghost use mathlib.Core.List.{List};
 ghost use Prim.Native.Nat.{ℕ, _+_, _≤_, _<_};
 ghost use lib.ListN.{length, getD};
-ghost use lib.Seq.{sets};
 ghost use Rattle.wire.specs.WellFormed.{Bytes};
 ghost use Rattle.types.specs.Syntax.{MirType};
 ghost use Rattle.types.specs.Index.{TypesAt};
 ghost use Rattle.types.specs.Encode.{typesBytes};
 ghost use Rattle.rewriting.specs.Run.{rewrittenBlocks};
-ghost use Rattle.rewriting.specs.Outcome.{settingsOf};
 ghost use Rattle.shelf.specs.Answer.{answer as given};
 ghost use Rattle.progress.specs.Effect.{PutLow};
-ghost use Rattle.lowering.specs.Numbers.{numbersOf, inOrder, leaves, Answers};
+ghost use Rattle.lowering.specs.Numbers.{Answers};
 ghost use Rattle.lowering.specs.Tables.{Accepted, Chosen, startAt, Runs, Measured};
 
 // A refusal's number and offset; or the result, the counts, the shelf reason, and how many bytes the rewritten routine has.
@@ -320,24 +317,4 @@ pub fn lower_into(input: &[u8], out: &mut [u8], settings: Settings) -> Answer
             lower_read(input, b, settings, &types, &recorded, &blocks, out)
         }
     }
-}
-
-// The entry for any caller: a flag is on when its number is not 0. For every input and every number, `answer` is given
-// the refusal's number and offset, the result, the five counts, the shelf reason and the length of the rewritten routine, as
-// far as it has room for them; `output` is given the rewritten routine, or stays as it was.
-#[no_mangle]
-pub extern "C" fn lower(
-    input: &[u8],
-    output: &mut [u8],
-    tuples: u64,
-    structs: u64,
-    most: u64,
-    answer: &mut [u64],
-)
-    ensures { λ _. ⌜ now (answer .exit) ≡ sets (now (answer .entry)) 0 (inOrder (numbersOf (given (settingsOf tuples structs most) (length (now (output .entry))) (now (input .entry))))) ⌝ }
-    ensures { λ _. ⌜ now (output .exit) ≡ leaves (given (settingsOf tuples structs most) (length (now (output .entry))) (now (input .entry))) (now (output .entry)) ⌝ }
-{
-    let settings = numbers::settings_of(tuples, structs, most);
-    let a = lower_into(input, output, settings);
-    numbers::put_answer(answer, a);
 }

@@ -62,7 +62,7 @@ fn replayed(row: &[u8], input: &[u8], told: &[u8], bytes: &[u8], out: &mut [u8])
     let tuples = wire::byte_at(row, 0) as u64;
     let structs = wire::byte_at(row, 1) as u64;
     let most = wire::byte_at(row, 2) as u64;
-    lowering::lower(input, out, tuples, structs, most, &mut answer);
+    pass::lower(input, out, tuples, structs, most, &mut answer);
     if !same_numbers(&answer, told) {
         return false;
     }

@@ -1,6 +1,6 @@
 use borrow.Author.Needs.{needs}
-use Rattle.lowering.proofs.numbers.put_number.Statement.{statement}
-use Rattle.lowering.proofs.numbers.put_number.Tie as tie
+use Rattle.pass.proofs.numbers.put_number.Statement.{statement}
+use Rattle.pass.proofs.numbers.put_number.Tie as tie
 use mathlib.Core.Path.{sym}
 use lib.Seq.{set-out}
 

@@ -1,7 +1,7 @@
-use Rattle.lowering.proofs.Stored.{answered, flagged}
+use Rattle.pass.proofs.Stored.{answered, flagged}
 use borrow.Author.Needs.{needs}
-use Rattle.lowering.proofs.numbers.put_answer.Statement.{statement}
-use Rattle.lowering.proofs.numbers.put_answer.Tie as tie
+use Rattle.pass.proofs.numbers.put_answer.Statement.{statement}
+use Rattle.pass.proofs.numbers.put_answer.Tie as tie
 
 enum-known-a : tie.Need-enum-known-a
 enum-known-a c = search needs

@@ -1,6 +1,6 @@
 // The numbers that the entry takes and gives.
-use crate::Answer;
 use eligibility::Settings;
+use lowering::Answer;
 use rewriting::Counts;
 ghost use mathlib.Core.Path.{_≡_};
 ghost use mathlib.Core.List.{List};
@@ -10,7 +10,8 @@ ghost use lib.Seq.{sets};
 ghost use Rattle.wire.specs.Value.{boolByte};
 ghost use Rattle.rewriting.specs.Outcome.{settingsOf};
 ghost use Rattle.shelf.specs.Answer.{answer as given};
-ghost use Rattle.lowering.specs.Numbers.{asAnswer, inOrder};
+ghost use Rattle.lowering.specs.Numbers.{asAnswer};
+ghost use Rattle.pass.specs.Promise.{inOrder};
 
 // The setting most: all numbers above 16 are refused alike.
 fn most_of(most: u64) -> u8

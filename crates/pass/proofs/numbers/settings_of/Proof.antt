@@ -1,7 +1,7 @@
 use borrow.Author.Needs.{needs}
-use Rattle.lowering.proofs.numbers.settings_of.Statement.{statement}
-use Rattle.lowering.proofs.numbers.settings_of.Tie as tie
-use Rattle.lowering.proofs.Answered.{same-settings}
+use Rattle.pass.proofs.numbers.settings_of.Statement.{statement}
+use Rattle.pass.proofs.numbers.settings_of.Tie as tie
+use Rattle.pass.proofs.Entry.{same-settings}
 
 most-of-requires : tie.Need-most-of-requires
 most-of-requires c κs = search needs

@@ -1,8 +1,8 @@
 use mathlib.Core.Path.{_∙_}
-use Rattle.lowering.proofs.Stored.{ten}
+use Rattle.pass.proofs.Stored.{ten}
 use borrow.Author.Needs.{needs}
-use Rattle.lowering.proofs.numbers.put_numbers.Statement.{statement}
-use Rattle.lowering.proofs.numbers.put_numbers.Tie as tie
+use Rattle.pass.proofs.numbers.put_numbers.Statement.{statement}
+use Rattle.pass.proofs.numbers.put_numbers.Tie as tie
 
 put-number-requires : tie.Need-put-number-requires
 put-number-requires c κs = search needs

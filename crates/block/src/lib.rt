@@ -36,7 +36,7 @@ pub enum BlockRead {
     Refused(Cause, usize),
 }
 
-// The classes of each kind's fields (see form::then_row), in `InstructionKind` order.
+// The classes of each kind's fields (see rows::then_row), in `InstructionKind` order.
 pub const ROWS: [u32; 19] = [
     0x321, // Assign
     0x219, // UnaryOp
@@ -198,7 +198,7 @@ pub fn read_instruction(
         Head::Kind(bits, kind) => {
             let p = then_meta(s, Scan::Used(2, n, late), bits);
             let k = kind as usize;
-            let q = form::then_row(s, p, ROWS[k], peek(s, p), b, seen, buffer);
+            let q = rows::then_row(s, p, ROWS[k], peek(s, p), b, seen, buffer);
             after_kind(q, kind)
         }
     }
@@ -257,7 +257,7 @@ pub fn read_terminator(
         return Scan::Refused(Cause::Undefined, 0);
     }
     let k = kind as usize;
-    form::then_row(
+    rows::then_row(
         s,
         Scan::Used(1, n, late),
         TERMINATOR_ROWS[k],

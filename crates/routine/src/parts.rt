@@ -151,7 +151,7 @@ pub fn parameters_part(s: &[u8], b: Bounds, seen: &mut [bool]) -> Part
     ensures { λ r. ⌜ ParametersRead b (now (s .entry)) (asPart r) (now (seen .entry)) (now (seen .exit)) ⌝ }
 {
     let mut none: [u16; 0] = [0; 0];
-    match form::then_row(s, Scan::Used(0, 0, false), 0xc, 0, b, seen, &mut none) {
+    match rows::then_row(s, Scan::Used(0, 0, false), 0xc, 0, b, seen, &mut none) {
         Scan::Used(n, _, _) => Part::Used(n),
         Scan::Refused(c, o) => Part::Refused(c, o),
     }

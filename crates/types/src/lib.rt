@@ -17,7 +17,7 @@ ghost use Rattle.types.specs.Syntax.{MirType};
 ghost use Rattle.types.specs.Decode.{hasName, newNameOf, structFields, structOf, typeOf, sameBytes, hasType, typesOf};
 ghost use Rattle.types.specs.Index.{namesAt, fieldOf, TypesAt, TypesRead};
 
-// The classes of each kind's fields (see form::then_row), in `MirType` order. A Struct has no row: its names differ.
+// The classes of each kind's fields (see rows::then_row), in `MirType` order. A Struct has no row: its names differ.
 pub const TYPE_ROWS: [u32; 11] = [0x0, 0x0, 0x0, 0xb, 0x0, 0x53, 0x3, 0x3b, 0x0, 0x0, 0x0];
 
 // The name stands among the first `i` of the fields that begin at `from`.
@@ -136,7 +136,7 @@ pub fn read_type(s: &[u8], most: u8, own: u16) -> Part
     let mut seen: [bool; 0] = [false; 0];
     let mut reads: [u16; 0] = [0; 0];
     let k = kind as usize;
-    let p = form::then_row(
+    let p = rows::then_row(
         s,
         Scan::Used(1, 0, false),
         TYPE_ROWS[k],

@@ -1,10 +1,10 @@
 use borrow.Author.Needs.{needs}
-use Rattle.form.proofs.place_at.Statement.{statement}
-use Rattle.form.proofs.place_at.Tie as tie
+use Rattle.rows.proofs.place_at.Statement.{statement}
+use Rattle.rows.proofs.place_at.Tie as tie
 use mathlib.Core.Path.{refl}
 use Rattle.form.specs.Walk.{walkOf}
 use Rattle.form.proofs.Laws.{answer}
 use Rattle.form.proofs.Listing.{place-walked}
 
 base-at-requires : tie.Need-base-at-requires
 base-at-requires c κs = search needs

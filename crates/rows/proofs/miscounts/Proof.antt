@@ -1,6 +1,6 @@
 use borrow.Author.Needs.{needs}
-use Rattle.form.proofs.miscounts.Statement.{statement}
-use Rattle.form.proofs.miscounts.Tie as tie
+use Rattle.rows.proofs.miscounts.Statement.{statement}
+use Rattle.rows.proofs.miscounts.Tie as tie
 
 returns : tie.Need-returns
 returns c = simp (c .before .if1 .taken)

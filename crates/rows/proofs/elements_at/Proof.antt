@@ -1,13 +1,13 @@
-use Rattle.form.proofs.elements_at.Statement.{statement}
-use Rattle.form.proofs.elements_at.Tie as tie
+use Rattle.rows.proofs.elements_at.Statement.{statement}
+use Rattle.rows.proofs.elements_at.Tie as tie
 use borrow.Author.Needs.{needs}
 use Prim.Native.Nat.{_-_, _≤_}
 use mathlib.Core.Path.{_≡_, refl, sym}
 use lib.ListN.{length}
 use Rattle.wire.specs.Parse.{ok, andThen}
 use Rattle.form.specs.Walk.{walkOf, firstOf, secondOf, pairWalk, times}
 use Rattle.form.proofs.Sizes.{size-pair}
 use Rattle.form.proofs.Laws.{Upto, begin, again, done, answer, reach}
 
 abbrev Inv-loop : tie.InvT-loop
 Inv-loop s start p before count k b seen₀ buffer₀ at₀ n₀ late₀ i₀ seen buffer at n late i = (length seen ≡ length seen₀) × (length buffer ≡ length buffer₀) × (at ≤ length s) × Upto (pairWalk b (firstOf k) (secondOf k)) s (andThen s (ok (walkOf seen₀ buffer₀ p before) start) (λ w t. times (pairWalk b (firstOf k) (secondOf k)) count w t)) count i (ok (walkOf seen buffer n late) at)

@@ -1,10 +1,10 @@
 use borrow.Author.Needs.{needs}
-use Rattle.form.proofs.then_row.Statement.{statement}
-use Rattle.form.proofs.then_row.Tie as tie
+use Rattle.rows.proofs.then_row.Statement.{statement}
+use Rattle.rows.proofs.then_row.Tie as tie
 use native.Mathlib.Omega.{arith}
 use Rattle.form.specs.Walk.{walkOf, rowWalk}
 use Rattle.form.proofs.Laws.{passed, within}
 use Rattle.form.proofs.Sizes.{size-row}
 
 enum-known-p : tie.Need-enum-known-p
 enum-known-p c = search needs

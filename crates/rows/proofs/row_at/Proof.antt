@@ -1,14 +1,14 @@
-use Rattle.form.proofs.row_at.Statement.{statement}
-use Rattle.form.proofs.row_at.Tie as tie
+use Rattle.rows.proofs.row_at.Statement.{statement}
+use Rattle.rows.proofs.row_at.Tie as tie
 use borrow.Author.Needs.{needs}
 use Prim.Native.Nat.{_≤_, _%_, zero-le}
 use mathlib.Core.Path.{_≡_, refl, sym}
 use lib.ListN.{length}
 use Rattle.wire.specs.Parse.{ok}
 use Rattle.form.specs.Walk.{walkOf, fieldWalk, rowWalk}
 use Rattle.form.proofs.Sizes.{size-field}
 use Rattle.form.proofs.Laws.{answer, reach}
 use Rattle.form.proofs.Fields.{Row, row-begin, row-again, row-done}
 
 abbrev Inv-loop : tie.InvT-loop
 Inv-loop s p before row many b seen₀ buffer₀ at₀ n₀ late₀ left₀ seen buffer at n late left = (length seen ≡ length seen₀) × (length buffer ≡ length buffer₀) × (at ≤ length s) × Row b many s (rowWalk b many 5 row (walkOf seen₀ buffer₀ p before) s) left (ok (walkOf seen buffer n late) at)

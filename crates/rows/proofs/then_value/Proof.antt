@@ -1,6 +1,6 @@
 use borrow.Author.Needs.{needs}
-use Rattle.form.proofs.then_value.Statement.{statement}
-use Rattle.form.proofs.then_value.Tie as tie
+use Rattle.rows.proofs.then_value.Statement.{statement}
+use Rattle.rows.proofs.then_value.Tie as tie
 
 enum-known-p : tie.Need-enum-known-p
 enum-known-p c = search needs

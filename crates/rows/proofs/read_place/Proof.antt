@@ -1,7 +1,7 @@
 use borrow.Author.Needs.{needs}
-use Rattle.form.proofs.read_place.Statement.{statement}
-use Rattle.form.proofs.read_place.Tie as tie
+use Rattle.rows.proofs.read_place.Statement.{statement}
+use Rattle.rows.proofs.read_place.Tie as tie
 use Rattle.form.proofs.Place.{place-marks}
 
 slice-aggregate-place-at : tie.Need-slice-aggregate-place-at
 slice-aggregate-place-at c = search needs

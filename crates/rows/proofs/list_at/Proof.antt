@@ -1,10 +1,10 @@
 use borrow.Author.Needs.{needs}
-use Rattle.form.proofs.list_at.Statement.{statement}
-use Rattle.form.proofs.list_at.Tie as tie
+use Rattle.rows.proofs.list_at.Statement.{statement}
+use Rattle.rows.proofs.list_at.Tie as tie
 use mathlib.Core.Path.{_∙_, sym}
 use borrow.Author.Tests.{not-true, not-false}
 use Rattle.form.specs.Walk.{walkOf, firstOf, secondOf}
 use Rattle.form.proofs.Listing.{no-count, count-past, count-other, elements}
 
 returns : tie.Need-returns
 returns c = let a = c .before .before .before .before .args in no-count (a .b) (a .l) (firstOf (a .k)) (secondOf (a .k)) (walkOf (a .seen .now) (a .buffer .now) (a .n) (a .late)) (a .s .now) (a .at) (c .if1 .taken)

@@ -1,10 +1,10 @@
 use borrow.Author.Needs.{needs}
-use Rattle.form.proofs.field_at.Statement.{statement}
-use Rattle.form.proofs.field_at.Tie as tie
+use Rattle.rows.proofs.field_at.Statement.{statement}
+use Rattle.rows.proofs.field_at.Tie as tie
 use Prim.Native.Nat.{zero-le}
 use native.Mathlib.Nat.{add-zero}
 use Rattle.form.specs.Walk.{fieldWalk, simpleWalk}
 use Rattle.form.proofs.Numbers.{above}
 
 defined-at-requires : tie.Need-defined-at-requires
 defined-at-requires c κs = search needs

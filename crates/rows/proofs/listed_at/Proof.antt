@@ -1,13 +1,13 @@
 use borrow.Author.Needs.{needs}
-use Rattle.form.proofs.listed_at.Statement.{statement}
-use Rattle.form.proofs.listed_at.Tie as tie
+use Rattle.rows.proofs.listed_at.Statement.{statement}
+use Rattle.rows.proofs.listed_at.Tie as tie
 use Prim.Native.Nat.{_+_, _-_, _<_}
 use mathlib.Core.Path.{_≡_, ap, _∙_}
 use native.Mathlib.Omega.{arith}
 use lib.ListN.{drop}
 use Rattle.wire.specs.Parse.{later}
 use Rattle.form.specs.Walk.{walkOf}
 use Rattle.form.proofs.Fields.{listed}
 
 sub-list-at : tie.Need-sub-list-at
 sub-list-at c = search needs

@@ -1,15 +1,15 @@
 use borrow.Author.Needs.{needs}
-use Rattle.form.proofs.element_at.Statement.{statement}
-use Rattle.form.proofs.element_at.Tie as tie
+use Rattle.rows.proofs.element_at.Statement.{statement}
+use Rattle.rows.proofs.element_at.Tie as tie
 use Prim.Native.Nat.{zero-le}
 use mathlib.Core.Path.{ap, _∙_}
 use Rattle.wire.specs.Parse.{later}
 use Rattle.wire.proofs.Laws.{and-nothing}
 use lib.ListN.{drop}
 use Rattle.form.specs.Walk.{walkOf, atomWalk, simpleWalk}
 use Rattle.form.proofs.Laws.{and-later}
 use Rattle.form.proofs.Numbers.{above}
 use Rattle.form.proofs.Atom.{projections}
 
 value-at-requires : tie.Need-value-at-requires
 value-at-requires c κs = search needs

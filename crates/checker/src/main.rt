@@ -1,7 +1,7 @@
 // Says whether the bytes on standard input are a routine: 'accepted', or 'refused', the number and the offset.
 fn show(input: &[u8]) {
     let mut offset: u64 = 0;
-    let number = routine::check(input, &mut offset);
+    let number = reading::check(input, &mut offset);
     if number == 0 {
         io::write_all(1, b"accepted\n");
         return;

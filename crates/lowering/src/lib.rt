@@ -304,7 +304,7 @@ pub fn lower_into(input: &[u8], out: &mut [u8], settings: Settings) -> Answer
     let mut types: [usize; 65] = [0; 65];
     let mut recorded: [u16; 256] = [0; 256];
     let mut blocks: [usize; 33] = [0; 33];
-    match routine::read_routine(
+    match reading::read_routine(
         input,
         routine::MOSTS,
         &mut types,

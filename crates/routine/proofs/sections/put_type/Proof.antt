@@ -1,6 +1,6 @@
 use borrow.Author.Needs.{needs}
-use Rattle.routine.proofs.parts.put_type.Statement.{statement}
-use Rattle.routine.proofs.parts.put_type.Tie as tie
+use Rattle.routine.proofs.sections.put_type.Statement.{statement}
+use Rattle.routine.proofs.sections.put_type.Tie as tie
 use mathlib.Core.Path.{sym}
 use lib.Seq.{set-out}
 

@@ -1,8 +1,8 @@
 use borrow.Author.Needs.{needs}
-use Rattle.routine.proofs.read_routine.Statement.{statement}
-use Rattle.routine.proofs.read_routine.Tie as tie
+use Rattle.reading.proofs.read_routine.Statement.{statement}
+use Rattle.reading.proofs.read_routine.Tie as tie
 use native.Mathlib.Omega.{arith}
 use Rattle.routine.proofs.Whole.{tabled, fitted, sizes-size, whole-types, whole-sizes, whole-body}
 
 read-types-requires : tie.Need-read-types-requires
 read-types-requires c κs = search needs

@@ -1,9 +1,9 @@
 use borrow.Author.Needs.{needs}
-use Rattle.routine.proofs.check.Statement.{statement}
-use Rattle.routine.proofs.check.Tie as tie
+use Rattle.reading.proofs.check.Statement.{statement}
+use Rattle.reading.proofs.check.Tie as tie
 use lib.ListN.{length}
 use Rattle.routine.specs.Decode.{mosts, wholeOf}
 use Rattle.routine.proofs.Whole.{verdict-of}
 
 slice-aggregate-read-routine : tie.Need-slice-aggregate-read-routine
 slice-aggregate-read-routine c = search needs

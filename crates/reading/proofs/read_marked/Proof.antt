@@ -1,10 +1,10 @@
 use borrow.Author.Needs.{needs}
-use Rattle.routine.proofs.read_marked.Statement.{statement}
-use Rattle.routine.proofs.read_marked.Tie as tie
+use Rattle.reading.proofs.read_marked.Statement.{statement}
+use Rattle.reading.proofs.read_marked.Tie as tie
 use Prim.Native.Nat.{_+_}
 use mathlib.Core.Path.{refl}
 use native.Mathlib.Omega.{arith}
 use Rattle.routine.proofs.Body.{marked, parameters-size, mapped, map-size, typed, coded, body-parameters, body-map, body-types, body-code, body-trailing, body-accepted}
 
 sub-parameters-part : tie.Need-sub-parameters-part
 sub-parameters-part c = search needs

@@ -1,6 +1,6 @@
 use borrow.Author.Needs.{needs}
-use Rattle.routine.proofs.parts.parameters_part.Statement.{statement}
-use Rattle.routine.proofs.parts.parameters_part.Tie as tie
+use Rattle.routine.proofs.sections.parameters_part.Statement.{statement}
+use Rattle.routine.proofs.sections.parameters_part.Tie as tie
 use mathlib.Core.Path.{ap}
 use Rattle.form.specs.Walk.{asScan}
 use Rattle.routine.proofs.Parameters.{parameters-bad, parameters-some}

@@ -1,5 +1,5 @@
-use Rattle.routine.proofs.parts.blocks_part.Statement.{statement}
-use Rattle.routine.proofs.parts.blocks_part.Tie as tie
+use Rattle.routine.proofs.sections.blocks_part.Statement.{statement}
+use Rattle.routine.proofs.sections.blocks_part.Tie as tie
 use borrow.Author.Needs.{needs}
 use Prim.Native.Nat.{_-_}
 use mathlib.Core.Path.{_∙_}

@@ -1,6 +1,6 @@
 use borrow.Author.Needs.{needs}
-use Rattle.routine.proofs.parts.recorded_one.Statement.{statement}
-use Rattle.routine.proofs.parts.recorded_one.Tie as tie
+use Rattle.routine.proofs.sections.recorded_one.Statement.{statement}
+use Rattle.routine.proofs.sections.recorded_one.Tie as tie
 use mathlib.Core.Path.{sym, _∙_}
 use native.Mathlib.Omega.{arith}
 use borrow.Author.Tests.{not-true, not-false}

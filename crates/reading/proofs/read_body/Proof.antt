@@ -1,7 +1,7 @@
 use borrow.Author.Needs.{needs}
-use Rattle.routine.proofs.read_body.Statement.{statement}
-use Rattle.routine.proofs.read_body.Tie as tie
+use Rattle.reading.proofs.read_body.Statement.{statement}
+use Rattle.reading.proofs.read_body.Tie as tie
 use Rattle.routine.proofs.Body.{none-marked}
 
 cast-n : tie.Need-cast-n
 cast-n c = search needs

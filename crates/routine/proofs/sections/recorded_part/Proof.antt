@@ -1,5 +1,5 @@
-use Rattle.routine.proofs.parts.recorded_part.Statement.{statement}
-use Rattle.routine.proofs.parts.recorded_part.Tie as tie
+use Rattle.routine.proofs.sections.recorded_part.Statement.{statement}
+use Rattle.routine.proofs.sections.recorded_part.Tie as tie
 use borrow.Author.Needs.{needs}
 use Prim.Native.Nat.{_-_}
 use lib.ListN.{drop}

@@ -1,6 +1,6 @@
 use borrow.Author.Needs.{needs}
-use Rattle.routine.proofs.parts.read_sizes.Statement.{statement}
-use Rattle.routine.proofs.parts.read_sizes.Tie as tie
+use Rattle.routine.proofs.sections.read_sizes.Statement.{statement}
+use Rattle.routine.proofs.sections.read_sizes.Tie as tie
 use Prim.Native.Nat.{zero-le}
 use mathlib.Core.Path.{refl, ap}
 use native.Mathlib.Omega.{arith}

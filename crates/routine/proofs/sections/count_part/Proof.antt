@@ -1,6 +1,6 @@
 use borrow.Author.Needs.{needs}
-use Rattle.routine.proofs.parts.count_part.Statement.{statement}
-use Rattle.routine.proofs.parts.count_part.Tie as tie
+use Rattle.routine.proofs.sections.count_part.Statement.{statement}
+use Rattle.routine.proofs.sections.count_part.Tie as tie
 use borrow.Author.Tests.{lt-leb, le-leb}
 
 read-u16-requires : tie.Need-read-u16-requires

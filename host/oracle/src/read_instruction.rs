@@ -10,12 +10,15 @@ pub struct Reader<'a> {
     types: usize,
     next: usize,
     blocks: usize,
-    defined: [bool; most::NEXT_VALUE],
+    defined: [u8; MAP],
 }
+
+/// How many bytes a bit for each value takes.
+const MAP: usize = Mosts::OUTPUT.next_value.div_ceil(8);
 
 impl<'a> Reader<'a> {
     pub fn new(cursor: Cursor<'a>, types: usize, next: usize, blocks: usize) -> Self {
-        Self { cursor, types, next, blocks, defined: [false; most::NEXT_VALUE] }
+        Self { cursor, types, next, blocks, defined: [0; MAP] }
     }
 
     /// "lists u8 count first", 16 at most.
@@ -65,18 +68,18 @@ impl<'a> Reader<'a> {
     pub fn dest(&mut self) -> Read<ValueNo> {
         let at = self.cursor.at;
         let value = self.value_number()?;
-        let mark = &mut self.defined[value.index()];
-        if *mark {
+        let (byte, bit) = (&mut self.defined[value.index() / 8], 1 << (value.index() % 8));
+        if *byte & bit != 0 {
             return refuse(cause::TWICE_VALUE, at);
         }
-        *mark = true;
+        *byte |= bit;
         Ok(value)
     }
 
     /// "a bit map of next-value bits (value v is bit v mod 8 of byte v div 8, low bit first, spare
     /// bits 0), then a u16 type for each set bit, rising".
     pub fn recorded(&mut self, next: usize) -> Read<Vec<Option<TypeNo>>> {
-        let mut map = [0u8; most::NEXT_VALUE / 8];
+        let mut map = [0u8; MAP];
         let map = &mut map[..next.div_ceil(8)];
         for (place, byte) in map.iter_mut().enumerate() {
             let at = self.cursor.at;

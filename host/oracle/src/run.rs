@@ -9,7 +9,7 @@ use mir::passes::MirPass;
 use mir::MirFunction;
 
 use crate::cursor::{cause, Refusal};
-use crate::form::Routine;
+use crate::form::{Mosts, Routine};
 use crate::from_mir::routine_of;
 use crate::read::read;
 use crate::to_mir::function_of;
@@ -85,15 +85,16 @@ pub struct Lowered {
 }
 
 /// What the Rust makes of a routine; nothing where an array rebuild met another count.
-pub fn run_routine(routine: Routine, settings: Settings) -> Option<Lowered> {
-    let table = TypeTable::new(&routine.types);
+pub fn run_routine(mut routine: Routine, settings: Settings) -> Option<Lowered> {
+    let mut table = TypeTable::new(std::mem::take(&mut routine.types));
     let mut function = function_of(&routine, &table);
     let (result, counts) = run_pass(&mut function, settings)?;
-    Some(Lowered { result, counts, routine: routine_of(function, routine.types, &table) })
+    let routine = routine_of(&function, &mut table, &Mosts::OUTPUT);
+    Some(Lowered { result, counts, routine: routine.expect("no output passes the lifted mosts") })
 }
 
 /// Runs `MirPass::run`; nothing where an array rebuild met another count.
-fn run_pass(function: &mut MirFunction, settings: Settings) -> Option<(bool, Counts)> {
+pub fn run_pass(function: &mut MirFunction, settings: Settings) -> Option<(bool, Counts)> {
     let mut pass = ScalarReplacementOfAggregates::with_config(Config {
         enable_tuples: settings.enable_tuples != 0,
         enable_structs: settings.enable_structs != 0,

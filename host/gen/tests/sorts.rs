@@ -41,7 +41,7 @@ fn outputs_are_read_back() {
     let mut passed = 0;
     for (sort, count) in [(Sort::Typed, 500), (Sort::Wild, 500), (Sort::Near, 400)] {
         for routine in routines(sort, count) {
-            if let Some(lowered) = run_routine(routine, Settings::default()) {
+            if let Ok(lowered) = run_routine(routine, Settings::default()) {
                 let bytes = write(&lowered.routine);
                 passed += u64::from(read(&bytes).is_err());
                 assert_eq!(read_output(&bytes), Ok(lowered.routine));

@@ -23,7 +23,8 @@ pub use from_mir::{list, routine_of};
 pub use hex::{from_hex, to_hex};
 pub use read::{read, read_output};
 pub use run::{
-    run_oracle, run_pass, run_routine, Counts, Lowered, Outcome, Settings, COUNT_NAMES, LENT,
+    admitted, run_oracle, run_pass, run_routine, Counts, Lowered, Outcome, Settings, COUNT_NAMES,
+    LENT,
 };
 pub use spelling::{Numbering, Spelling};
 pub use to_mir::{fill_block, function_of, type_of};

@@ -5,6 +5,7 @@ mod bench;
 mod bench_lower;
 mod check_diff;
 mod coverage;
+mod examples;
 mod histogram;
 mod judged;
 mod lower_diff;
@@ -31,6 +32,7 @@ const USAGE: &str = "usage: driver COMMAND [--NAME VALUE]...
   runs        --count N --seed S                 original and rewritten routine on the machine
   store       --count N --seed S --times N --to FILE
                                                  stored answers for the program `replay`
+  examples    --to FOLDER                        the made routines of the folder examples/
   run         --hex HEX [--tuples N] [--structs N] [--max N] [--lent N]
                                                  what the Rust makes of one input
 sorts: typed, wild, near, damaged, bytes; without one, a mix of all";
@@ -83,6 +85,7 @@ fn dispatch(command: &str, args: &Args) -> Result<bool, String> {
         "bench-lower" => bench_lower::command(args, LOWER),
         "runs" => runs::command(args),
         "store" => store::command(args),
+        "examples" => examples::command(args),
         "run" => one::command(args),
         _ => Err(USAGE.to_string()),
     }

@@ -23,7 +23,7 @@ pub fn command(args: &Args) -> Result<bool, String> {
 
 /// "result, five counts in `Stats` order, shelf reason, in decimal with single blanks; on the next
 /// line the routine in lower-case hexadecimal. For a refusal, one line: `refused`, number, offset."
-fn printed(judged: &Judged, lent: usize) -> String {
+pub fn printed(judged: &Judged, lent: usize) -> String {
     match judged.within(lent) {
         ([0, _, numbers @ .., _], output) => {
             format!("{}\n{}\n", numbers.map(|n| n.to_string()).join(" "), to_hex(output))

@@ -201,16 +201,29 @@ impl<'a> Reader<'a> {
     fn aggregate_kind(&mut self, kind: u8, is_const: bool) -> Read<Kind> {
         Ok(match kind {
             10 => Kind::MakeTuple { dest: self.dest()?, elements: self.list(Self::value)? },
+            12 => Kind::MakeStruct {
+                dest: self.dest()?,
+                fields: self.list(|r| Ok((r.name()?, r.value()?)))?,
+                struct_ty: self.ty()?,
+            },
+            MAKE_FIXED_ARRAY => Kind::MakeFixedArray {
+                dest: self.dest()?,
+                elements: self.list(Self::value)?,
+                element_ty: self.ty()?,
+                is_const,
+            },
+            _ => self.part_kind(kind)?,
+        })
+    }
+
+    /// The kinds 11 and 13 to 15, which read or change one part.
+    fn part_kind(&mut self, kind: u8) -> Read<Kind> {
+        Ok(match kind {
             11 => Kind::ExtractTupleElement {
                 dest: self.dest()?,
                 tuple: self.value()?,
                 index: self.cursor.u32()?,
                 element_ty: self.ty()?,
-            },
-            12 => Kind::MakeStruct {
-                dest: self.dest()?,
-                fields: self.list(|r| Ok((r.name()?, r.value()?)))?,
-                struct_ty: self.ty()?,
             },
             13 => Kind::ExtractStructField {
                 dest: self.dest()?,
@@ -225,19 +238,13 @@ impl<'a> Reader<'a> {
                 new_value: self.value()?,
                 struct_ty: self.ty()?,
             }),
-            15 => Kind::InsertTuple(InsertTuple {
+            _ => Kind::InsertTuple(InsertTuple {
                 dest: self.dest()?,
                 tuple_val: self.value()?,
                 index: self.cursor.u32()?,
                 new_value: self.value()?,
                 tuple_ty: self.ty()?,
             }),
-            _ => Kind::MakeFixedArray {
-                dest: self.dest()?,
-                elements: self.list(Self::value)?,
-                element_ty: self.ty()?,
-                is_const,
-            },
         })
     }
 

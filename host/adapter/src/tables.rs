@@ -3,23 +3,23 @@
 
 use std::borrow::Borrow;
 use std::cell::Cell;
-use std::collections::HashMap;
 use std::hash::Hash;
 
 use mir::{FunctionId, MirType};
 use oracle::form::{most, NameNo, Type, TypeNo};
 use oracle::{hold, list, long, short, Fits, Numbering, Spelling, What};
+use rustc_hash::FxHashMap;
 
 /// Things by number, each once.
 #[derive(Debug)]
 struct Numbered<T> {
     things: Vec<T>,
-    numbers: HashMap<T, usize>,
+    numbers: FxHashMap<T, usize>,
 }
 
 impl<T> Default for Numbered<T> {
     fn default() -> Self {
-        Self { things: Vec::new(), numbers: HashMap::new() }
+        Self { things: Vec::new(), numbers: FxHashMap::default() }
     }
 }
 
@@ -43,9 +43,10 @@ impl<T: Clone + Eq + Hash> Numbered<T> {
 /// The tables of one function.
 #[derive(Debug, Default)]
 pub struct Tables {
-    rows: Numbered<Type>,
-    /// The whole type of each row.
-    types: Vec<MirType>,
+    /// Whole types: equal ones have one number.
+    types: Numbered<MirType>,
+    /// The row of each.
+    rows: Vec<Type>,
     names: Numbered<String>,
     callees: Numbered<FunctionId>,
     messages: Numbered<String>,
@@ -53,39 +54,34 @@ pub struct Tables {
 }
 
 impl Tables {
-    /// The number of a type that stands `depth` types deep. Its parts have lower numbers, and it is
-    /// compared by its row: equal types have one.
-    fn nested(&mut self, ty: &MirType, depth: usize) -> Fits<TypeNo> {
-        // Each type on the way down is a row of its own.
-        hold(What::Types, depth, most::TYPES)?;
-        let row = self.row(ty, depth + 1)?;
-        let number = self.rows.number(&row);
-        hold(What::Types, number + 1, most::TYPES)?;
-        if number == self.types.len() {
-            self.types.push(ty.clone());
+    /// The number of a type, whose parts have lower ones.
+    fn nested(&mut self, ty: &MirType) -> Fits<TypeNo> {
+        if let Some(number) = self.types.numbers.get(ty) {
+            return short(*number).map(TypeNo);
         }
-        short(number).map(TypeNo)
+        let row = self.row(ty)?;
+        hold(What::Types, self.rows.len() + 1, most::TYPES)?;
+        self.rows.push(row);
+        short(self.types.number(ty)).map(TypeNo)
     }
 
-    fn row(&mut self, ty: &MirType, depth: usize) -> Fits<Type> {
+    fn row(&mut self, ty: &MirType) -> Fits<Type> {
         Ok(match ty {
             MirType::Felt => Type::Felt,
             MirType::Bool => Type::Bool,
             MirType::U32 => Type::U32,
-            MirType::Tuple(parts) => Type::Tuple(list(parts, |part| self.nested(part, depth))?),
+            MirType::Tuple(parts) => Type::Tuple(list(parts, |part| self.nested(part))?),
             MirType::Struct { name, fields } => Type::Struct {
                 name: self.name(name)?,
-                fields: list(fields, |(name, part)| {
-                    Ok((self.name(name)?, self.nested(part, depth)?))
-                })?,
+                fields: list(fields, |(name, part)| Ok((self.name(name)?, self.nested(part)?)))?,
             },
             MirType::FixedArray { element_type, size } => {
-                Type::FixedArray { element: self.nested(element_type, depth)?, size: long(*size)? }
+                Type::FixedArray { element: self.nested(element_type)?, size: long(*size)? }
             }
-            MirType::Pointer { element } => Type::Pointer(self.nested(element, depth)?),
+            MirType::Pointer { element } => Type::Pointer(self.nested(element)?),
             MirType::Function { params, return_type } => Type::Function {
-                params: list(params, |part| self.nested(part, depth))?,
-                result: self.nested(return_type, depth)?,
+                params: list(params, |part| self.nested(part))?,
+                result: self.nested(return_type)?,
             },
             MirType::Unit => Type::Unit,
             MirType::Error => Type::Error,
@@ -96,11 +92,13 @@ impl Tables {
 
 impl Numbering for Tables {
     fn ty(&mut self, ty: &MirType) -> Fits<TypeNo> {
-        self.nested(ty, 1)
+        // Each type on the way down is another one, and has a row of its own.
+        hold(What::Types, depth(ty, most::TYPES), most::TYPES)?;
+        self.nested(ty)
     }
 
     fn types(&mut self) -> Vec<Type> {
-        self.rows.things.clone()
+        self.rows.clone()
     }
 
     fn name(&mut self, name: &str) -> Fits<NameNo> {
@@ -118,6 +116,26 @@ impl Numbering for Tables {
     fn comment(&mut self, comment: &str) -> Fits<u32> {
         long(self.comments.number(comment))
     }
+}
+
+/// How many types stand in one another; not more than one above the `most`, however deep it is.
+fn depth(ty: &MirType, most: usize) -> usize {
+    let Some(most) = most.checked_sub(1) else {
+        return 1;
+    };
+    let deepest = |parts: &[MirType]| parts.iter().map(|part| depth(part, most)).max();
+    let parts = match ty {
+        MirType::Tuple(parts) => deepest(parts),
+        MirType::Struct { fields, .. } => fields.iter().map(|(_, part)| depth(part, most)).max(),
+        MirType::FixedArray { element_type: part, .. } | MirType::Pointer { element: part } => {
+            Some(depth(part, most))
+        }
+        MirType::Function { params, return_type } => {
+            deepest(params).max(Some(depth(return_type, most)))
+        }
+        _ => None,
+    };
+    1 + parts.unwrap_or(0)
 }
 
 /// The tables read back; a number that is in none of them is marked.
@@ -146,7 +164,7 @@ impl<'a> Spelled<'a> {
 
 impl Spelling for Spelled<'_> {
     fn ty(&self, ty: TypeNo) -> MirType {
-        self.thing(&self.tables.types, ty.index(), MirType::error)
+        self.thing(&self.tables.types.things, ty.index(), MirType::error)
     }
 
     fn name(&self, name: NameNo) -> String {

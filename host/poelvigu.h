@@ -1,5 +1,5 @@
-/* The entries of the proved static libraries, for C: link libroutine.a for `check`, liblowering.a for `lower`
- * (`rt staticlib routine`, `rt staticlib lowering` in the repository's root write them to target/staticlib). */
+/* The entries of the proved static libraries, for C: link libreading.a for `check`, libpass.a for `lower`
+ * (`rt staticlib reading`, `rt staticlib pass` in the repository's root write them to target/staticlib). */
 #ifndef POELVIGU_H
 #define POELVIGU_H
 

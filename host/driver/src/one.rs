@@ -1,8 +1,9 @@
 //! What the Rust makes of one input.
 
-use oracle::{from_hex, read, run_oracle, run_routine, to_hex, Outcome, Settings, LENT};
+use oracle::{from_hex, to_hex, Settings, LENT};
 
 use crate::args::Args;
+use crate::judged::Judged;
 
 /// Prints as document 01's program does.
 pub fn command(args: &Args) -> Result<bool, String> {
@@ -16,28 +17,18 @@ pub fn command(args: &Args) -> Result<bool, String> {
         max_aggregate_size: args.number("max", usual.max_aggregate_size)?,
     };
     let lent = args.number("lent", LENT as u64)? as usize;
-    let outcome = run_oracle(&input, settings, lent);
-    print!("{}", printed(&outcome, || reason(&input, settings)));
+    print!("{}", printed(&Judged::of(&input, settings), lent));
     Ok(true)
-}
-
-/// The shelf reason of an input that the Rust rewrites.
-fn reason(input: &[u8], settings: Settings) -> u8 {
-    let original = read(input).expect("it was read before");
-    let lowered = run_routine(original.clone(), settings).expect("it was rewritten before");
-    let dropped = shelf::dropped(&original, &lowered.routine);
-    shelf::reason(&original, &lowered.routine, &dropped)
 }
 
 /// "result, five counts in `Stats` order, shelf reason, in decimal with single blanks; on the next
 /// line the routine in lower-case hexadecimal. For a refusal, one line: `refused`, number, offset."
-fn printed(outcome: &Outcome, reason: impl Fn() -> u8) -> String {
-    match outcome {
-        Outcome::Refused(refusal) => format!("{refusal}\n"),
-        Outcome::Lowered { result, counts, output } => {
-            let counts: String = counts.iter().map(|n| format!(" {n}")).collect();
-            format!("{}{counts} {}\n{}\n", u8::from(*result), reason(), to_hex(output))
+pub fn printed(judged: &Judged, lent: usize) -> String {
+    match judged.within(lent) {
+        ([0, _, numbers @ .., _], output) => {
+            format!("{}\n{}\n", numbers.map(|n| n.to_string()).join(" "), to_hex(output))
         }
+        ([number, offset, ..], _) => format!("refused {number} {offset}\n"),
     }
 }
 
@@ -48,8 +39,7 @@ mod tests {
 
     fn prints(hex: &str) -> String {
         let input = from_hex(hex).unwrap();
-        let settings = Settings::default();
-        printed(&run_oracle(&input, settings, LENT), || reason(&input, settings))
+        printed(&Judged::of(&input, Settings::default()), LENT)
     }
 
     #[test]

@@ -4,9 +4,11 @@ use std::collections::BTreeMap;
 
 use gen::Rng;
 use oracle::form::{Kind, Routine, Type};
-use oracle::{read, run_oracle, run_routine, Outcome, Settings, LENT};
+use oracle::{read, Settings, LENT};
 
 use crate::args::Args;
+use crate::judged::Judged;
+use crate::stored;
 
 /// The longest input and output of a row.
 const LONGEST: usize = 700;
@@ -24,17 +26,19 @@ pub fn command(args: &Args) -> Result<bool, String> {
     let mut rows = 0;
     for number in 0..count {
         let (_, input) = gen::input(seed, number, None);
-        let (settings, lent) = circumstances(&mut Rng::of(!seed, number), &input);
-        let outcome = run_oracle(&input, settings, lent);
-        let cases = cases(&input, settings, &outcome);
+        let mut rng = Rng::of(!seed, number);
+        let settings = some_settings(&mut rng);
+        let judged = Judged::of(&input, settings);
+        let lent = some_length(&mut rng, &judged);
+        let cases = cases(&input, settings, &judged, lent);
         let new = cases.iter().any(|case| seen.get(case).copied().unwrap_or(0) < times);
-        if !new || input.len() > LONGEST || size(&outcome) > LONGEST {
+        if !new || input.len() > LONGEST || judged.within(lent).1.len() > LONGEST {
             continue;
         }
         for case in cases {
             *seen.entry(case).or_default() += 1;
         }
-        row(&mut file, &input, settings, lent, &outcome);
+        stored::put(&mut file, &input, settings, lent, &judged);
         rows += 1;
     }
     std::fs::write(to, &file).map_err(|e| format!("{to}: {e}"))?;
@@ -42,38 +46,36 @@ pub fn command(args: &Args) -> Result<bool, String> {
     Ok(true)
 }
 
-/// Settings and lent length: the usual ones as a rule; at times just enough, or one byte less.
-fn circumstances(rng: &mut Rng, input: &[u8]) -> (Settings, usize) {
+/// The usual settings as a rule.
+fn some_settings(rng: &mut Rng) -> Settings {
     let mut settings = Settings::default();
     if rng.chance(30) {
         settings.enable_tuples = rng.below(3) as u64;
         settings.enable_structs = rng.below(3) as u64;
         settings.max_aggregate_size = rng.below(18) as u64;
     }
-    let exact = match run_oracle(input, settings, LENT) {
-        Outcome::Lowered { output, .. } => output.len(),
-        Outcome::Refused(_) => LENT,
-    };
-    match rng.below(20) {
-        0 => (settings, exact),
-        1 => (settings, exact.saturating_sub(1)),
-        _ => (settings, LENT),
-    }
+    settings
 }
 
-fn size(outcome: &Outcome) -> usize {
-    match outcome {
-        Outcome::Refused(_) => 0,
-        Outcome::Lowered { output, .. } => output.len(),
+/// What the program lends as a rule; at times just enough, or one byte less.
+fn some_length(rng: &mut Rng, judged: &Judged) -> usize {
+    let exact = match judged.within(LENT) {
+        ([0, ..], output) => output.len(),
+        _ => LENT,
+    };
+    match rng.below(20) {
+        0 => exact,
+        1 => exact.saturating_sub(1),
+        _ => LENT,
     }
 }
 
 /// What a row shows, by name.
-fn cases(input: &[u8], settings: Settings, outcome: &Outcome) -> Vec<String> {
-    let Outcome::Lowered { result, counts, output } = outcome else {
-        let Outcome::Refused(refusal) = outcome else { unreachable!() };
-        return vec![format!("refused {}", refusal.number)];
-    };
+fn cases(input: &[u8], settings: Settings, judged: &Judged, lent: usize) -> Vec<String> {
+    let ([number, _, result, counts @ .., reason, _], output) = judged.within(lent);
+    if number != 0 {
+        return vec![format!("refused {number}")];
+    }
     let mut cases = vec![format!("result {result}")];
     cases.extend(counts.iter().enumerate().map(|(at, n)| format!("count {at} {}", n.min(&3))));
     let Settings { enable_tuples, enable_structs, max_aggregate_size } = settings;
@@ -83,7 +85,7 @@ fn cases(input: &[u8], settings: Settings, outcome: &Outcome) -> Vec<String> {
     let (Ok(before), Ok(after)) = (read(input), read(output)) else {
         return cases;
     };
-    cases.push(format!("reason {}", reason(input, settings)));
+    cases.push(format!("reason {reason}"));
     let (was, is) = (kinds(&before), kinds(&after));
     for kind in 0..19 {
         if was[kind] > 0 {
@@ -120,39 +122,4 @@ fn rebuilds(before: &Routine, after: &Routine) -> Vec<String> {
         _ => false,
     });
     types.chain(stored.then(|| "Store of a rebuild".to_string())).collect()
-}
-
-/// The shelf reason of a routine that the pass takes.
-fn reason(input: &[u8], settings: Settings) -> u8 {
-    let before = read(input).expect("the oracle took it");
-    let after = run_routine(before.clone(), settings).expect("the oracle took it").routine;
-    shelf::reason(&before, &after, &shelf::dropped(&before, &after))
-}
-
-/// A row: settings, lent length, input, then the refusal, or result, counts, shelf reason and output.
-fn row(file: &mut Vec<u8>, input: &[u8], settings: Settings, lent: usize, outcome: &Outcome) {
-    let Settings { enable_tuples, enable_structs, max_aggregate_size } = settings;
-    file.extend([enable_tuples, enable_structs, max_aggregate_size].map(|n| n as u8));
-    file.extend((lent as u32).to_le_bytes());
-    file.extend((input.len() as u32).to_le_bytes());
-    file.extend(input);
-    let mut numbers = [0u32; 10];
-    let mut bytes: &[u8] = &[];
-    match outcome {
-        Outcome::Refused(refusal) => {
-            numbers[0] = u32::from(refusal.number);
-            numbers[1] = refusal.offset as u32;
-        }
-        Outcome::Lowered { result, counts, output } => {
-            numbers[2] = u32::from(*result);
-            for (at, count) in counts.iter().enumerate() {
-                numbers[3 + at] = *count as u32;
-            }
-            numbers[8] = u32::from(reason(input, settings));
-            numbers[9] = output.len() as u32;
-            bytes = output;
-        }
-    }
-    file.extend(numbers.iter().flat_map(|n| n.to_le_bytes()));
-    file.extend(bytes);
 }

@@ -40,14 +40,16 @@ struct Churn<'r> {
     scope: Vec<(ValueNo, TypeNo)>,
     /// Arrays that are stored into, and so never become a part.
     loose: Vec<ValueNo>,
+    /// Whether a Store may go into a tuple of an array.
+    deep: bool,
 }
 
-/// A routine of up to `size` instructions.
-pub fn routine(rng: &mut Rng, size: usize) -> Routine {
+/// A routine of up to `size` instructions; where it is `deep`, some Stores have two projections.
+pub fn routine(rng: &mut Rng, size: usize, deep: bool) -> Routine {
     let types = types(rng);
     let blocks = if rng.chance(50) { 1 } else { rng.within(2, 4) };
     let draft = Draft::new(rng, types, most::IN_ALL);
-    let mut churn = Churn { draft, scope: Vec::new(), loose: Vec::new() };
+    let mut churn = Churn { draft, scope: Vec::new(), loose: Vec::new(), deep };
     for _ in 0..churn.draft.rng.below(4) {
         let ty = churn.any_type();
         let parameter = churn.define(ty);
@@ -268,8 +270,12 @@ impl Churn<'_> {
         let Some((base, base_ty)) = self.draft.rng.pick_some(&bases) else {
             return self.make();
         };
-        let projections = vec![self.index(base_ty)];
-        let ty = if base_ty == ROW { FELT } else { FLAT };
+        let mut projections = vec![self.index(base_ty)];
+        let mut ty = if base_ty == ROW { FELT } else { FLAT };
+        if self.deep && ty == FLAT && self.draft.rng.chance(20) {
+            projections.push(Projection::Tuple(0));
+            ty = FELT;
+        }
         let value = self.value(ty);
         self.draft.push(Kind::Store { place: Place { base, projections }, value, ty });
     }

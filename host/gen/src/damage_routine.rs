@@ -140,7 +140,7 @@ fn define_twice(rng: &mut Rng, routine: &mut Routine) {
     let mut values: Vec<ValueNo> = routine.parameters.clone();
     let mut places: Vec<&mut ValueNo> = routine.parameters.iter_mut().collect();
     for instruction in routine.blocks.iter_mut().flat_map(|b| &mut b.instructions) {
-        for dest in dests(&mut instruction.kind) {
+        for dest in instruction.kind.dests_mut() {
             values.push(*dest);
             places.push(dest);
         }
@@ -148,28 +148,6 @@ fn define_twice(rng: &mut Rng, routine: &mut Routine) {
     if values.len() > 1 {
         let (from, to) = (rng.below(values.len()), rng.below(values.len()));
         *places[to] = values[from];
-    }
-}
-
-/// What an instruction defines.
-fn dests(kind: &mut Kind) -> Vec<&mut ValueNo> {
-    match kind {
-        Kind::Call(call) => call.dests.iter_mut().collect(),
-        Kind::InsertField(insert) => vec![&mut insert.dest],
-        Kind::InsertTuple(insert) => vec![&mut insert.dest],
-        Kind::Assign { dest, .. }
-        | Kind::UnaryOp { dest, .. }
-        | Kind::BinaryOp { dest, .. }
-        | Kind::Cast { dest, .. }
-        | Kind::Load { dest, .. }
-        | Kind::Phi { dest, .. }
-        | Kind::MakeTuple { dest, .. }
-        | Kind::ExtractTupleElement { dest, .. }
-        | Kind::MakeStruct { dest, .. }
-        | Kind::ExtractStructField { dest, .. }
-        | Kind::MakeFixedArray { dest, .. }
-        | Kind::HeapAllocCells { dest, .. } => vec![dest],
-        Kind::Store { .. } | Kind::Debug { .. } | Kind::Nop | Kind::AssertEq { .. } => Vec::new(),
     }
 }
 

@@ -116,7 +116,13 @@ pub fn twisted(rng: &mut Rng) -> Vec<u8> {
 /// A well-typed routine that changes a few aggregates again and again, and then shows them.
 pub fn churned(rng: &mut Rng) -> Vec<u8> {
     let size = rng.within(3, 40);
-    oracle::write(&churn::routine(rng, size))
+    oracle::write(&churn::routine(rng, size, false))
+}
+
+/// The same with some Stores into a part of a part, which keeps a routine off the shelf.
+pub fn churned_deep(rng: &mut Rng) -> Vec<u8> {
+    let size = rng.within(3, 40);
+    oracle::write(&churn::routine(rng, size, true))
 }
 
 /// Short rows of bytes, small ones more often, at times behind the beginning of a routine.

@@ -91,7 +91,7 @@ mod tests {
         let stores = |routine: &Routine| {
             routine.instructions().any(|i| matches!(i.kind, Kind::Store { .. }))
         };
-        let made = (0..50).map(|n| churn::routine(&mut Rng::of(1, n), 40)).find(stores);
+        let made = (0..50).map(|n| churn::routine(&mut Rng::of(1, n), 40, false)).find(stores);
         let small = smaller(&made.expect("some routine stores"), stores);
         assert_eq!(small.instructions().count(), 1);
         assert!(small.blocks.iter().all(|b| b.terminator == Terminator::Unreachable));

@@ -103,7 +103,7 @@ fn show(rng: &mut Rng, routine: &mut Routine) {
         return;
     };
     let scalar = [FELT, BOOL, U32].map(Some);
-    let dests = routine.blocks[block].instructions[at].kind.dests();
+    let dests = routine.blocks[block].instructions[at].kind.dests().to_vec();
     if dests.iter().any(|v| !scalar.contains(&routine.recorded_type(*v))) {
         return;
     }

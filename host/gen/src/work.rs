@@ -53,7 +53,7 @@ impl Work {
             Work::Structs => over(rng, rows, 4, size),
             Work::Arrays => over(rng, rows, 7, size),
             Work::Scalars => over(rng, 0, 0, size),
-            Work::Churn => churn::routine(rng, size),
+            Work::Churn => churn::routine(rng, size, false),
             Work::Wild => {
                 let types = tables::any(rng, rows, false);
                 let half = size.min(most::IN_BLOCK);

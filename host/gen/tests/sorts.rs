@@ -1,8 +1,8 @@
 //! Each sort gives what it says: valid routines, and every refusal.
 
 use gen::{input, of_sort, sized, Rng, Sort};
-use oracle::form::{most, Kind, Routine};
-use oracle::{function_of, read, routine_of, write, TypeTable};
+use oracle::form::{most, Kind, Mosts, Routine};
+use oracle::{function_of, read, read_output, routine_of, run_routine, write, Settings, TypeTable};
 
 /// Routines of a sort, read back.
 fn routines(sort: Sort, count: u64) -> impl Iterator<Item = Routine> {
@@ -28,11 +28,27 @@ fn valid_sorts_go_there_and_back() {
             let bytes = of_sort(&mut Rng::of(3, number), sort);
             let routine = read(&bytes).unwrap_or_else(|r| panic!("{} {number}: {r}", sort.name()));
             assert_eq!(write(&routine), bytes);
-            let table = TypeTable::new(&routine.types);
+            let mut table = TypeTable::new(routine.types.clone());
             let function = function_of(&routine, &table);
-            assert_eq!(routine_of(function, routine.types.clone(), &table), routine);
+            assert_eq!(routine_of(&function, &mut table, &Mosts::INPUT), Ok(routine));
         }
     }
+}
+
+/// What the pass leaves is read back, where it passes a most too.
+#[test]
+fn outputs_are_read_back() {
+    let mut passed = 0;
+    for (sort, count) in [(Sort::Typed, 500), (Sort::Wild, 500), (Sort::Near, 400)] {
+        for routine in routines(sort, count) {
+            if let Ok(lowered) = run_routine(routine, Settings::default()) {
+                let bytes = write(&lowered.routine);
+                passed += u64::from(read(&bytes).is_err());
+                assert_eq!(read_output(&bytes), Ok(lowered.routine));
+            }
+        }
+    }
+    assert!(passed > 0);
 }
 
 #[test]

@@ -10,6 +10,7 @@ pub mod basic_block;
 mod ids;
 #[cfg(test)]
 mod module;
+mod next_value;
 pub mod passes;
 mod pretty_print;
 mod value_visitor;

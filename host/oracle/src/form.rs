@@ -45,6 +45,23 @@ pub mod most {
     pub const PROJECTIONS: usize = 8;
 }
 
+/// The mosts that an output may pass; it keeps the others.
+#[derive(Debug, Clone, Copy, PartialEq, Eq)]
+pub struct Mosts {
+    pub next_value: usize,
+    pub in_block: usize,
+    pub in_all: usize,
+}
+
+impl Mosts {
+    pub const INPUT: Self =
+        Self { next_value: most::NEXT_VALUE, in_block: most::IN_BLOCK, in_all: most::IN_ALL };
+
+    /// "The output may pass these; its next value is at most 4,864." Each instruction more has a
+    /// number more, so that this is a most for instructions too.
+    pub const OUTPUT: Self = Self { next_value: 4864, in_block: 4864, in_all: 4864 };
+}
+
 /// How many kinds or operations of each sort are defined.
 pub mod kinds {
     pub const TYPES: u8 = 11;

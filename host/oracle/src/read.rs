@@ -8,16 +8,25 @@ use crate::read_instruction::Reader;
 
 /// Reads a whole routine, or the refusal 1 to 9.
 pub fn read(input: &[u8]) -> Read<Routine> {
+    read_within(input, &Mosts::INPUT)
+}
+
+/// Reads a routine that may be as large as the pass can make one.
+pub fn read_output(output: &[u8]) -> Read<Routine> {
+    read_within(output, &Mosts::OUTPUT)
+}
+
+fn read_within(input: &[u8], mosts: &Mosts) -> Read<Routine> {
     let mut cursor = Cursor::new(input);
     let types = read_types(&mut cursor)?;
-    let next = cursor.long_count(most::NEXT_VALUE)?;
+    let next = cursor.long_count(mosts.next_value)?;
     let block_count = cursor.long_count(most::BLOCKS)?;
     let entry = BlockNo(cursor.below(block_count)?);
 
     let mut reader = Reader::new(cursor, types.len(), next, block_count);
     let parameters = reader.list(Reader::dest)?;
     let recorded = reader.recorded(next)?;
-    let blocks = read_blocks(&mut reader, block_count)?;
+    let blocks = read_blocks(&mut reader, block_count, mosts)?;
 
     let cursor = reader.cursor;
     if cursor.left() > 0 {
@@ -84,11 +93,11 @@ fn read_fields(cursor: &mut Cursor, own: usize) -> Read<Vec<(NameNo, TypeNo)>> {
 
 /// "then the blocks: u16 instruction count, instructions, terminator"; the count that carries the
 /// sum past 256 passes its most.
-fn read_blocks(reader: &mut Reader, count: usize) -> Read<Vec<Block>> {
+fn read_blocks(reader: &mut Reader, count: usize, mosts: &Mosts) -> Read<Vec<Block>> {
     let mut blocks = Vec::with_capacity(count);
     let mut in_all = 0;
     for _ in 0..count {
-        let room = most::IN_BLOCK.min(most::IN_ALL - in_all);
+        let room = mosts.in_block.min(mosts.in_all - in_all);
         let instruction_count = reader.cursor.long_count(room)?;
         in_all += instruction_count;
         blocks.push(read_block(reader, instruction_count)?);

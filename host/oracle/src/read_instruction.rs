@@ -10,12 +10,15 @@ pub struct Reader<'a> {
     types: usize,
     next: usize,
     blocks: usize,
-    defined: [bool; most::NEXT_VALUE],
+    defined: [u8; MAP],
 }
+
+/// How many bytes a bit for each value takes.
+const MAP: usize = Mosts::OUTPUT.next_value.div_ceil(8);
 
 impl<'a> Reader<'a> {
     pub fn new(cursor: Cursor<'a>, types: usize, next: usize, blocks: usize) -> Self {
-        Self { cursor, types, next, blocks, defined: [false; most::NEXT_VALUE] }
+        Self { cursor, types, next, blocks, defined: [0; MAP] }
     }
 
     /// "lists u8 count first", 16 at most.
@@ -65,18 +68,18 @@ impl<'a> Reader<'a> {
     pub fn dest(&mut self) -> Read<ValueNo> {
         let at = self.cursor.at;
         let value = self.value_number()?;
-        let mark = &mut self.defined[value.index()];
-        if *mark {
+        let (byte, bit) = (&mut self.defined[value.index() / 8], 1 << (value.index() % 8));
+        if *byte & bit != 0 {
             return refuse(cause::TWICE_VALUE, at);
         }
-        *mark = true;
+        *byte |= bit;
         Ok(value)
     }
 
     /// "a bit map of next-value bits (value v is bit v mod 8 of byte v div 8, low bit first, spare
     /// bits 0), then a u16 type for each set bit, rising".
     pub fn recorded(&mut self, next: usize) -> Read<Vec<Option<TypeNo>>> {
-        let mut map = [0u8; most::NEXT_VALUE / 8];
+        let mut map = [0u8; MAP];
         let map = &mut map[..next.div_ceil(8)];
         for (place, byte) in map.iter_mut().enumerate() {
             let at = self.cursor.at;
@@ -198,16 +201,29 @@ impl<'a> Reader<'a> {
     fn aggregate_kind(&mut self, kind: u8, is_const: bool) -> Read<Kind> {
         Ok(match kind {
             10 => Kind::MakeTuple { dest: self.dest()?, elements: self.list(Self::value)? },
+            12 => Kind::MakeStruct {
+                dest: self.dest()?,
+                fields: self.list(|r| Ok((r.name()?, r.value()?)))?,
+                struct_ty: self.ty()?,
+            },
+            MAKE_FIXED_ARRAY => Kind::MakeFixedArray {
+                dest: self.dest()?,
+                elements: self.list(Self::value)?,
+                element_ty: self.ty()?,
+                is_const,
+            },
+            _ => self.part_kind(kind)?,
+        })
+    }
+
+    /// The kinds 11 and 13 to 15, which read or change one part.
+    fn part_kind(&mut self, kind: u8) -> Read<Kind> {
+        Ok(match kind {
             11 => Kind::ExtractTupleElement {
                 dest: self.dest()?,
                 tuple: self.value()?,
                 index: self.cursor.u32()?,
                 element_ty: self.ty()?,
-            },
-            12 => Kind::MakeStruct {
-                dest: self.dest()?,
-                fields: self.list(|r| Ok((r.name()?, r.value()?)))?,
-                struct_ty: self.ty()?,
             },
             13 => Kind::ExtractStructField {
                 dest: self.dest()?,
@@ -222,19 +238,13 @@ impl<'a> Reader<'a> {
                 new_value: self.value()?,
                 struct_ty: self.ty()?,
             }),
-            15 => Kind::InsertTuple(InsertTuple {
+            _ => Kind::InsertTuple(InsertTuple {
                 dest: self.dest()?,
                 tuple_val: self.value()?,
                 index: self.cursor.u32()?,
                 new_value: self.value()?,
                 tuple_ty: self.ty()?,
             }),
-            _ => Kind::MakeFixedArray {
-                dest: self.dest()?,
-                elements: self.list(Self::value)?,
-                element_ty: self.ty()?,
-                is_const,
-            },
         })
     }
 

@@ -1,6 +1,33 @@
 //! What instructions and terminators read and define.
 
+use std::slice;
+
 use crate::form::*;
+
+/// The table of what each kind defines, written once for lending and for changing: how one value, a
+/// Call's list and no value become a slice.
+macro_rules! dests_of {
+    ($kind:expr, $one:path, $list:ident, $none:expr) => {
+        match $kind {
+            Kind::Call(Call { dests, .. }) => dests.$list(),
+            Kind::InsertField(InsertField { dest, .. })
+            | Kind::InsertTuple(InsertTuple { dest, .. })
+            | Kind::Assign { dest, .. }
+            | Kind::UnaryOp { dest, .. }
+            | Kind::BinaryOp { dest, .. }
+            | Kind::Cast { dest, .. }
+            | Kind::Load { dest, .. }
+            | Kind::Phi { dest, .. }
+            | Kind::MakeTuple { dest, .. }
+            | Kind::ExtractTupleElement { dest, .. }
+            | Kind::MakeStruct { dest, .. }
+            | Kind::ExtractStructField { dest, .. }
+            | Kind::MakeFixedArray { dest, .. }
+            | Kind::HeapAllocCells { dest, .. } => $one(dest),
+            Kind::Store { .. } | Kind::Debug { .. } | Kind::Nop | Kind::AssertEq { .. } => $none,
+        }
+    };
+}
 
 impl Place {
     /// The base, then the Index values.
@@ -45,27 +72,13 @@ impl Kind {
     }
 
     /// The values that it defines.
-    pub fn dests(&self) -> Vec<ValueNo> {
-        match self {
-            Kind::Call(call) => call.dests.clone(),
-            Kind::InsertField(insert) => vec![insert.dest],
-            Kind::InsertTuple(insert) => vec![insert.dest],
-            Kind::Store { .. } | Kind::Debug { .. } | Kind::Nop | Kind::AssertEq { .. } => {
-                Vec::new()
-            }
-            Kind::Assign { dest, .. }
-            | Kind::UnaryOp { dest, .. }
-            | Kind::BinaryOp { dest, .. }
-            | Kind::Cast { dest, .. }
-            | Kind::Load { dest, .. }
-            | Kind::Phi { dest, .. }
-            | Kind::MakeTuple { dest, .. }
-            | Kind::ExtractTupleElement { dest, .. }
-            | Kind::MakeStruct { dest, .. }
-            | Kind::ExtractStructField { dest, .. }
-            | Kind::MakeFixedArray { dest, .. }
-            | Kind::HeapAllocCells { dest, .. } => vec![*dest],
-        }
+    pub fn dests(&self) -> &[ValueNo] {
+        dests_of!(self, slice::from_ref, as_slice, &[])
+    }
+
+    /// The values that it defines, to be changed.
+    pub fn dests_mut(&mut self) -> &mut [ValueNo] {
+        dests_of!(self, slice::from_mut, as_mut_slice, &mut [])
     }
 }
 

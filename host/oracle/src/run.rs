@@ -8,8 +8,8 @@ use mir::passes::sroa::{Config, ScalarReplacementOfAggregates};
 use mir::passes::MirPass;
 use mir::MirFunction;
 
-use crate::cursor::{cause, Refusal};
-use crate::form::Routine;
+use crate::cursor::{cause, refuse, Read, Refusal};
+use crate::form::{Mosts, Routine};
 use crate::from_mir::routine_of;
 use crate::read::read;
 use crate::to_mir::function_of;
@@ -58,22 +58,24 @@ pub enum Outcome {
 /// What the Rust makes of an input: "12 is tested first; 1 to 8 go by lowest offset, then lowest
 /// number; then 9, 10, 11".
 pub fn run_oracle(input: &[u8], settings: Settings, output_len: usize) -> Outcome {
-    let refused = |number| Outcome::Refused(Refusal { number, offset: 0 });
+    match admitted(input, settings).and_then(|routine| run_routine(routine, settings)) {
+        Err(refusal) => Outcome::Refused(refusal),
+        Ok(Lowered { result, counts, routine }) => {
+            let output = write(&routine);
+            if output.len() > output_len {
+                return Outcome::Refused(Refusal { number: cause::OUTPUT_LONGER, offset: 0 });
+            }
+            Outcome::Lowered { result, counts, output }
+        }
+    }
+}
+
+/// The routine that an input is, under settings that may be: refusal 12, or 1 to 9.
+pub fn admitted(input: &[u8], settings: Settings) -> Read<Routine> {
     if settings.max_aggregate_size > LARGEST_SETTING {
-        return refused(cause::SETTING);
+        return refuse(cause::SETTING, 0);
     }
-    let routine = match read(input) {
-        Ok(routine) => routine,
-        Err(refusal) => return Outcome::Refused(refusal),
-    };
-    let Some(Lowered { result, counts, routine }) = run_routine(routine, settings) else {
-        return refused(cause::ARRAY_REBUILD);
-    };
-    let output = write(&routine);
-    if output.len() > output_len {
-        return refused(cause::OUTPUT_LONGER);
-    }
-    Outcome::Lowered { result, counts, output }
+    read(input)
 }
 
 /// What a run leaves, before it is bytes again: it may pass the mosts, which `read` holds.
@@ -84,23 +86,26 @@ pub struct Lowered {
     pub routine: Routine,
 }
 
-/// What the Rust makes of a routine; nothing where an array rebuild met another count.
-pub fn run_routine(routine: Routine, settings: Settings) -> Option<Lowered> {
-    let table = TypeTable::new(&routine.types);
+/// What the Rust makes of a routine: refusal 10 where an array rebuild met another count.
+pub fn run_routine(mut routine: Routine, settings: Settings) -> Read<Lowered> {
+    let mut table = TypeTable::new(std::mem::take(&mut routine.types));
     let mut function = function_of(&routine, &table);
     let (result, counts) = run_pass(&mut function, settings)?;
-    Some(Lowered { result, counts, routine: routine_of(function, routine.types, &table) })
+    let routine = routine_of(&function, &mut table, &Mosts::OUTPUT);
+    Ok(Lowered { result, counts, routine: routine.expect("no output passes the lifted mosts") })
 }
 
-/// Runs `MirPass::run`; nothing where an array rebuild met another count.
-fn run_pass(function: &mut MirFunction, settings: Settings) -> Option<(bool, Counts)> {
+/// Runs `MirPass::run`: refusal 10 where an array rebuild met another count.
+pub fn run_pass(function: &mut MirFunction, settings: Settings) -> Read<(bool, Counts)> {
     let mut pass = ScalarReplacementOfAggregates::with_config(Config {
         enable_tuples: settings.enable_tuples != 0,
         enable_structs: settings.enable_structs != 0,
         max_aggregate_size: settings.max_aggregate_size as usize,
     });
-    let result = quietly(|| pass.run(function))?;
-    Some((result, counts_in(&format!("{pass:?}"))))
+    match quietly(|| pass.run(function)) {
+        Some(result) => Ok((result, counts_in(&format!("{pass:?}")))),
+        None => refuse(cause::ARRAY_REBUILD, 0),
+    }
 }
 
 /// The counts, which the pass shows in its Debug text alone.

@@ -202,13 +202,29 @@ impl<S: Sink> Writer<'_, S> {
                 self.value(*left);
                 self.value(*right);
             }
-            Kind::Call(call) => self.call(call),
             Kind::Cast { dest, source, source_type, target_type } => {
                 self.dest(*dest);
                 self.value(*source);
                 self.type_use(*source_type);
                 self.type_use(*target_type);
             }
+            Kind::Nop => {}
+            Kind::AssertEq { left, right } => {
+                self.value(*left);
+                self.value(*right);
+            }
+            Kind::HeapAllocCells { dest, cells } => {
+                self.dest(*dest);
+                self.value(*cells);
+            }
+            _ => self.outer_kind(kind),
+        }
+    }
+
+    /// The kinds that have to do with other blocks, other functions and places.
+    fn outer_kind(&mut self, kind: &Kind) {
+        match kind {
+            Kind::Call(call) => self.call(call),
             Kind::Load { dest, place, ty } => {
                 self.dest(*dest);
                 self.place(place);
@@ -223,7 +239,6 @@ impl<S: Sink> Writer<'_, S> {
                 self.plain(*message, 4);
                 self.values(values);
             }
-            Kind::Nop => {}
             Kind::Phi { dest, ty, sources } => {
                 self.dest(*dest);
                 self.type_use(*ty);
@@ -232,29 +247,16 @@ impl<S: Sink> Writer<'_, S> {
                     out.value(*value);
                 });
             }
-            Kind::AssertEq { left, right } => {
-                self.value(*left);
-                self.value(*right);
-            }
-            Kind::HeapAllocCells { dest, cells } => {
-                self.dest(*dest);
-                self.value(*cells);
-            }
             _ => self.aggregate_kind(kind),
         }
     }
 
+    /// The kinds that build, read and change aggregates.
     fn aggregate_kind(&mut self, kind: &Kind) {
         match kind {
             Kind::MakeTuple { dest, elements } => {
                 self.dest(*dest);
                 self.values(elements);
-            }
-            Kind::ExtractTupleElement { dest, tuple, index, element_ty } => {
-                self.dest(*dest);
-                self.value(*tuple);
-                self.plain(*index, 4);
-                self.type_use(*element_ty);
             }
             Kind::MakeStruct { dest, fields, struct_ty } => {
                 self.dest(*dest);
@@ -263,6 +265,24 @@ impl<S: Sink> Writer<'_, S> {
                     out.value(*value);
                 });
                 self.type_use(*struct_ty);
+            }
+            Kind::MakeFixedArray { dest, elements, element_ty, .. } => {
+                self.dest(*dest);
+                self.values(elements);
+                self.type_use(*element_ty);
+            }
+            _ => self.part_kind(kind),
+        }
+    }
+
+    /// The kinds that read or change one part.
+    fn part_kind(&mut self, kind: &Kind) {
+        match kind {
+            Kind::ExtractTupleElement { dest, tuple, index, element_ty } => {
+                self.dest(*dest);
+                self.value(*tuple);
+                self.plain(*index, 4);
+                self.type_use(*element_ty);
             }
             Kind::ExtractStructField { dest, struct_val, field_name, field_ty } => {
                 self.dest(*dest);
@@ -284,12 +304,7 @@ impl<S: Sink> Writer<'_, S> {
                 self.value(insert.new_value);
                 self.type_use(insert.tuple_ty);
             }
-            Kind::MakeFixedArray { dest, elements, element_ty, .. } => {
-                self.dest(*dest);
-                self.values(elements);
-                self.type_use(*element_ty);
-            }
-            _ => unreachable!("the other kinds build no aggregate"),
+            _ => unreachable!("the other kinds have arms above"),
         }
     }
 

@@ -16,7 +16,7 @@ pub fn dropped(original: &Routine, rewritten: &Routine) -> Dropped {
 }
 
 fn defined(routine: &Routine) -> BTreeSet<ValueNo> {
-    routine.instructions().flat_map(|i| i.kind.dests()).collect()
+    routine.instructions().flat_map(|i| i.kind.dests()).copied().collect()
 }
 
 /// "Reason 0 is passed; else the lowest that holds".

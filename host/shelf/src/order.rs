@@ -12,7 +12,7 @@ pub fn reads_ahead(routine: &Routine) -> bool {
 }
 
 fn block_reads_ahead(block: &Block) -> bool {
-    let mut ahead = BTreeSet::new();
+    let mut ahead: BTreeSet<ValueNo> = BTreeSet::new();
     block.instructions.iter().rev().any(|instruction| {
         ahead.extend(instruction.kind.dests());
         let aside = matches!(instruction.kind, Kind::Phi { .. } | Kind::Debug { .. });

@@ -81,7 +81,7 @@ impl Typing<'_> {
             return true;
         }
         let reads = kind.values().into_iter().all(|value| self.may_stand(value));
-        let defines = kind.dests().into_iter().all(|dest| self.is_recorded(dest));
+        let defines = kind.dests().iter().all(|dest| self.is_recorded(*dest));
         reads && defines && self.kind(kind)
     }
 

@@ -66,7 +66,7 @@ fn builds_have_their_types_parts() {
 }
 
 #[test]
-fn extracts_and_inserts_name_what_is_there() {
+fn extracts_name_what_is_there() {
     let part = |tuple, index, ty| Kind::ExtractTupleElement {
         dest: DEST,
         tuple,
@@ -88,6 +88,10 @@ fn extracts_and_inserts_name_what_is_there() {
     };
     let others = vec![field(v(POINT), 3, FELT), field(v(POINT), 4, FELT), field(v(PAIR), 5, FELT)];
     judge(FELT, vec![field(v(POINT), 5, FELT)], others);
+}
+
+#[test]
+fn inserts_name_what_is_there() {
     let put = |tuple_val, index, new_value, ty| {
         Kind::InsertTuple(InsertTuple {
             dest: DEST,

@@ -5,6 +5,9 @@ use gen::Rng;
 /// Tuples, structs and most.
 pub type Triple = [u64; 3];
 
+/// The usual settings.
+pub const USUAL: Triple = [1, 1, 8];
+
 /// "A flag is on when its number is not 0": small numbers, and such as are 0 in their low half.
 const FLAGS: [u64; 5] = [0, 1, 7, 1 << 32, u64::MAX];
 
@@ -24,5 +27,5 @@ pub fn some_settings(rng: &mut Rng) -> Vec<Triple> {
         };
         [rng.pick(&FLAGS), rng.pick(&FLAGS), most]
     };
-    vec![[1, 1, 8], any(), any()]
+    vec![USUAL, any(), any()]
 }

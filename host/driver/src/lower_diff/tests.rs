@@ -1,36 +1,30 @@
-use oracle::{run_oracle, Outcome, Settings};
-
+use super::outcome::{differs, settings_of};
+use super::settings::Triple;
 use super::*;
+use crate::judged::Judged;
 use crate::Answer;
 
 /// The Rust behind the entry's signature.
-fn rust(input: &[u8], output: &mut [u8], settings: Triple) -> Answer {
-    let reason = outcome::reason(input, settings);
-    let [enable_tuples, enable_structs, max_aggregate_size] = settings;
-    let settings = Settings { enable_tuples, enable_structs, max_aggregate_size };
-    match run_oracle(input, settings, output.len()) {
-        Outcome::Refused(refusal) => {
-            [refusal.number.into(), refusal.offset as u64, 0, 0, 0, 0, 0, 0, 0, 0]
-        }
-        Outcome::Lowered { result, counts: [a, b, c, d, e], output: bytes } => {
-            output[..bytes.len()].copy_from_slice(&bytes);
-            [0, 0, result.into(), a, b, c, d, e, reason.into(), bytes.len() as u64]
-        }
-    }
+pub fn rust(input: &[u8], output: &mut [u8], settings: Triple) -> Answer {
+    let judged = Judged::of(input, settings_of(settings));
+    let (numbers, bytes) = judged.within(output.len());
+    output[..bytes.len()].copy_from_slice(bytes);
+    numbers
 }
 
 fn compared(lower: Lower, count: u64) -> Comparison {
-    let mut comparison = Comparison::new(lower, 1);
-    comparison.stored();
-    comparison.made(count, None);
-    comparison
+    let mut diff = Diff::new(lower, 1);
+    diff.stored();
+    diff.made(count, None, false);
+    diff.comparison
 }
 
 #[test]
 fn the_rust_agrees_with_itself() {
     let comparison = compared(rust, 500);
     assert!(comparison.found.is_empty());
-    assert!(comparison.print().is_empty());
+    comparison.print();
+    assert_eq!(comparison.missing(), Vec::<String>::new());
 }
 
 /// A fault is found in the first inputs.
@@ -38,8 +32,8 @@ fn is_found(lower: Lower) -> bool {
     (0..3000).any(|number| {
         let input = made(1, number, None).1;
         let settings = some_settings(&mut Rng::of(2, number));
-        let differ = |triple: &Triple| differs(lower, &input, *triple, number, |_| {}).is_some();
-        settings.iter().any(differ)
+        let calls = Calls::Many(number);
+        settings.iter().any(|triple| differs(lower, &input, *triple, calls, |_| {}).is_some())
     })
 }
 

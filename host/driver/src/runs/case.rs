@@ -63,7 +63,7 @@ pub enum Aside {
 impl Case {
     /// The case of a routine with the wanted shelf reason; a fault is planted behind the test.
     pub fn of(original: Routine, settings: Settings, wanted: &Wanted) -> Result<Self, Aside> {
-        let lowered = run_routine(original.clone(), settings).ok_or(Aside::Refused)?;
+        let lowered = run_routine(original.clone(), settings).map_err(|_| Aside::Refused)?;
         let dropped = shelf::dropped(&original, &lowered.routine);
         match shelf::reason(&original, &lowered.routine, &dropped) {
             reason if reason == wanted.reason => {

@@ -115,6 +115,7 @@ fn other_part(original: &Routine, mut rewritten: Routine) -> Routine {
                 matches!(i.kind, Kind::ExtractTupleElement { .. } | Kind::ExtractStructField { .. })
             })
             .flat_map(|i| i.kind.dests())
+            .copied()
             .collect();
         let mut last = None;
         for instruction in &mut after.instructions {

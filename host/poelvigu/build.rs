@@ -1,22 +1,27 @@
-//! Tells the linker where the proved static library is.
+//! Tells the linker where the proved static libraries are.
 
 use std::env;
 use std::path::{Path, PathBuf};
 
-/// Names the folder that holds the archive, where it is not the usual one.
+/// Names the folder that holds the archives, where it is not the usual one.
 const OVERRIDE: &str = "POELVIGU_LIB_DIR";
 
 /// The usual folder, from this crate: the repository's own target folder.
 const USUAL: &str = "../../target/staticlib";
+
+/// What cargo sets for a feature, and the archive that the feature needs.
+const ARCHIVES: [(&str, &str); 2] =
+    [("CARGO_FEATURE_CHECK", "reading"), ("CARGO_FEATURE_LOWER", "pass")];
 
 fn main() {
     println!("cargo:rerun-if-env-changed={OVERRIDE}");
     let manifest = PathBuf::from(env::var_os("CARGO_MANIFEST_DIR").expect("cargo sets it"));
     let folder = env::var_os(OVERRIDE).map_or_else(|| manifest.join(USUAL), PathBuf::from);
     println!("cargo:rustc-link-search=native={}", folder.display());
-    link(&folder, "routine");
-    if env::var_os("CARGO_FEATURE_LOWER").is_some() {
-        link(&folder, "lowering");
+    for (feature, name) in ARCHIVES {
+        if env::var_os(feature).is_some() {
+            link(&folder, name);
+        }
     }
 }
 

@@ -51,6 +51,9 @@ pub fn reason(
     if !ordering::kept_apart(s, b, types, recorded, places, starts, b.blocks) {
         return 3;
     }
+    if !unread::any_marked(dropped) {
+        return 0;
+    }
     if !ordering::no_deep_store(s, b, places, starts, b.blocks, dropped) {
         return 4;
     }

@@ -18,6 +18,7 @@ use Rattle.rewriting.specs.Run.{typesIn}
 use Rattle.progress.specs.Ground.{Ground}
 use Rattle.shelf.specs.Lists.{every, among}
 use Rattle.shelf.specs.Reads.{countedReads, ordered, bases, apart, isDeep, shallow, clean, cleanTerminator}
+use Rattle.shelving.specs.Shelved.{inputReason}
 use Rattle.shelf.specs.Reason.{typesAgree, inOrder, keptApart, noDeepStore, readsNoDropped, shelfReason}
 
 -- an answer whose opposite is known
@@ -97,27 +98,57 @@ module _ (ds : List ValueId) (none : (v : ℕ) → among v ds ≡ false) where
 pub lists-few : {b : Bounds} {s types recorded : List ℕ} {τ : Types} → Ground b s types recorded τ → b .list + b .projections ≤ 30
 lists-few g = omega (arith, g .listed, g .projected)
 
+-- the reasons of the input
+module _ (x : Routine) where
+  pub input-1 : false ≡ typesAgree x → 1 ≡ inputReason x
+  unfolding inputReason
+  input-1 a = rw (← a)
+
+  pub input-2 : true ≡ typesAgree x → false ≡ inOrder x → 2 ≡ inputReason x
+  unfolding inputReason
+  input-2 a b = rw (← a, ← b)
+
+  pub input-3 : true ≡ typesAgree x → true ≡ inOrder x → false ≡ keptApart x → 3 ≡ inputReason x
+  unfolding inputReason
+  input-3 a b c = rw (← a, ← b, ← c)
+
+  pub input-0 : true ≡ typesAgree x → true ≡ inOrder x → true ≡ keptApart x → 0 ≡ inputReason x
+  unfolding inputReason
+  input-0 a b c = rw (← a, ← b, ← c)
+
+-- they come first
+first-some : (a b c : Bool) (rest n : ℕ) → n ≡ cond a (cond b (cond c 0 3) 2) 1 → (n ≡ 0 → ⊥) → n ≡ cond a (cond b (cond c rest 3) 2) 1
+first-some true true true rest n e h = absurd (h e)
+first-some true true false rest n e h = e
+first-some true false c rest n e h = e
+first-some false b c rest n e h = e
+
+first-none : (a b c : Bool) (rest : ℕ) → _≡_ {A = ℕ} 0 (cond a (cond b (cond c 0 3) 2) 1) → rest ≡ cond a (cond b (cond c rest 3) 2) 1
+first-none true true true rest e = refl
+first-none true true false rest e = absurd (omega arith)
+first-none true false c rest e = absurd (omega arith)
+first-none false b c rest e = absurd (omega arith)
+
 module _ (x : Routine) (w : Rewritten) where
-  pub reason-1 : false ≡ typesAgree x → 1 ≡ shelfReason false x w
-  unfolding shelfReason
-  reason-1 a = rw (← a)
+  pub reason-first : (n : ℕ) → n ≡ inputReason x → (n ≡ 0 → ⊥) → n ≡ shelfReason false x w
+  unfolding inputReason shelfReason
+  reason-first n e h = first-some (typesAgree x) (inOrder x) (keptApart x) _ n e h
 
-  pub reason-2 : true ≡ typesAgree x → false ≡ inOrder x → 2 ≡ shelfReason false x w
-  unfolding shelfReason
-  reason-2 a b = rw (← a, ← b)
+  -- where none of them holds, the others
+  others : 0 ≡ inputReason x → cond (noDeepStore (w .dropped) x) (cond (readsNoDropped false (w .dropped) (w .blocks)) 0 5) 4 ≡ shelfReason false x w
+  unfolding inputReason shelfReason
+  others e = first-none (typesAgree x) (inOrder x) (keptApart x) _ e
 
-  pub reason-3 : true ≡ typesAgree x → true ≡ inOrder x → false ≡ keptApart x → 3 ≡ shelfReason false x w
-  unfolding shelfReason
-  reason-3 a b c = rw (← a, ← b, ← c)
+  pub reason-4 : 0 ≡ inputReason x → false ≡ noDeepStore (w .dropped) x → 4 ≡ shelfReason false x w
+  reason-4 e d = rw (← d) at (others e)
 
-  pub reason-4 : true ≡ typesAgree x → true ≡ inOrder x → true ≡ keptApart x → false ≡ noDeepStore (w .dropped) x → 4 ≡ shelfReason false x w
-  unfolding shelfReason
-  reason-4 a b c d = rw (← a, ← b, ← c, ← d)
+  pub reason-5 : 0 ≡ inputReason x → true ≡ noDeepStore (w .dropped) x → false ≡ readsNoDropped false (w .dropped) (w .blocks) → 5 ≡ shelfReason false x w
+  reason-5 e d f = rw (← d, ← f) at (others e)
 
-  pub reason-5 : true ≡ typesAgree x → true ≡ inOrder x → true ≡ keptApart x → true ≡ noDeepStore (w .dropped) x → false ≡ readsNoDropped false (w .dropped) (w .blocks) → 5 ≡ shelfReason false x w
-  unfolding shelfReason
-  reason-5 a b c d e = rw (← a, ← b, ← c, ← d, ← e)
+  pub reason-0 : 0 ≡ inputReason x → true ≡ noDeepStore (w .dropped) x → true ≡ readsNoDropped false (w .dropped) (w .blocks) → 0 ≡ shelfReason false x w
+  reason-0 e d f = rw (← d, ← f) at (others e)
 
-  pub reason-0 : true ≡ typesAgree x → true ≡ inOrder x → true ≡ keptApart x → true ≡ noDeepStore (w .dropped) x → true ≡ readsNoDropped false (w .dropped) (w .blocks) → 0 ≡ shelfReason false x w
-  unfolding shelfReason
-  reason-0 a b c d e = rw (← a, ← b, ← c, ← d, ← e)
+  -- where no value is dropped, only the input has reasons
+  pub reason-undropped : (n : ℕ) → n ≡ inputReason x → ((v : ℕ) → among v (w .dropped) ≡ false) → n ≡ shelfReason false x w
+  unfolding inputReason shelfReason
+  reason-undropped n e h = rw (← none-deep (w .dropped) h x, ← none-dropped (w .dropped) h (w .blocks)) e

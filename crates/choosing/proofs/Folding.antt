@@ -106,6 +106,14 @@ build-place b t i n v e h =
     (λ z. from-place b t (i .kind) v h (struct-place b [] false t i n e (k ∙ z)))
     (λ z. from-place b t (i .kind) v h (array-place b [] false t i n e (k ∙ z)))
 
+-- an instruction of another kind is no build
+pub no-build : (b : Bounds) (t : List ℕ) (kind : ℕ) → kind ≡ getD t 1 0 → (build : Bool) → build ≡ (eqb kind 10 || (eqb kind 12 || eqb kind 16)) → build ≡ false → (i : Instruction) (n : ℕ) (v : ValueId) → instructionOf b [] false t ≡ ok i n → buildDest (i .kind) ≡ some v → ⊥
+no-build b t kind ks build bs f i n v e h =
+    let k = ks ∙ sym (kind-at b [] false t i n e) in
+    let w = neither (eqb kind 10) (eqb kind 12 || eqb kind 16) (sym bs ∙ f) in
+    let u = neither (eqb kind 12) (eqb kind 16) (w .1) in
+    build-kind (i .kind) v h (λ z. true-false (sym (eq-eqb kind 10 (k ∙ z)) ∙ w .0)) (λ z. true-false (sym (eq-eqb kind 12 (k ∙ z)) ∙ u .0)) (λ z. true-false (sym (eq-eqb kind 16 (k ∙ z)) ∙ u .1))
+
 -- a phi copies nothing and looks into nothing
 phi-plain : (τ : Types) (i : InstructionKind) → isPhi i ≡ true → (copyOf τ i ≡ none) × (placeOf i ≡ none)
 unfolding placeOf
@@ -179,8 +187,4 @@ module _ (σ : Settings) (shapes children parents : List ℕ) (tuples : List Boo
         ]
 
     pub decided-none : (build : Bool) → build ≡ (eqb kind 10 || (eqb kind 12 || eqb kind 16)) → build ≡ false → Answers b t false
-    decided-none build bs f τ cross is i n v seen l few e h o =
-        let k = ks ∙ sym (kind-at b [] false t i n e) in
-        let w = neither (eqb kind 10) (eqb kind 12 || eqb kind 16) (sym bs ∙ f) in
-        let u = neither (eqb kind 12) (eqb kind 16) (w .1) in
-        absurd (build-kind (i .kind) v h (λ z. true-false (sym (eq-eqb kind 10 (k ∙ z)) ∙ w .0)) (λ z. true-false (sym (eq-eqb kind 12 (k ∙ z)) ∙ u .0)) (λ z. true-false (sym (eq-eqb kind 16 (k ∙ z)) ∙ u .1)))
+    decided-none build bs f τ cross is i n v seen l few e h o = absurd (no-build b t kind ks build bs f i n v e h)

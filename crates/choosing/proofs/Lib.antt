@@ -4,5 +4,6 @@ pub mod Given
 pub mod Conditions
 pub mod Folding
 pub mod Flags
+pub mod Buildless
 pub mod EachBlock
 pub mod Fitted

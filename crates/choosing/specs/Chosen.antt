@@ -67,6 +67,10 @@ pub record Standing (σ : Settings) (τ : Types) (cross : Marks) (b : Bounds) (s
   pub listed : (k : ℕ) → k < length all → length (listValues (getD all k noInstruction .kind)) ≤ 16
   pub once : (j : ℕ) (d : ValueId) → j < length all → buildDest (getD all j noInstruction .kind) ≡ some d → buildOf σ τ cross d (behindPhis all) ≡ some (getD all j noInstruction .kind)
 
+-- none of the instructions is a build
+abbrev pub Buildless : List Instruction → Type 0
+Buildless all = (j : ℕ) (d : ValueId) → j < length all → buildDest (getD all j noInstruction .kind) ≡ some d → ⊥
+
 -- each build of a block has its flag, from `start` on
 abbrev pub FoldedAt : Settings → Types → Marks → ℕ → List Instruction → List Bool → Type 0
 FoldedAt σ τ cross start all folded =

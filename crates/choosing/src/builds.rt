@@ -13,6 +13,7 @@ ghost use Rattle.wire.specs.Parse.{ok};
 ghost use Rattle.wire.specs.declared.ValueId.{ValueId as DeclaredId};
 ghost use Rattle.form.specs.Syntax.{Instruction};
 ghost use Rattle.form.specs.Decode.{instructionOf};
+ghost use Rattle.form.specs.declared.Bounds.{Bounds as DeclaredBounds};
 ghost use Rattle.places.specs.Places.{noInstruction, InstructionsAt};
 ghost use Rattle.eligibility.specs.Lookup.{Types, valueRow, shape as shapeOf};
 ghost use Rattle.eligibility.specs.Family.{Marks, buildDest, hasDynamicIndex};
@@ -20,7 +21,7 @@ ghost use Rattle.eligibility.specs.Climb.{buildOf};
 ghost use Rattle.eligibility.specs.Fold.{behindPhis};
 ghost use Rattle.rewriting.specs.Run.{foldsBuild};
 ghost use Rattle.family.specs.Copies.{copies as copiesOf, CopiesAt, dynamics};
-ghost use Rattle.choosing.specs.Chosen.{Seen, FoldedAt, Flagged};
+ghost use Rattle.choosing.specs.Chosen.{Seen, Buildless, FoldedAt, Flagged};
 
 // Whether the family of `v` is looked into by an index that is not known; `marks` are clear, one for each value.
 fn family_meets(
@@ -87,6 +88,21 @@ fn looked_into(
         dynamic,
         &mut marks[..n],
     )
+}
+
+// Whether an instruction of a block is a build.
+pub fn any_build(s: &[u8], places: &[usize], count: u16) -> bool
+    ensures { λ r. ⌜ (r ≡ false → (b : DeclaredBounds) (is : List Instruction) → InstructionsAt b (now (s .entry)) (now (places .entry)) is → length is ≡ count → Buildless is) ⌝ }
+{
+    let mut k: u16 = 0;
+    while k < count {
+        let t = form::tail(s, places::place_at(places, k));
+        if is_build(wire::byte_at(t, 1)) {
+            return true;
+        }
+        k = k + 1;
+    }
+    false
 }
 
 // Whether the build `t` is folded.

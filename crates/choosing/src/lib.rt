@@ -11,6 +11,7 @@ ghost use mathlib.Core.Bool.{Bool, false};
 ghost use Prim.Native.Nat.{ℕ, _+_, _≤_, _<_};
 ghost use lib.ListN.{length, getD, replicate};
 ghost use Rattle.form.specs.Syntax.{Instruction, Block};
+ghost use Rattle.form.specs.declared.Bounds.{Bounds as DeclaredBounds};
 ghost use Rattle.routine.specs.Index.{noBlock};
 ghost use Rattle.index.specs.Code.{CodeAt};
 ghost use Rattle.eligibility.specs.Lookup.{Types};
@@ -21,7 +22,7 @@ ghost use Rattle.climb.specs.Noted.{StructsAt};
 ghost use Rattle.climb.specs.Scanned.{Scanned};
 ghost use Rattle.progress.specs.Ground.{Ground};
 ghost use Rattle.progress.specs.Chosen.{Follows};
-ghost use Rattle.choosing.specs.Chosen.{chosenBy, Fits, FoldedAt, Flagged, BlockChosen, Standing};
+ghost use Rattle.choosing.specs.Chosen.{chosenBy, Fits, Buildless, FoldedAt, Flagged, BlockChosen, Standing};
 
 // Decides the builds of a block whose tables for the climb stand: notes its copies first. `dynamic` is clear, one for each value.
 fn choose_copies(
@@ -144,6 +145,22 @@ fn choose_tables(
     );
 }
 
+// Whether an instruction of any block is a build.
+pub fn any_builds(s: &[u8], places: &[usize], starts: &[u16], many: u16) -> bool
+    ensures { λ r. ⌜ (r ≡ false → (b : DeclaredBounds) (ks : List Block) → CodeAt b (now (s .entry)) (now (places .entry)) (now (starts .entry)) ks → length ks ≡ many → (k : ℕ) → k < length ks → Buildless (getD ks k noBlock .instructions)) ⌝ }
+{
+    let mut k: u16 = 0;
+    while k < many {
+        let here = index::block_places(places, starts, k);
+        let count = index::instruction_count(starts, k);
+        if builds::any_build(s, here, count) {
+            return true;
+        }
+        k = k + 1;
+    }
+    false
+}
+
 // Decides the builds of a block that is not skipped: gives the places from `start` on their flags.
 fn choose_block(
     s: &[u8],
@@ -162,6 +179,9 @@ fn choose_block(
     ensures { λ _. ⌜ Flagged start (now (folded .entry)) (now (folded .exit)) ⌝ }
     ensures { λ _. ⌜ ((τ : Types) (all : List Instruction) → Ground b (now (s .entry)) (now (types .entry)) (now (recorded .entry)) τ → FactsAt settings τ (now (shapes .entry)) (now (eligible .entry)) → Standing settings τ (now (cross .entry)) b (now (s .entry)) (now (places .entry)) count all → start + count ≤ length (now (folded .entry)) → FoldedAt settings τ (now (cross .entry)) start all (now (folded .exit))) ⌝ }
 {
+    if !builds::any_build(s, places, count) {
+        return;
+    }
     let n = b.next as usize;
     if 256 < n {
         return;

@@ -14,21 +14,23 @@ use Rattle.wire.specs.declared.Cause.{Cause}
 use Rattle.wire.specs.declared.TypeId.{TypeId}
 use Rattle.wire.proofs.Inv.{no-ok, both, and-inv, cond-inv, image, map-inv}
 use Rattle.form.specs.Walk.{unit}
+use Rattle.form.specs.Syntax.{Block}
 use Rattle.form.specs.declared.Bounds.{Bounds}
 use Rattle.canon.specs.WellFormed.{FitType}
 use Rattle.block.specs.Decode.{marks}
 use Rattle.block.specs.WellFormed.{WideMosts}
+use Rattle.block.specs.declared.Mosts.{Mosts}
 use Rattle.types.specs.Index.{TypesAt}
 use Rattle.routine.specs.Routine.{Routine}
 use Rattle.routine.specs.Decode.{mosts, boundsOf, routineOf, ended, wholeOf}
 use Rattle.routine.specs.Encode.{encode}
-use Rattle.routine.specs.Index.{noBlock, asChecked, RoutineRead, Indexed}
+use Rattle.routine.specs.Index.{noBlock, asChecked, BlocksAt, RoutineRead, Indexed}
 use Rattle.routine.specs.declared.Layout.{Layout}
 use Rattle.routine.specs.declared.Checked.{Checked}
 use Rattle.whole.specs.WellFormed.{FitBlocks, WellFormed, bounds, unmarked}
 use Rattle.whole.proofs.Whole.{routineMost, routine-exact, whole-canon, whole-fit}
 use Rattle.eligibility.specs.declared.Settings.{Settings}
-use Rattle.index.specs.Code.{slots}
+use Rattle.index.specs.Code.{slots, CodeAt}
 use Rattle.rewriting.specs.Sum.{instructionCount}
 use Rattle.rewriting.specs.Within.{ListsWithin}
 use Rattle.rewriting.specs.Run.{typesIn, choice, rewrittenBlocks}
@@ -125,6 +127,10 @@ module _ {s types recorded blocks : List ℕ} {b : Bounds} (a : Accepted s types
   -- the table of places has room
   pub slots-few : slots (r .blocks) ≤ 288
   slots-few = omega (arith, slots-count (r .blocks), few-instructions, fit .many-blocks)
+
+  -- and where its instructions stand is found
+  pub indexed : {p q : ℕ} {places starts : List ℕ} → ((m : Mosts) (ks : List Block) → BlocksAt m b s blocks ks → length ks ≡ b .blocks → slots ks ≤ p → slots ks < 65536 → length ks < q → CodeAt b s places starts ks) → 288 ≤ p → 33 ≤ q → CodeAt b s places starts (r .blocks)
+  indexed f g h = f mosts (r .blocks) (a .code) (sym many-blocks) (omega (arith, slots-few)) (omega (arith, slots-few)) (omega (arith, many-blocks, blocks-few))
 
   seen-long : b .next ≤ length (marks (unmarked r) (r .parameters))
   seen-long = omega (arith, next-is, length-marks (unmarked r) (r .parameters), length-replicate (r .next) false)

@@ -160,7 +160,7 @@ measured {σ} h out zeros out′ fresh′ dropped dropped′ r p l low q e =
 
 -- ## The answer
 
-answers : (o o′ : Given) (r : Answer) (out out′ : List ℕ) → o ≡ o′ → asAnswer r ≡ numbersOf o′ → out′ ≡ leaves o′ out → Answers o r out out′
+pub answers : (o o′ : Given) (r : Answer) (out out′ : List ℕ) → o ≡ o′ → asAnswer r ≡ numbersOf o′ → out′ ≡ leaves o′ out → Answers o r out out′
 answers o o′ r out out′ e f g = rw e (record { says = f; left = g })
 
 -- a refusal has no reason
@@ -168,7 +168,7 @@ pub given-refused : (σ : Settings) (room : ℕ) (s : List ℕ) (n o : ℕ) → 
 unfolding given withReason
 given-refused σ room s n o e = rw e
 
-given-lowered : (σ : Settings) (room : ℕ) (s : List ℕ) (x : Routine) (n k : ℕ) (w : Bool) (c : Counts) (bytes : List ℕ) → wholeOf mosts s ≡ ok x n → k ≡ shelfReason false x (rewrittenBlocks σ x) → outcome σ room s ≡ O.lowered w c bytes → given σ room s ≡ lowered w c k bytes
+pub given-lowered : (σ : Settings) (room : ℕ) (s : List ℕ) (x : Routine) (n k : ℕ) (w : Bool) (c : Counts) (bytes : List ℕ) → wholeOf mosts s ≡ ok x n → k ≡ shelfReason false x (rewrittenBlocks σ x) → outcome σ room s ≡ O.lowered w c bytes → given σ room s ≡ lowered w c k bytes
 unfolding given withReason reasonOf
 given-lowered σ room s x n k w c bytes e f g = rw (e, g, f)
 

@@ -5,3 +5,6 @@ pub mod Choosing
 pub mod Dropped
 pub mod Shelf
 pub mod Answered
+pub mod Still
+pub mod Copied
+pub mod Untouched

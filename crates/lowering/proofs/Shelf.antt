@@ -21,6 +21,7 @@ use Rattle.routine.specs.Routine.{Routine}
 use Rattle.routine.specs.Decode.{mosts, boundsOf}
 use Rattle.routine.specs.Encode.{recordedBytes, encode}
 use Rattle.whole.specs.WellFormed.{FitBlocks, bounds, unmarked, WellFormed}
+use Rattle.index.specs.Code.{CodeAt}
 use Rattle.eligibility.specs.declared.Settings.{Settings}
 use Rattle.eligibility.specs.Family.{Marks}
 use Rattle.rewriting.specs.Run.{Rewritten, choice, rewrittenBlocks, rewriteWith, rewrite}
@@ -29,7 +30,7 @@ use Rattle.rewriting.proofs.Lowering.{lowers}
 use Rattle.output.specs.Lifted.{lifted}
 use Rattle.output.proofs.Whole.{well-formed}
 use Rattle.progress.specs.Effect.{markAll}
-use Rattle.shelving.specs.Shelved.{outputBounds, Shelved}
+use Rattle.shelving.specs.Shelved.{outputBounds, Input, Shelved}
 use Rattle.head.specs.Head.{headBytes, widened}
 use Rattle.lowering.specs.Tables.{Accepted, Chosen}
 use Rattle.lowering.proofs.Accepted.{many-types, next-is, many-blocks, list-is, projections-is, next-few, canon, fit, code, ground, few-fresh}
@@ -58,6 +59,32 @@ defined-at l l′ n n′ t t′ ds k e f g q = rw (e, f, g) q
 bounds-at : (b : Bounds) (T N K K′ k : ℕ) → b ≡ boundsOf mosts T N K′ → K ≡ K′ → boundsOf lifted T (N + k) K ≡ outputBounds b (b .next + k)
 bounds-at b T N K K′ k e f = rw (e, f)
 
+module _ {s types recorded blocks : List ℕ} {b : Bounds} (a : Accepted s types recorded blocks b) where
+  abbrev r : Routine
+  r = a .routine
+
+  -- the types stand in the input
+  pub types-short : length (typesBytes (r .types)) ≤ length s
+  unfolding encode
+  types-short =
+      let e : length (encode r) ≡ length s = ap length (canon a) in
+      let f : length (encode r) ≡ length (typesBytes (r .types)) + length (toBytes 2 (r .next) ++ (toBytes 2 (length (r .blocks)) ++ (blockIdBytes (r .entry) ++ (listBytes valueIdBytes (r .parameters) ++ (recordedBytes (r .recorded) ++ eachBytes blockBytes (r .blocks)))))) = length-append (typesBytes (r .types)) _ in
+      omega (arith, e, f)
+
+  given : definedsOf (b .list) (b .next) (replicate (b .next) false) (drop (length (typesBytes (r .types)) + 6) s) ≡ ok (r .parameters) (length (listBytes valueIdBytes (r .parameters)))
+  given =
+      let e : drop (length (typesBytes (r .types)) + 6) s ≡ listBytes valueIdBytes (r .parameters) ++ (recordedBytes (r .recorded) ++ eachBytes blockBytes (r .blocks)) = ap (drop (length (typesBytes (r .types)) + 6)) (sym (canon a)) ∙ past-types r in
+      let g : definedsOf 16 (r .next) (replicate (r .next) false) (listBytes valueIdBytes (r .parameters) ++ (recordedBytes (r .recorded) ++ eachBytes blockBytes (r .blocks))) ≡ ok (r .parameters) (length (listBytes valueIdBytes (r .parameters))) =
+      B.dests (bounds mosts r) (wide-input) (unmarked r) (r .parameters) (fit a .many-parameters, fit a .parameters) .says _ in
+      defined-at (b .list) 16 (b .next) (r .next) _ _ (r .parameters) _ (list-is a) (next-is a) e g
+    where
+      wide-input : Wide (bounds mosts r)
+      wide-input = record { types = omega (arith, fit a .many-types); next = omega (arith, fit a .next); blocks = omega (arith, fit a .many-blocks); list = omega arith; projections = omega arith }
+
+  -- the shelf test sees it with its tables
+  pub inputs : {places starts : List ℕ} → CodeAt b s places starts (r .blocks) → (at : ℕ) → at ≡ length (typesBytes (r .types)) + 6 → Input s b types recorded at places starts r
+  inputs st at ea = record { ground = ground a; code = st; many = sym (many-blocks a); used = length (listBytes valueIdBytes (r .parameters)); given = rw ea given }
+
 module _ {σ : Settings} {s types recorded blocks : List ℕ} {b : Bounds} {places starts : List ℕ} {folded skips : List Bool} (h : Chosen σ s types recorded blocks b places starts folded skips) where
   abbrev a : Accepted s types recorded blocks b
   a = h .accepted
@@ -68,27 +95,9 @@ module _ {σ : Settings} {s types recorded blocks : List ℕ} {b : Bounds} {plac
   abbrev w : Rewritten
   w = rewrittenBlocks σ x
 
-  -- the types stand in the input
-  pub types-short : length (typesBytes (x .types)) ≤ length s
-  unfolding encode
-  types-short =
-      let e : length (encode x) ≡ length s = ap length (canon a) in
-      let f : length (encode x) ≡ length (typesBytes (x .types)) + length (toBytes 2 (x .next) ++ (toBytes 2 (length (x .blocks)) ++ (blockIdBytes (x .entry) ++ (listBytes valueIdBytes (x .parameters) ++ (recordedBytes (x .recorded) ++ eachBytes blockBytes (x .blocks)))))) = length-append (typesBytes (x .types)) _ in
-      omega (arith, e, f)
-
   wide-output : (next : ℕ) → next ≤ 65535 → Wide (outputBounds b next)
   wide-output next l =
       record { types = omega (arith, many-types a, fit a .many-types); next = omega (arith, l); blocks = omega (arith, many-blocks a, fit a .many-blocks); list = omega (arith, list-is a); projections = omega (arith, projections-is a) }
-
-  given : definedsOf (b .list) (b .next) (replicate (b .next) false) (drop (length (typesBytes (x .types)) + 6) s) ≡ ok (x .parameters) (length (listBytes valueIdBytes (x .parameters)))
-  given =
-      let e : drop (length (typesBytes (x .types)) + 6) s ≡ listBytes valueIdBytes (x .parameters) ++ (recordedBytes (x .recorded) ++ eachBytes blockBytes (x .blocks)) = ap (drop (length (typesBytes (x .types)) + 6)) (sym (canon a)) ∙ past-types x in
-      let g : definedsOf 16 (x .next) (replicate (x .next) false) (listBytes valueIdBytes (x .parameters) ++ (recordedBytes (x .recorded) ++ eachBytes blockBytes (x .blocks))) ≡ ok (x .parameters) (length (listBytes valueIdBytes (x .parameters))) =
-      B.dests (bounds mosts x) (wide-input) (unmarked x) (x .parameters) (fit a .many-parameters, fit a .parameters) .says _ in
-      defined-at (b .list) 16 (b .next) (x .next) _ _ (x .parameters) _ (list-is a) (next-is a) e g
-    where
-      wide-input : Wide (bounds mosts x)
-      wide-input = record { types = omega (arith, fit a .many-types); next = omega (arith, fit a .next); blocks = omega (arith, fit a .many-blocks); list = omega arith; projections = omega arith }
 
   as-many : length (w .blocks) ≡ length (x .blocks) → length (w .blocks) ≡ b .blocks
   as-many e = e ∙ sym (many-blocks a)
@@ -107,11 +116,7 @@ module _ {σ : Settings} {s types recorded blocks : List ℕ} {b : Bounds} {plac
       → Shelved s b types recorded at places starts out′ to next dropped′ x w
   shelved at to next out out′ dropped dropped′ ea et en em l eo ed em′ =
       record {
-        ground = ground a;
-        code = h .stands;
-        many = sym (many-blocks a);
-        used = length (listBytes valueIdBytes (x .parameters));
-        given = rw ea given;
+        input = inputs a (h .stands) at ea;
         rest = drop (length (headBytes (widened x (w .fresh)) ++ eachBytes blockBytes (w .blocks))) out;
         written = rw (et, eo) (behind-first out (headBytes (widened x (w .fresh))) (eachBytes blockBytes (w .blocks)) l);
         as-many = as-many em;

@@ -43,6 +43,13 @@ pub record Chosen (σ : Settings) (s types recorded blocks : List ℕ) (b : Boun
   pub stands : CodeAt b s places starts (accepted .routine .blocks)
   pub follows : Follows (choice σ (accepted .routine)) starts folded skips (accepted .routine .blocks)
 
+-- or that it comes out as it is, whatever is chosen
+pub record Unchanged (σ : Settings) (s types recorded blocks : List ℕ) (b : Bounds) (places starts : List ℕ) : Type 0 where
+  pub accepted : Accepted s types recorded blocks b
+  pub small : σ .most ≤ 16
+  pub stands : CodeAt b s places starts (accepted .routine .blocks)
+  pub still : (rewrittenBlocks σ (accepted .routine)) .changed ≡ false
+
 -- where a run over the blocks begins
 abbrev pub startAt : ℕ → Progress
 startAt to = record { to = to; lines = 0; fresh = 0; counts = noCounts }

@@ -1,5 +1,6 @@
 // The whole pass, bytes to bytes: reads a routine, chooses, measures the output, and writes it.
 mod folds;
+mod same;
 
 use eligibility::Settings;
 use form::Bounds;
@@ -182,7 +183,7 @@ fn write_measured(
 }
 
 // Measures the output, then writes it.
-fn lower_chosen(
+fn lower_folded(
     s: &[u8],
     b: Bounds,
     settings: Settings,
@@ -237,6 +238,41 @@ fn lower_chosen(
     }
 }
 
+// Gives the input where no build is folded, else measures and writes.
+fn lower_chosen(
+    s: &[u8],
+    b: Bounds,
+    settings: Settings,
+    types: &[usize],
+    recorded: &[u16],
+    blocks: &[usize],
+    places: &[usize],
+    starts: &[u16],
+    folded: &[bool],
+    skips: &[bool],
+    out: &mut [u8],
+) -> Answer
+    requires { ⌜ Chosen settings (now s) (now types) (now recorded) (now blocks) b (now places) (now starts) (now folded) (now skips) ⌝ }
+    ensures { λ r. ⌜ Answers (given settings (length (now (out .entry))) (now (s .entry))) r (now (out .entry)) (now (out .exit)) ⌝ }
+{
+    if !unread::any_marked(folded) {
+        return same::lower_same(s, b, settings, types, recorded, blocks, places, starts, out);
+    }
+    lower_folded(
+        s,
+        b,
+        settings,
+        types,
+        recorded,
+        blocks,
+        places,
+        starts,
+        folded,
+        skips,
+        out,
+    )
+}
+
 // Lowers an accepted routine, whose tables are given.
 fn lower_read(
     s: &[u8],
@@ -253,6 +289,19 @@ fn lower_read(
     let mut places: [usize; 288] = [0; 288];
     let mut starts: [u16; 33] = [0; 33];
     index::index_routine(s, blocks, b.blocks, b, &mut places, &mut starts);
+    if !choosing::any_builds(s, &places, &starts, b.blocks) {
+        return same::lower_same(
+            s,
+            b,
+            settings,
+            types,
+            recorded,
+            blocks,
+            &places,
+            &starts,
+            out,
+        );
+    }
     let mut folded: [bool; 288] = [false; 288];
     let mut skips: [bool; 32] = [false; 32];
     folds::choose_folds(

@@ -1,19 +1,24 @@
 -- Which reason it is, by the first test that fails.
 use Prim.Native.Nat.{ℕ, _+_, _≤_}
 use mathlib.Core.Path.{_≡_, refl, ap, _∙_, sym}
-use mathlib.Core.Bool.{Bool, true, false, cond, not}
+use mathlib.Core.Bool.{Bool, true, false, cond, not, _&&_}
 use native.Mathlib.Omega.{arith}
+use Rattle.form.specs.Syntax.{Instruction, InstructionKind, Terminator, Block}
+use Rattle.form.specs.Syntax.{Assign, UnaryOp, BinaryOp, Call, Cast, Load, Store, Debug, Nop, Phi}
+use Rattle.form.specs.Syntax.{MakeTuple, ExtractTupleElement, MakeStruct, ExtractStructField, InsertField, InsertTuple, MakeFixedArray, AssertEq, HeapAllocCells}
+use Rattle.form.specs.Reads.{terminatorReads}
 use Rattle.form.specs.declared.Bounds.{Bounds}
 use Rattle.routine.specs.Routine.{Routine}
 use Rattle.rewriting.specs.Run.{Rewritten}
 use Rattle.eligibility.specs.Lookup.{Types}
-use mathlib.Core.List.{List}
+use mathlib.Core.List.{List, [], _∷_}
 use Rattle.wire.specs.declared.ValueId.{ValueId}
 use Rattle.eligibility.specs.Fold.{behindPhis}
 use Rattle.rewriting.specs.Run.{typesIn}
 use Rattle.progress.specs.Ground.{Ground}
 use Rattle.shelf.specs.Lists.{every, among}
-use Rattle.shelf.specs.Reads.{ordered, bases, apart, shallow}
+use Rattle.shelf.specs.Reads.{countedReads, ordered, bases, apart, isDeep, shallow, clean, cleanTerminator}
+use Rattle.shelving.specs.Shelved.{inputReason}
 use Rattle.shelf.specs.Reason.{typesAgree, inOrder, keptApart, noDeepStore, readsNoDropped, shelfReason}
 
 -- an answer whose opposite is known
@@ -34,31 +39,116 @@ pub of-deep : (x : Routine) (ds : List ValueId) (r : Bool) → r ≡ every (λ k
 unfolding noDeepStore
 of-deep x ds r e = e
 
+and-false : (a : Bool) → (a && false) ≡ false
+and-false true = refl
+and-false false = refl
+
+-- where no value is dropped, no Store has a dropped base, and none is read
+module _ (gone : ℕ → Bool) (none : (v : ℕ) → gone v ≡ false) where
+  shallow-kind : (i : InstructionKind) → shallow gone i ≡ true
+  unfolding shallow
+  shallow-kind (Assign d x t) = refl
+  shallow-kind (UnaryOp op d x) = refl
+  shallow-kind (BinaryOp op d x y) = refl
+  shallow-kind (Call ds f xs ps rs) = refl
+  shallow-kind (Cast d x t u) = refl
+  shallow-kind (Load d p t) = refl
+  shallow-kind (Store p x t) = rw (none (p .base .0), and-false (isDeep (p .projections)))
+  shallow-kind (Debug m xs) = refl
+  shallow-kind Nop = refl
+  shallow-kind (Phi d t ss) = refl
+  shallow-kind (MakeTuple d xs) = refl
+  shallow-kind (ExtractTupleElement d x k t) = refl
+  shallow-kind (MakeStruct d fs t) = refl
+  shallow-kind (ExtractStructField d x n t) = refl
+  shallow-kind (InsertField d x n y t) = refl
+  shallow-kind (InsertTuple d x k y t) = refl
+  shallow-kind (MakeFixedArray d xs t c) = refl
+  shallow-kind (AssertEq x y) = refl
+  shallow-kind (HeapAllocCells d x) = refl
+
+  none-read : (vs : List ValueId) → every (λ v. not (gone (v .0))) vs ≡ true
+  none-read [] = refl
+  none-read (v ∷ vs) = rw (none (v .0)) (none-read vs)
+
+  none-clean : (is : List Instruction) → clean false gone is ≡ true
+  unfolding clean
+  none-clean [] = refl
+  none-clean (i ∷ is) = rw (none-read (countedReads false (i .kind))) (none-clean is)
+
+  none-last : (t : Terminator) → cleanTerminator gone t ≡ true
+  unfolding cleanTerminator
+  none-last t = none-read (terminatorReads t)
+
+-- a test that each passes
+every-true : {A : Type 0} (p : A → Bool) → ((x : A) → p x ≡ true) → (xs : List A) → every p xs ≡ true
+every-true p h [] = refl
+every-true p h (x ∷ xs) = rw (h x) (every-true p h xs)
+
+module _ (ds : List ValueId) (none : (v : ℕ) → among v ds ≡ false) where
+  pub none-deep : (x : Routine) → true ≡ noDeepStore ds x
+  unfolding noDeepStore
+  none-deep x = sym (every-true _ (λ k. every-true _ (λ i. shallow-kind (λ v. among v ds) none (i .kind)) (behindPhis (k .instructions))) (x .blocks))
+
+  pub none-dropped : (ks : List Block) → true ≡ readsNoDropped false ds ks
+  unfolding readsNoDropped
+  none-dropped ks = sym (rw (every-true _ (λ k. none-clean (λ v. among v ds) none (k .instructions)) ks) (every-true _ (λ k. none-last (λ v. among v ds) none (k .terminator)) ks))
+
 -- lists are short
 pub lists-few : {b : Bounds} {s types recorded : List ℕ} {τ : Types} → Ground b s types recorded τ → b .list + b .projections ≤ 30
 lists-few g = omega (arith, g .listed, g .projected)
 
+-- the reasons of the input
+module _ (x : Routine) where
+  pub input-1 : false ≡ typesAgree x → 1 ≡ inputReason x
+  unfolding inputReason
+  input-1 a = rw (← a)
+
+  pub input-2 : true ≡ typesAgree x → false ≡ inOrder x → 2 ≡ inputReason x
+  unfolding inputReason
+  input-2 a b = rw (← a, ← b)
+
+  pub input-3 : true ≡ typesAgree x → true ≡ inOrder x → false ≡ keptApart x → 3 ≡ inputReason x
+  unfolding inputReason
+  input-3 a b c = rw (← a, ← b, ← c)
+
+  pub input-0 : true ≡ typesAgree x → true ≡ inOrder x → true ≡ keptApart x → 0 ≡ inputReason x
+  unfolding inputReason
+  input-0 a b c = rw (← a, ← b, ← c)
+
+-- they come first
+first-some : (a b c : Bool) (rest n : ℕ) → n ≡ cond a (cond b (cond c 0 3) 2) 1 → (n ≡ 0 → ⊥) → n ≡ cond a (cond b (cond c rest 3) 2) 1
+first-some true true true rest n e h = absurd (h e)
+first-some true true false rest n e h = e
+first-some true false c rest n e h = e
+first-some false b c rest n e h = e
+
+first-none : (a b c : Bool) (rest : ℕ) → _≡_ {A = ℕ} 0 (cond a (cond b (cond c 0 3) 2) 1) → rest ≡ cond a (cond b (cond c rest 3) 2) 1
+first-none true true true rest e = refl
+first-none true true false rest e = absurd (omega arith)
+first-none true false c rest e = absurd (omega arith)
+first-none false b c rest e = absurd (omega arith)
+
 module _ (x : Routine) (w : Rewritten) where
-  pub reason-1 : false ≡ typesAgree x → 1 ≡ shelfReason false x w
-  unfolding shelfReason
-  reason-1 a = rw (← a)
+  pub reason-first : (n : ℕ) → n ≡ inputReason x → (n ≡ 0 → ⊥) → n ≡ shelfReason false x w
+  unfolding inputReason shelfReason
+  reason-first n e h = first-some (typesAgree x) (inOrder x) (keptApart x) _ n e h
 
-  pub reason-2 : true ≡ typesAgree x → false ≡ inOrder x → 2 ≡ shelfReason false x w
-  unfolding shelfReason
-  reason-2 a b = rw (← a, ← b)
+  -- where none of them holds, the others
+  others : 0 ≡ inputReason x → cond (noDeepStore (w .dropped) x) (cond (readsNoDropped false (w .dropped) (w .blocks)) 0 5) 4 ≡ shelfReason false x w
+  unfolding inputReason shelfReason
+  others e = first-none (typesAgree x) (inOrder x) (keptApart x) _ e
 
-  pub reason-3 : true ≡ typesAgree x → true ≡ inOrder x → false ≡ keptApart x → 3 ≡ shelfReason false x w
-  unfolding shelfReason
-  reason-3 a b c = rw (← a, ← b, ← c)
+  pub reason-4 : 0 ≡ inputReason x → false ≡ noDeepStore (w .dropped) x → 4 ≡ shelfReason false x w
+  reason-4 e d = rw (← d) at (others e)
 
-  pub reason-4 : true ≡ typesAgree x → true ≡ inOrder x → true ≡ keptApart x → false ≡ noDeepStore (w .dropped) x → 4 ≡ shelfReason false x w
-  unfolding shelfReason
-  reason-4 a b c d = rw (← a, ← b, ← c, ← d)
+  pub reason-5 : 0 ≡ inputReason x → true ≡ noDeepStore (w .dropped) x → false ≡ readsNoDropped false (w .dropped) (w .blocks) → 5 ≡ shelfReason false x w
+  reason-5 e d f = rw (← d, ← f) at (others e)
 
-  pub reason-5 : true ≡ typesAgree x → true ≡ inOrder x → true ≡ keptApart x → true ≡ noDeepStore (w .dropped) x → false ≡ readsNoDropped false (w .dropped) (w .blocks) → 5 ≡ shelfReason false x w
-  unfolding shelfReason
-  reason-5 a b c d e = rw (← a, ← b, ← c, ← d, ← e)
+  pub reason-0 : 0 ≡ inputReason x → true ≡ noDeepStore (w .dropped) x → true ≡ readsNoDropped false (w .dropped) (w .blocks) → 0 ≡ shelfReason false x w
+  reason-0 e d f = rw (← d, ← f) at (others e)
 
-  pub reason-0 : true ≡ typesAgree x → true ≡ inOrder x → true ≡ keptApart x → true ≡ noDeepStore (w .dropped) x → true ≡ readsNoDropped false (w .dropped) (w .blocks) → 0 ≡ shelfReason false x w
-  unfolding shelfReason
-  reason-0 a b c d e = rw (← a, ← b, ← c, ← d, ← e)
+  -- where no value is dropped, only the input has reasons
+  pub reason-undropped : (n : ℕ) → n ≡ inputReason x → ((v : ℕ) → among v (w .dropped) ≡ false) → n ≡ shelfReason false x w
+  unfolding inputReason shelfReason
+  reason-undropped n e h = rw (← none-deep (w .dropped) h x, ← none-dropped (w .dropped) h (w .blocks)) e

@@ -2,7 +2,7 @@
 use Prim.Native.Nat.{ℕ, _≤_, _<_}
 use mathlib.Core.Path.{_≡_}
 use mathlib.Core.List.{List, _++_}
-use mathlib.Core.Bool.{Bool, false}
+use mathlib.Core.Bool.{Bool, false, cond}
 use lib.ListN.{length, getD, drop, replicate}
 use Rattle.wire.specs.Parse.{ok}
 use Rattle.form.specs.Decode.{definedsOf}
@@ -17,17 +17,27 @@ use Rattle.index.specs.Code.{CodeAt}
 use Rattle.rewriting.specs.Run.{Rewritten, typesIn}
 use Rattle.progress.specs.Ground.{Ground}
 use Rattle.shelf.specs.Lists.{among}
+use Rattle.shelf.specs.Reason.{typesAgree, inOrder, keptApart}
 
 -- the bounds of the output
 abbrev pub outputBounds : Bounds → ℕ → Bounds
 outputBounds b next = record { types = b .types; next = next; blocks = b .blocks; list = b .list; projections = b .projections }
 
-pub record Shelved (s : List ℕ) (b : Bounds) (types recorded : List ℕ) (parameters : ℕ) (places starts out : List ℕ) (at next : ℕ) (dropped : List Bool) (x : Routine) (w : Rewritten) : Type 0 where
+-- an accepted routine with its tables
+pub record Input (s : List ℕ) (b : Bounds) (types recorded : List ℕ) (parameters : ℕ) (places starts : List ℕ) (x : Routine) : Type 0 where
   pub ground : Ground b s types recorded (typesIn x)
   pub code : CodeAt b s places starts (x .blocks)
   pub many : length (x .blocks) ≡ b .blocks
   pub used : ℕ
   pub given : definedsOf (b .list) (b .next) (replicate (b .next) false) (drop parameters s) ≡ ok (x .parameters) used
+
+-- the lowest of the reasons 1, 2 and 3, which do not ask for the output; else 0
+unfoldable pub inputReason : Routine → ℕ
+inputReason x = cond (typesAgree x) (cond (inOrder x) (cond (keptApart x) 0 3) 2) 1
+
+-- and the blocks of its rewriting
+pub record Shelved (s : List ℕ) (b : Bounds) (types recorded : List ℕ) (parameters : ℕ) (places starts out : List ℕ) (at next : ℕ) (dropped : List Bool) (x : Routine) (w : Rewritten) : Type 0 where
+  pub input : Input s b types recorded parameters places starts x
   pub rest : List ℕ
   pub written : drop at out ≡ eachBytes blockBytes (w .blocks) ++ rest
   pub as-many : length (w .blocks) ≡ b .blocks

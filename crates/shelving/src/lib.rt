@@ -10,7 +10,7 @@ ghost use Rattle.block.specs.Encode.{blockBytes};
 ghost use Rattle.routine.specs.Routine.{Routine};
 ghost use Rattle.rewriting.specs.Run.{Rewritten};
 ghost use Rattle.shelf.specs.Reason.{shelfReason};
-ghost use Rattle.shelving.specs.Shelved.{Shelved};
+ghost use Rattle.shelving.specs.Shelved.{Input, inputReason, Shelved};
 
 // What the numbers of the output stay below: its next value is higher.
 fn widened(b: Bounds, next: u16) -> Bounds
@@ -25,8 +25,33 @@ fn widened(b: Bounds, next: u16) -> Bounds
     }
 }
 
-// "Reason 0 is passed; else the lowest that holds". The input `s` has its tables beside it, its parameters stand at `parameters`; the
-// blocks of the output stand at `at` of `out`, and its next value is `next`. `dropped` has a mark for each value left out.
+// The lowest of the reasons 1, 2 and 3, which are reasons of the input alone; else 0. The input `s` has its tables beside it, its parameters
+// stand at `parameters`.
+pub fn input_reason(
+    s: &[u8],
+    b: Bounds,
+    types: &[usize],
+    recorded: &[u16],
+    parameters: usize,
+    places: &[usize],
+    starts: &[u16],
+) -> u8
+    ensures { λ r. ⌜ ((x : Routine) → Input (now (s .entry)) b (now (types .entry)) (now (recorded .entry)) parameters (now (places .entry)) (now (starts .entry)) x → r ≡ inputReason x) ⌝ }
+{
+    if !agreeing::types_agree(s, b, types, recorded, parameters, places, starts, b.blocks) {
+        return 1;
+    }
+    if !ordering::in_order(s, b, places, starts, b.blocks) {
+        return 2;
+    }
+    if !ordering::kept_apart(s, b, types, recorded, places, starts, b.blocks) {
+        return 3;
+    }
+    0
+}
+
+// "Reason 0 is passed; else the lowest that holds". The blocks of the output stand at `at` of `out`, and its next value is `next`. `dropped`
+// has a mark for each value left out.
 pub fn reason(
     s: &[u8],
     b: Bounds,
@@ -42,14 +67,12 @@ pub fn reason(
 ) -> u8
     ensures { λ r. ⌜ ((x : Routine) (w : Rewritten) → Shelved (now (s .entry)) b (now (types .entry)) (now (recorded .entry)) parameters (now (places .entry)) (now (starts .entry)) (now (out .entry)) at next (now (dropped .entry)) x w → r ≡ shelfReason false x w) ⌝ }
 {
-    if !agreeing::types_agree(s, b, types, recorded, parameters, places, starts, b.blocks) {
-        return 1;
+    let first = input_reason(s, b, types, recorded, parameters, places, starts);
+    if first != 0 {
+        return first;
     }
-    if !ordering::in_order(s, b, places, starts, b.blocks) {
-        return 2;
-    }
-    if !ordering::kept_apart(s, b, types, recorded, places, starts, b.blocks) {
-        return 3;
+    if !unread::any_marked(dropped) {
+        return 0;
     }
     if !ordering::no_deep_store(s, b, places, starts, b.blocks, dropped) {
         return 4;

@@ -1,3 +1,4 @@
 pub mod Buffer
 pub mod Walk
 pub mod Blocks
+pub mod Marks

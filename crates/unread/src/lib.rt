@@ -27,6 +27,21 @@ pub enum Walked {
     Reads,
 }
 
+// Whether a mark is set.
+pub fn any_marked(marks: &[bool]) -> bool
+    ensures { λ r. ⌜ (r ≡ false → (v : ℕ) → getD (now (marks .entry)) v false ≡ false) ⌝ }
+{
+    let mut any = false;
+    let mut i = 0;
+    while i < marks.len() {
+        if marks[i] {
+            any = true;
+        }
+        i = i + 1;
+    }
+    any
+}
+
 fn value_at(buffer: &[u16], k: usize) -> u16
     ensures { λ r. ⌜ r ≡ getD (now (buffer .entry)) k 0 ⌝ }
 {

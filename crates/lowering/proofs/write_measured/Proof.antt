@@ -54,7 +54,7 @@ next-value-requires c κs = went-low _ _ (c .before .before .before .before .bef
 add-reason : tie.Need-add-reason
 add-reason c = let a = c .before .before .before .before .before .before .before .before .before .before .before .before .before .before .before .before .before .before .before .before .before .before .before .before .before .before .before .before .before .before .before .before .before .before .before .before .before .before .pre .chosen .accepted in
     let e = c .before .before .before .before .before .before .before .before .before .before .before .before .before .before .before .before .before .before .before .before .before .before .before .before .before .before .types-end .ensures 16 (c .before .before .before .before .before .before .before .before .before .before .before .before .before .before .before .before .before .before .before .before .before .before .before .before .before .before .before .before .before .before .before .before .before .before .before .before .before .before .args .s .now) (a .routine .types) (a .bytes) (a .rows) (sym (many-types a)) in
-    omega (arith, e, types-short (c .before .before .before .before .before .before .before .before .before .before .before .before .before .before .before .before .before .before .before .before .before .before .before .before .before .before .before .before .before .before .before .before .before .before .before .before .before .before .pre .chosen), short-input a)
+    omega (arith, e, types-short (c .before .before .before .before .before .before .before .before .before .before .before .before .before .before .before .before .before .before .before .before .before .before .before .before .before .before .before .before .before .before .before .before .before .before .before .before .before .before .pre .chosen .accepted), short-input a)
 
 slice-aggregate-reason : tie.Need-slice-aggregate-reason
 slice-aggregate-reason c = search needs

@@ -1,0 +1,62 @@
+use Prim.Native.Nat.{ℕ}
+use lib.ListN.{length-replicate}
+use native.Mathlib.Omega.{arith}
+use Rattle.lowering.proofs.Accepted.{blocks-few, short-input}
+use Rattle.lowering.proofs.Answered.{measured, answers-clash}
+use borrow.Author.Needs.{needs}
+use Rattle.lowering.proofs.lower_folded.Statement.{statement}
+use Rattle.lowering.proofs.lower_folded.Tie as tie
+
+slice-aggregate-run-blocks : tie.Need-slice-aggregate-run-blocks
+slice-aggregate-run-blocks c = search needs
+
+slice-aggregate-run-blocks-2 : tie.Need-slice-aggregate-run-blocks-2
+slice-aggregate-run-blocks-2 c = search needs
+
+slice-aggregate-run-blocks-3 : tie.Need-slice-aggregate-run-blocks-3
+slice-aggregate-run-blocks-3 c = search needs
+
+run-blocks-requires : tie.Need-run-blocks-requires
+run-blocks-requires c κs = let a = c .before .before .before .before .before .before .before .before .before .before .before .before .pre .accepted in
+    (omega arith, (blocks-few a, omega (arith, short-input a)))
+
+enum-told : tie.Need-enum-told
+enum-told c = search needs
+
+enum-known-p : tie.Need-enum-known-p
+enum-known-p c = search needs
+
+slice-aggregate-write-measured : tie.Need-slice-aggregate-write-measured
+slice-aggregate-write-measured c = search needs
+
+slice-aggregate-write-measured-2 : tie.Need-slice-aggregate-write-measured-2
+slice-aggregate-write-measured-2 c = search needs
+
+write-measured-requires : tie.Need-write-measured-requires
+write-measured-requires c κs = measured (c .before .before .before .before .before .before .before .before .before .before .before .before .before .before .before .before .before .before .before .before .before .before .pre) _ _ _ _ _ _ _ _ (omega (arith, length-replicate {A = ℕ} 4608 0)) (c .before .before .before .before .before .before .before .before .before .run-blocks .ensures .0) (c .before .before .before .before .before .before .before .before .before .run-blocks .ensures .1 (c .before .before .before .before .before .before .before .before .before .before .before .before .before .before .before .before .before .before .before .before .before .before .pre)) (c .before .before .before .before .p .given .1)
+
+returns : tie.Need-returns
+returns c = answers-clash (c .before .before .before .before .before .before .before .before .before .before .before .before .before .before .before .before .before .before .pre) (c .before .before .before .before .before .before .before .before .before .before .before .before .before .before .before .before .before .before .args .out .now) (c .before .before .before .before .before .run-blocks .ensures .1 (c .before .before .before .before .before .before .before .before .before .before .before .before .before .before .before .before .before .before .pre) .clashed (c .enum-told .given .1))
+
+same-length : tie.Need-same-length
+same-length c = search needs
+
+returns-2 : tie.Need-returns-2
+returns-2 c = search needs
+
+pub lower-folded-spec : {M : Type 1} → statement M
+lower-folded-spec =
+    tie.close
+    (tie.spec
+    slice-aggregate-run-blocks
+    slice-aggregate-run-blocks-2
+    slice-aggregate-run-blocks-3
+    run-blocks-requires
+    enum-told
+    enum-known-p
+    slice-aggregate-write-measured
+    slice-aggregate-write-measured-2
+    write-measured-requires
+    returns
+    same-length
+    returns-2)

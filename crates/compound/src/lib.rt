@@ -17,9 +17,9 @@ pub fn load(s: &[u8], b: Bounds, types: &[usize], recorded: &[u16], t: &[u8]) ->
 {
     let e = lookup::projections_end(t, 5, wire::byte_at(t, 4));
     let y = fields::type_at(t, b, e);
-    let same = fields::id_has(b, recorded, t, 0, y);
-    let fit = reaching::place_fits(s, b, types, recorded, t, 2, y);
-    fields::both(same, fit)
+    let dest = fields::id_has(b, recorded, t, 0, y);
+    let place = reaching::place_fits(s, b, types, recorded, t, 2, y);
+    fields::both(dest, place)
 }
 
 pub fn store(s: &[u8], b: Bounds, types: &[usize], recorded: &[u16], t: &[u8]) -> bool
@@ -27,19 +27,19 @@ pub fn store(s: &[u8], b: Bounds, types: &[usize], recorded: &[u16], t: &[u8]) -
 {
     let e = lookup::projections_end(t, 3, wire::byte_at(t, 2));
     let y = fields::type_at(t, b, fields::value_end(t, e));
-    let same = fields::value_fits(s, b, types, recorded, t, e, y);
-    let fit = reaching::place_fits(s, b, types, recorded, t, 0, y);
-    fields::both(same, fit)
+    let value = fields::value_fits(s, b, types, recorded, t, e, y);
+    let place = reaching::place_fits(s, b, types, recorded, t, 0, y);
+    fields::both(value, place)
 }
 
 pub fn phi(s: &[u8], b: Bounds, types: &[usize], recorded: &[u16], t: &[u8]) -> bool
     ensures { λ r. ⌜ ((τ : Types) (seen : List Bool) (i : InstructionKind) (n : ℕ) → Ground b (now (s .entry)) (now (types .entry)) (now (recorded .entry)) τ → phiOf b seen (now (t .entry)) ≡ ok i n → r ≡ agrees τ i) ⌝ }
 {
     let y = fields::type_at(t, b, 2);
-    let same = fields::id_has(b, recorded, t, 0, y);
+    let dest = fields::id_has(b, recorded, t, 0, y);
     let n = wire::byte_at(t, 4);
-    let fit = fitting::sources_fit(s, b, types, recorded, t, 5, n, y);
-    fields::both(same, fit)
+    let sources = fitting::sources_fit(s, b, types, recorded, t, 5, n, y);
+    fields::both(dest, sources)
 }
 
 pub fn make_tuple(s: &[u8], b: Bounds, types: &[usize], recorded: &[u16], t: &[u8]) -> bool
@@ -48,8 +48,8 @@ pub fn make_tuple(s: &[u8], b: Bounds, types: &[usize], recorded: &[u16], t: &[u
     let y = fields::id_type(b, recorded, t, 0);
     let shaped = fields::has_shape(s, b, types, y, 1);
     let n = wire::byte_at(t, 2);
-    let fit = fitting::parts_fit(s, b, types, recorded, t, 3, n, y);
-    fields::both(shaped, fit)
+    let all = fitting::parts_fit(s, b, types, recorded, t, 3, n, y);
+    fields::both(shaped, all)
 }
 
 pub fn make_array(s: &[u8], b: Bounds, types: &[usize], recorded: &[u16], t: &[u8]) -> bool

@@ -16,27 +16,27 @@ pub fn assign(s: &[u8], b: Bounds, types: &[usize], recorded: &[u16], t: &[u8]) 
     ensures { λ r. ⌜ ((τ : Types) (seen : List Bool) (i : InstructionKind) (n : ℕ) → Ground b (now (s .entry)) (now (types .entry)) (now (recorded .entry)) τ → assignOf b seen (now (t .entry)) ≡ ok i n → r ≡ agrees τ i) ⌝ }
 {
     let y = fields::type_at(t, b, fields::value_end(t, 2));
-    let same = fields::id_has(b, recorded, t, 0, y);
-    let fit = fields::value_fits(s, b, types, recorded, t, 2, y);
-    fields::both(same, fit)
+    let dest = fields::id_has(b, recorded, t, 0, y);
+    let source = fields::value_fits(s, b, types, recorded, t, 2, y);
+    fields::both(dest, source)
 }
 
 pub fn unary(s: &[u8], b: Bounds, types: &[usize], recorded: &[u16], t: &[u8]) -> bool
     ensures { λ r. ⌜ ((τ : Types) (seen : List Bool) (i : InstructionKind) (n : ℕ) → Ground b (now (s .entry)) (now (types .entry)) (now (recorded .entry)) τ → unaryOf b seen (now (t .entry)) ≡ ok i n → r ≡ agrees τ i) ⌝ }
 {
-    let to = fields::id_scalar(s, b, types, recorded, t, 1);
-    let from = fields::value_scalar(s, b, types, recorded, t, 3);
-    fields::both(to, from)
+    let result = fields::id_scalar(s, b, types, recorded, t, 1);
+    let operand = fields::value_scalar(s, b, types, recorded, t, 3);
+    fields::both(result, operand)
 }
 
 pub fn binary(s: &[u8], b: Bounds, types: &[usize], recorded: &[u16], t: &[u8]) -> bool
     ensures { λ r. ⌜ ((τ : Types) (seen : List Bool) (i : InstructionKind) (n : ℕ) → Ground b (now (s .entry)) (now (types .entry)) (now (recorded .entry)) τ → binaryOf b seen (now (t .entry)) ≡ ok i n → r ≡ agrees τ i) ⌝ }
 {
-    let to = fields::id_scalar(s, b, types, recorded, t, 1);
+    let result = fields::id_scalar(s, b, types, recorded, t, 1);
     let left = fields::value_scalar(s, b, types, recorded, t, 3);
     let right = fields::value_scalar(s, b, types, recorded, t, fields::value_end(t, 3));
-    let from = fields::both(left, right);
-    fields::both(to, from)
+    let operands = fields::both(left, right);
+    fields::both(result, operands)
 }
 
 pub fn cast(s: &[u8], b: Bounds, types: &[usize], recorded: &[u16], t: &[u8]) -> bool
@@ -50,9 +50,9 @@ pub fn cast(s: &[u8], b: Bounds, types: &[usize], recorded: &[u16], t: &[u8]) ->
 pub fn heap_alloc(s: &[u8], b: Bounds, types: &[usize], recorded: &[u16], t: &[u8]) -> bool
     ensures { λ r. ⌜ ((τ : Types) (seen : List Bool) (i : InstructionKind) (n : ℕ) → Ground b (now (s .entry)) (now (types .entry)) (now (recorded .entry)) τ → heapAllocOf b seen (now (t .entry)) ≡ ok i n → r ≡ agrees τ i) ⌝ }
 {
-    let to = fields::id_scalar(s, b, types, recorded, t, 0);
-    let from = fields::value_scalar(s, b, types, recorded, t, 2);
-    fields::both(to, from)
+    let pointer = fields::id_scalar(s, b, types, recorded, t, 0);
+    let cells = fields::value_scalar(s, b, types, recorded, t, 2);
+    fields::both(pointer, cells)
 }
 
 pub fn assert_eq(s: &[u8], b: Bounds, types: &[usize], recorded: &[u16], t: &[u8]) -> bool
@@ -85,8 +85,8 @@ pub fn extract_field(s: &[u8], b: Bounds, types: &[usize], recorded: &[u16], t: 
     let from = fields::operand_type(b, recorded, t, 2);
     let part = typing::field_type(s, b, types, from, NameId(wire::u16_at(t, e)));
     let same = fields::id_has(b, recorded, t, 0, y);
-    let fit = typing::same_type(part, y);
-    fields::both(same, fit)
+    let named = typing::same_type(part, y);
+    fields::both(same, named)
 }
 
 pub fn insert_field(s: &[u8], b: Bounds, types: &[usize], recorded: &[u16], t: &[u8]) -> bool

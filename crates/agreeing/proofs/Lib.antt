@@ -1,8 +1,2 @@
-pub mod Lines
-pub mod Tests
-pub mod Single
-pub mod Short
-pub mod Long
-pub mod Places
-pub mod Structs
+pub mod Ends
 pub mod Whole

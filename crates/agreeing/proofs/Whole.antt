@@ -25,11 +25,10 @@ use Rattle.rewriting.specs.Run.{typesIn}
 use Rattle.shelf.specs.Lists.{every}
 use Rattle.shelf.specs.Agrees.{agrees, endAgrees, blockAgrees}
 use Rattle.shelf.specs.Reason.{typesAgree}
-use Rattle.agreeing.specs.Fields.{IdsAt}
-use Rattle.agreeing.proofs.Lines.{Left, left-begin, lined-by}
-use Rattle.agreeing.proofs.Tests.{every-all}
-use Rattle.agreeing.proofs.Short.{long-field}
-use Rattle.agreeing.proofs.Long.{values-field, dests-field}
+use Rattle.fitting.specs.Lists.{IdsAt}
+use Rattle.fields.proofs.Lines.{Left, left-begin, lined-by, every-all}
+use Rattle.fields.proofs.Standing.{long-field}
+use Rattle.fitting.proofs.Standing.{values-field, dests-field}
 
 -- the kinds of which nothing is asked
 debug-agrees : (b : Bounds) (seen : List Bool) (τ : Types) (t : List ℕ) → Stand t 0 (debugOf b seen) (λ i e. true ≡ agrees τ i)

@@ -1,10 +1,4 @@
 // Shelf reason 1, "Types disagree": whether the recorded types fit what each instruction, terminator and parameter says.
-mod fields;
-mod lists;
-mod longs;
-mod plain;
-mod steps;
-
 use form::Bounds;
 ghost use mathlib.Core.Path.{_≡_};
 ghost use mathlib.Core.Bool.{Bool, false};
@@ -33,18 +27,18 @@ fn agrees(s: &[u8], b: Bounds, types: &[usize], recorded: &[u16], t: &[u8], kind
         0 => plain::assign(s, b, types, recorded, t),
         1 => plain::unary(s, b, types, recorded, t),
         2 => plain::binary(s, b, types, recorded, t),
-        3 => longs::call(s, b, types, recorded, t),
+        3 => compound::call(s, b, types, recorded, t),
         4 => plain::cast(s, b, types, recorded, t),
-        5 => longs::load(s, b, types, recorded, t),
-        6 => longs::store(s, b, types, recorded, t),
-        9 => longs::phi(s, b, types, recorded, t),
-        10 => longs::make_tuple(s, b, types, recorded, t),
+        5 => compound::load(s, b, types, recorded, t),
+        6 => compound::store(s, b, types, recorded, t),
+        9 => compound::phi(s, b, types, recorded, t),
+        10 => compound::make_tuple(s, b, types, recorded, t),
         11 => plain::extract_tuple(s, b, types, recorded, t),
-        12 => longs::make_struct(s, b, types, recorded, t),
+        12 => compound::make_struct(s, b, types, recorded, t),
         13 => plain::extract_field(s, b, types, recorded, t),
         14 => plain::insert_field(s, b, types, recorded, t),
         15 => plain::insert_tuple(s, b, types, recorded, t),
-        16 => longs::make_array(s, b, types, recorded, t),
+        16 => compound::make_array(s, b, types, recorded, t),
         17 => plain::assert_eq(s, b, types, recorded, t),
         18 => plain::heap_alloc(s, b, types, recorded, t),
         _ => true,
@@ -76,7 +70,7 @@ fn branch(s: &[u8], b: Bounds, types: &[usize], recorded: &[u16], t: &[u8]) -> b
 fn leave(b: Bounds, recorded: &[u16], t: &[u8]) -> bool
     ensures { λ r. ⌜ ((s types : List ℕ) (τ : Types) (i : Terminator) (n : ℕ) → Ground b s types (now (recorded .entry)) τ → returnOf b (now (t .entry)) ≡ ok i n → r ≡ endAgrees τ i) ⌝ }
 {
-    lists::all_known(b, recorded, t, 1, wire::byte_at(t, 0))
+    fitting::all_known(b, recorded, t, 1, wire::byte_at(t, 0))
 }
 
 // The terminator at the head of `u`.
@@ -159,7 +153,7 @@ pub fn types_agree(
     ensures { λ r. ⌜ ((τ : Types) (x : Routine) (n : ℕ) → Ground b (now (s .entry)) (now (types .entry)) (now (recorded .entry)) τ → τ ≡ typesIn x → CodeAt b (now (s .entry)) (now (places .entry)) (now (starts .entry)) (x .blocks) → length (x .blocks) ≡ many → definedsOf (b .list) (b .next) (replicate (b .next) false) (drop parameters (now (s .entry))) ≡ ok (x .parameters) n → r ≡ typesAgree x) ⌝ }
 {
     let t = form::tail(s, parameters);
-    let known = lists::all_typed(b, recorded, t, 1, wire::byte_at(t, 0));
+    let known = fitting::all_typed(b, recorded, t, 1, wire::byte_at(t, 0));
     let fit = blocks_agree(s, b, types, recorded, places, starts, many);
     fields::both(known, fit)
 }

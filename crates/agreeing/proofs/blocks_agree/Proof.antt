@@ -7,10 +7,10 @@ use native.Mathlib.Omega.{arith}
 use lib.ListN.{length}
 use Rattle.eligibility.specs.Lookup.{Types}
 use Rattle.progress.specs.Ground.{Ground}
-use Rattle.agreeing.proofs.Lines.{left-fail, left-next, left-done, if-not, unless-not}
+use Rattle.fields.proofs.Lines.{left-fail, left-next, left-done, if-not, unless-not}
+use Rattle.agreeing.proofs.Whole.{BlockLeft, blocks-begin, blocks-told}
 use Rattle.form.specs.Syntax.{Block}
 use Rattle.index.specs.Code.{CodeAt}
-use Rattle.agreeing.proofs.Whole.{BlockLeft, blocks-begin, blocks-told}
 use borrow.Author.Needs.{needs}
 
 abbrev Inv-loop : tie.InvT-loop

@@ -1,10 +1,9 @@
 use Rattle.agreeing.proofs.branch.Statement.{statement}
 use Rattle.agreeing.proofs.branch.Tie as tie
 use mathlib.Core.Path.{_∙_}
-use Rattle.agreeing.proofs.Lines.{and-both}
-use Rattle.agreeing.proofs.Single.{value-moved}
-use mathlib.Core.List.{[]}
-use Rattle.agreeing.proofs.Long.{branch-agrees}
+use Rattle.fields.proofs.Lines.{and-both}
+use Rattle.fields.proofs.Single.{value-moved}
+use Rattle.agreeing.proofs.Ends.{branch-agrees}
 use borrow.Author.Needs.{needs}
 
 value-scalar-requires : tie.Need-value-scalar-requires
@@ -20,7 +19,7 @@ both-requires : tie.Need-both-requires
 both-requires c κs = search needs
 
 returns : tie.Need-returns
-returns c = λ τ i n g e. branch-agrees (c .before .before .before .before .before .before .before .before .args .b) (c .before .before .before .before .before .before .before .before .args .t .now) [] τ (λ x y p q. c .both .ensures ∙ and-both (c .before .before .before .value-scalar .ensures τ x g p) (c .before .value-scalar2 .ensures τ y g (value-moved (c .before .before .value-end .ensures .0) q))) .each i n e
+returns c = λ τ i n g e. branch-agrees (c .before .before .before .before .before .before .before .before .args .b) (c .before .before .before .before .before .before .before .before .args .t .now) τ (λ x y p q. c .both .ensures ∙ and-both (c .before .before .before .value-scalar .ensures τ x g p) (c .before .value-scalar2 .ensures τ y g (value-moved (c .before .before .value-end .ensures .0) q))) .each i n e
 
 pub branch-spec : {M : Type 1} → statement M
 branch-spec =

@@ -1,0 +1,61 @@
+use Rattle.compound.proofs.make_array.Statement.{statement}
+use Rattle.compound.proofs.make_array.Tie as tie
+use mathlib.Core.Path.{ap, _∙_, sym}
+use mathlib.Core.Option.{some}
+use Rattle.eligibility.specs.Lookup.{rowOf, recordedType}
+use Rattle.shelf.specs.Parts.{partType}
+use Rattle.fields.specs.Fields.{valueBehind}
+use Rattle.fields.proofs.Lines.{and-both}
+use Rattle.fields.proofs.Single.{type-moved}
+use Rattle.compound.proofs.Long.{make-array-agrees}
+use Rattle.lookup.specs.Fields.{after}
+use borrow.Author.Needs.{needs}
+
+id-type-requires : tie.Need-id-type-requires
+id-type-requires c κs = search needs
+
+byte-at-requires : tie.Need-byte-at-requires
+byte-at-requires c κs = search needs
+
+values-end-requires : tie.Need-values-end-requires
+values-end-requires c κs = search needs
+
+type-at-requires : tie.Need-type-at-requires
+type-at-requires c κs = search needs
+
+has-shape-requires : tie.Need-has-shape-requires
+has-shape-requires c κs = search needs
+
+part-type-requires : tie.Need-part-type-requires
+part-type-requires c κs = search needs
+
+same-type-requires : tie.Need-same-type-requires
+same-type-requires c κs = search needs
+
+parts-fit-requires : tie.Need-parts-fit-requires
+parts-fit-requires c κs = search needs
+
+both-requires : tie.Need-both-requires
+both-requires c κs = search needs
+
+both-requires-2 : tie.Need-both-requires-2
+both-requires-2 c κs = search needs
+
+returns : tie.Need-returns
+returns c = λ τ seen k i n g e. make-array-agrees (c .before .before .before .before .before .before .before .before .before .before .before .before .before .before .args .b) (c .before .before .before .before .before .before .before .before .before .before .before .before .before .before .args .t .now) seen τ k (λ d xs y u l h v. let o = c .before .before .before .before .before .before .before .before .before .id-type .ensures _ _ τ d g u in let w = c .before .before .before .before .before .before .type-at .ensures y (type-moved (c .before .before .before .before .before .before .before .values-end .ensures .0 ∙ ap (λ m. after (valueBehind (c .before .before .before .before .before .before .before .before .before .before .before .before .before .before .args .t .now) 0) m 3) (c .before .before .before .before .before .before .before .before .byte-at .ensures)) v) in c .both2 .ensures ∙ and-both (c .before .before .before .before .before .has-shape .ensures _ τ (recordedType τ d) g o) (c .before .both .ensures ∙ and-both (c .before .before .before .same-type .ensures (partType (rowOf τ (recordedType τ d)) 0) (some y) (c .before .before .before .before .part-type .ensures τ (recordedType τ d) (g .known .rows) (g .rows) o) w) (c .before .before .parts-fit .ensures τ (recordedType τ d) xs g o l (h ∙ sym (c .before .before .before .before .before .before .before .before .byte-at .ensures))))) .each i n e
+
+pub make-array-spec : {M : Type 1} → statement M
+make-array-spec =
+    tie.close
+    (tie.spec
+    id-type-requires
+    byte-at-requires
+    values-end-requires
+    type-at-requires
+    has-shape-requires
+    part-type-requires
+    same-type-requires
+    parts-fit-requires
+    both-requires
+    both-requires-2
+    returns)

@@ -1,0 +1,70 @@
+-- What is read at single places.
+use Prim.Native.Nat.{ℕ, _+_, _≤_, _<_}
+use mathlib.Core.Path.{_≡_, refl, ap, _∙_, sym}
+use mathlib.Core.List.{List}
+use mathlib.Core.Option.{none, some}
+use native.Mathlib.Omega.{arith}
+use lib.ListN.{length, getD, drop}
+use Rattle.wire.specs.Number.{at16}
+use Rattle.wire.specs.Value.{valueOf, asValue}
+use Rattle.wire.specs.WellFormed.{Bytes, FitValue}
+use Rattle.wire.specs.declared.ValueId.{ValueId}
+use Rattle.wire.specs.declared.TypeId.{TypeId}
+use Rattle.wire.specs.declared.Value.{Value}
+use Rattle.wire.specs.declared.Literal.{Literal}
+use Rattle.wire.specs.declared.Cause.{Cause}
+use Rattle.wire.specs.declared.ReadValue.{ReadValue}
+use Rattle.wire.proofs.Canon.{value-fit, bytes-drop}
+use Rattle.lookup.proofs.Loops.{same-value, refused-value}
+use Rattle.form.specs.declared.Bounds.{Bounds}
+use Rattle.routine.specs.Index.{recordedNumber, RecordedAt}
+use Rattle.parts.specs.Rows.{ValueAt, stands}
+use Rattle.eligibility.specs.Lookup.{Types, recordedType}
+use Rattle.progress.specs.Ground.{Ground}
+use Rattle.fields.specs.Fields.{IdAt, TypeAt, operandType}
+
+-- a value
+pub value-read : (next : ℕ) (u t : List ℕ) (at : ℕ) {r : ReadValue} {x y : Value} {m : ℕ} → Bytes t → next ≤ 65536 → asValue r ≡ valueOf next u → u ≡ drop at t → r ≡ ReadValue.Got x m → ValueAt next t at y → (x ≡ y) × FitValue next y
+value-read next u t at h l p q e (stands n f) = (same-value next u (drop at t) p q e f, value-fit next (drop at t) (bytes-drop t at h) f l)
+
+pub value-refused : (next : ℕ) (u t : List ℕ) (at : ℕ) {A : Type 0} {r : ReadValue} {c : Cause} {o : ℕ} {y : Value} → asValue r ≡ valueOf next u → u ≡ drop at t → r ≡ ReadValue.Refused c o → ValueAt next t at y → A
+value-refused next u t at p q e (stands n f) = absurd (refused-value next u (drop at t) p q e f)
+
+-- elsewhere
+pub type-moved : {types : ℕ} {t : List ℕ} {p q : ℕ} {y : TypeId} → p ≡ q → TypeAt types t q y → TypeAt types t p y
+type-moved e u = rw e u
+
+pub value-moved : {next : ℕ} {t : List ℕ} {p q : ℕ} {x : Value} → p ≡ q → ValueAt next t q x → ValueAt next t p x
+value-moved e u = rw e u
+
+-- a type's number
+pub type-below : {types x : ℕ} {t : List ℕ} {at : ℕ} {y : TypeId} → x ≡ at16 t at → TypeAt types t at y → x + 1 ≡ recordedNumber (some y)
+type-below e u = ap (λ z. z + 1) (e ∙ sym (u .told))
+
+pub type-above : {types x : ℕ} {t : List ℕ} {at : ℕ} {y : TypeId} → x ≡ at16 t at → types ≤ x → TypeAt types t at y → _≡_ {A = ℕ} 0 (recordedNumber (some y))
+type-above {types} {x} {y} e h u = absurd (let l = u .low in let z : y .0 ≡ x = u .told ∙ sym e in omega (arith, h, l, z))
+
+-- a recorded type
+pub recorded-told : {b : Bounds} {s types recorded : List ℕ} {τ : Types} (v : ValueId) {r : ℕ} → Ground b s types recorded τ → v .0 < b .next → (RecordedAt recorded (τ .recorded) → length (τ .recorded) ≤ length recorded → v .0 < length (τ .recorded) → r ≡ recordedNumber (recordedType τ v)) → r ≡ recordedNumber (recordedType τ v)
+recorded-told {b} {τ} v g h f = let z : v .0 < length (τ .recorded) = omega (arith, h, g .values) in f (g .known .recorded-types) (g .known .long) z
+
+pub id-told : {b : Bounds} {s types recorded : List ℕ} {τ : Types} {t : List ℕ} {at : ℕ} {d : ValueId} (x : ℕ) {r : ℕ} → Ground b s types recorded τ → IdAt (b .next) t at d → x ≡ at16 t at → (RecordedAt recorded (τ .recorded) → length (τ .recorded) ≤ length recorded → x < length (τ .recorded) → r ≡ recordedNumber (recordedType τ (record { 0 = x }))) → r ≡ recordedNumber (recordedType τ d)
+unfolding recordedType
+id-told {b} {τ} {d} x g i e f =
+    let w : x ≡ d .0 = e ∙ sym (i .told) in
+    let z : x < length (τ .recorded) = omega (arith, w, i .low, g .values) in
+    f (g .known .recorded-types) (g .known .long) z ∙ ap (λ k. recordedNumber (getD (τ .recorded) k none)) w
+
+pub operand-literal : (τ : Types) {x : Value} {l : Literal} → x ≡ Value.Literal l → _≡_ {A = ℕ} 0 (recordedNumber (operandType τ x))
+unfolding operandType
+operand-literal τ e = rw e refl
+
+pub operand-error : (τ : Types) {x : Value} → x ≡ Value.Error → _≡_ {A = ℕ} 0 (recordedNumber (operandType τ x))
+unfolding operandType
+operand-error τ e = rw e refl
+
+pub operand-told : {b : Bounds} {s types recorded : List ℕ} {τ : Types} {x : Value} {v : ValueId} {r : ℕ} → Ground b s types recorded τ → x ≡ Value.Operand v → FitValue (b .next) x → (RecordedAt recorded (τ .recorded) → length (τ .recorded) ≤ length recorded → v .0 < length (τ .recorded) → r ≡ recordedNumber (recordedType τ v)) → r ≡ recordedNumber (operandType τ x)
+unfolding operandType
+operand-told {b} {v} g e h f =
+    let k : FitValue (b .next) (Value.Operand v) = rw e at h in
+    rw e (recorded-told v g (k .0) f)

@@ -1,0 +1,48 @@
+use Rattle.fields.proofs.values_end.Statement.{statement}
+use Rattle.fields.proofs.values_end.Tie as tie
+use Prim.Native.Nat.{_+_, _-_, _*_, _≤_}
+use native.Mathlib.Omega.{arith}
+use Rattle.fields.specs.Fields.{valueBehind}
+use Rattle.lookup.proofs.Loops.{Going, going, again, gone}
+use borrow.Author.Needs.{needs}
+
+abbrev Inv-loop : tie.InvT-loop
+Inv-loop t at before n here₀ i₀ here i = Going (valueBehind t before) n at here i × (here ≤ at + 260 * i)
+
+abbrev μ-loop : tie.MeasureT-loop
+μ-loop t at before n here₀ i₀ here i = n - i
+
+loop-holds : tie.Need-loop-holds Inv-loop μ-loop
+loop-holds c = (going _ _ _, omega arith)
+
+add-value-end : tie.Need-add-value-end Inv-loop μ-loop
+add-value-end c = search needs
+
+value-end-requires : tie.Need-value-end-requires Inv-loop μ-loop
+value-end-requires c κs = search needs
+
+add-i : tie.Need-add-i Inv-loop μ-loop
+add-i c = search needs
+
+loop-less : tie.Need-loop-less Inv-loop μ-loop
+loop-less c = search needs
+
+loop-again : tie.Need-loop-again Inv-loop μ-loop
+loop-again c = (again _ _ _ _ _ _ (c .before .before .loop .inv .0) (c .before .loop-test .taken) (c .value-end .ensures .0), search needs)
+
+returns : tie.Need-returns Inv-loop μ-loop
+returns c = (gone _ _ _ _ _ (c .before .loop .inv .0) (c .loop-test .left), search needs)
+
+pub values-end-spec : {M : Type 1} → statement M
+values-end-spec =
+    tie.close
+    (tie.spec
+    Inv-loop
+    μ-loop
+    loop-holds
+    add-value-end
+    value-end-requires
+    add-i
+    loop-less
+    loop-again
+    returns)

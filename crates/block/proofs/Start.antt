@@ -12,10 +12,15 @@ use Rattle.wire.specs.Number.{numberOf, u8Of}
 use Rattle.wire.specs.declared.Cause.{Cause}
 use Rattle.wire.proofs.Laws.{number-short, number-some, from-8}
 use Rattle.wire.proofs.Inv.{no-ok, both, image, and-inv, map-inv, checked-inv}
-use Rattle.form.specs.Decode.{bitsOf, kindOf}
+use Rattle.form.specs.Decode.{definedBits, bitsOf, kindOf}
 use Rattle.form.specs.Walk.{Walk, walkOf, asScan}
 use Rattle.form.specs.declared.Scan.{Scan}
-use Rattle.block.specs.Decode.{KindRead, headOf, misplacedConst, lateBehind}
+use Rattle.block.specs.Decode.{KindRead, headOf, lateBehind}
+
+-- what is not false is true
+pub twice : (b : Bool) → b ≡ not (not b)
+twice true = refl
+twice false = refl
 
 -- the bits' byte
 first : (s : List ℕ) → 1 ≤ length s → numberOf 1 s ≡ ok (getD s 0 0) 1
@@ -37,44 +42,39 @@ module _ (late : Bool) (s : List ℕ) where
   unfolding headOf
   no-bits h = simp (number-short 1 s h)
 
-  -- a bit above 3 stands
-  pub bits-past : 1 ≤ length s → 16 ≤ getD s 0 0 → _≡_ {A = Parse KindRead} (bad Cause.Undefined 0) (headOf late s)
+  -- a bit stands that should not
+  pub bits-past : 1 ≤ length s → definedBits s (getD s 0 0) ≡ false → _≡_ {A = Parse KindRead} (bad Cause.Undefined 0) (headOf late s)
   unfolding headOf
-  bits-past h g = simp (first s h, le-ltb _ _ g)
+  bits-past h e = simp (first s h, e)
 
-  -- bit 3 stands before another kind than MakeFixedArray
-  pub bits-misplaced : 1 ≤ length s → getD s 0 0 < 16 → misplacedConst s (getD s 0 0) ≡ true → _≡_ {A = Parse KindRead} (bad Cause.Undefined 0) (headOf late s)
-  unfolding headOf
-  bits-misplaced h g e = simp (first s h, lt-ltb _ _ g, e)
-
-  module _ (g : getD s 0 0 < 16) (e : misplacedConst s (getD s 0 0) ≡ false) where
+  module _ (e : definedBits s (getD s 0 0) ≡ true) where
     -- there is no byte for the kind
     pub no-kind : 1 ≤ length s → length s < 2 → _≡_ {A = Parse KindRead} (bad Cause.Truncated 1) (headOf late s)
     unfolding headOf
     no-kind h k =
         let j : length (drop 1 s) < 1 = omega (arith, length-drop 1 s) in
-        simp (first s h, lt-ltb _ _ g, e, number-short 1 (drop 1 s) j)
+        simp (first s h, e, number-short 1 (drop 1 s) j)
 
     -- the kind is none of the 19
     pub kind-past : 2 ≤ length s → 19 ≤ getD s 1 0 → _≡_ {A = Parse KindRead} (bad Cause.Undefined 1) (headOf late s)
     unfolding headOf
     kind-past h k =
         let j : 1 ≤ length s = omega arith in
-        simp (first s j, lt-ltb _ _ g, e, second s h, le-ltb _ _ k)
+        simp (first s j, e, second s h, le-ltb _ _ k)
 
     -- a Phi is late
     pub late-phi : 2 ≤ length s → getD s 1 0 < 19 → (late && eqb (getD s 1 0) 9) ≡ true → _≡_ {A = Parse KindRead} (bad Cause.LatePhi 1) (headOf late s)
     unfolding headOf
     late-phi h k l =
         let j : 1 ≤ length s = omega arith in
-        simp (first s j, lt-ltb _ _ g, e, second s h, lt-ltb _ _ k, l)
+        simp (first s j, e, second s h, lt-ltb _ _ k, l)
 
     -- both are as they should be
     pub head-some : 2 ≤ length s → getD s 1 0 < 19 → (late && eqb (getD s 1 0) 9) ≡ false → _≡_ {A = Parse KindRead} (ok (record { bits = getD s 0 0; kind = getD s 1 0 }) 2) (headOf late s)
     unfolding headOf
     head-some h k l =
         let j : 1 ≤ length s = omega arith in
-        simp (first s j, lt-ltb _ _ g, e, second s h, lt-ltb _ _ k, l)
+        simp (first s j, e, second s h, lt-ltb _ _ k, l)
 
 -- behind a Phi a Phi is as late as before
 pub behind-phi : (k : ℕ) (w : Walk) (at : ℕ) → k ≡ 9 → ok w at ≡ mapParse (lateBehind k) (ok w at)

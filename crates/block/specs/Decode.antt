@@ -51,10 +51,6 @@ pub record KindRead : Type 0 where
 unfoldable pub headOf : Bool → List ℕ → Parse KindRead
 headOf late s = andThen s (bitsOf s) (λ x t. mapParse (λ k. record { bits = x; kind = k }) (kindOf late t))
 
--- bit 3 stands where a kind other than 16 follows
-abbrev pub misplacedConst : List ℕ → ℕ → Bool
-misplacedConst s x = bit 3 x && (ltb 1 (length s) && not (eqb (getD s 1 0) 16))
-
 -- behind a kind other than Phi, a Phi is late
 abbrev pub lateBehind : ℕ → Walk → Walk
 lateBehind k w = walkOf (w .seen) (w .buffer) (w .count) (w .late || not (eqb k 9))

@@ -9,9 +9,9 @@ ghost use mathlib.Core.Bool.{Bool, true, false};
 ghost use Prim.Native.Nat.{ℕ, _+_, _≤_, _<_};
 ghost use lib.ListN.{getD};
 ghost use Rattle.wire.specs.Parse.{andThen, mapParse};
-ghost use Rattle.form.specs.Decode.{bit as bitOf, metaOf, instructionOf, terminatorOf};
+ghost use Rattle.form.specs.Decode.{bit as bitOf, definedBits, metaOf, instructionOf, terminatorOf};
 ghost use Rattle.form.specs.Walk.{walkOf, fold, passes, leaves, asScan};
-ghost use Rattle.block.specs.Decode.{headOf, skipped, instructionsOf, blockOf, misplacedConst, lateBehind, passed, asHead, asBlock};
+ghost use Rattle.block.specs.Decode.{headOf, skipped, instructionsOf, blockOf, lateBehind, passed, asHead, asBlock};
 
 // "Most: 64 types, next value 256, 32 blocks, 128 instructions in a block, 256 in all, 16 in any list, 8 projections."
 pub struct Mosts {
@@ -115,17 +115,20 @@ fn then_meta(s: &[u8], p: Scan, bits: u8) -> Scan
     then_number(s, file, comment, 4)
 }
 
-// Bit 3 of the map stands where a kind other than MakeFixedArray follows.
-fn misplaced_const(s: &[u8], bits: u8) -> bool
-    ensures { λ r. ⌜ r ≡ misplacedConst (now (s .entry)) bits ⌝ }
+// No bit above 3 stands, and bit 3 only where MakeFixedArray follows.
+fn defined_bits(s: &[u8], bits: u8) -> bool
+    ensures { λ r. ⌜ r ≡ definedBits (now (s .entry)) bits ⌝ }
 {
-    if !bit(bits, 3) {
+    if 16 <= bits {
         return false;
+    }
+    if !bit(bits, 3) {
+        return true;
     }
     if s.len() < 2 {
-        return false;
+        return true;
     }
-    s[1] != 16
+    s[1] == 16
 }
 
 // The bit map and the kind. `late` is whether another kind than Phi stands before.
@@ -136,10 +139,7 @@ pub fn read_head(s: &[u8], late: bool) -> Head
         return Head::Refused(Cause::Truncated, 0);
     }
     let bits = s[0];
-    if 16 <= bits {
-        return Head::Refused(Cause::Undefined, 0);
-    }
-    if misplaced_const(s, bits) {
+    if !defined_bits(s, bits) {
         return Head::Refused(Cause::Undefined, 0);
     }
     if s.len() < 2 {

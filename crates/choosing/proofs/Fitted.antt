@@ -1,36 +1,31 @@
 -- The blocks of a routine that has a byte form fit.
 use Prim.Native.Nat.{ℕ, zero, suc, _+_, _≤_, _<_}
-use mathlib.Core.Path.{_≡_, refl, _∙_}
+use mathlib.Core.Path.{_≡_, _∙_}
 use mathlib.Core.List.{List, [], _∷_}
 use mathlib.Core.Bool.{Bool, false}
 use native.Mathlib.Nat.{le-refl}
 use native.Mathlib.Omega.{arith}
 use lib.ListN.{length, getD, length-replicate}
-use Rattle.form.specs.Syntax.{Instruction, Block}
-use Rattle.form.specs.Reads.{dests}
+use Rattle.form.specs.Syntax.{Block}
 use Rattle.form.specs.declared.Bounds.{Bounds}
 use Rattle.block.specs.Decode.{marks, blockMarks}
 use Rattle.block.specs.declared.Mosts.{Mosts}
+use Rattle.block.proofs.Marks.{marks-length, block-length}
 use Rattle.routine.specs.Routine.{Routine}
 use Rattle.routine.specs.Index.{noBlock}
 use Rattle.whole.specs.WellFormed.{FitBlocks, WellFormed, bounds, unmarked}
 use Rattle.choosing.specs.Chosen.{Fitting, fitting, Fits}
-use Rattle.choosing.proofs.Once.{marks-long}
 
--- as many marks behind a block
-block-long : (seen : List Bool) (is : List Instruction) → length (blockMarks seen is) ≡ length seen
-block-long seen [] = refl
-block-long seen (i ∷ is) = block-long (marks seen (dests (i .kind))) is ∙ marks-long seen (dests (i .kind))
-
+-- each block by its number
 each-fits : (m : Mosts) (b : Bounds) (total : ℕ) (seen : List Bool) (ks : List Block) → FitBlocks m b total seen ks → b .next ≤ length seen → (k : ℕ) → k < length ks → Fitting m b (getD ks k noBlock)
 each-fits m b total seen [] f l k h = absurd (omega arith)
 each-fits m b total seen (x ∷ xs) f l zero h = fitting total seen l (f .0)
 each-fits m b total seen (x ∷ xs) f l (suc k) h =
-    each-fits m b (total + length (x .instructions)) (blockMarks seen (x .instructions)) xs (f .1) (rw (block-long seen (x .instructions)) l) k (omega arith)
+    each-fits m b (total + length (x .instructions)) (blockMarks seen (x .instructions)) xs (f .1) (rw (block-length seen (x .instructions)) l) k (omega arith)
 
 pub routine-fits : (m : Mosts) (r : Routine) → WellFormed m r → m .block ≤ 128 → Fits (bounds m r) (r .blocks)
 routine-fits m r w short =
-    let long : length (marks (unmarked r) (r .parameters)) ≡ r .next = marks-long (unmarked r) (r .parameters) ∙ length-replicate {A = Bool} (r .next) false in
+    let long : length (marks (unmarked r) (r .parameters)) ≡ r .next = marks-length (unmarked r) (r .parameters) ∙ length-replicate {A = Bool} (r .next) false in
     record {
       mosts = m;
       short = short;

@@ -1,25 +1,25 @@
 -- A block that fits defines each value once: the build of a build's dest is that build.
 use Prim.Native.Nat.{ℕ, zero, suc, _≤_, _<_}
-use mathlib.Core.Path.{_≡_, refl, ap, _∙_, sym}
+use mathlib.Core.Path.{_≡_, refl, _∙_, sym}
 use mathlib.Core.List.{List, [], _∷_}
 use mathlib.Core.Bool.{Bool, true, false, cond, not, _||_}
 use mathlib.Core.Option.{Option, none, some}
 use native.Mathlib.Nat.{le-trans}
 use native.Mathlib.Omega.{arith}
 use borrow.Author.Tests.{eqb-true, eq-eqb}
-use lib.ListN.{length, getD, length-set, length-map}
-use lib.Seq.{getD-set-same, getD-set-other}
+use lib.ListN.{length, getD, length-map}
+use lib.Seq.{getD-set-same}
 use lib.Dec.{eqb}
 use Rattle.wire.specs.declared.ValueId.{ValueId}
 use Rattle.form.specs.Syntax.{Instruction, InstructionKind, Block}
 use Rattle.form.specs.Syntax.{Assign, UnaryOp, BinaryOp, Call, Cast, Load, Store, Debug, Nop, Phi}
 use Rattle.form.specs.Syntax.{MakeTuple, ExtractTupleElement, MakeStruct, ExtractStructField, InsertField, InsertTuple, MakeFixedArray, AssertEq, HeapAllocCells}
 use Rattle.form.specs.Reads.{isPhi, dests}
-use Rattle.form.specs.Decode.{mark}
 use Rattle.form.specs.declared.Bounds.{Bounds}
 use Rattle.canon.specs.WellFormed.{FitNew, FitKind}
 use Rattle.canon.proofs.Bits.{true-false}
 use Rattle.block.specs.Decode.{marks}
+use Rattle.block.proofs.Marks.{marks-stay, marks-length}
 use Rattle.block.specs.WellFormed.{FitInstructions}
 use Rattle.block.specs.declared.Mosts.{Mosts}
 use Rattle.lookup.specs.Fields.{listValues}
@@ -30,28 +30,6 @@ use Rattle.eligibility.specs.Family.{Marks, buildDest}
 use Rattle.eligibility.specs.Climb.{isBuildOf, buildOf}
 use Rattle.eligibility.specs.Fold.{behindPhis}
 use Rattle.choosing.specs.Chosen.{Fitting, fitting, Standing}
-
--- a mark that is set stands in the list
-in-list : (l : List Bool) (j : ℕ) → getD l j false ≡ true → j < length l
-in-list [] j e = absurd (true-false (sym e))
-in-list (x ∷ l) zero e = omega arith
-in-list (x ∷ l) (suc j) e = omega (arith, in-list l j e)
-
--- a mark stays
-mark-stays : (seen : List Bool) (d : ValueId) (v : ℕ) → getD seen v false ≡ true → getD (mark seen d) v false ≡ true
-mark-stays seen d v h = go (eqb v (d .0)) refl
-  where
-    go : (b : Bool) → eqb v (d .0) ≡ b → getD (mark seen d) v false ≡ true
-    go true e = let z : v ≡ d .0 = eqb-true v (d .0) e in rw z (getD-set-same seen (d .0) true false (in-list seen (d .0) (rw z at h)))
-    go false e = getD-set-other seen (d .0) v true false (λ z. true-false (sym (eq-eqb v v refl) ∙ ap (eqb v) z ∙ e)) ∙ h
-
-marks-stay : (seen : List Bool) (ds : List ValueId) (v : ℕ) → getD seen v false ≡ true → getD (marks seen ds) v false ≡ true
-marks-stay seen [] v h = h
-marks-stay seen (d ∷ ds) v h = marks-stay (mark seen d) ds v (mark-stays seen d v h)
-
-pub marks-long : (seen : List Bool) (ds : List ValueId) → length (marks seen ds) ≡ length seen
-marks-long seen [] = refl
-marks-long seen (d ∷ ds) = marks-long (mark seen d) ds ∙ length-set seen (d .0) true
 
 no : {A : Type 0} {a : A} → none ≡ some a → ⊥
 no {a} e = let z : _≡_ {A = ℕ} 0 1 = cc in omega arith
@@ -140,7 +118,7 @@ module _ (σ : Settings) (τ : Types) (cross : Marks) where
   built-once b seen late [] f l j v h e = absurd (omega arith)
   built-once b seen late (i ∷ is) f l zero v h e = rw (e, eq-eqb (v .0) (v .0) refl) refl
   built-once b seen late (i ∷ is) f l (suc j) v h e =
-      go (built-once b (marks seen (dests (i .kind))) (late || not (isPhi (i .kind))) is (f .1) (rw (marks-long seen (dests (i .kind))) l) j v (omega arith) e) (buildDest (i .kind)) refl
+      go (built-once b (marks seen (dests (i .kind))) (late || not (isPhi (i .kind))) is (f .1) (rw (marks-length seen (dests (i .kind))) l) j v (omega arith) e) (buildDest (i .kind)) refl
     where
       go : buildOf σ τ cross v is ≡ some (getD is j noInstruction .kind) → (o : Option ValueId) → buildDest (i .kind) ≡ o → cond (isBuildOf σ τ cross v o) (some (i .kind)) (buildOf σ τ cross v is) ≡ some (getD is j noInstruction .kind)
       go ih none p = ih

@@ -206,7 +206,7 @@ pub fn decide_all(
             instructions,
             dynamic,
         );
-        super::structs::set_flag(folded, start as usize + j as usize, yes);
+        table::set_flag(folded, start as usize + j as usize, yes);
         j = j + 1;
     }
 }

@@ -61,7 +61,7 @@ fn choose_copies(
         &mut asked,
         dynamic,
     );
-    let instructions = count - phis::phi_count(s, places, count);
+    let instructions = count - places::phi_count(s, places, count);
     builds::decide_all(
         s,
         b,
@@ -238,11 +238,11 @@ fn choose_one(
     let here = index::block_places(places, starts, k);
     let count = index::instruction_count(starts, k);
     let skip = phis::is_skipped(s, here, count, shapes);
-    structs::set_flag(skips, k as usize, skip);
+    table::set_flag(skips, k as usize, skip);
     if skip {
         return;
     }
-    let start = structs::number_at(starts, k as usize);
+    let start = table::number(starts, k as usize);
     choose_block(
         s,
         b,

@@ -1,9 +1,9 @@
-// The phis of a block: whether it is skipped because of one, and how many there are.
+// The phis of a block: whether it is skipped because of one.
 ghost use mathlib.Core.Path.{_≡_};
 ghost use mathlib.Core.List.{List, []};
 ghost use mathlib.Core.Bool.{Bool, false, _||_};
-ghost use Prim.Native.Nat.{ℕ, _≤_, _<_};
-ghost use lib.ListN.{length, drop};
+ghost use Prim.Native.Nat.{ℕ, _<_};
+ghost use lib.ListN.{length};
 ghost use lib.Dec.{eqb};
 ghost use Rattle.wire.specs.Parse.{ok};
 ghost use Rattle.form.specs.Syntax.{Instruction};
@@ -13,7 +13,7 @@ ghost use Rattle.places.specs.Places.{InstructionsAt};
 ghost use Rattle.eligibility.specs.declared.Settings.{Settings};
 ghost use Rattle.eligibility.specs.Lookup.{Types};
 ghost use Rattle.eligibility.specs.Tables.{FactsAt};
-ghost use Rattle.eligibility.specs.Fold.{aggregatePhi, behindPhis, skipped};
+ghost use Rattle.eligibility.specs.Fold.{aggregatePhi, skipped};
 
 // A tuple's shape, or a struct's.
 fn tuple_or_struct(shape: u8) -> bool
@@ -46,20 +46,4 @@ pub fn is_skipped(s: &[u8], places: &[usize], count: u16, shapes: &[u8]) -> bool
         k = k + 1;
     }
     false
-}
-
-// How many instructions of a block are phis: they stand in front.
-pub fn phi_count(s: &[u8], places: &[usize], count: u16) -> u16
-    ensures { λ r. ⌜ r ≤ count ⌝ }
-    ensures { λ r. ⌜ ((b : Bounds) (is : List Instruction) → InstructionsAt b (now (s .entry)) (now (places .entry)) is → length is ≡ count → behindPhis is ≡ drop r is) ⌝ }
-{
-    let mut k: u16 = 0;
-    while k < count {
-        let t = form::tail(s, places::place_at(places, k));
-        if wire::byte_at(t, 1) != 9 {
-            return k;
-        }
-        k = k + 1;
-    }
-    k
 }

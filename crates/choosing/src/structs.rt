@@ -9,7 +9,7 @@ ghost use mathlib.Core.List.{List, []};
 ghost use mathlib.Core.Bool.{false};
 ghost use mathlib.Core.Option.{some};
 ghost use Prim.Native.Nat.{ℕ, suc, _-_, _≤_, _<_};
-ghost use lib.ListN.{length, getD, set};
+ghost use lib.ListN.{length, getD};
 ghost use Rattle.wire.specs.Parse.{ok};
 ghost use Rattle.wire.specs.declared.ValueId.{ValueId};
 ghost use Rattle.wire.specs.declared.TypeId.{TypeId as DeclaredTypeId};
@@ -26,32 +26,12 @@ ghost use Rattle.progress.specs.Ground.{Ground};
 ghost use Rattle.climb.specs.Noted.{StructsAt};
 ghost use Rattle.choosing.specs.Chosen.{toldBy, goesBy};
 
-pub fn set_flag(l: &mut [bool], i: usize, x: bool)
-    ensures { λ _. ⌜ now (l .exit) ≡ set (now (l .entry)) i x ⌝ }
-{
-    if i < l.len() {
-        l[i] = x;
-    }
-}
-
-pub fn number_at(l: &[u16], i: usize) -> u16
-    ensures { λ r. ⌜ r ≡ getD (now (l .entry)) i 0 ⌝ }
-{
-    if i < l.len() { l[i] } else { 0 }
-}
-
-fn place_at(l: &[usize], i: usize) -> usize
-    ensures { λ r. ⌜ r ≡ getD (now (l .entry)) i 0 ⌝ }
-{
-    if i < l.len() { l[i] } else { 0 }
-}
-
 // How many bytes instruction `k` takes.
 fn size_at(places: &[usize], k: u16) -> usize
     ensures { λ r. ⌜ r ≡ getD (now (places .entry)) (suc k) 0 - getD (now (places .entry)) k 0 ⌝ }
 {
-    let at = place_at(places, k as usize);
-    let end = place_at(places, k as usize + 1);
+    let at = table::place(places, k as usize);
+    let end = table::place(places, k as usize + 1);
     if end < at {
         return 0;
     }
@@ -125,7 +105,7 @@ fn struct_passes(
     if family::is_marked(cross, d) {
         return false;
     }
-    let y = goes_by(number_at(recorded, d as usize), named);
+    let y = goes_by(table::number(recorded, d as usize), named);
     told_by(s, types, b.types, y, t)
 }
 
@@ -166,7 +146,7 @@ pub fn fill_structs(
     let mut k: u16 = 0;
     while k < count {
         let yes = struct_at(s, b, types, recorded, settings, places, k, cross);
-        set_flag(structs, k as usize, yes);
+        table::set_flag(structs, k as usize, yes);
         k = k + 1;
     }
 }

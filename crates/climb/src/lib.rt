@@ -22,24 +22,12 @@ pub struct Climbed {
     pub visited: [bool; 256],
 }
 
-fn flag_at(l: &[bool], i: usize) -> bool
-    ensures { λ r. ⌜ r ≡ getD (now (l .entry)) i false ⌝ }
-{
-    if i < l.len() { l[i] } else { false }
-}
-
-fn number_at(l: &[u16], i: usize) -> u16
-    ensures { λ r. ⌜ r ≡ getD (now (l .entry)) i 0 ⌝ }
-{
-    if i < l.len() { l[i] } else { 0 }
-}
-
 // The value's build passes its own conditions, and nothing wants the value whole.
 fn allowed(buildable: &[bool], blocked: &[bool], at: usize) -> bool
     ensures { λ r. ⌜ r ≡ getD (now (buildable .entry)) at false && not (getD (now (blocked .entry)) at false) ⌝ }
 {
-    if flag_at(buildable, at) {
-        !flag_at(blocked, at)
+    if table::flag(buildable, at) {
+        !table::flag(blocked, at)
     } else {
         false
     }
@@ -74,14 +62,14 @@ pub fn climb(
     let mut i = many;
     while 0 < i {
         i = i - 1;
-        if number_at(children, i as usize) == v {
+        if table::number(children, i as usize) == v {
             if array {
                 return Climbed {
                     ok: false,
                     visited: met,
                 };
             }
-            let p = number_at(parents, i as usize);
+            let p = table::number(parents, i as usize);
             let r = climb(p, children, parents, many, shapes, buildable, blocked, met);
             if !r.ok {
                 return r;
@@ -137,9 +125,9 @@ fn tuple_parents(
     while 0 < i {
         i = i - 1;
         let at = i as usize;
-        if flag_at(tuples, at) {
-            if number_at(children, at) == v {
-                let p = number_at(parents, at);
+        if table::flag(tuples, at) {
+            if table::number(children, at) == v {
+                let p = table::number(parents, at);
                 if !can_scalarize(p, children, parents, many, shapes, buildable, blocked) {
                     return false;
                 }
@@ -180,7 +168,7 @@ pub fn folds(
         }
         return can_scalarize(v.0, children, parents, many, shapes, buildable, blocked);
     }
-    if !flag_at(buildable, v.0 as usize) {
+    if !table::flag(buildable, v.0 as usize) {
         return false;
     }
     tuple_parents(

@@ -18,20 +18,6 @@ ghost use Rattle.wire.specs.Number.{at16};
 ghost use Rattle.form.specs.Decode.{instructionOf};
 ghost use Rattle.wire.specs.Parse.{ok};
 
-fn place_at(l: &[usize], i: usize) -> usize
-    ensures { λ r. ⌜ r ≡ getD (now (l .entry)) i 0 ⌝ }
-{
-    if i < l.len() { l[i] } else { 0 }
-}
-
-fn set_flag(l: &mut [bool], i: usize, x: bool)
-    ensures { λ r. ⌜ now (l .exit) ≡ set (now (l .entry)) i x ⌝ }
-{
-    if i < l.len() {
-        l[i] = x;
-    }
-}
-
 // Notes an edge, and answers how many there are.
 fn note_edge(
     child: u16,
@@ -91,7 +77,7 @@ fn note_whole(x: Found, blocked: &mut [bool])
         Found::Nothing => {}
         Found::Value(y) => match y {
             Value::Operand(w) => {
-                set_flag(blocked, w.0 as usize, true);
+                table::set_flag(blocked, w.0 as usize, true);
             }
             Value::Literal(_) => {}
             Value::Error => {}
@@ -161,7 +147,7 @@ fn note_base(s: &[u8], b: Bounds, base: u16, blocked: &mut [bool])
     ensures { λ r. ⌜ ((i : Instruction) (n : ℕ) → instructionOf b [] false (now (s .entry)) ≡ ok i n → now (blocked .exit) ≡ cond (variesFirst (placeSteps (i .kind))) (set (now (blocked .entry)) base true) (now (blocked .entry))) ⌝ }
 {
     if varies(lookup::projection(s, b, 0)) {
-        set_flag(blocked, base as usize, true);
+        table::set_flag(blocked, base as usize, true);
     }
 }
 
@@ -203,7 +189,7 @@ fn note_build(
     ensures { λ r. ⌜ (now (buildable .exit) ≡ set (now (buildable .entry)) (at16 (now (t .entry)) 0) good) × PartsNoted (now (s .entry)) b (getD (now (t .entry)) 2 0) (at16 (now (t .entry)) 0) tuple (edgesIn (now (children .entry)) (now (parents .entry)) (now (tuples .entry)) many) (edgesIn (now (children .exit)) (now (parents .exit)) (now (tuples .exit)) r) ⌝ }
 {
     let d = wire::u16_at(t, 0);
-    set_flag(buildable, d as usize, good);
+    table::set_flag(buildable, d as usize, good);
     note_parts(
         s,
         b,
@@ -298,8 +284,8 @@ pub fn scan_block(
     while 0 < k {
         k = k - 1;
         let at = k as usize;
-        let t = form::tail(s, place_at(places, at));
-        let given = super::flag_at(structs, at);
+        let t = form::tail(s, table::place(places, at));
+        let given = table::flag(structs, at);
         n = scan_one(
             t,
             b,

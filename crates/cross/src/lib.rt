@@ -68,14 +68,6 @@ fn has_build(s: &[u8], places: &[usize], count: u16, eligible: &[bool]) -> bool
     false
 }
 
-fn put_mark(marks: &mut [bool], k: usize)
-    ensures { λ _. ⌜ now (marks .exit) ≡ set (now (marks .entry)) k true ⌝ }
-{
-    if k < marks.len() {
-        marks[k] = true;
-    }
-}
-
 fn unite_one(members: &[bool], marks: &mut [bool], k: usize)
     ensures { λ _. ⌜ now (marks .exit) ≡ cond (getD (now (members .entry)) k false) (set (now (marks .entry)) k true) (now (marks .entry)) ⌝ }
 {
@@ -83,7 +75,7 @@ fn unite_one(members: &[bool], marks: &mut [bool], k: usize)
         return;
     }
     if members[k] {
-        put_mark(marks, k);
+        table::set_flag(marks, k, true);
     }
 }
 

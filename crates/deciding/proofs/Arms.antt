@@ -6,7 +6,7 @@ use mathlib.Core.Bool.{Bool, true, false, cond}
 use mathlib.Core.Option.{Option, none, some}
 use native.Mathlib.Omega.{arith}
 use lib.ListN.{getD, drop}
-use lib.Seq.{drop-drop, getD-drop}
+use lib.Seq.{getD-drop}
 use Rattle.wire.specs.Number.{at16, at32}
 use Rattle.wire.specs.Value.{valueOf}
 use Rattle.wire.specs.WellFormed.{FitValue}
@@ -22,7 +22,6 @@ use Rattle.eligibility.specs.Lookup.{Types, rowOf, isAggregate}
 use Rattle.rewriting.specs.State.{AggStates, stateOf, onSome, chain, firstInteger}
 use Rattle.rewriting.specs.Rebuild.{aggregateType}
 use Rattle.rewriting.specs.Step.{step, stepExtract, handOn, stepLoaded, stepLoad}
-use Rattle.parts.specs.Rows.{ValueAt, stands}
 use Rattle.chains.specs.Chained.{loadedPart}
 use Rattle.deciding.specs.Decided.{Below, stepTaken}
 
@@ -45,10 +44,6 @@ operand-below next x f = record { each = λ v e. (rw e at f) .0 }
 
 pub value-below : (b : Bounds) (s : List ℕ) (off q : ℕ) (x : Value) → ((j : ℕ) → getD s j 0 < 256) → b .next ≤ 256 → At (valueOf (b .next)) (drop off s) q x → Below (b .next) x
 value-below b s off q x h l (at n e) = operand-below (b .next) x (value-fit (b .next) (drop q (drop off s)) (bytes-drop (drop off s) q (bytes-drop s off h)) e (omega arith))
-
--- a value behind `off` bytes
-pub value-there : (next off q r : ℕ) (s : List ℕ) (x : Value) → off + q ≡ r → At (valueOf next) (drop off s) q x → ValueAt next s r x
-value-there next off q r s x e (at n f) = stands n (rw (drop-drop, e) at f)
 
 -- the same by the two ways of writing a step
 pub taken-extract : (S : AggStates) (i : Instruction) (d : ValueId) (t : TypeId) (o : Option Value) → stepExtract S i d t o ≡ stepTaken true S i d t o

@@ -6,17 +6,12 @@ use mathlib.Core.Bool.{not}
 use mathlib.Core.Bool as B
 use mathlib.Core.Option.{Option, none, some}
 use native.Mathlib.Omega.{arith}
-use lib.ListN.{length, getD, getElem?, drop}
+use lib.ListN.{length, getD, getElem?}
 use lib.Dec.{eqb}
-use Rattle.wire.specs.Parse.{ok}
-use Rattle.wire.specs.Value.{valueOf, asValue}
-use Rattle.wire.specs.declared.Cause.{Cause}
-use Rattle.wire.specs.declared.ReadValue.{ReadValue}
 use Rattle.wire.specs.declared.Literal.{Literal}
 use Rattle.wire.specs.declared.Value.{Value}
 use Rattle.wire.specs.declared.ValueId.{ValueId}
 use Rattle.wire.specs.declared.TypeId.{TypeId}
-use Rattle.wire.proofs.Inv.{no-ok}
 use Rattle.types.specs.Syntax.{MirType, Felt, Bool, U32, Tuple, Struct, FixedArray, Pointer, Function, Unit, Error, Unknown}
 use Rattle.form.specs.declared.Bounds.{Bounds}
 use Rattle.lookup.specs.declared.Found.{Found}
@@ -26,21 +21,10 @@ use Rattle.routine.specs.Index.{recordedNumber, recordedFrom, asRecorded}
 use Rattle.eligibility.specs.Lookup.{Types, rowOf, recordedType, valueRow, shape, isTuple, isStruct, isArray, isAggregate}
 use Rattle.eligibility.specs.Climb.{orElse, structRow}
 use Rattle.rewriting.specs.State.{AggStates, stateOf}
-use Rattle.parts.specs.Rows.{ValueAt, stands, counted}
+use Rattle.parts.specs.Rows.{counted}
 use Rattle.progress.specs.Ground.{Ground}
 use Rattle.deciding.specs.Decided.{SourceOf, rows, nothing}
 use Rattle.deciding.specs.declared.Source.{Source}
-
-module _ (next : ℕ) (s t : List ℕ) (at : ℕ) {r : ReadValue} (p : asValue r ≡ valueOf next t) (q : t ≡ drop at s) where
-  -- what was read is what stands there
-  pub value-read : {y : Value} {m : ℕ} → r ≡ ReadValue.Got y m → (x : Value) → ValueAt next s at x → y ≡ x
-  value-read {y} {m} e x (stands n f) =
-      let z : ok y m ≡ ok x n = sym (ap asValue e) ∙ p ∙ ap (valueOf next) q ∙ f in
-      cc
-
-  -- what was refused is no value
-  pub value-refused : {c : Cause} {o : ℕ} → r ≡ ReadValue.Refused c o → (x : Value) → ValueAt next s at x → Value.Error ≡ x
-  value-refused e x (stands n f) = absurd (no-ok (sym (ap asValue e) ∙ p ∙ ap (valueOf next) q ∙ f))
 
 -- what a lookup has found
 pub found-value : {r : Found} {o : Option Value} {y x : Value} → r ≡ Found.Value y → asFound r ≡ o → o ≡ some x → y ≡ x

@@ -17,6 +17,7 @@ use Rattle.form.specs.Syntax.{Place, FieldInit, Instruction, InstructionKind}
 use Rattle.form.specs.Decode.{bit, instructionOf}
 use Rattle.form.specs.declared.Bounds.{Bounds}
 use Rattle.lookup.specs.Fields.{operandFields, listValues, fieldsPlace, valueEnd}
+use Rattle.lookup.proofs.Values.{value-behind}
 use Rattle.lookup.proofs.Instruction.{chosen, instruction-fields}
 use Rattle.eligibility.specs.declared.Settings.{Settings}
 use Rattle.eligibility.specs.Lookup.{Types, rowOf, fieldIndex, isAggregate}
@@ -34,7 +35,7 @@ use Rattle.chains.specs.declared.Position.{Position}
 use Rattle.deciding.specs.declared.Decision.{Decision}
 use Rattle.deciding.specs.declared.Spot.{Spot}
 use Rattle.deciding.proofs.Actions.{stays}
-use Rattle.deciding.proofs.Arms.{behind-16, behind-32, behind-value, value-below, value-there, taken-extract, whole-aggregate, load-taken}
+use Rattle.deciding.proofs.Arms.{behind-16, behind-32, behind-value, value-below, taken-extract, whole-aggregate, load-taken}
 use Rattle.deciding.proofs.Own.{Named, Dest, IsAssign, is-assign, assign-stands, IsLoad, is-load, load-stands, IsTuple, is-tuple, tuple-stands, IsArray, is-array, array-stands, IsStruct, is-struct, struct-stands}
 use Rattle.deciding.proofs.Own.{IsElement, is-element, element-stands, IsField, is-field, field-stands, IsInsertField, is-insert-field, insert-field-stands, IsInsertElement, is-insert-element, insert-element-stands}
 
@@ -243,7 +244,7 @@ module _ {b : Bounds} {s types recorded counts firsts pool : List ℕ} {used : �
         go kind a (is-insert-element d y j v u dd q w) l =
             let v′ = behind-value (p .off) 2 s in
             let n : j ≡ k = q ∙ behind-32 (p .off) (valueEnd (drop (p .off) s) 2) s ∙ ap (λ o. at32 s o) (v′ ∙ sym fe) ∙ sym fk in
-            let there : ValueAt (b .next) s (end + 4) v = value-there (b .next) (p .off) (valueEnd (drop (p .off) s) 2 + 4) (end + 4) s v (omega (arith, v′, fe)) w in
+            let there : ValueAt (b .next) s (end + 4) v = value-behind (b .next) s (p .off) (valueEnd (drop (p .off) s) 2 + 4) (end + 4) v (omega (arith, v′, fe)) w in
             rw (on, ← dest-is dd, ← operand-is fx l refl, n) (f (b .next) s S i v (h .rep) (dest-room dd) there)
 
     -- an insert of a struct's field
@@ -259,7 +260,7 @@ module _ {b : Bounds} {s types recorded counts firsts pool : List ℕ} {used : �
             let v′ = behind-value (p .off) 2 s in
             let n : j .0 ≡ name .0 = q ∙ behind-16 (p .off) (valueEnd (drop (p .off) s) 2) s ∙ ap (λ o. at16 s o) (v′ ∙ sym fe) ∙ sym fk in
             let n′ : j ≡ name = ap (λ o. record { 0 = o }) n in
-            let there : ValueAt (b .next) s (end + 2) v = value-there (b .next) (p .off) (valueEnd (drop (p .off) s) 2 + 2) (end + 2) s v (omega (arith, v′, fe)) w in
+            let there : ValueAt (b .next) s (end + 2) v = value-behind (b .next) s (p .off) (valueEnd (drop (p .off) s) 2 + 2) (end + 2) v (omega (arith, v′, fe)) w in
             let found : fieldIndex (getElem? (τ .rows) (t .0)) name ≡ some k = sym fo ∙ ap asPosition at in
             rw (on, ← dest-is dd, ← operand-is fx l refl, ← type-is c tw z ft, n′, found) (f (b .next) s S i v (h .rep) (dest-room dd) there)
 

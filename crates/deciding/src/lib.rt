@@ -200,7 +200,7 @@ fn step_element(
         };
     }
     let x = pieces::first_operand(s, p.at, b);
-    let k = wire::u32_at(s, pieces::value_end(s, p.off + 2));
+    let k = wire::u32_at(s, lookup::value_end(s, p.off + 2));
     let init = pieces::part(counts, firsts, pool, x, k);
     let t = pieces::last_type(s, p.at, b);
     pieces::take(s, b.next, init, p.dest, t, true, counts, firsts, used)
@@ -230,7 +230,7 @@ fn step_field(
         };
     }
     let x = pieces::first_operand(s, p.at, b);
-    let name = NameId(wire::u16_at(s, pieces::value_end(s, p.off + 2)));
+    let name = NameId(wire::u16_at(s, lookup::value_end(s, p.off + 2)));
     let init = pieces::field_part(s, types, b.types, recorded, counts, firsts, pool, x, name);
     let t = pieces::last_type(s, p.at, b);
     pieces::take(s, b.next, init, p.dest, t, true, counts, firsts, used)
@@ -259,7 +259,7 @@ fn step_insert_field(
         };
     }
     let x = pieces::first_operand(s, p.at, b);
-    let end = pieces::value_end(s, p.off + 2);
+    let end = lookup::value_end(s, p.off + 2);
     let t = pieces::last_type(s, p.at, b);
     match chains::field_index(s, types, b.types, t.0, NameId(wire::u16_at(s, end))) {
         Position::Nothing => Decision {
@@ -292,7 +292,7 @@ fn step_insert_element(
         };
     }
     let x = pieces::first_operand(s, p.at, b);
-    let end = pieces::value_end(s, p.off + 2);
+    let end = lookup::value_end(s, p.off + 2);
     let k = wire::u32_at(s, end);
     pieces::insert(p.dest, x, k, end + 4, counts, firsts, pool, used)
 }

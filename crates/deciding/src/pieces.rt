@@ -9,7 +9,6 @@ use lookup::Found;
 use parts::Init;
 use routine::Recorded;
 use wire::NameId;
-use wire::ReadValue;
 use wire::TypeId;
 use wire::Value;
 use wire::ValueId;
@@ -25,7 +24,7 @@ ghost use Rattle.wire.specs.declared.Value.{Value as ValueOf};
 ghost use Rattle.form.specs.Syntax.{Instruction, FieldInit};
 ghost use Rattle.form.specs.Decode.{instructionOf};
 ghost use Rattle.form.specs.declared.Bounds.{Bounds as BoundsOf};
-ghost use Rattle.lookup.specs.Fields.{operandFields, valueEnd};
+ghost use Rattle.lookup.specs.Fields.{operandFields};
 ghost use Rattle.types.specs.Index.{TypesAt};
 ghost use Rattle.eligibility.specs.Lookup.{Types, rowOf, isAggregate};
 ghost use Rattle.eligibility.specs.Tables.{Known};
@@ -35,16 +34,6 @@ ghost use Rattle.rewriting.specs.Step.{step, stepBuild, foldedParts, stepInsert
 ghost use Rattle.parts.specs.Rows.{ValueAt, Rep, Room, Values, Inits, InitAt};
 ghost use Rattle.progress.specs.Ground.{Ground};
 ghost use Rattle.deciding.specs.Decided.{Decided, SourceOf, Below, stepTaken, builtAs};
-
-// The value that stands at a place; Error where none does.
-pub fn value_at(s: &[u8], at: usize, next: u16) -> Value
-    ensures { λ r. ⌜ ((x : ValueOf) → ValueAt next (now (s .entry)) at x → r ≡ x) ⌝ }
-{
-    match wire::read_value(form::tail(s, at), next) {
-        ReadValue::Got(x, _) => x,
-        ReadValue::Refused(_, _) => Value::Error,
-    }
-}
 
 // Whether a value is tracked.
 pub fn tracked_source(counts: &[u16], x: Value) -> Source
@@ -69,19 +58,6 @@ pub fn first_operand(s: &[u8], at: usize, b: Bounds) -> Value
     match lookup::operand(form::tail(s, at), b, 0) {
         Found::Value(x) => x,
         Found::Nothing => Value::Error,
-    }
-}
-
-// The place behind the value that stands at a place.
-pub fn value_end(s: &[u8], at: usize) -> usize
-    requires { ⌜ at < 9223372036854775808 ⌝ }
-    ensures { λ r. ⌜ (r ≡ valueEnd (now (s .entry)) at) × (r ≤ at + 5) ⌝ }
-{
-    match wire::byte_at(s, at) {
-        0 => at + 5,
-        1 => at + 2,
-        3 => at + 3,
-        _ => at + 1,
     }
 }
 
@@ -318,7 +294,7 @@ pub fn take(
             used: used,
         };
     }
-    match handed(counts, value_at(s, init.place, next), whole) {
+    match handed(counts, lookup::value_at(s, init.place, next), whole) {
         Source::Untracked => Decision {
             action: Action::Assign(d, init.place, t),
             used: used,

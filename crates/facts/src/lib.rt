@@ -6,7 +6,7 @@ ghost use mathlib.Core.Bool.{Bool, false, cond, _&&_};
 ghost use mathlib.Core.List.{List};
 ghost use mathlib.Core.Option.{Option};
 ghost use Prim.Native.Nat.{ℕ, _≤_, _<_};
-ghost use lib.ListN.{length, getD, getElem?, set, drop};
+ghost use lib.ListN.{length, getD, getElem?, drop};
 ghost use lib.Dec.{leb, ltb};
 ghost use Rattle.wire.specs.declared.TypeId.{TypeId as DeclaredTypeId};
 ghost use Rattle.types.specs.Syntax.{MirType};
@@ -92,32 +92,6 @@ fn recorded_eligible(s: &[u8], types: &[usize], many: u16, number: u16, settings
     type_eligible(s, types, many, number - 1, settings)
 }
 
-// The number at a place of the table of recorded types.
-fn number_at(recorded: &[u16], v: u16) -> u16
-    ensures { λ r. ⌜ r ≡ getD (now (recorded .entry)) v 0 ⌝ }
-{
-    let i = v as usize;
-    if i < recorded.len() { recorded[i] } else { 0 }
-}
-
-fn put_shape(shapes: &mut [u8], v: u16, shape: u8)
-    ensures { λ _. ⌜ now (shapes .exit) ≡ set (now (shapes .entry)) v shape ⌝ }
-{
-    let i = v as usize;
-    if i < shapes.len() {
-        shapes[i] = shape;
-    }
-}
-
-fn put_eligible(eligible: &mut [bool], v: u16, yes: bool)
-    ensures { λ _. ⌜ now (eligible .exit) ≡ set (now (eligible .entry)) v yes ⌝ }
-{
-    let i = v as usize;
-    if i < eligible.len() {
-        eligible[i] = yes;
-    }
-}
-
 // Fills both tables for the `next` values: the shape of each one's recorded type, and whether that type is eligible.
 pub fn value_facts(
     s: &[u8],
@@ -133,11 +107,11 @@ pub fn value_facts(
 {
     let mut v: u16 = 0;
     while v < next {
-        let number = number_at(recorded, v);
-        put_shape(shapes, v, recorded_shape(s, types, many, number));
-        put_eligible(
+        let number = table::number(recorded, v as usize);
+        table::set_byte(shapes, v as usize, recorded_shape(s, types, many, number));
+        table::set_flag(
             eligible,
-            v,
+            v as usize,
             recorded_eligible(s, types, many, number, settings),
         );
         v = v + 1;

@@ -35,49 +35,19 @@ pub enum CopyRead {
 pub fn is_marked(marks: &[bool], v: u16) -> bool
     ensures { λ r. ⌜ r ≡ getD (now (marks .entry)) v false ⌝ }
 {
-    let i = v as usize;
-    if i < marks.len() { marks[i] } else { false }
+    table::flag(marks, v as usize)
 }
 
 pub fn mark(marks: &mut [bool], v: u16)
     ensures { λ _. ⌜ now (marks .exit) ≡ set (now (marks .entry)) v true ⌝ }
 {
-    let i = v as usize;
-    if i < marks.len() {
-        marks[i] = true;
-    }
+    table::set_flag(marks, v as usize, true)
 }
 
-fn number_at(table: &[u16], k: u16) -> u16
-    ensures { λ r. ⌜ r ≡ getD (now (table .entry)) k 0 ⌝ }
+pub fn shape_at(shapes: &[u8], k: u16) -> u8
+    ensures { λ r. ⌜ r ≡ getD (now (shapes .entry)) k 0 ⌝ }
 {
-    let i = k as usize;
-    if i < table.len() { table[i] } else { 0 }
-}
-
-pub fn shape_at(table: &[u8], k: u16) -> u8
-    ensures { λ r. ⌜ r ≡ getD (now (table .entry)) k 0 ⌝ }
-{
-    let i = k as usize;
-    if i < table.len() { table[i] } else { 0 }
-}
-
-fn put_number(table: &mut [u16], k: u16, x: u16)
-    ensures { λ _. ⌜ now (table .exit) ≡ set (now (table .entry)) k x ⌝ }
-{
-    let i = k as usize;
-    if i < table.len() {
-        table[i] = x;
-    }
-}
-
-fn put_shape(table: &mut [u8], k: u16, x: u8)
-    ensures { λ _. ⌜ now (table .exit) ≡ set (now (table .entry)) k x ⌝ }
-{
-    let i = k as usize;
-    if i < table.len() {
-        table[i] = x;
-    }
+    wire::byte_at(shapes, k as usize)
 }
 
 // The copy of a value that was read.
@@ -135,9 +105,9 @@ fn note_copy(c: CopyRead, n: u16, sources: &mut [u16], dests: &mut [u16], asked:
     match c {
         CopyRead::Nothing => n,
         CopyRead::Copy(source, dest, shape) => {
-            put_number(sources, n, source);
-            put_number(dests, n, dest);
-            put_shape(asked, n, shape);
+            table::set_number(sources, n as usize, source);
+            table::set_number(dests, n as usize, dest);
+            table::set_byte(asked, n as usize, shape);
             n + 1
         }
     }
@@ -228,10 +198,10 @@ fn join(sources: &[u16], dests: &[u16], asked: &[u8], k: u16, shape: u8, marks: 
     if !asks(shape_at(asked, k), shape) {
         return false;
     }
-    if !is_marked(marks, number_at(sources, k)) {
+    if !is_marked(marks, table::number(sources, k as usize)) {
         return false;
     }
-    let dest = number_at(dests, k);
+    let dest = table::number(dests, k as usize);
     if is_marked(marks, dest) {
         return false;
     }

@@ -16,13 +16,6 @@ ghost use Rattle.routine.specs.Index.{recordedNumber};
 ghost use Rattle.rebuild.specs.Written.{Writes};
 ghost use Rattle.head.specs.Head.{headBytes, withFresh, widened, Tabled, frontEnd, frontBytes};
 
-// The number at a place of a table; past the end 0.
-fn number_at(table: &[u16], i: usize) -> u16
-    ensures { λ r. ⌜ r ≡ getD (now (table .entry)) i 0 ⌝ }
-{
-    if i < table.len() { table[i] } else { 0 }
-}
-
 // The recorded type of value v, of `next` values and `many` fresh ones: 0 for none, else one more than its number.
 fn number_of(recorded: &[u16], next: u16, fresh: &[u16], many: u32, v: u32) -> u32
     ensures { λ r. ⌜ r ≤ 65536 ⌝ }
@@ -30,11 +23,11 @@ fn number_of(recorded: &[u16], next: u16, fresh: &[u16], many: u32, v: u32) -> u
 {
     let old = next as u32;
     if v < old {
-        return number_at(recorded, v as usize) as u32;
+        return table::number(recorded, v as usize) as u32;
     }
     let k = v - old;
     if k < many {
-        return number_at(fresh, k as usize) as u32 + 1;
+        return table::number(fresh, k as usize) as u32 + 1;
     }
     0
 }

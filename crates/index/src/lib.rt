@@ -4,7 +4,7 @@ ghost use mathlib.Core.Path.{_≡_};
 ghost use mathlib.Core.List.{List};
 ghost use mathlib.Core.Bool.{Bool};
 ghost use Prim.Native.Nat.{ℕ, suc, _+_, _≤_, _<_};
-ghost use lib.ListN.{length, getD, set, drop};
+ghost use lib.ListN.{length, getD, drop};
 ghost use Rattle.wire.specs.Parse.{ok};
 ghost use Rattle.form.specs.Syntax.{Block};
 ghost use Rattle.form.specs.declared.Bounds.{Bounds};
@@ -13,22 +13,6 @@ ghost use Rattle.block.specs.declared.Mosts.{Mosts};
 ghost use Rattle.routine.specs.Index.{noBlock, BlocksAt};
 ghost use Rattle.places.specs.Places.{IndexedBlock};
 ghost use Rattle.index.specs.Code.{slots, CodeAt};
-
-fn put_start(starts: &mut [u16], k: u16, at: u16)
-    ensures { λ _. ⌜ now (starts .exit) ≡ set (now (starts .entry)) k at ⌝ }
-{
-    let i = k as usize;
-    if i < starts.len() {
-        starts[i] = at;
-    }
-}
-
-// Where block `i` begins in the table of places; past the table 0.
-fn start_at(starts: &[u16], i: usize) -> u16
-    ensures { λ r. ⌜ r ≡ getD (now (starts .entry)) i 0 ⌝ }
-{
-    if i < starts.len() { starts[i] } else { 0 }
-}
 
 // Gives the places of the block that begins at `at` behind the first `here` of the table; returns how many instructions
 // the block has.
@@ -65,12 +49,12 @@ pub fn index_routine(
 {
     let mut here: u16 = 0;
     let mut k: u16 = 0;
-    put_start(starts, 0, 0);
+    table::set_number(starts, 0, 0);
     while k < many {
         let count = index_behind(s, places::place_at(blocks, k), b, places, here);
         here = next_start(here, count);
         k = k + 1;
-        put_start(starts, k, here);
+        table::set_number(starts, k as usize, here);
     }
 }
 
@@ -79,7 +63,7 @@ pub fn block_places<'a>(places: &'a [usize], starts: &[u16], k: u16) -> &'a [usi
     ensures { λ r. ⌜ now r ≡ drop (getD (now (starts .entry)) k 0) (now (places .entry)) ⌝ }
 {
     let n = places.len();
-    let at = start_at(starts, k as usize) as usize;
+    let at = table::number(starts, k as usize) as usize;
     if at < n {
         return &places[at..];
     }
@@ -91,8 +75,8 @@ pub fn instruction_count(starts: &[u16], k: u16) -> u16
     ensures { λ r. ⌜ ((b : Bounds) (s places : List ℕ) (ks : List Block) → CodeAt b s places (now (starts .entry)) ks → k < length ks → r ≡ length (getD ks k noBlock .instructions)) ⌝ }
 {
     let i = k as usize;
-    let from = start_at(starts, i);
-    let to = start_at(starts, i + 1);
+    let from = table::number(starts, i);
+    let to = table::number(starts, i + 1);
     if to <= from {
         return 0;
     }

@@ -11,7 +11,7 @@ ghost use mathlib.Core.Path.{_≡_};
 ghost use mathlib.Core.List.{List, [], _++_};
 ghost use mathlib.Core.Option.{some};
 ghost use Prim.Native.Nat.{ℕ, _+_, _*_, _≤_, _<_};
-ghost use lib.ListN.{length, getD, set, take};
+ghost use lib.ListN.{length, take};
 ghost use Rattle.wire.specs.Value.{valueBytes};
 ghost use Rattle.form.specs.Encode.{eachBytes};
 ghost use Rattle.eligibility.specs.Lookup.{Types};
@@ -29,23 +29,6 @@ ghost use Rattle.listing.specs.Lists.{PutFew, Roomy, Setting, Lies, oneA
 pub struct Written {
     pub to: usize,
     pub fresh: u32,
-}
-
-// The number a table has at a place; past the end 0.
-fn number_at(table: &[u16], v: ValueId) -> u16
-    ensures { λ r. ⌜ r ≡ getD (now (table .entry)) (v .0) 0 ⌝ }
-{
-    let i = v.0 as usize;
-    if i < table.len() { table[i] } else { 0 }
-}
-
-fn put_number(table: &mut [u16], i: u32, n: u16)
-    ensures { λ _. ⌜ now (table .exit) ≡ set (now (table .entry)) i n ⌝ }
-{
-    let k = i as usize;
-    if k < table.len() {
-        table[k] = n;
-    }
 }
 
 // The value number behind `next` and so many others.
@@ -96,13 +79,13 @@ fn put_build(
     ensures { λ r. ⌜ ((τ : Types) (S : AggStates) (table : List ℕ) (used : ℕ) (xs : List Value) (dropped : Marks) → Ground b (now (s .entry)) (now (types .entry)) table τ → Rep (b .next) (now (s .entry)) (now (counts .entry)) (now (firsts .entry)) (now (pool .entry)) used S → S (v .0) ≡ some xs → t .0 < length (τ .rows) → b .next + p .fresh < 65536 → Puts (outputOf (now (out .entry)) (now (fresh .entry)) dropped p) (rebuiltEffect (rebuildValue τ (b .next + p .fresh) t xs (untouched []))) (rebuildValue τ (b .next + p .fresh) t xs (untouched []) .clash) (now (out .exit)) (now (fresh .exit)) dropped r) ⌝ }
 {
     let d = ValueId(fresh_number(b.next, p.fresh));
-    let from = number_at(firsts, v) as usize;
+    let from = table::number(firsts, v.0 as usize) as usize;
     let have = parts::part_count(counts, v);
     let r = rebuild::put_rebuild(out, p.to, s, b.next, types, t, d, pool, from, have);
     if r.clash {
         return Put::Clash;
     }
-    put_number(fresh, p.fresh, t.0);
+    table::set_number(fresh, p.fresh as usize, t.0);
     let counts = p.counts;
     Put::Went(Progress {
         to: r.to,
@@ -183,7 +166,7 @@ pub fn put_builds(
             Put::Clash => return Put::Clash,
             Put::Went(next) => next,
         };
-        here = wanting::value_end(t, here);
+        here = lookup::value_end(t, here);
         i = i + 1;
     }
     Put::Went(q)
@@ -267,7 +250,7 @@ fn put_values(
             counts,
             asks,
         );
-        here = wanting::value_end(t, here);
+        here = lookup::value_end(t, here);
         i = i + 1;
     }
     w.to

@@ -2,5 +2,6 @@ pub mod Places
 pub mod EachKind
 pub mod Instruction
 pub mod Loops
+pub mod Values
 pub mod Relax
 pub mod Noted

@@ -16,7 +16,7 @@ use Rattle.wire.proofs.Laws.{from-16, from-32}
 use Rattle.wire.proofs.Inv.{no-ok, behind, image, later-inv, map-inv, number-inv, tagged-inv}
 use Rattle.form.specs.Syntax.{Projection}
 use Rattle.form.specs.Decode.{nameIdOf, projectionOf}
-use Rattle.lookup.specs.Fields.{valueSize, after}
+use Rattle.lookup.specs.Fields.{valueSize, valueEnd, valueStep, after}
 
 -- the kinds of values that take one byte
 pub one-byte : (k : ℕ) → (k ≡ 0 → ⊥) → (k ≡ 1 → ⊥) → (k ≡ 3 → ⊥) → _≡_ {A = ℕ} 1 (valueSize k)
@@ -53,6 +53,12 @@ again end k at here i there g h e =
 pub gone : (end : ℕ → ℕ) (k at here i : ℕ) → Going end k at here i → k ≤ i → here ≡ after end k at
 unfolding after
 gone end k at here i g h = let z : k - i ≡ 0 = omega arith in sym (rw z at (g .left))
+
+-- values with nothing between them
+pub plain-values : (t : List ℕ) (k at : ℕ) → after (valueStep t 0 0) k at ≡ after (valueEnd t) k at
+unfolding after
+plain-values t zero at = refl
+plain-values t (suc k) at = ap (after (valueStep t 0 0) k) (let z : at + 0 ≡ at = omega arith in rw z (omega arith)) ∙ plain-values t k (valueEnd t at)
 
 -- a value that was read from the same bytes
 pub same-value : (next : ℕ) (u v : List ℕ) {r : ReadValue} {x y : Value} {m n : ℕ} → asValue r ≡ valueOf next u → u ≡ v → r ≡ ReadValue.Got x m → valueOf next v ≡ ok y n → x ≡ y

@@ -1,10 +1,13 @@
 -- The fields of an instruction that lookups find: operand fields, elements of lists, projections.
 use Prim.Native.Nat.{ℕ, zero, suc, _+_, _*_}
 use lib.Dec.{eqb}
+use mathlib.Core.Path.{_≡_}
 use mathlib.Core.List.{List, [], _∷_}
 use mathlib.Core.Bool.{Bool, true, false, cond, _||_}
 use mathlib.Core.Option.{Option, none, some}
-use lib.ListN.{getD}
+use lib.ListN.{getD, drop}
+use Rattle.wire.specs.Parse.{ok}
+use Rattle.wire.specs.Value.{valueOf}
 use Rattle.wire.specs.declared.Value.{Value}
 use Rattle.form.specs.Syntax.{Projection, InstructionKind}
 use Rattle.form.specs.Syntax.{Assign, UnaryOp, BinaryOp, Call, Cast, Load, Store, Debug, Nop, Phi}
@@ -89,6 +92,10 @@ metaSize bits = cond (bit 0 bits) 8 0 + (cond (bit 1 bits) 12 0 + cond (bit 2 bi
 
 abbrev pub fieldsPlace : List ℕ → ℕ
 fieldsPlace s = 2 + metaSize (getD s 0 0)
+
+-- a value stands at a place
+pub data ValueAt (next : ℕ) (s : List ℕ) (at : ℕ) (x : Value) : Type 0 where
+  stands : (n : ℕ) → valueOf next (drop at s) ≡ ok x n → ValueAt next s at x
 
 -- how many bytes a value takes, by its kind
 abbrev pub valueSize : ℕ → ℕ

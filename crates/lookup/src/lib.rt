@@ -8,16 +8,17 @@ ghost use mathlib.Core.Path.{_≡_};
 ghost use mathlib.Core.List.{List, []};
 ghost use mathlib.Core.Bool.{Bool, false, cond};
 ghost use mathlib.Core.Option.{some};
-ghost use Prim.Native.Nat.{ℕ, _+_, _*_, _/_, _%_, _<_};
+ghost use Prim.Native.Nat.{ℕ, _+_, _*_, _/_, _%_, _≤_, _<_};
 ghost use lib.ListN.{getElem?, drop};
 ghost use lib.Dec.{eqb};
 ghost use Rattle.wire.specs.Parse.{ok};
 ghost use Rattle.wire.specs.Value.{valueOf};
+ghost use Rattle.wire.specs.declared.Value.{Value as AnyValue};
 ghost use Rattle.form.specs.Syntax.{Projection, Instruction};
 ghost use Rattle.form.specs.Reads.{reads};
 ghost use Rattle.form.specs.Decode.{projectionOf, instructionOf};
 ghost use Rattle.form.specs.Walk.{walkOf, fold, uses};
-ghost use Rattle.lookup.specs.Fields.{operandFields, listValues, placeSteps, fieldsPlace, valueSize, valueEnd, projectionEnd, after, valueStep, operandRow, operandFirst, listRow, listAt, listCount, stepsAt, stepCount, readsMore, usesFound, asFound, asStep};
+ghost use Rattle.lookup.specs.Fields.{ValueAt, operandFields, listValues, placeSteps, fieldsPlace, valueSize, valueEnd, projectionEnd, after, valueStep, operandRow, operandFirst, listRow, listAt, listCount, stepsAt, stepCount, readsMore, usesFound, asFound, asStep};
 
 // A kind's operand fields, lists and places aside: how many, how far the first stands behind the kind's first field,
 // and how far the second stands behind the first. (A Store's one stands behind its place.)
@@ -130,15 +131,25 @@ fn value_size(kind: u8) -> usize
 }
 
 // The place behind the value that stands at a place.
-fn value_end(t: &[u8], at: usize) -> usize
+pub fn value_end(t: &[u8], at: usize) -> usize
     requires { ⌜ at < 9223372036854775808 ⌝ }
-    ensures { λ r. ⌜ (r ≡ valueEnd (now (t .entry)) at) × (r < at + 6) ⌝ }
+    ensures { λ r. ⌜ (r ≡ valueEnd (now (t .entry)) at) × (r ≤ at + 5) ⌝ }
 {
     at + value_size(wire::byte_at(t, at))
 }
 
+// The value that stands at a place; Error where none does.
+pub fn value_at(t: &[u8], at: usize, next: u16) -> Value
+    ensures { λ r. ⌜ ((x : AnyValue) → ValueAt next (now (t .entry)) at x → r ≡ x) ⌝ }
+{
+    match wire::read_value(form::tail(t, at), next) {
+        ReadValue::Got(x, _) => x,
+        ReadValue::Refused(_, _) => Value::Error,
+    }
+}
+
 fn found_at(t: &[u8], at: usize, next: u16) -> Found
-    ensures { λ r. ⌜ ((x : Value) (n : ℕ) → valueOf next (drop at (now (t .entry))) ≡ ok x n → asFound r ≡ some x) ⌝ }
+    ensures { λ r. ⌜ ((x : AnyValue) (n : ℕ) → valueOf next (drop at (now (t .entry))) ≡ ok x n → asFound r ≡ some x) ⌝ }
 {
     match wire::read_value(form::tail(t, at), next) {
         ReadValue::Got(x, _) => Found::Value(x),
@@ -149,7 +160,7 @@ fn found_at(t: &[u8], at: usize, next: u16) -> Found
 // The place behind the projection that stands at a place.
 fn projection_end(t: &[u8], at: usize) -> usize
     requires { ⌜ at < 4611686018427387904 ⌝ }
-    ensures { λ r. ⌜ (r ≡ projectionEnd (now (t .entry)) at) × (r < at + 7) ⌝ }
+    ensures { λ r. ⌜ (r ≡ projectionEnd (now (t .entry)) at) × (r ≤ at + 6) ⌝ }
 {
     let kind = wire::byte_at(t, at);
     match kind {
@@ -161,8 +172,8 @@ fn projection_end(t: &[u8], at: usize) -> usize
 
 // The place behind `k` projections.
 pub fn projections_end(t: &[u8], at: usize, k: u8) -> usize
-    requires { ⌜ at < 1048576 ⌝ }
-    ensures { λ r. ⌜ (r ≡ after (projectionEnd (now (t .entry))) k at) × (r < 2097152) ⌝ }
+    requires { ⌜ at < 1099511627776 ⌝ }
+    ensures { λ r. ⌜ (r ≡ after (projectionEnd (now (t .entry))) k at) × (r ≤ at + 6 * k) ⌝ }
 {
     let mut here = at;
     let mut i: u8 = 0;
@@ -174,9 +185,9 @@ pub fn projections_end(t: &[u8], at: usize, k: u8) -> usize
 }
 
 // The place behind `k` values with `before` bytes before each and `gap` behind it.
-fn values_end(t: &[u8], at: usize, before: u8, gap: u8, k: u8) -> usize
-    requires { ⌜ at < 2097152 ⌝ }
-    ensures { λ r. ⌜ (r ≡ after (valueStep (now (t .entry)) before gap) k at) × (r < 4194304) ⌝ }
+pub fn values_end(t: &[u8], at: usize, before: u8, gap: u8, k: u8) -> usize
+    requires { ⌜ at < 1099511627776 ⌝ }
+    ensures { λ r. ⌜ (r ≡ after (valueStep (now (t .entry)) before gap) k at) × (r ≤ at + 600 * k) ⌝ }
 {
     let mut here = at;
     let mut j: u8 = 0;
@@ -244,7 +255,8 @@ pub fn element(s: &[u8], b: Bounds, k: u8) -> Found
     found_at(t, at + before as usize, b.next)
 }
 
-fn step_at(t: &[u8], at: usize, next: u16) -> Step
+// The projection that stands at a place.
+pub fn step_at(t: &[u8], at: usize, next: u16) -> Step
     ensures { λ r. ⌜ ((p : Projection) (n : ℕ) → projectionOf next (drop at (now (t .entry))) ≡ ok p n → asStep r ≡ some p) ⌝ }
 {
     let u = form::tail(t, at);

@@ -2,13 +2,11 @@
 use Prim.Native.Nat.{ℕ, zero, suc, _+_, _*_, _-_, _≤_, _<_, zero-le}
 use mathlib.Core.Path.{_≡_, refl, ap, _∙_, sym}
 use mathlib.Core.List.{List, [], _∷_}
-use mathlib.Core.Bool.{Bool, true, false, cond, not, _&&_, _||_}
-use native.Mathlib.Numerals.{add-one}
+use mathlib.Core.Bool.{Bool, true, false, not, _&&_, _||_}
 use native.Mathlib.Omega.{arith}
 use borrow.Author.Tests.{eq-eqb, ne-eqb, not-true, not-false}
 use lib.ListN.{length, getD, set, drop, replicate}
 use lib.Seq.{drop-cons, drop-length, drop-drop}
-use lib.Dec.{eqb}
 use Rattle.wire.specs.Parse.{ok}
 use Rattle.wire.specs.Number.{at16}
 use Rattle.wire.specs.declared.ValueId.{ValueId}
@@ -92,50 +90,6 @@ module _ (b : Bounds) (t : List ℕ) (m : List Bool) (kind : ℕ) (ek : kind ≡
   counted-other h r f i n e w =
       let z : kindNumber (i .kind) ≡ kind = instruction-fields b [] false t i n e .numbered ∙ sym ek in
       rw (ne-eqb (kindNumber (i .kind)) 7 (λ y. h (sym z ∙ y))) (f i n e w)
-
--- k phis stand in front
-module _ (s places : List ℕ) (count : ℕ) where
-  pub record Leading (k : ℕ) : Type 0 where
-    pub under : k ≤ count
-    pub left : (b : Bounds) (is : List Instruction) → InstructionsAt b s places is → length is ≡ count → behindPhis is ≡ behindPhis (drop k is)
-
-  pub leading-start : Leading 0
-  leading-start = record { under = zero-le; left = λ b is a l. refl }
-
-  module _ (k at : ℕ) (t : List ℕ) (kind : ℕ) (w : Leading k) (h : k < count) (ea : at ≡ getD places k 0) (et : t ≡ drop at s) (ek : kind ≡ getD t 1 0) where
-    number-here : (b : Bounds) (is : List Instruction) → InstructionsAt b s places is → length is ≡ count → kindNumber (getD is k noInstruction .kind) ≡ kind
-    number-here b is a l =
-        let p : k < length is = omega arith in
-        instruction-fields b [] false t (getD is k noInstruction) (getD places (suc k) 0 - getD places k 0) (standing-at b s places is k at t a p ea et) .numbered ∙ sym ek
-
-    behind-here : (b : Bounds) (is : List Instruction) → InstructionsAt b s places is → length is ≡ count → behindPhis is ≡ cond (eqb kind 9) (behindPhis (drop (k + 1) is)) (drop k is)
-    unfolding behindPhis
-    behind-here b is a l =
-        let p : k < length is = omega arith in
-        let i = getD is k noInstruction in
-        let q : drop k is ≡ i ∷ drop (k + 1) is = rw (add-one k) (drop-cons is k noInstruction p) in
-        w .left b is a l ∙ ap behindPhis q ∙ ap (λ y. cond (eqb y 9) (behindPhis (drop (k + 1) is)) (i ∷ drop (k + 1) is)) (number-here b is a l) ∙ ap (λ y. cond (eqb kind 9) (behindPhis (drop (k + 1) is)) y) (sym q)
-
-    pub leading-again : kind ≡ 9 → Leading (k + 1)
-    leading-again g =
-        record {
-          under = omega arith;
-          left = λ b is a l. behind-here b is a l ∙ ap (λ y. cond y (behindPhis (drop (k + 1) is)) (drop k is)) (eq-eqb kind 9 g);
-        }
-
-    pub leading-stop : (kind ≡ 9 → ⊥) → (k ≤ count) × ((b : Bounds) (is : List Instruction) → InstructionsAt b s places is → length is ≡ count → behindPhis is ≡ drop k is)
-    leading-stop g =
-        (w .under, λ b is a l. behind-here b is a l ∙ ap (λ y. cond y (behindPhis (drop (k + 1) is)) (drop k is)) (ne-eqb kind 9 g))
-
-  pub leading-done : (k : ℕ) → Leading k → count ≤ k → (k ≤ count) × ((b : Bounds) (is : List Instruction) → InstructionsAt b s places is → length is ≡ count → behindPhis is ≡ drop k is)
-  unfolding behindPhis
-  leading-done k w h = (
-    w .under,
-    λ b is a l.
-        let z : k ≡ length is = omega (arith, w .under) in
-        let y : drop k is ≡ [] = ap (λ q. drop q is) z ∙ drop-length is in
-        w .left b is a l ∙ ap behindPhis y ∙ sym y,
-  )
 
 -- an order that fails further on fails
 ordered-fails : (d : ℕ) (xs : List Instruction) → ordered (drop d xs) ≡ false → ordered xs ≡ false

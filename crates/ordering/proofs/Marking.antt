@@ -43,10 +43,6 @@ pub marks-append : (m : List B.Bool) (xs ys : List ValueId) → marks m (xs ++ y
 marks-append m [] ys = refl
 marks-append m (x ∷ xs) ys = marks-append (mark m x) xs ys
 
-pub marks-long : (m : List B.Bool) (xs : List ValueId) → length (marks m xs) ≡ length m
-marks-long m [] = refl
-marks-long m (x ∷ xs) = marks-long (mark m x) xs ∙ length-set m (x .0) true
-
 or-true : (b : B.Bool) → (b || true) ≡ true
 or-true true = refl
 or-true false = refl

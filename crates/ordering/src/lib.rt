@@ -14,7 +14,6 @@ ghost use Rattle.wire.specs.declared.ValueId.{ValueId};
 ghost use Rattle.form.specs.Syntax.{Instruction, Block};
 ghost use Rattle.form.specs.Reads.{reads, storeBase, kindNumber};
 ghost use Rattle.form.specs.Decode.{instructionOf};
-ghost use Rattle.form.specs.declared.Bounds.{Bounds as DeclaredBounds};
 ghost use Rattle.block.specs.Decode.{marks as marksOf};
 ghost use Rattle.lookup.specs.Fields.{asFound, placeSteps, fieldsPlace};
 ghost use Rattle.places.specs.Places.{InstructionsAt};
@@ -27,19 +26,13 @@ ghost use Rattle.shelf.specs.Lists.{every, among};
 ghost use Rattle.shelf.specs.Reads.{countedReads, ordered, aggregateBase, basesIn, bases, apart, isDeep, shallow};
 ghost use Rattle.ordering.specs.Tests.{clear, foundReads, partsClear, shallowIn, eachKind, eachBlock, orderedBehind, destCount, destFirst, destsAt};
 
-fn read_at(buffer: &[u16], k: usize) -> u16
-    ensures { λ r. ⌜ r ≡ getD (now (buffer .entry)) k 0 ⌝ }
-{
-    if k < buffer.len() { buffer[k] } else { 0 }
-}
-
 // Whether none of the first `n` values of a buffer is marked.
 fn none_marked(buffer: &[u16], n: usize, marks: &[bool]) -> bool
     ensures { λ r. ⌜ ((vs : List ValueId) → Buffered (now (buffer .entry)) n vs → r ≡ clear (now (marks .entry)) vs) ⌝ }
 {
     let mut k = 0;
     while k < n {
-        if family::is_marked(marks, read_at(buffer, k)) {
+        if family::is_marked(marks, table::number(buffer, k)) {
             return false;
         }
         k = k + 1;
@@ -62,7 +55,7 @@ fn store_base(t: &[u8], b: Bounds) -> u16
 {
     let mut buffer: [u16; 32] = [0; 32];
     lookup::reads_of(t, b, &mut buffer);
-    read_at(&buffer, 0)
+    table::number(&buffer, 0)
 }
 
 // Whether the place of the instruction at the head of `t` has two or more projections.
@@ -166,7 +159,7 @@ fn is_aggregate(s: &[u8], b: Bounds, types: &[usize], recorded: &[u16], v: u16) 
     if b.next <= v {
         return false;
     }
-    let number = read_at(recorded, v as usize);
+    let number = table::number(recorded, v as usize);
     if number == 0 {
         return false;
     }
@@ -344,26 +337,11 @@ fn counted_clear(t: &[u8], b: Bounds, marks: &[bool]) -> bool
     reads_clear(t, b, marks)
 }
 
-// How many phis stand in front of a block's `count` instructions.
-fn phi_count(s: &[u8], places: &[usize], count: u16) -> u16
-    ensures { λ r. ⌜ (r ≤ count) × ((b : DeclaredBounds) (is : List Instruction) → InstructionsAt b (now (s .entry)) (now (places .entry)) is → length is ≡ count → behindPhis is ≡ drop r is) ⌝ }
-{
-    let mut k: u16 = 0;
-    while k < count {
-        let t = form::tail(s, places::place_at(places, k));
-        if wire::byte_at(t, 1) != 9 {
-            return k;
-        }
-        k = k + 1;
-    }
-    k
-}
-
 // Whether no instruction of a block, phis aside, reads a value that it or a later one defines: from the last to the first.
 fn block_ordered(s: &[u8], b: Bounds, places: &[usize], count: u16) -> bool
     ensures { λ r. ⌜ ((is : List Instruction) → InstructionsAt b (now (s .entry)) (now (places .entry)) is → length is ≡ count → b .next ≤ 256 → b .list + b .projections ≤ 30 → r ≡ orderedBehind is) ⌝ }
 {
-    let phis = phi_count(s, places, count);
+    let phis = places::phi_count(s, places, count);
     let mut marks: [bool; 256] = [false; 256];
     let mut k = count;
     while phis < k {

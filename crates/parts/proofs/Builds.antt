@@ -28,8 +28,9 @@ use Rattle.form.proofs.Laws.{head}
 use Rattle.lookup.specs.Fields.{listValues, fieldsPlace, valueSize, valueEnd, after, valueStep, listRow, listAt, listCount}
 use Rattle.lookup.proofs.Places.{Stand, Field, then, last, alone, takes-number, takes-map, takes-checked, fixed, Listed, empty, _&_, count, list}
 use Rattle.lookup.proofs.EachKind.{At, at, Stands, value-size}
+use Rattle.lookup.proofs.Values.{value-behind}
 use Rattle.lookup.proofs.Instruction.{instruction-fields, instruction-stands}
-use Rattle.parts.specs.Rows.{ValueAt, stands, placeOf, Values, Inits, Names, noInit, noField}
+use Rattle.parts.specs.Rows.{stands, placeOf, Values, Inits, Names, noInit, noField}
 
 -- thing k of those that stand one behind another
 pub listed-each : {A : Type 0} {Q : ℕ → A → Type 0} {end : ℕ → ℕ} {p : ℕ} {xs : List A} (d : A) → Listed Q end p xs → (k : ℕ) → k < length xs → Q (after end k p) (getD xs k d)
@@ -47,10 +48,6 @@ place-behind s off before (suc k) p =
     ap valueSize (getD-drop off s (p + before) 0 ∙ (let z : off + (p + before) ≡ off + p + before = omega arith in ap (λ i. getD s i 0) z)) in
     let q : off + valueStep (drop off s) before 0 p ≡ valueStep s before 0 (off + p) = omega arith in
     place-behind s off before k (valueStep (drop off s) before 0 p) ∙ ap (after (valueStep s before 0) k) q
-
--- a value behind `off` bytes
-value-behind : (next : ℕ) (s : List ℕ) (off p q : ℕ) (x : Value) → off + p ≡ q → At (valueOf next) (drop off s) p x → ValueAt next s q x
-value-behind next s off p q x e (at n f) = stands n (rw (drop-drop, e) at f)
 
 -- values one behind another
 pub values-behind : (next : ℕ) (s : List ℕ) (off before p : ℕ) (xs : List Value) → Listed (λ q. At (valueOf next) (drop off s) (q + before)) (valueStep (drop off s) before 0) p xs → Values next s before (off + p) xs

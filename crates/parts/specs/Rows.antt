@@ -3,22 +3,17 @@ use Prim.Native.Nat.{ℕ, suc, _+_, _*_, _≤_, _<_}
 use mathlib.Core.Path.{_≡_}
 use mathlib.Core.List.{List}
 use mathlib.Core.Option.{Option, none, some}
-use lib.ListN.{length, getD, drop}
-use Rattle.wire.specs.Parse.{ok}
+use lib.ListN.{length, getD}
 use Rattle.wire.specs.Number.{at16}
-use Rattle.wire.specs.Value.{valueOf}
 use Rattle.wire.specs.declared.Value.{Value}
 use Rattle.wire.specs.declared.ValueId.{ValueId}
 use Rattle.types.specs.Syntax.{StructField}
 use Rattle.form.specs.Syntax.{FieldInit}
 use Rattle.lookup.specs.Fields.{after, valueStep}
+pub use Rattle.lookup.specs.Fields.{ValueAt, stands}
 use Rattle.eligibility.specs.Climb.{isSome}
 use Rattle.rewriting.specs.State.{AggStates, insertState}
 use Rattle.parts.specs.declared.Init.{Init}
-
--- a value stands at a place of the input
-pub data ValueAt (next : ℕ) (s : List ℕ) (at : ℕ) (x : Value) : Type 0 where
-  stands : (n : ℕ) → valueOf next (drop at s) ≡ ok x n → ValueAt next s at x
 
 -- the places of the values xs stand in the pool from `from` on
 pub record RowAt (next : ℕ) (s pool : List ℕ) (from : ℕ) (xs : List Value) : Type 0 where

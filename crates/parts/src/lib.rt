@@ -7,11 +7,10 @@ ghost use mathlib.Core.Path.{_≡_};
 ghost use mathlib.Core.List.{List};
 ghost use mathlib.Core.Option.{some};
 ghost use Prim.Native.Nat.{ℕ, _+_, _*_, _≤_, _<_};
-ghost use lib.ListN.{length, getD, set};
+ghost use lib.ListN.{length, getD};
 ghost use Rattle.wire.specs.declared.Value.{Value};
 ghost use Rattle.types.specs.Syntax.{StructField};
 ghost use Rattle.form.specs.Syntax.{FieldInit};
-ghost use Rattle.lookup.specs.Fields.{valueEnd};
 ghost use Rattle.eligibility.specs.Climb.{given, fromStructFields, isSome};
 ghost use Rattle.rewriting.specs.State.{AggStates, noStates, insertState, replaced};
 ghost use Rattle.parts.specs.Rows.{ValueAt, Rep, counted, Room, Values, Inits, Names, InitAt, givenParts};
@@ -29,55 +28,11 @@ pub struct Named {
     pub used: usize,
 }
 
-// The number a table has for a value; past the end 0.
-fn number_at(table: &[u16], v: ValueId) -> u16
-    ensures { λ r. ⌜ r ≡ getD (now (table .entry)) (v .0) 0 ⌝ }
-{
-    let i = v.0 as usize;
-    if i < table.len() { table[i] } else { 0 }
-}
-
-fn put_number(table: &mut [u16], v: ValueId, n: u16)
-    ensures { λ _. ⌜ now (table .exit) ≡ set (now (table .entry)) (v .0) n ⌝ }
-{
-    let i = v.0 as usize;
-    if i < table.len() {
-        table[i] = n;
-    }
-}
-
-fn place_at(pool: &[usize], i: usize) -> usize
-    ensures { λ r. ⌜ r ≡ getD (now (pool .entry)) i 0 ⌝ }
-{
-    if i < pool.len() { pool[i] } else { 0 }
-}
-
-fn put_place(pool: &mut [usize], i: usize, place: usize)
-    ensures { λ _. ⌜ now (pool .exit) ≡ set (now (pool .entry)) i place ⌝ }
-{
-    if i < pool.len() {
-        pool[i] = place;
-    }
-}
-
-// The place behind the value that stands at a place.
-fn value_end(s: &[u8], at: usize) -> usize
-    requires { ⌜ at < 9223372036854775808 ⌝ }
-    ensures { λ r. ⌜ (r ≡ valueEnd (now (s .entry)) at) × (r ≤ at + 5) ⌝ }
-{
-    match wire::byte_at(s, at) {
-        0 => at + 5,
-        1 => at + 2,
-        3 => at + 3,
-        _ => at + 1,
-    }
-}
-
 // 0 where a value is not tracked, else one more than the number of its parts.
 pub fn tracked(counts: &[u16], v: ValueId) -> u16
     ensures { λ r. ⌜ ((next : ℕ) (s firsts pool : List ℕ) (used : ℕ) (S : AggStates) → Rep next s (now (counts .entry)) firsts pool used S → r ≡ counted (S (v .0))) ⌝ }
 {
-    number_at(counts, v)
+    table::number(counts, v.0 as usize)
 }
 
 // The number of parts of a tracked value: at most 16.
@@ -85,7 +40,7 @@ pub fn part_count(counts: &[u16], v: ValueId) -> u16
     ensures { λ r. ⌜ r ≤ 16 ⌝ }
     ensures { λ r. ⌜ ((next : ℕ) (s firsts pool : List ℕ) (used : ℕ) (S : AggStates) (xs : List Value) → Rep next s (now (counts .entry)) firsts pool used S → S (v .0) ≡ some xs → r ≡ length xs) ⌝ }
 {
-    let n = number_at(counts, v);
+    let n = table::number(counts, v.0 as usize);
     if n == 0 {
         return 0;
     }
@@ -99,7 +54,10 @@ pub fn part_count(counts: &[u16], v: ValueId) -> u16
 pub fn part_place(firsts: &[u16], pool: &[usize], v: ValueId, k: u32) -> usize
     ensures { λ r. ⌜ ((next : ℕ) (s counts : List ℕ) (used : ℕ) (S : AggStates) (xs : List Value) → Rep next s counts (now (firsts .entry)) (now (pool .entry)) used S → S (v .0) ≡ some xs → k < length xs → ValueAt next s r (getD xs k Value.Error)) ⌝ }
 {
-    place_at(pool, number_at(firsts, v) as usize + k as usize)
+    table::place(
+        pool,
+        table::number(firsts, v.0 as usize) as usize + k as usize,
+    )
 }
 
 // Nothing is tracked.
@@ -117,10 +75,10 @@ pub fn clear(counts: &mut [u16])
 pub fn share(counts: &mut [u16], firsts: &mut [u16], d: ValueId, v: ValueId)
     ensures { λ _. ⌜ ((next : ℕ) (s pool : List ℕ) (used : ℕ) (S : AggStates) (xs : List Value) → Rep next s (now (counts .entry)) (now (firsts .entry)) pool used S → S (v .0) ≡ some xs → d .0 < length (now (counts .entry)) → d .0 < length (now (firsts .entry)) → Rep next s (now (counts .exit)) (now (firsts .exit)) pool used (insertState S d xs)) ⌝ }
 {
-    let n = number_at(counts, v);
-    let first = number_at(firsts, v);
-    put_number(counts, d, n);
-    put_number(firsts, d, first);
+    let n = table::number(counts, v.0 as usize);
+    let first = table::number(firsts, v.0 as usize);
+    table::set_number(counts, d.0 as usize, n);
+    table::set_number(firsts, d.0 as usize, first);
 }
 
 // Gives the pool, from `to` on, the places of `n` values that stand one behind another, `before` bytes before each.
@@ -133,8 +91,8 @@ fn put_places(s: &[u8], pool: &mut [usize], to: usize, at: usize, n: u8, before:
     let mut i: u8 = 0;
     while i < n {
         let place = here + before as usize;
-        put_place(pool, to + i as usize, place);
-        here = value_end(s, place);
+        table::set_place(pool, to + i as usize, place);
+        here = lookup::value_end(s, place);
         i = i + 1;
     }
 }
@@ -159,8 +117,8 @@ pub fn track_values(
         return used;
     }
     put_places(s, pool, used, at, n, before);
-    put_number(counts, d, n as u16 + 1);
-    put_number(firsts, d, used as u16);
+    table::set_number(counts, d.0 as usize, n as u16 + 1);
+    table::set_number(firsts, d.0 as usize, used as u16);
     used + n as usize
 }
 
@@ -172,8 +130,8 @@ fn copy_row(pool: &mut [usize], from: usize, to: usize, n: u16)
 {
     let mut i: u16 = 0;
     while i < n {
-        let place = place_at(pool, from + i as usize);
-        put_place(pool, to + i as usize, place);
+        let place = table::place(pool, from + i as usize);
+        table::set_place(pool, to + i as usize, place);
         i = i + 1;
     }
 }
@@ -197,10 +155,10 @@ pub fn replace(
     if n as u32 <= k {
         return used;
     }
-    copy_row(pool, number_at(firsts, v) as usize, used, n);
-    put_place(pool, used + k as usize, place);
-    put_number(counts, d, n + 1);
-    put_number(firsts, d, used as u16);
+    copy_row(pool, table::number(firsts, v.0 as usize) as usize, used, n);
+    table::set_place(pool, used + k as usize, place);
+    table::set_number(counts, d.0 as usize, n + 1);
+    table::set_number(firsts, d.0 as usize, used as u16);
     used + n as usize
 }
 
@@ -219,7 +177,7 @@ pub fn find_init(s: &[u8], at: usize, n: u8, name: NameId) -> Init
                 place: place,
             };
         }
-        here = value_end(s, place);
+        here = lookup::value_end(s, place);
         i = i + 1;
     }
     Init {
@@ -250,7 +208,7 @@ fn put_named(
         if !init.given {
             return false;
         }
-        put_place(pool, to + i as usize, init.place);
+        table::set_place(pool, to + i as usize, init.place);
         i = i + 1;
     }
     true
@@ -288,8 +246,8 @@ pub fn track_named(
             used: used,
         };
     }
-    put_number(counts, d, m as u16 + 1);
-    put_number(firsts, d, used as u16);
+    table::set_number(counts, d.0 as usize, m as u16 + 1);
+    table::set_number(firsts, d.0 as usize, used as u16);
     Named {
         given: true,
         used: used + m as usize,

@@ -5,29 +5,21 @@ ghost use mathlib.Core.Path.{_≡_};
 ghost use mathlib.Core.Bool.{Bool, false};
 ghost use mathlib.Core.List.{List, []};
 ghost use Prim.Native.Nat.{ℕ, _≤_, _<_, _+_, _-_};
-ghost use lib.ListN.{length, getD, set, drop};
+ghost use lib.ListN.{length, getD, drop};
 ghost use Rattle.wire.specs.Parse.{ok};
+ghost use Rattle.form.specs.declared.Bounds.{Bounds as AnyBounds};
 ghost use Rattle.form.specs.Syntax.{Instruction, Block};
 ghost use Rattle.form.specs.Decode.{instructionOf};
 ghost use Rattle.block.specs.Decode.{blockOf};
 ghost use Rattle.block.specs.declared.Mosts.{Mosts};
-ghost use Rattle.places.specs.Places.{IndexedBlock};
-
-fn put_place(places: &mut [usize], k: u16, at: usize)
-    ensures { λ _. ⌜ now (places .exit) ≡ set (now (places .entry)) k at ⌝ }
-{
-    let i = k as usize;
-    if i < places.len() {
-        places[i] = at;
-    }
-}
+ghost use Rattle.eligibility.specs.Fold.{behindPhis};
+ghost use Rattle.places.specs.Places.{InstructionsAt, IndexedBlock};
 
 // The place of instruction `k`, or of what stands behind the last; past the table 0.
 pub fn place_at(places: &[usize], k: u16) -> usize
     ensures { λ r. ⌜ r ≡ getD (now (places .entry)) k 0 ⌝ }
 {
-    let i = k as usize;
-    if i < places.len() { places[i] } else { 0 }
+    table::place(places, k as usize)
 }
 
 // The place behind the instruction that stands at a place; the same place where none stands there.
@@ -55,12 +47,28 @@ pub fn index_block(s: &[u8], at: usize, b: Bounds, places: &mut [usize]) -> u16
     }
     let count = wire::u16_at(s, at);
     let mut here = at + 2;
-    put_place(places, 0, here);
+    table::set_place(places, 0, here);
     let mut k: u16 = 0;
     while k < count {
         here = instruction_end(s, b, here);
         k = k + 1;
-        put_place(places, k, here);
+        table::set_place(places, k as usize, here);
     }
     count
+}
+
+// How many phis stand in front of a block's `count` instructions.
+pub fn phi_count(s: &[u8], places: &[usize], count: u16) -> u16
+    ensures { λ r. ⌜ r ≤ count ⌝ }
+    ensures { λ r. ⌜ ((b : AnyBounds) (is : List Instruction) → InstructionsAt b (now (s .entry)) (now (places .entry)) is → length is ≡ count → behindPhis is ≡ drop r is) ⌝ }
+{
+    let mut k: u16 = 0;
+    while k < count {
+        let t = form::tail(s, place_at(places, k));
+        if wire::byte_at(t, 1) != 9 {
+            return k;
+        }
+        k = k + 1;
+    }
+    k
 }

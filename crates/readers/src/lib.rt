@@ -42,12 +42,6 @@ fn note_reader(own: u8, readers: &mut [u8], v: u16)
     }
 }
 
-fn read_at(buffer: &[u16], k: usize) -> u16
-    ensures { λ r. ⌜ r ≡ getD (now (buffer .entry)) k 0 ⌝ }
-{
-    if k < buffer.len() { buffer[k] } else { 0 }
-}
-
 // Notes the first `n` values of a buffer as read in block `own`.
 fn note_reads(own: u8, buffer: &[u16], n: usize, readers: &mut [u8])
     requires { ⌜ own < 254 ⌝ }
@@ -55,7 +49,7 @@ fn note_reads(own: u8, buffer: &[u16], n: usize, readers: &mut [u8])
 {
     let mut k = 0;
     while k < n {
-        note_reader(own, readers, read_at(buffer, k));
+        note_reader(own, readers, table::number(buffer, k));
         k = k + 1;
     }
 }
@@ -145,12 +139,6 @@ fn is_foreign(own: u8, x: u8) -> bool
     x != own + 1
 }
 
-fn reader_at(readers: &[u8], k: usize) -> u8
-    ensures { λ r. ⌜ r ≡ getD (now (readers .entry)) k 0 ⌝ }
-{
-    if k < readers.len() { readers[k] } else { 0 }
-}
-
 // Value `k` is marked, and another block than `own` reads it.
 fn read_abroad(marks: &[bool], own: u8, readers: &[u8], k: usize) -> bool
     requires { ⌜ own < 254 ⌝ }
@@ -160,7 +148,7 @@ fn read_abroad(marks: &[bool], own: u8, readers: &[u8], k: usize) -> bool
         return false;
     }
     if marks[k] {
-        return is_foreign(own, reader_at(readers, k));
+        return is_foreign(own, wire::byte_at(readers, k));
     }
     false
 }

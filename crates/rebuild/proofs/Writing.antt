@@ -6,13 +6,9 @@ use native.Mathlib.Numerals.{add-one}
 use native.Mathlib.Omega.{arith}
 use lib.ListN.{length, getD, drop, length-append, List·getD-eq-default}
 use lib.Seq.{sets, length-sets, drop-cons, drop-length}
-use Rattle.wire.specs.Parse.{ok}
 use Rattle.wire.specs.Number.{at16}
-use Rattle.wire.specs.Value.{valueOf, valueBytes, asValue, unit}
-use Rattle.wire.specs.declared.Cause.{Cause}
+use Rattle.wire.specs.Value.{valueBytes, unit}
 use Rattle.wire.specs.declared.Value.{Value}
-use Rattle.wire.specs.declared.ReadValue.{ReadValue}
-use Rattle.wire.proofs.Inv.{no-ok}
 use Rattle.form.specs.Syntax.{FieldInit}
 use Rattle.form.specs.Encode.{eachBytes, nameIdBytes, fieldInitBytes}
 use Rattle.emit.proofs.Sets.{sets-append}
@@ -20,17 +16,6 @@ use Rattle.types.specs.Syntax.{StructField}
 use Rattle.rewriting.specs.Rebuild.{fitted, named}
 use Rattle.parts.specs.Rows.{ValueAt, stands, RowAt}
 use Rattle.rebuild.specs.Written.{Writes, noField, NamesIn}
-
-module _ (next : ℕ) (s t : List ℕ) (at : ℕ) {r : ReadValue} (p : asValue r ≡ valueOf next t) (q : t ≡ drop at s) where
-  -- what was read is what stands there
-  pub value-read : {y : Value} {m : ℕ} → r ≡ ReadValue.Got y m → (x : Value) → ValueAt next s at x → y ≡ x
-  value-read {y} {m} e x (stands n f) =
-      let z : ok y m ≡ ok x n = sym (ap asValue e) ∙ p ∙ ap (valueOf next) q ∙ f in
-      cc
-
-  -- what was refused is no value
-  pub value-refused : {c : Cause} {o : ℕ} → r ≡ ReadValue.Refused c o → (x : Value) → ValueAt next s at x → Value.Error ≡ x
-  value-refused e x (stands n f) = absurd (no-ok (sym (ap asValue e) ∙ p ∙ ap (valueOf next) q ∙ f))
 
 -- within a list it does not matter what stands behind it
 getD-any : {A : Type 0} (l : List A) (k : ℕ) (a b : A) → k < length l → getD l k a ≡ getD l k b

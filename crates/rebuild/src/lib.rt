@@ -1,7 +1,6 @@
 // The rebuild of an aggregate from its parts: sroa.rs, `materialize`. The parts are places of values in the input.
 use wire::Literal;
 use wire::NameId;
-use wire::ReadValue;
 use wire::TypeId;
 use wire::Value;
 use wire::ValueId;
@@ -31,30 +30,13 @@ pub struct Rebuilt {
     pub clash: bool,
 }
 
-// The value that stands at a place; Error where none does.
-fn value_at(s: &[u8], at: usize, next: u16) -> Value
-    ensures { λ r. ⌜ ((x : Value) → ValueAt next (now (s .entry)) at x → r ≡ x) ⌝ }
-{
-    match wire::read_value(form::tail(s, at), next) {
-        ReadValue::Got(x, _) => x,
-        ReadValue::Refused(_, _) => Value::Error,
-    }
-}
-
 // Writes the value that stands at a place of the input, and returns the place behind it.
 pub fn put_value_at(out: &mut [u8], to: usize, s: &[u8], at: usize, next: u16) -> usize
     requires { ⌜ to < 1099511627776 ⌝ }
     ensures { λ r. ⌜ r ≤ to + 5 ⌝ }
     ensures { λ r. ⌜ ((x : Value) → ValueAt next (now (s .entry)) at x → Writes (valueBytes x) (now (out .entry)) (now (out .exit)) to r) ⌝ }
 {
-    emit::put_value(out, to, value_at(s, at, next))
-}
-
-// The place in a slot of the pool; past the end 0.
-fn place_at(pool: &[usize], k: usize) -> usize
-    ensures { λ r. ⌜ r ≡ getD (now (pool .entry)) k 0 ⌝ }
-{
-    if k < pool.len() { pool[k] } else { 0 }
+    emit::put_value(out, to, lookup::value_at(s, at, next))
 }
 
 // Part k of the `have` parts whose row begins at `from`; past them Unit.
@@ -73,7 +55,7 @@ fn put_part(
     ensures { λ r. ⌜ ((xs : List Value) → RowAt next (now (s .entry)) (now (pool .entry)) from xs → length xs ≡ have → Writes (valueBytes (getD xs k unit)) (now (out .entry)) (now (out .exit)) to r) ⌝ }
 {
     if (k as u16) < have {
-        let at = place_at(pool, from + k as usize);
+        let at = table::place(pool, from + k as usize);
         return put_value_at(out, to, s, at, next);
     }
     emit::put_value(out, to, Value::Literal(Literal::Unit))

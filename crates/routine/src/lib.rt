@@ -53,21 +53,14 @@ pub const MOSTS: Mosts = Mosts {
     projections: 8,
 };
 
-// The place at a number; past the last one 0.
-fn place_at(places: &[usize], i: usize) -> usize
-    ensures { λ r. ⌜ r ≡ getD (now (places .entry)) i 0 ⌝ }
-{
-    if i < places.len() { places[i] } else { 0 }
-}
-
 // The part of the caller's bytes that is block k.
 pub fn block_bytes<'a>(s: &'a [u8], blocks: &[usize], k: BlockId) -> &'a [u8]
     ensures { λ r. ⌜ ((m : Mosts) (b : Bounds) (xs : List Block) → Bytes (now (s .entry)) → BlocksAt m b (now (s .entry)) (now (blocks .entry)) xs → k .0 < length xs → now r ≡ blockBytes (getD xs (k .0) noBlock)) ⌝ }
 {
     let n = s.len();
     let i = k.0 as usize;
-    let from = place_at(blocks, i);
-    let to = place_at(blocks, i + 1);
+    let from = table::place(blocks, i);
+    let to = table::place(blocks, i + 1);
     if n < to {
         return &s[n..];
     }
@@ -86,12 +79,9 @@ pub enum Recorded {
 pub fn recorded_type(recorded: &[u16], v: ValueId) -> Recorded
     ensures { λ r. ⌜ asRecorded r ≡ recordedFrom (getD (now (recorded .entry)) (v .0) 0) ⌝ }
 {
-    let i = v.0 as usize;
-    if i < recorded.len() {
-        let t = recorded[i];
-        if 0 < t {
-            return Recorded::Type(TypeId(t - 1));
-        }
+    let t = table::number(recorded, v.0 as usize);
+    if 0 < t {
+        return Recorded::Type(TypeId(t - 1));
     }
     Recorded::Nothing
 }

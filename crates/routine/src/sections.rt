@@ -10,7 +10,7 @@ use wire::Cause;
 use wire::Read16;
 ghost use mathlib.Core.Path.{_≡_};
 ghost use Prim.Native.Nat.{_≤_, _<_};
-ghost use lib.ListN.{length, drop, set};
+ghost use lib.ListN.{length, drop};
 ghost use Rattle.wire.specs.Parse.{mapParse};
 ghost use Rattle.form.specs.Walk.{asPart, unit};
 ghost use Rattle.routine.specs.Decode.{atMost, mapOf, hasRecorded, sizesOf};
@@ -88,22 +88,13 @@ fn map_bit(s: &[u8], map: usize, v: u16) -> bool
     b / POWERS[i] % 2 == 1
 }
 
-fn put_type(recorded: &mut [u16], v: u16, t: u16)
-    ensures { λ _. ⌜ now (recorded .exit) ≡ set (now (recorded .entry)) v t ⌝ }
-{
-    let i = v as usize;
-    if i < recorded.len() {
-        recorded[i] = t;
-    }
-}
-
 // The recorded type of value v, at `here` where it has one: `recorded` is given 1 and its number, else 0.
 fn recorded_one(s: &[u8], here: usize, map: usize, v: u16, types: u16, recorded: &mut [u16]) -> Part
     requires { ⌜ here ≤ length (now s) ⌝ }
     ensures { λ r. ⌜ RecordedOne types (drop map (now (s .entry))) v here (now (s .entry)) (asPart r) (now (recorded .entry)) (now (recorded .exit)) ⌝ }
 {
     if !map_bit(s, map, v) {
-        put_type(recorded, v, 0);
+        table::set_number(recorded, v as usize, 0);
         return Part::Used(here);
     }
     match wire::read_u16(&s[here..]) {
@@ -112,7 +103,7 @@ fn recorded_one(s: &[u8], here: usize, map: usize, v: u16, types: u16, recorded:
             if types <= t {
                 return Part::Refused(Cause::OutOfRange, here);
             }
-            put_type(recorded, v, t + 1);
+            table::set_number(recorded, v as usize, t + 1);
             Part::Used(here + n)
         }
     }

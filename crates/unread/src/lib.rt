@@ -42,19 +42,13 @@ pub fn any_marked(marks: &[bool]) -> bool
     any
 }
 
-fn value_at(buffer: &[u16], k: usize) -> u16
-    ensures { λ r. ⌜ r ≡ getD (now (buffer .entry)) k 0 ⌝ }
-{
-    if k < buffer.len() { buffer[k] } else { 0 }
-}
-
 // None of the first `n` values of a buffer is dropped.
 fn clean_buffer(buffer: &[u16], n: usize, dropped: &[bool]) -> bool
     ensures { λ r. ⌜ ((vs : List ValueId) → Buffered (now (buffer .entry)) n vs → r ≡ unmarked (now (dropped .entry)) vs) ⌝ }
 {
     let mut k = 0;
     while k < n {
-        if family::is_marked(dropped, value_at(buffer, k)) {
+        if family::is_marked(dropped, table::number(buffer, k)) {
             return false;
         }
         k = k + 1;

@@ -2,7 +2,6 @@
 // of a Return at their recorded types; of these the tracked ones.
 use form::Bounds;
 use routine::Recorded;
-use wire::ReadValue;
 use wire::TypeId;
 use wire::Value;
 use wire::ValueId;
@@ -10,13 +9,12 @@ ghost use mathlib.Core.Path.{_≡_};
 ghost use mathlib.Core.List.{List};
 ghost use mathlib.Core.Bool.{cond};
 ghost use mathlib.Core.Option.{none};
-ghost use Prim.Native.Nat.{ℕ, _+_, _*_, _≤_, _<_};
+ghost use Prim.Native.Nat.{ℕ, _*_, _<_};
 ghost use lib.ListN.{length};
 ghost use lib.Dec.{ltb};
 ghost use Rattle.wire.specs.Number.{at16};
 ghost use Rattle.types.specs.Index.{TypesAt};
 ghost use Rattle.routine.specs.Index.{asRecorded};
-ghost use Rattle.lookup.specs.Fields.{valueEnd, projectionEnd, after};
 ghost use Rattle.eligibility.specs.Lookup.{Types};
 ghost use Rattle.eligibility.specs.Tables.{Known};
 ghost use Rattle.rewriting.specs.State.{AggStates};
@@ -35,70 +33,6 @@ pub enum Asks {
 pub enum Wants {
     Nothing,
     Build(ValueId, TypeId),
-}
-
-// The value that stands at a place; Error where none does.
-fn value_at(t: &[u8], at: usize, next: u16) -> Value
-    ensures { λ r. ⌜ ((x : Value) → ValueAt next (now (t .entry)) at x → r ≡ x) ⌝ }
-{
-    match wire::read_value(form::tail(t, at), next) {
-        ReadValue::Got(x, _) => x,
-        ReadValue::Refused(_, _) => Value::Error,
-    }
-}
-
-// The place behind the value that stands at a place.
-pub fn value_end(t: &[u8], at: usize) -> usize
-    requires { ⌜ at < 4611686018427387904 ⌝ }
-    ensures { λ r. ⌜ (r ≡ valueEnd (now (t .entry)) at) × (r ≤ at + 5) ⌝ }
-{
-    match wire::byte_at(t, at) {
-        0 => at + 5,
-        1 => at + 2,
-        3 => at + 3,
-        _ => at + 1,
-    }
-}
-
-// The place behind `k` values.
-pub fn values_end(t: &[u8], at: usize, k: u8) -> usize
-    requires { ⌜ at < 1099511627776 ⌝ }
-    ensures { λ r. ⌜ (r ≡ after (valueEnd (now (t .entry))) k at) × (r ≤ at + 5 * k) ⌝ }
-{
-    let mut here = at;
-    let mut i: u8 = 0;
-    while i < k {
-        here = value_end(t, here);
-        i = i + 1;
-    }
-    here
-}
-
-// The place behind the projection that stands at a place.
-fn projection_end(t: &[u8], at: usize) -> usize
-    requires { ⌜ at < 2199023255552 ⌝ }
-    ensures { λ r. ⌜ (r ≡ projectionEnd (now (t .entry)) at) × (r ≤ at + 6) ⌝ }
-{
-    let kind = wire::byte_at(t, at);
-    match kind {
-        0 => value_end(t, at + 1),
-        1 => at + 3,
-        _ => at + 5,
-    }
-}
-
-// The place behind `k` projections.
-pub fn projections_end(t: &[u8], at: usize, k: u8) -> usize
-    requires { ⌜ at < 1099511627776 ⌝ }
-    ensures { λ r. ⌜ (r ≡ after (projectionEnd (now (t .entry))) k at) × (r ≤ at + 6 * k) ⌝ }
-{
-    let mut here = at;
-    let mut i: u8 = 0;
-    while i < k {
-        here = projection_end(t, here);
-        i = i + 1;
-    }
-    here
 }
 
 // Type `i` of the `n` whose numbers stand in `row`, if it is an aggregate.
@@ -171,7 +105,7 @@ pub fn wanted_at(
 ) -> Wants
     ensures { λ r. ⌜ ((τ : Types) (S : AggStates) (table firsts pool : List ℕ) (used : ℕ) (x : Value) → Ground b (now (s .entry)) (now (types .entry)) table τ → (asks ≡ Asks.Recorded → table ≡ now (recorded .entry)) → Rep (b .next) (now (s .entry)) (now (counts .entry)) firsts pool used S → ValueAt (b .next) (now (t .entry)) at x → Told τ S x (askedAt τ (now (t .entry)) asks i x) r) ⌝ }
 {
-    match value_at(t, at, b.next) {
+    match lookup::value_at(t, at, b.next) {
         Value::Literal(_) => Wants::Nothing,
         Value::Operand(v) => wants_operand(s, b, types, t, recorded, counts, asks, v, i),
         Value::Error => Wants::Nothing,

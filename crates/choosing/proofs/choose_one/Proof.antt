@@ -24,8 +24,8 @@ same-length c = search needs
 returns : tie.Need-returns
 returns c = let a = c .before .before .before .before .before .before .before .before .before .before .before .before .before .before .before .before .before .before .args in ((flag-none _ (a .folded .now), ap length (c .before .before .before .set-flag .ensures) ∙ length-set (a .skips .now) (a .k) (c .before .before .before .before .before .is-skipped .result)), chooses-skip (a .b) (a .s .now) (a .types .now) (a .recorded .now) (a .places .now) (a .starts .now) (a .settings) (a .shapes .now) (a .eligible .now) (a .cross .now) (a .k) (c .before .before .before .before .before .before .before .block-places .result .now) (c .before .before .before .before .before .before .before .block-places .ensures) (c .before .before .before .before .before .before .instruction-count .result) (c .before .before .before .before .before .before .instruction-count .ensures) (c .before .before .before .before .before .is-skipped .result) (c .before .before .before .before .before .is-skipped .ensures) (a .folded .now) (a .skips .now) (c .before .before .before .set-flag .last .0) (c .before .before .before .set-flag .ensures) (c .if1 .taken))
 
-number-at-requires : tie.Need-number-at-requires
-number-at-requires c κs = search needs
+number-requires : tie.Need-number-requires
+number-requires c κs = search needs
 
 choose-block-requires : tie.Need-choose-block-requires
 choose-block-requires c κs = search needs
@@ -37,7 +37,7 @@ same-length-3 : tie.Need-same-length-3
 same-length-3 c = search needs
 
 returns-2 : tie.Need-returns-2
-returns-2 c = let a = c .before .before .before .before .before .before .before .before .before .before .before .before .before .before .before .before .before .before .before .before .before .before .before .args in ((rw (c .before .before .before .before .number-at .ensures) at (c .before .before .choose-block .ensures .0), ap length (c .before .before .before .before .before .before .before .before .set-flag .ensures) ∙ length-set (a .skips .now) (a .k) (c .before .before .before .before .before .before .before .before .before .before .is-skipped .result)), chooses-block (a .b) (a .s .now) (a .types .now) (a .recorded .now) (a .places .now) (a .starts .now) (a .settings) (a .shapes .now) (a .eligible .now) (a .cross .now) (a .k) (c .before .before .before .before .before .before .before .before .before .before .before .before .block-places .result .now) (c .before .before .before .before .before .before .before .before .before .before .before .before .block-places .ensures) (c .before .before .before .before .before .before .before .before .before .before .before .instruction-count .result) (c .before .before .before .before .before .before .before .before .before .before .before .instruction-count .ensures) (c .before .before .before .before .before .before .before .before .before .before .is-skipped .result) (c .before .before .before .before .before .before .before .before .before .before .is-skipped .ensures) (a .folded .now) (a .skips .now) (c .before .before .before .before .before .before .before .before .set-flag .last .0) (c .before .before .before .before .before .before .before .before .set-flag .ensures) (c .before .before .before .before .number-at .result) (c .before .before .before .before .number-at .ensures) (c .before .before .choose-block .last .1 .1 .1 .1 .1 .1 .1 .1 .1 .1 .0) (c .before .before .choose-block .ensures .1))
+returns-2 c = let a = c .before .before .before .before .before .before .before .before .before .before .before .before .before .before .before .before .before .before .before .before .before .before .before .args in ((rw (c .before .before .before .before .number .ensures) at (c .before .before .choose-block .ensures .0), ap length (c .before .before .before .before .before .before .before .before .set-flag .ensures) ∙ length-set (a .skips .now) (a .k) (c .before .before .before .before .before .before .before .before .before .before .is-skipped .result)), chooses-block (a .b) (a .s .now) (a .types .now) (a .recorded .now) (a .places .now) (a .starts .now) (a .settings) (a .shapes .now) (a .eligible .now) (a .cross .now) (a .k) (c .before .before .before .before .before .before .before .before .before .before .before .before .block-places .result .now) (c .before .before .before .before .before .before .before .before .before .before .before .before .block-places .ensures) (c .before .before .before .before .before .before .before .before .before .before .before .instruction-count .result) (c .before .before .before .before .before .before .before .before .before .before .before .instruction-count .ensures) (c .before .before .before .before .before .before .before .before .before .before .is-skipped .result) (c .before .before .before .before .before .before .before .before .before .before .is-skipped .ensures) (a .folded .now) (a .skips .now) (c .before .before .before .before .before .before .before .before .set-flag .last .0) (c .before .before .before .before .before .before .before .before .set-flag .ensures) (c .before .before .before .before .number .result) (c .before .before .before .before .number .ensures) (c .before .before .choose-block .last .1 .1 .1 .1 .1 .1 .1 .1 .1 .1 .0) (c .before .before .choose-block .ensures .1))
 
 pub choose-one-spec : {M : Type 1} → statement M
 choose-one-spec =
@@ -49,7 +49,7 @@ choose-one-spec =
     set-flag-requires
     same-length
     returns
-    number-at-requires
+    number-requires
     choose-block-requires
     same-length-2
     same-length-3

@@ -5,7 +5,7 @@ use Rattle.climb.proofs.climb.Reads as climb
 use Rattle.climb.proofs.climb.Kinds as climb-kinds
 use Rattle.climb.proofs.+climb.Lts-climb as climb-lts
 use Rattle.climb.proofs.allowed.Reads as allowed-reads
-use Rattle.climb.proofs.number_at.Reads as number-at-reads
+use Rattle.table.proofs.number.Reads as number-reads
 use Rattle.wire.proofs.byte_at.Reads as byte-at-reads
 use Rattle.climb.proofs.+climb.{statement}
 use Rattle.climb.proofs.+climb.Tie.{close}
@@ -44,8 +44,8 @@ climb-returns : (t : ℕ) → climb-lts.Need-returns (
   allowed-reads.Learnt,
   byte-at-reads.Asked,
   byte-at-reads.Learnt,
-  number-at-reads.Asked,
-  number-at-reads.Learnt,
+  number-reads.Asked,
+  number-reads.Learnt,
   climb-below t,
   climb.Post,
 ) (climb-at t) climb.Post climb-Inv-loop climb-μ-loop
@@ -56,8 +56,8 @@ climb-array-read-if2 : (t : ℕ) → climb-lts.Need-array-read-if2 (
   allowed-reads.Learnt,
   byte-at-reads.Asked,
   byte-at-reads.Learnt,
-  number-at-reads.Asked,
-  number-at-reads.Learnt,
+  number-reads.Asked,
+  number-reads.Learnt,
   climb-below t,
   climb.Post,
 ) (climb-at t) climb.Post climb-Inv-loop climb-μ-loop
@@ -68,8 +68,8 @@ climb-returns-2 : (t : ℕ) → climb-lts.Need-returns-2 (
   allowed-reads.Learnt,
   byte-at-reads.Asked,
   byte-at-reads.Learnt,
-  number-at-reads.Asked,
-  number-at-reads.Learnt,
+  number-reads.Asked,
+  number-reads.Learnt,
   climb-below t,
   climb.Post,
 ) (climb-at t) climb.Post climb-Inv-loop climb-μ-loop
@@ -80,8 +80,8 @@ climb-allowed-requires : (t : ℕ) → climb-lts.Need-allowed-requires (
   allowed-reads.Learnt,
   byte-at-reads.Asked,
   byte-at-reads.Learnt,
-  number-at-reads.Asked,
-  number-at-reads.Learnt,
+  number-reads.Asked,
+  number-reads.Learnt,
   climb-below t,
   climb.Post,
 ) (climb-at t) climb.Post climb-Inv-loop climb-μ-loop
@@ -92,8 +92,8 @@ climb-returns-3 : (t : ℕ) → climb-lts.Need-returns-3 (
   allowed-reads.Learnt,
   byte-at-reads.Asked,
   byte-at-reads.Learnt,
-  number-at-reads.Asked,
-  number-at-reads.Learnt,
+  number-reads.Asked,
+  number-reads.Learnt,
   climb-below t,
   climb.Post,
 ) (climb-at t) climb.Post climb-Inv-loop climb-μ-loop
@@ -104,8 +104,8 @@ climb-byte-at-requires : (t : ℕ) → climb-lts.Need-byte-at-requires (
   allowed-reads.Learnt,
   byte-at-reads.Asked,
   byte-at-reads.Learnt,
-  number-at-reads.Asked,
-  number-at-reads.Learnt,
+  number-reads.Asked,
+  number-reads.Learnt,
   climb-below t,
   climb.Post,
 ) (climb-at t) climb.Post climb-Inv-loop climb-μ-loop
@@ -116,8 +116,8 @@ climb-array-write-met : (t : ℕ) → climb-lts.Need-array-write-met (
   allowed-reads.Learnt,
   byte-at-reads.Asked,
   byte-at-reads.Learnt,
-  number-at-reads.Asked,
-  number-at-reads.Learnt,
+  number-reads.Asked,
+  number-reads.Learnt,
   climb-below t,
   climb.Post,
 ) (climb-at t) climb.Post climb-Inv-loop climb-μ-loop
@@ -128,8 +128,8 @@ climb-loop-holds : (t : ℕ) → climb-lts.Need-loop-holds (
   allowed-reads.Learnt,
   byte-at-reads.Asked,
   byte-at-reads.Learnt,
-  number-at-reads.Asked,
-  number-at-reads.Learnt,
+  number-reads.Asked,
+  number-reads.Learnt,
   climb-below t,
   climb.Post,
 ) (climb-at t) climb.Post climb-Inv-loop climb-μ-loop
@@ -140,81 +140,81 @@ climb-sub-i : (t : ℕ) → climb-lts.Need-sub-i (
   allowed-reads.Learnt,
   byte-at-reads.Asked,
   byte-at-reads.Learnt,
-  number-at-reads.Asked,
-  number-at-reads.Learnt,
+  number-reads.Asked,
+  number-reads.Learnt,
   climb-below t,
   climb.Post,
 ) (climb-at t) climb.Post climb-Inv-loop climb-μ-loop
 climb-sub-i t c = search needs
 
-climb-cast-number-at : (t : ℕ) → climb-lts.Need-cast-number-at (
+climb-cast-number : (t : ℕ) → climb-lts.Need-cast-number (
   allowed-reads.Asked,
   allowed-reads.Learnt,
   byte-at-reads.Asked,
   byte-at-reads.Learnt,
-  number-at-reads.Asked,
-  number-at-reads.Learnt,
+  number-reads.Asked,
+  number-reads.Learnt,
   climb-below t,
   climb.Post,
 ) (climb-at t) climb.Post climb-Inv-loop climb-μ-loop
-climb-cast-number-at t c = search needs
+climb-cast-number t c = search needs
 
-climb-number-at-requires : (t : ℕ) → climb-lts.Need-number-at-requires (
+climb-number-requires : (t : ℕ) → climb-lts.Need-number-requires (
   allowed-reads.Asked,
   allowed-reads.Learnt,
   byte-at-reads.Asked,
   byte-at-reads.Learnt,
-  number-at-reads.Asked,
-  number-at-reads.Learnt,
+  number-reads.Asked,
+  number-reads.Learnt,
   climb-below t,
   climb.Post,
 ) (climb-at t) climb.Post climb-Inv-loop climb-μ-loop
-climb-number-at-requires t c κs = search needs
+climb-number-requires t c κs = search needs
 
 climb-returns-4 : (t : ℕ) → climb-lts.Need-returns-4 (
   allowed-reads.Asked,
   allowed-reads.Learnt,
   byte-at-reads.Asked,
   byte-at-reads.Learnt,
-  number-at-reads.Asked,
-  number-at-reads.Learnt,
+  number-reads.Asked,
+  number-reads.Learnt,
   climb-below t,
   climb.Post,
 ) (climb-at t) climb.Post climb-Inv-loop climb-μ-loop
 climb-returns-4 t c = let a = c .before .before .before .before .before .before .before .before .before .before .before .before .before .before .before .args in let S = sightOf (a .shapes .now) (a .buildable .now) (a .blocked .now) (a .children .now) (a .parents .now) (a .many) in let k : a .v < length (a .t8) = search needs in
-    sym (climbs S (a .v) (a .t8) k (c .before .before .before .before .before .before .before .before .if2 .left) (sym (c .before .before .before .before .before .before .before .allowed .ensures) ∙ not-false _ (c .before .before .before .before .before .before .if3 .left)) ∙ turn-array S (a .v) (a .children .now) (a .parents .now) (set (a .t8) (a .v) true) (c .before .before .before .before .loop .i) (c .before .before .before .before .loop .met) (c .before .before .before .before .loop .inv) (c .before .before .before .loop-test .taken) (sym (c .before .before .number-at .ensures) ∙ c .before .if4 .taken) (ap (λ (x : ℕ). eqb x 3) (sym (c .before .before .before .before .before .byte-at .ensures)) ∙ c .if5 .taken))
+    sym (climbs S (a .v) (a .t8) k (c .before .before .before .before .before .before .before .before .if2 .left) (sym (c .before .before .before .before .before .before .before .allowed .ensures) ∙ not-false _ (c .before .before .before .before .before .before .if3 .left)) ∙ turn-array S (a .v) (a .children .now) (a .parents .now) (set (a .t8) (a .v) true) (c .before .before .before .before .loop .i) (c .before .before .before .before .loop .met) (c .before .before .before .before .loop .inv) (c .before .before .before .loop-test .taken) (sym (c .before .before .number .ensures) ∙ c .before .if4 .taken) (ap (λ (x : ℕ). eqb x 3) (sym (c .before .before .before .before .before .byte-at .ensures)) ∙ c .if5 .taken))
 
-climb-cast-number-at-2 : (t : ℕ) → climb-lts.Need-cast-number-at-2 (
+climb-cast-number-2 : (t : ℕ) → climb-lts.Need-cast-number-2 (
   allowed-reads.Asked,
   allowed-reads.Learnt,
   byte-at-reads.Asked,
   byte-at-reads.Learnt,
-  number-at-reads.Asked,
-  number-at-reads.Learnt,
+  number-reads.Asked,
+  number-reads.Learnt,
   climb-below t,
   climb.Post,
 ) (climb-at t) climb.Post climb-Inv-loop climb-μ-loop
-climb-cast-number-at-2 t c = search needs
+climb-cast-number-2 t c = search needs
 
-climb-number-at-requires-2 : (t : ℕ) → climb-lts.Need-number-at-requires-2 (
+climb-number-requires-2 : (t : ℕ) → climb-lts.Need-number-requires-2 (
   allowed-reads.Asked,
   allowed-reads.Learnt,
   byte-at-reads.Asked,
   byte-at-reads.Learnt,
-  number-at-reads.Asked,
-  number-at-reads.Learnt,
+  number-reads.Asked,
+  number-reads.Learnt,
   climb-below t,
   climb.Post,
 ) (climb-at t) climb.Post climb-Inv-loop climb-μ-loop
-climb-number-at-requires-2 t c κs = search needs
+climb-number-requires-2 t c κs = search needs
 
 climb-climb-requires : (t : ℕ) → climb-lts.Need-climb-requires (
   allowed-reads.Asked,
   allowed-reads.Learnt,
   byte-at-reads.Asked,
   byte-at-reads.Learnt,
-  number-at-reads.Asked,
-  number-at-reads.Learnt,
+  number-reads.Asked,
+  number-reads.Learnt,
   climb-below t,
   climb.Post,
 ) (climb-at t) climb.Post climb-Inv-loop climb-μ-loop
@@ -226,21 +226,21 @@ climb-returns-5 : (t : ℕ) → climb-lts.Need-returns-5 (
   allowed-reads.Learnt,
   byte-at-reads.Asked,
   byte-at-reads.Learnt,
-  number-at-reads.Asked,
-  number-at-reads.Learnt,
+  number-reads.Asked,
+  number-reads.Learnt,
   climb-below t,
   climb.Post,
 ) (climb-at t) climb.Post climb-Inv-loop climb-μ-loop
 climb-returns-5 t c = let a = c .before .before .before .before .before .before .before .before .before .before .before .before .before .before .before .before .before .before .before .args in let S = sightOf (a .shapes .now) (a .buildable .now) (a .blocked .now) (a .children .now) (a .parents .now) (a .many) in let k : a .v < length (a .t8) = omega (arith, c .before .before .before .before .before .before .before .before .before .before .before .before .before .if1 .left, c .before .before .before .before .before .before .before .before .before .before .before .before .before .before .before .before .before .before .before .fits, c .before .before .before .before .before .before .before .before .before .before .before .before .before .before .before .before .before .before .before .good) in
-    turn-stop S (a .v) (a .children .now) (a .parents .now) (set (a .t8) (a .v) true) (c .before .before .before .before .before .before .before .before .loop .i) (c .before .before .before .before .before .before .before .before .loop .met) (c .before .before .before .before .before .before .before .before .loop .inv) (c .before .before .before .before .before .before .before .loop-test .taken) (sym (c .before .before .before .before .before .before .number-at .ensures) ∙ c .before .before .before .before .before .if4 .taken) (ap (λ (x : ℕ). eqb x 3) (sym (c .before .before .before .before .before .before .before .before .before .byte-at .ensures)) ∙ c .before .before .before .before .if5 .left) (c .before .before .before .number-at2 .result) (c .before .before .before .number-at2 .ensures) (c .before .before .climb .result) (c .before .before .climb .ensures) (not-true _ (c .if6 .taken)) ∙ sym (climbs S (a .v) (a .t8) k (c .before .before .before .before .before .before .before .before .before .before .before .before .if2 .left) (sym (c .before .before .before .before .before .before .before .before .before .before .before .allowed .ensures) ∙ not-false _ (c .before .before .before .before .before .before .before .before .before .before .if3 .left)))
+    turn-stop S (a .v) (a .children .now) (a .parents .now) (set (a .t8) (a .v) true) (c .before .before .before .before .before .before .before .before .loop .i) (c .before .before .before .before .before .before .before .before .loop .met) (c .before .before .before .before .before .before .before .before .loop .inv) (c .before .before .before .before .before .before .before .loop-test .taken) (sym (c .before .before .before .before .before .before .number .ensures) ∙ c .before .before .before .before .before .if4 .taken) (ap (λ (x : ℕ). eqb x 3) (sym (c .before .before .before .before .before .before .before .before .before .byte-at .ensures)) ∙ c .before .before .before .before .if5 .left) (c .before .before .before .number2 .result) (c .before .before .before .number2 .ensures) (c .before .before .climb .result) (c .before .before .climb .ensures) (not-true _ (c .if6 .taken)) ∙ sym (climbs S (a .v) (a .t8) k (c .before .before .before .before .before .before .before .before .before .before .before .before .if2 .left) (sym (c .before .before .before .before .before .before .before .before .before .before .before .allowed .ensures) ∙ not-false _ (c .before .before .before .before .before .before .before .before .before .before .if3 .left)))
 
 climb-loop-less : (t : ℕ) → climb-lts.Need-loop-less (
   allowed-reads.Asked,
   allowed-reads.Learnt,
   byte-at-reads.Asked,
   byte-at-reads.Learnt,
-  number-at-reads.Asked,
-  number-at-reads.Learnt,
+  number-reads.Asked,
+  number-reads.Learnt,
   climb-below t,
   climb.Post,
 ) (climb-at t) climb.Post climb-Inv-loop climb-μ-loop
@@ -251,21 +251,21 @@ climb-loop-again : (t : ℕ) → climb-lts.Need-loop-again (
   allowed-reads.Learnt,
   byte-at-reads.Asked,
   byte-at-reads.Learnt,
-  number-at-reads.Asked,
-  number-at-reads.Learnt,
+  number-reads.Asked,
+  number-reads.Learnt,
   climb-below t,
   climb.Post,
 ) (climb-at t) climb.Post climb-Inv-loop climb-μ-loop
 climb-loop-again t c = let a = c .before .before .before .before .before .before .before .before .before .before .before .before .before .before .before .before .before .before .before .before .args in let S = sightOf (a .shapes .now) (a .buildable .now) (a .blocked .now) (a .children .now) (a .parents .now) (a .many) in
-    turn-on S (a .v) (a .children .now) (a .parents .now) (set (a .t8) (a .v) true) (c .before .before .before .before .before .before .before .before .before .loop .i) (c .before .before .before .before .before .before .before .before .before .loop .met) (c .before .before .before .before .before .before .before .before .before .loop .inv) (c .before .before .before .before .before .before .before .before .loop-test .taken) (sym (c .before .before .before .before .before .before .before .number-at .ensures) ∙ c .before .before .before .before .before .before .if4 .taken) (ap (λ (x : ℕ). eqb x 3) (sym (c .before .before .before .before .before .before .before .before .before .before .byte-at .ensures)) ∙ c .before .before .before .before .before .if5 .left) (c .before .before .before .before .number-at2 .result) (c .before .before .before .before .number-at2 .ensures) (c .before .before .before .climb .result) (c .before .before .before .climb .ensures) (not-false _ (c .before .if6 .left))
+    turn-on S (a .v) (a .children .now) (a .parents .now) (set (a .t8) (a .v) true) (c .before .before .before .before .before .before .before .before .before .loop .i) (c .before .before .before .before .before .before .before .before .before .loop .met) (c .before .before .before .before .before .before .before .before .before .loop .inv) (c .before .before .before .before .before .before .before .before .loop-test .taken) (sym (c .before .before .before .before .before .before .before .number .ensures) ∙ c .before .before .before .before .before .before .if4 .taken) (ap (λ (x : ℕ). eqb x 3) (sym (c .before .before .before .before .before .before .before .before .before .before .byte-at .ensures)) ∙ c .before .before .before .before .before .if5 .left) (c .before .before .before .before .number2 .result) (c .before .before .before .before .number2 .ensures) (c .before .before .before .climb .result) (c .before .before .before .climb .ensures) (not-false _ (c .before .if6 .left))
 
 climb-loop-less-2 : (t : ℕ) → climb-lts.Need-loop-less-2 (
   allowed-reads.Asked,
   allowed-reads.Learnt,
   byte-at-reads.Asked,
   byte-at-reads.Learnt,
-  number-at-reads.Asked,
-  number-at-reads.Learnt,
+  number-reads.Asked,
+  number-reads.Learnt,
   climb-below t,
   climb.Post,
 ) (climb-at t) climb.Post climb-Inv-loop climb-μ-loop
@@ -276,21 +276,21 @@ climb-loop-again-2 : (t : ℕ) → climb-lts.Need-loop-again-2 (
   allowed-reads.Learnt,
   byte-at-reads.Asked,
   byte-at-reads.Learnt,
-  number-at-reads.Asked,
-  number-at-reads.Learnt,
+  number-reads.Asked,
+  number-reads.Learnt,
   climb-below t,
   climb.Post,
 ) (climb-at t) climb.Post climb-Inv-loop climb-μ-loop
 climb-loop-again-2 t c = let a = c .before .before .before .before .before .before .before .before .before .before .before .before .before .before .args in let S = sightOf (a .shapes .now) (a .buildable .now) (a .blocked .now) (a .children .now) (a .parents .now) (a .many) in
-    turn-other S (a .v) (a .children .now) (a .parents .now) (set (a .t8) (a .v) true) (c .before .before .before .loop .i) (c .before .before .before .loop .met) (c .before .before .before .loop .inv) (c .before .before .loop-test .taken) (λ e. c .if4 .left (c .before .number-at .ensures ∙ e))
+    turn-other S (a .v) (a .children .now) (a .parents .now) (set (a .t8) (a .v) true) (c .before .before .before .loop .i) (c .before .before .before .loop .met) (c .before .before .before .loop .inv) (c .before .before .loop-test .taken) (λ e. c .if4 .left (c .before .number .ensures ∙ e))
 
 climb-returns-6 : (t : ℕ) → climb-lts.Need-returns-6 (
   allowed-reads.Asked,
   allowed-reads.Learnt,
   byte-at-reads.Asked,
   byte-at-reads.Learnt,
-  number-at-reads.Asked,
-  number-at-reads.Learnt,
+  number-reads.Asked,
+  number-reads.Learnt,
   climb-below t,
   climb.Post,
 ) (climb-at t) climb.Post climb-Inv-loop climb-μ-loop
@@ -303,8 +303,8 @@ pub +climb-spec : {M : Type 1} → statement M
   allowed-reads.Learnt,
   byte-at-reads.Asked,
   byte-at-reads.Learnt,
-  number-at-reads.Asked,
-  number-at-reads.Learnt,
+  number-reads.Asked,
+  number-reads.Learnt,
   climb-below t,
   climb.Post,
 )
@@ -321,11 +321,11 @@ pub +climb-spec : {M : Type 1} → statement M
     (climb-array-write-met t)
     (climb-loop-holds t)
     (climb-sub-i t)
-    (climb-cast-number-at t)
-    (climb-number-at-requires t)
+    (climb-cast-number t)
+    (climb-number-requires t)
     (climb-returns-4 t)
-    (climb-cast-number-at-2 t)
-    (climb-number-at-requires-2 t)
+    (climb-cast-number-2 t)
+    (climb-number-requires-2 t)
     (climb-climb-requires t)
     (climb-returns-5 t)
     (climb-loop-less t)

@@ -29,20 +29,20 @@ can-scalarize-requires-2 c κs = search needs
 returns-5 : tie.Need-returns-5
 returns-5 c = let a = c .before .before .before .before .before .before .before .before .before .before .before .before .args in λ τ cross is eligible facts scanned few low. for-array facts scanned few (a .v) low (a .kind) (a .dynamic) (c .can-scalarize2 .result) (c .before .before .if4 .taken) (constant-array (a .settings .tuples) (climbs (sightOf (a .shapes .now) (a .buildable .now) (a .blocked .now) (a .children .now) (a .parents .now) (a .many)) (a .v .0)) (a .dynamic) (c .can-scalarize2 .result) (not-false _ (c .before .before .before .if3 .left)) (c .before .if5 .left) (c .can-scalarize2 .ensures))
 
-cast-flag-at : tie.Need-cast-flag-at
-cast-flag-at c = search needs
+cast-flag : tie.Need-cast-flag
+cast-flag c = search needs
 
-flag-at-requires : tie.Need-flag-at-requires
-flag-at-requires c κs = search needs
+flag-requires : tie.Need-flag-requires
+flag-requires c κs = search needs
 
 returns-6 : tie.Need-returns-6
-returns-6 c = let a = c .before .before .before .before .before .before .before .before .before .before .before .before .before .args in λ τ cross is eligible facts scanned few low. for-tuple facts scanned few (a .v) low (a .kind) (a .dynamic) false (c .before .before .before .before .before .before .if1 .left) (c .before .before .before .if4 .left) (rw (not-false (a .settings .tuples) (c .before .before .before .before .if3 .left), sym (c .before .flag-at .ensures), not-true (c .before .flag-at .result) (c .if6 .taken)))
+returns-6 c = let a = c .before .before .before .before .before .before .before .before .before .before .before .before .before .args in λ τ cross is eligible facts scanned few low. for-tuple facts scanned few (a .v) low (a .kind) (a .dynamic) false (c .before .before .before .before .before .before .if1 .left) (c .before .before .before .if4 .left) (rw (not-false (a .settings .tuples) (c .before .before .before .before .if3 .left), sym (c .before .flag .ensures), not-true (c .before .flag .result) (c .if6 .taken)))
 
 tuple-parents-requires : tie.Need-tuple-parents-requires
 tuple-parents-requires c κs = search needs
 
 returns-7 : tie.Need-returns-7
-returns-7 c = let a = c .before .before .before .before .before .before .before .before .before .before .before .before .before .before .args in λ τ cross is eligible facts scanned few low. for-tuple facts scanned few (a .v) low (a .kind) (a .dynamic) (c .tuple-parents .result) (c .before .before .before .before .before .before .before .if1 .left) (c .before .before .before .before .if4 .left) (rw (not-false (a .settings .tuples) (c .before .before .before .before .before .if3 .left), sym (c .before .before .flag-at .ensures), not-false (c .before .before .flag-at .result) (c .before .if6 .left)) (c .tuple-parents .ensures))
+returns-7 c = let a = c .before .before .before .before .before .before .before .before .before .before .before .before .before .before .args in λ τ cross is eligible facts scanned few low. for-tuple facts scanned few (a .v) low (a .kind) (a .dynamic) (c .tuple-parents .result) (c .before .before .before .before .before .before .before .if1 .left) (c .before .before .before .before .if4 .left) (rw (not-false (a .settings .tuples) (c .before .before .before .before .before .if3 .left), sym (c .before .before .flag .ensures), not-false (c .before .before .flag .result) (c .before .if6 .left)) (c .tuple-parents .ensures))
 
 pub folds-spec : {M : Type 1} → statement M
 folds-spec =
@@ -55,8 +55,8 @@ folds-spec =
     returns-4
     can-scalarize-requires-2
     returns-5
-    cast-flag-at
-    flag-at-requires
+    cast-flag
+    flag-requires
     returns-6
     tuple-parents-requires
     returns-7)

@@ -23,38 +23,38 @@ sub-i c = search needs
 cast-at : tie.Need-cast-at Inv-loop μ-loop
 cast-at c = search needs
 
-flag-at-requires : tie.Need-flag-at-requires Inv-loop μ-loop
-flag-at-requires c κs = search needs
+flag-requires : tie.Need-flag-requires Inv-loop μ-loop
+flag-requires c κs = search needs
 
-number-at-requires : tie.Need-number-at-requires Inv-loop μ-loop
-number-at-requires c κs = search needs
+number-requires : tie.Need-number-requires Inv-loop μ-loop
+number-requires c κs = search needs
 
-number-at-requires-2 : tie.Need-number-at-requires-2 Inv-loop μ-loop
-number-at-requires-2 c κs = search needs
+number-requires-2 : tie.Need-number-requires-2 Inv-loop μ-loop
+number-requires-2 c κs = search needs
 
 can-scalarize-requires : tie.Need-can-scalarize-requires Inv-loop μ-loop
 can-scalarize-requires c κs = search needs
 
 returns : tie.Need-returns Inv-loop μ-loop
-returns c = let a = c .before .before .before .before .before .before .before .before .before .before .before .before .before .before .before .args in test-stop (climbs (sightOf (a .shapes .now) (a .buildable .now) (a .blocked .now) (a .children .now) (a .parents .now) (a .many))) (a .v) (a .tuples .now) (a .children .now) (a .parents .now) (a .many) (c .before .before .before .before .before .before .before .before .loop .i) (c .before .before .before .before .before .before .before .before .loop .inv) (c .before .before .before .before .before .before .before .loop-test .taken) (sym (c .before .before .before .before .before .before .flag-at .ensures) ∙ c .before .before .before .before .before .if1 .taken) (sym (c .before .before .before .before .number-at .ensures) ∙ c .before .before .before .if2 .taken) (c .before .before .number-at2 .result) (c .before .before .number-at2 .ensures) (c .before .can-scalarize .result) (c .before .can-scalarize .ensures) (not-true _ (c .if3 .taken))
+returns c = let a = c .before .before .before .before .before .before .before .before .before .before .before .before .before .before .before .args in test-stop (climbs (sightOf (a .shapes .now) (a .buildable .now) (a .blocked .now) (a .children .now) (a .parents .now) (a .many))) (a .v) (a .tuples .now) (a .children .now) (a .parents .now) (a .many) (c .before .before .before .before .before .before .before .before .loop .i) (c .before .before .before .before .before .before .before .before .loop .inv) (c .before .before .before .before .before .before .before .loop-test .taken) (sym (c .before .before .before .before .before .before .flag .ensures) ∙ c .before .before .before .before .before .if1 .taken) (sym (c .before .before .before .before .number .ensures) ∙ c .before .before .before .if2 .taken) (c .before .before .number2 .result) (c .before .before .number2 .ensures) (c .before .can-scalarize .result) (c .before .can-scalarize .ensures) (not-true _ (c .if3 .taken))
 
 loop-less : tie.Need-loop-less Inv-loop μ-loop
 loop-less c = search needs
 
 loop-again : tie.Need-loop-again Inv-loop μ-loop
-loop-again c = let a = c .before .before .before .before .before .before .before .before .before .before .before .before .before .before .before .args in test-on (climbs (sightOf (a .shapes .now) (a .buildable .now) (a .blocked .now) (a .children .now) (a .parents .now) (a .many))) (a .v) (a .tuples .now) (a .children .now) (a .parents .now) (a .many) (c .before .before .before .before .before .before .before .before .loop .i) (c .before .before .before .before .before .before .before .before .loop .inv) (c .before .before .before .before .before .before .before .loop-test .taken) (sym (c .before .before .before .before .before .before .flag-at .ensures) ∙ c .before .before .before .before .before .if1 .taken) (sym (c .before .before .before .before .number-at .ensures) ∙ c .before .before .before .if2 .taken) (c .before .before .number-at2 .result) (c .before .before .number-at2 .ensures) (c .before .can-scalarize .result) (c .before .can-scalarize .ensures) (not-false _ (c .if3 .left))
+loop-again c = let a = c .before .before .before .before .before .before .before .before .before .before .before .before .before .before .before .args in test-on (climbs (sightOf (a .shapes .now) (a .buildable .now) (a .blocked .now) (a .children .now) (a .parents .now) (a .many))) (a .v) (a .tuples .now) (a .children .now) (a .parents .now) (a .many) (c .before .before .before .before .before .before .before .before .loop .i) (c .before .before .before .before .before .before .before .before .loop .inv) (c .before .before .before .before .before .before .before .loop-test .taken) (sym (c .before .before .before .before .before .before .flag .ensures) ∙ c .before .before .before .before .before .if1 .taken) (sym (c .before .before .before .before .number .ensures) ∙ c .before .before .before .if2 .taken) (c .before .before .number2 .result) (c .before .before .number2 .ensures) (c .before .can-scalarize .result) (c .before .can-scalarize .ensures) (not-false _ (c .if3 .left))
 
 loop-less-2 : tie.Need-loop-less-2 Inv-loop μ-loop
 loop-less-2 c = search needs
 
 loop-again-2 : tie.Need-loop-again-2 Inv-loop μ-loop
-loop-again-2 c = let a = c .before .before .before .before .before .before .before .before .before .before .before .before .args in test-other (climbs (sightOf (a .shapes .now) (a .buildable .now) (a .blocked .now) (a .children .now) (a .parents .now) (a .many))) (a .v) (a .tuples .now) (a .children .now) (a .parents .now) (a .many) (c .before .before .before .before .before .loop .i) (c .before .before .before .before .before .loop .inv) (c .before .before .before .before .loop-test .taken) (sym (c .before .before .before .flag-at .ensures) ∙ c .before .before .if1 .taken) (λ e. c .if2 .left (c .before .number-at .ensures ∙ e))
+loop-again-2 c = let a = c .before .before .before .before .before .before .before .before .before .before .before .before .args in test-other (climbs (sightOf (a .shapes .now) (a .buildable .now) (a .blocked .now) (a .children .now) (a .parents .now) (a .many))) (a .v) (a .tuples .now) (a .children .now) (a .parents .now) (a .many) (c .before .before .before .before .before .loop .i) (c .before .before .before .before .before .loop .inv) (c .before .before .before .before .loop-test .taken) (sym (c .before .before .before .flag .ensures) ∙ c .before .before .if1 .taken) (λ e. c .if2 .left (c .before .number .ensures ∙ e))
 
 loop-less-3 : tie.Need-loop-less-3 Inv-loop μ-loop
 loop-less-3 c = search needs
 
 loop-again-3 : tie.Need-loop-again-3 Inv-loop μ-loop
-loop-again-3 c = let a = c .before .before .before .before .before .before .before .before .before .before .args in test-kind (climbs (sightOf (a .shapes .now) (a .buildable .now) (a .blocked .now) (a .children .now) (a .parents .now) (a .many))) (a .v) (a .tuples .now) (a .children .now) (a .parents .now) (a .many) (c .before .before .before .loop .i) (c .before .before .before .loop .inv) (c .before .before .loop-test .taken) (sym (c .before .flag-at .ensures) ∙ c .if1 .left)
+loop-again-3 c = let a = c .before .before .before .before .before .before .before .before .before .before .args in test-kind (climbs (sightOf (a .shapes .now) (a .buildable .now) (a .blocked .now) (a .children .now) (a .parents .now) (a .many))) (a .v) (a .tuples .now) (a .children .now) (a .parents .now) (a .many) (c .before .before .before .loop .i) (c .before .before .before .loop .inv) (c .before .before .loop-test .taken) (sym (c .before .flag .ensures) ∙ c .if1 .left)
 
 returns-2 : tie.Need-returns-2 Inv-loop μ-loop
 returns-2 c = let a = c .before .before .before .before .before .before .before .before .args in test-done (climbs (sightOf (a .shapes .now) (a .buildable .now) (a .blocked .now) (a .children .now) (a .parents .now) (a .many))) (a .v) (a .tuples .now) (a .children .now) (a .parents .now) (a .many) (c .before .loop .i) (c .before .loop .inv) (c .loop-test .left)
@@ -68,9 +68,9 @@ tuple-parents-spec =
     loop-holds
     sub-i
     cast-at
-    flag-at-requires
-    number-at-requires
-    number-at-requires-2
+    flag-requires
+    number-requires
+    number-requires-2
     can-scalarize-requires
     returns
     loop-less

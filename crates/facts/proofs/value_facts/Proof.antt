@@ -13,20 +13,29 @@ abbrev μ-loop : tie.MeasureT-loop
 loop-holds : tie.Need-loop-holds Inv-loop μ-loop
 loop-holds c = fill-start _ _ _ _ _ _ _ _
 
-number-at-requires : tie.Need-number-at-requires Inv-loop μ-loop
-number-at-requires c κs = search needs
+cast-number : tie.Need-cast-number Inv-loop μ-loop
+cast-number c = search needs
+
+number-requires : tie.Need-number-requires Inv-loop μ-loop
+number-requires c κs = search needs
+
+cast-set-byte : tie.Need-cast-set-byte Inv-loop μ-loop
+cast-set-byte c = search needs
 
 recorded-shape-requires : tie.Need-recorded-shape-requires Inv-loop μ-loop
 recorded-shape-requires c κs = search needs
 
-put-shape-requires : tie.Need-put-shape-requires Inv-loop μ-loop
-put-shape-requires c κs = search needs
+set-byte-requires : tie.Need-set-byte-requires Inv-loop μ-loop
+set-byte-requires c κs = search needs
+
+cast-set-flag : tie.Need-cast-set-flag Inv-loop μ-loop
+cast-set-flag c = search needs
 
 recorded-eligible-requires : tie.Need-recorded-eligible-requires Inv-loop μ-loop
 recorded-eligible-requires c κs = search needs
 
-put-eligible-requires : tie.Need-put-eligible-requires Inv-loop μ-loop
-put-eligible-requires c κs = search needs
+set-flag-requires : tie.Need-set-flag-requires Inv-loop μ-loop
+set-flag-requires c κs = search needs
 
 add-v : tie.Need-add-v Inv-loop μ-loop
 add-v c = search needs
@@ -35,7 +44,7 @@ loop-less : tie.Need-loop-less Inv-loop μ-loop
 loop-less c = search needs
 
 loop-again : tie.Need-loop-again Inv-loop μ-loop
-loop-again c = let a = c .before .before .before .before .before .before .before .before .before .before .before .before .before .before .before .before .before .before .args in let l = c .before .before .before .before .before .before .before .before .before .before .before .before .loop in fill-again (a .s .now) (a .types .now) (a .many) (a .recorded .now) (a .next) (a .settings) _ _ (l .shapes) (l .eligible) (l .v) _ _ _ _ _ (l .inv) (c .before .before .before .before .before .before .before .before .before .before .before .loop-test .taken) (c .before .before .before .before .before .before .before .before .before .before .number-at .ensures) (c .before .before .before .before .before .before .before .before .recorded-shape .ensures) (c .before .before .before .recorded-eligible .ensures) (c .before .before .before .before .before .before .before .put-shape .ensures) (c .before .before .put-eligible .ensures)
+loop-again c = let a = c .before .before .before .before .before .before .before .before .before .before .before .before .before .before .before .before .before .before .args in let l = c .before .before .before .before .before .before .before .before .before .before .before .before .loop in fill-again (a .s .now) (a .types .now) (a .many) (a .recorded .now) (a .next) (a .settings) _ _ (l .shapes) (l .eligible) (l .v) _ _ _ _ _ (l .inv) (c .before .before .before .before .before .before .before .before .before .before .before .loop-test .taken) (c .before .before .before .before .before .before .before .before .before .before .number .ensures) (c .before .before .before .before .before .before .before .before .recorded-shape .ensures) (c .before .before .before .recorded-eligible .ensures) (c .before .before .before .before .before .before .before .set-byte .ensures) (c .before .before .set-flag .ensures)
 
 same-length : tie.Need-same-length Inv-loop μ-loop
 same-length c = search needs
@@ -53,11 +62,14 @@ value-facts-spec =
     Inv-loop
     μ-loop
     loop-holds
-    number-at-requires
+    cast-number
+    number-requires
+    cast-set-byte
     recorded-shape-requires
-    put-shape-requires
+    set-byte-requires
+    cast-set-flag
     recorded-eligible-requires
-    put-eligible-requires
+    set-flag-requires
     add-v
     loop-less
     loop-again

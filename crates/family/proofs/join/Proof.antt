@@ -15,8 +15,8 @@ asks-requires c κs = search needs
 returns : tie.Need-returns
 returns c = let a = c .before .before .before .before .before .before .before .args in (join-unasked (a .shape) (a .marks .now) (a .sources .now) (a .dests .now) (a .asked .now) (a .k) _ _ (c .before .before .shape-at .ensures) (c .before .asks .ensures) (c .if1 .taken), λ z. refl)
 
-number-at-requires : tie.Need-number-at-requires
-number-at-requires c κs = search needs
+number-requires : tie.Need-number-requires
+number-requires c κs = search needs
 
 is-marked-requires : tie.Need-is-marked-requires
 is-marked-requires c κs = search needs
@@ -25,10 +25,10 @@ same-length : tie.Need-same-length
 same-length c = search needs
 
 returns-2 : tie.Need-returns-2
-returns-2 c = let a = c .before .before .before .before .before .before .before .before .before .before .before .args in (join-outside (a .shape) (a .marks .now) (a .sources .now) (a .dests .now) (a .asked .now) (a .k) _ _ (c .before .before .before .before .before .before .shape-at .ensures) (c .before .before .before .before .before .asks .ensures) _ _ (c .before .before .number-at .ensures) (c .before .is-marked .ensures) (c .before .before .before .before .if1 .left) (c .if2 .taken), λ z. refl)
+returns-2 c = let a = c .before .before .before .before .before .before .before .before .before .before .before .args in (join-outside (a .shape) (a .marks .now) (a .sources .now) (a .dests .now) (a .asked .now) (a .k) _ _ (c .before .before .before .before .before .before .shape-at .ensures) (c .before .before .before .before .before .asks .ensures) _ _ (c .before .before .number .ensures) (c .before .is-marked .ensures) (c .before .before .before .before .if1 .left) (c .if2 .taken), λ z. refl)
 
-number-at-requires-2 : tie.Need-number-at-requires-2
-number-at-requires-2 c κs = search needs
+number-requires-2 : tie.Need-number-requires-2
+number-requires-2 c κs = search needs
 
 is-marked-requires-2 : tie.Need-is-marked-requires-2
 is-marked-requires-2 c κs = search needs
@@ -37,7 +37,7 @@ same-length-2 : tie.Need-same-length-2
 same-length-2 c = search needs
 
 returns-3 : tie.Need-returns-3
-returns-3 c = let a = c .before .before .before .before .before .before .before .before .before .before .before .before .before .before .before .args in (join-known (a .shape) (a .marks .now) (a .sources .now) (a .dests .now) (a .asked .now) (a .k) _ _ (c .before .before .before .before .before .before .before .before .before .before .shape-at .ensures) (c .before .before .before .before .before .before .before .before .before .asks .ensures) _ _ (c .before .before .before .before .before .before .number-at .ensures) (c .before .before .before .before .before .is-marked .ensures) (c .before .before .before .before .before .before .before .before .if1 .left) _ _ (c .before .before .before .number-at2 .ensures) (c .before .is-marked2 .ensures) (c .before .before .before .before .if2 .left) (c .if3 .taken), λ z. refl)
+returns-3 c = let a = c .before .before .before .before .before .before .before .before .before .before .before .before .before .before .before .args in (join-known (a .shape) (a .marks .now) (a .sources .now) (a .dests .now) (a .asked .now) (a .k) _ _ (c .before .before .before .before .before .before .before .before .before .before .shape-at .ensures) (c .before .before .before .before .before .before .before .before .before .asks .ensures) _ _ (c .before .before .before .before .before .before .number .ensures) (c .before .before .before .before .before .is-marked .ensures) (c .before .before .before .before .before .before .before .before .if1 .left) _ _ (c .before .before .before .number2 .ensures) (c .before .is-marked2 .ensures) (c .before .before .before .before .if2 .left) (c .if3 .taken), λ z. refl)
 
 mark-requires : tie.Need-mark-requires
 mark-requires c κs = search needs
@@ -46,7 +46,7 @@ same-length-3 : tie.Need-same-length-3
 same-length-3 c = search needs
 
 returns-4 : tie.Need-returns-4
-returns-4 c = let a = c .before .before .before .before .before .before .before .before .before .before .before .before .before .before .before .before .before .before .before .args in (join-new (a .shape) (a .marks .now) (a .sources .now) (a .dests .now) (a .asked .now) (a .k) _ _ (c .before .before .before .before .before .before .before .before .before .before .before .before .before .before .shape-at .ensures) (c .before .before .before .before .before .before .before .before .before .before .before .before .before .asks .ensures) _ _ (c .before .before .before .before .before .before .before .before .before .before .number-at .ensures) (c .before .before .before .before .before .before .before .before .before .is-marked .ensures) (c .before .before .before .before .before .before .before .before .before .before .before .before .if1 .left) _ _ (c .before .before .before .before .before .before .before .number-at2 .ensures) (c .before .before .before .before .before .is-marked2 .ensures) (c .before .before .before .before .before .before .before .before .if2 .left) (c .before .before .mark .ensures), λ z. not-both z)
+returns-4 c = let a = c .before .before .before .before .before .before .before .before .before .before .before .before .before .before .before .before .before .before .before .args in (join-new (a .shape) (a .marks .now) (a .sources .now) (a .dests .now) (a .asked .now) (a .k) _ _ (c .before .before .before .before .before .before .before .before .before .before .before .before .before .before .shape-at .ensures) (c .before .before .before .before .before .before .before .before .before .before .before .before .before .asks .ensures) _ _ (c .before .before .before .before .before .before .before .before .before .before .number .ensures) (c .before .before .before .before .before .before .before .before .before .is-marked .ensures) (c .before .before .before .before .before .before .before .before .before .before .before .before .if1 .left) _ _ (c .before .before .before .before .before .before .before .number2 .ensures) (c .before .before .before .before .before .is-marked2 .ensures) (c .before .before .before .before .before .before .before .before .if2 .left) (c .before .before .mark .ensures), λ z. not-both z)
 
 pub join-spec : {M : Type 1} → statement M
 join-spec =
@@ -55,11 +55,11 @@ join-spec =
     shape-at-requires
     asks-requires
     returns
-    number-at-requires
+    number-requires
     is-marked-requires
     same-length
     returns-2
-    number-at-requires-2
+    number-requires-2
     is-marked-requires-2
     same-length-2
     returns-3

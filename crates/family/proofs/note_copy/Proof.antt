@@ -13,14 +13,14 @@ enum-told c = search needs
 enum-known-c : tie.Need-enum-known-c
 enum-known-c c = search needs
 
-put-number-requires : tie.Need-put-number-requires
-put-number-requires c κs = search needs
+set-number-requires : tie.Need-set-number-requires
+set-number-requires c κs = search needs
 
-put-number-requires-2 : tie.Need-put-number-requires-2
-put-number-requires-2 c κs = search needs
+set-number-requires-2 : tie.Need-set-number-requires-2
+set-number-requires-2 c κs = search needs
 
-put-shape-requires : tie.Need-put-shape-requires
-put-shape-requires c κs = search needs
+set-byte-requires : tie.Need-set-byte-requires
+set-byte-requires c κs = search needs
 
 add-result : tie.Need-add-result
 add-result c = search needs
@@ -38,7 +38,7 @@ same-length-3 : tie.Need-same-length-3
 same-length-3 c = search needs
 
 returns-2 : tie.Need-returns-2
-returns-2 c = let a = c .before .before .before .before .before .before .before .before .before .before .before .before .before .before .before .before .before .before .args in (omega arith, λ cs h x y z. rw (c .before .before .before .before .before .before .before .before .before .before .before .before .before .c .given .1) (copies-more (a .sources .now) (a .dests .now) (a .asked .now) (a .n) cs _ (c .before .before .before .before .before .before .before .before .before .before .put-number .ensures) (c .before .before .before .before .before .before .put-number2 .ensures) (c .before .before .put-shape .ensures) h x y z))
+returns-2 c = let a = c .before .before .before .before .before .before .before .before .before .before .before .before .before .before .before .before .before .before .args in (omega arith, λ cs h x y z. rw (c .before .before .before .before .before .before .before .before .before .before .before .before .before .c .given .1) (copies-more (a .sources .now) (a .dests .now) (a .asked .now) (a .n) cs _ (c .before .before .before .before .before .before .before .before .before .before .set-number .ensures) (c .before .before .before .before .before .before .set-number2 .ensures) (c .before .before .set-byte .ensures) h x y z))
 
 pub note-copy-spec : {M : Type 1} → statement M
 note-copy-spec =
@@ -46,9 +46,9 @@ note-copy-spec =
     (tie.spec
     enum-told
     enum-known-c
-    put-number-requires
-    put-number-requires-2
-    put-shape-requires
+    set-number-requires
+    set-number-requires-2
+    set-byte-requires
     add-result
     returns
     same-length

@@ -11,14 +11,14 @@ slice-aggregate-reads-of c = search needs
 reads-of-requires : tie.Need-reads-of-requires
 reads-of-requires c κs = search needs
 
-slice-aggregate-read-at : tie.Need-slice-aggregate-read-at
-slice-aggregate-read-at c = search needs
+slice-aggregate-number : tie.Need-slice-aggregate-number
+slice-aggregate-number c = search needs
 
-read-at-requires : tie.Need-read-at-requires
-read-at-requires c κs = search needs
+number-requires : tie.Need-number-requires
+number-requires c κs = search needs
 
 returns : tie.Need-returns
-returns c = let a = c .before .before .before .before .before .before .args in λ i n e g k. base-found (i .kind) _ _ _ (instruction-buffered (a .b) (a .t .now) _ _ _ (c .before .before .before .reads-of .ensures) refl g i n e) k (c .read-at .ensures)
+returns c = let a = c .before .before .before .before .before .before .args in λ i n e g k. base-found (i .kind) _ _ _ (instruction-buffered (a .b) (a .t .now) _ _ _ (c .before .before .before .reads-of .ensures) refl g i n e) k (c .number .ensures)
 
 pub store-base-spec : {M : Type 1} → statement M
 store-base-spec =
@@ -26,6 +26,6 @@ store-base-spec =
     (tie.spec
     slice-aggregate-reads-of
     reads-of-requires
-    slice-aggregate-read-at
-    read-at-requires
+    slice-aggregate-number
+    number-requires
     returns)

@@ -14,23 +14,23 @@ abbrev μ-loop : tie.MeasureT-loop
 loop-holds : tie.Need-loop-holds Inv-loop μ-loop
 loop-holds c = copying _ _ _ _
 
-cast-place-at : tie.Need-cast-place-at Inv-loop μ-loop
-cast-place-at c = search needs
+cast-place : tie.Need-cast-place Inv-loop μ-loop
+cast-place c = search needs
 
-add-place-at : tie.Need-add-place-at Inv-loop μ-loop
-add-place-at c = search needs
+add-place : tie.Need-add-place Inv-loop μ-loop
+add-place c = search needs
 
-place-at-requires : tie.Need-place-at-requires Inv-loop μ-loop
-place-at-requires c κs = search needs
+place-requires : tie.Need-place-requires Inv-loop μ-loop
+place-requires c κs = search needs
 
-cast-put-place : tie.Need-cast-put-place Inv-loop μ-loop
-cast-put-place c = search needs
+cast-set-place : tie.Need-cast-set-place Inv-loop μ-loop
+cast-set-place c = search needs
 
-add-put-place : tie.Need-add-put-place Inv-loop μ-loop
-add-put-place c = search needs
+add-set-place : tie.Need-add-set-place Inv-loop μ-loop
+add-set-place c = search needs
 
-put-place-requires : tie.Need-put-place-requires Inv-loop μ-loop
-put-place-requires c κs = search needs
+set-place-requires : tie.Need-set-place-requires Inv-loop μ-loop
+set-place-requires c κs = search needs
 
 add-i : tie.Need-add-i Inv-loop μ-loop
 add-i c = search needs
@@ -39,7 +39,7 @@ loop-less : tie.Need-loop-less Inv-loop μ-loop
 loop-less c = search needs
 
 loop-again : tie.Need-loop-again Inv-loop μ-loop
-loop-again c = copied-more (c .before .before .before .before .before .before .before .loop .inv) (c .before .before .before .before .before .before .loop-test .taken) (c .before .before .before .before .place-at .ensures) (c .before .before .put-place .ensures)
+loop-again c = copied-more (c .before .before .before .before .before .before .before .loop .inv) (c .before .before .before .before .before .before .loop-test .taken) (c .before .before .before .before .place .ensures) (c .before .before .set-place .ensures)
 
 same-length : tie.Need-same-length Inv-loop μ-loop
 same-length c = c .before .loop .inv .grown .size
@@ -54,12 +54,12 @@ copy-row-spec =
     Inv-loop
     μ-loop
     loop-holds
-    cast-place-at
-    add-place-at
-    place-at-requires
-    cast-put-place
-    add-put-place
-    put-place-requires
+    cast-place
+    add-place
+    place-requires
+    cast-set-place
+    add-set-place
+    set-place-requires
     add-i
     loop-less
     loop-again

@@ -35,14 +35,14 @@ same-length c = c .before .before .before .before .before .loop .inv .grown .siz
 returns : tie.Need-returns Inv-loop μ-loop
 returns c = (c .before .before .before .before .before .loop .inv .grown, named-missing (c .before .before .before .before .before .loop .inv) _ (c .before .before .before .before .loop-test .taken) (c .before .before .before .u16-at .ensures) (c .before .before .find-init .ensures) (not-true _ (c .if1 .taken)))
 
-cast-put-place : tie.Need-cast-put-place Inv-loop μ-loop
-cast-put-place c = search needs
+cast-set-place : tie.Need-cast-set-place Inv-loop μ-loop
+cast-set-place c = search needs
 
-add-put-place : tie.Need-add-put-place Inv-loop μ-loop
-add-put-place c = search needs
+add-set-place : tie.Need-add-set-place Inv-loop μ-loop
+add-set-place c = search needs
 
-put-place-requires : tie.Need-put-place-requires Inv-loop μ-loop
-put-place-requires c κs = search needs
+set-place-requires : tie.Need-set-place-requires Inv-loop μ-loop
+set-place-requires c κs = search needs
 
 add-i : tie.Need-add-i Inv-loop μ-loop
 add-i c = search needs
@@ -51,7 +51,7 @@ loop-less : tie.Need-loop-less Inv-loop μ-loop
 loop-less c = search needs
 
 loop-again : tie.Need-loop-again Inv-loop μ-loop
-loop-again c = named-more (c .before .before .before .before .before .before .before .before .before .loop .inv) _ (c .before .before .before .before .before .before .before .before .loop-test .taken) (c .before .before .before .before .before .before .before .u16-at .ensures) (c .before .before .before .before .before .before .find-init .ensures) (not-false _ (c .before .before .before .before .if1 .left)) (c .before .before .put-place .ensures)
+loop-again c = named-more (c .before .before .before .before .before .before .before .before .before .loop .inv) _ (c .before .before .before .before .before .before .before .before .loop-test .taken) (c .before .before .before .before .before .before .before .u16-at .ensures) (c .before .before .before .before .before .before .find-init .ensures) (not-false _ (c .before .before .before .before .if1 .left)) (c .before .before .set-place .ensures)
 
 same-length-2 : tie.Need-same-length-2 Inv-loop μ-loop
 same-length-2 c = c .before .loop .inv .grown .size
@@ -73,9 +73,9 @@ put-named-spec =
     find-init-requires
     same-length
     returns
-    cast-put-place
-    add-put-place
-    put-place-requires
+    cast-set-place
+    add-set-place
+    set-place-requires
     add-i
     loop-less
     loop-again

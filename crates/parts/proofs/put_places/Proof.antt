@@ -17,14 +17,14 @@ loop-holds c = laying _ _ _ _ _ _
 add-place : tie.Need-add-place Inv-loop μ-loop
 add-place c = search needs
 
-cast-put-place : tie.Need-cast-put-place Inv-loop μ-loop
-cast-put-place c = search needs
+cast-set-place : tie.Need-cast-set-place Inv-loop μ-loop
+cast-set-place c = search needs
 
-add-put-place : tie.Need-add-put-place Inv-loop μ-loop
-add-put-place c = search needs
+add-set-place : tie.Need-add-set-place Inv-loop μ-loop
+add-set-place c = search needs
 
-put-place-requires : tie.Need-put-place-requires Inv-loop μ-loop
-put-place-requires c κs = search needs
+set-place-requires : tie.Need-set-place-requires Inv-loop μ-loop
+set-place-requires c κs = search needs
 
 value-end-requires : tie.Need-value-end-requires Inv-loop μ-loop
 value-end-requires c κs = search needs
@@ -36,7 +36,7 @@ loop-less : tie.Need-loop-less Inv-loop μ-loop
 loop-less c = search needs
 
 loop-again : tie.Need-loop-again Inv-loop μ-loop
-loop-again c = laid-more (c .before .before .before .before .before .before .loop .inv) (c .before .before .before .before .before .loop-test .taken) (omega arith) (c .before .before .before .put-place .ensures) (c .value-end .ensures .0) (c .value-end .ensures .1)
+loop-again c = laid-more (c .before .before .before .before .before .before .loop .inv) (c .before .before .before .before .before .loop-test .taken) (omega arith) (c .before .before .before .set-place .ensures) (c .value-end .ensures .0) (c .value-end .ensures .1)
 
 same-length : tie.Need-same-length Inv-loop μ-loop
 same-length c = c .before .loop .inv .grown .size
@@ -52,9 +52,9 @@ put-places-spec =
     μ-loop
     loop-holds
     add-place
-    cast-put-place
-    add-put-place
-    put-place-requires
+    cast-set-place
+    add-set-place
+    set-place-requires
     value-end-requires
     add-i
     loop-less

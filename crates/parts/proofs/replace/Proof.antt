@@ -20,8 +20,11 @@ same-length c = search needs
 returns : tie.Need-returns
 returns c = (omega arith, λ next s S xs ys y r q e f w. absurd (omega (arith, c .if1 .taken, c .before .part-count .ensures .1 next s _ _ _ S xs r e, replaced-below xs _ y f)))
 
-number-at-requires : tie.Need-number-at-requires
-number-at-requires c κs = search needs
+cast-number : tie.Need-cast-number
+cast-number c = search needs
+
+number-requires : tie.Need-number-requires
+number-requires c κs = search needs
 
 cast-copy-row : tie.Need-cast-copy-row
 cast-copy-row c = search needs
@@ -29,23 +32,29 @@ cast-copy-row c = search needs
 copy-row-requires : tie.Need-copy-row-requires
 copy-row-requires c κs = search needs
 
-add-put-place : tie.Need-add-put-place
-add-put-place c = search needs
+add-set-place : tie.Need-add-set-place
+add-set-place c = search needs
 
-put-place-requires : tie.Need-put-place-requires
-put-place-requires c κs = search needs
+set-place-requires : tie.Need-set-place-requires
+set-place-requires c κs = search needs
 
-add-put-number : tie.Need-add-put-number
-add-put-number c = search needs
+cast-set-number : tie.Need-cast-set-number
+cast-set-number c = search needs
 
-put-number-requires : tie.Need-put-number-requires
-put-number-requires c κs = search needs
+add-set-number : tie.Need-add-set-number
+add-set-number c = search needs
 
-cast-put-number : tie.Need-cast-put-number
-cast-put-number c = search needs
+set-number-requires : tie.Need-set-number-requires
+set-number-requires c κs = search needs
 
-put-number-requires-2 : tie.Need-put-number-requires-2
-put-number-requires-2 c κs = search needs
+cast-set-number-2 : tie.Need-cast-set-number-2
+cast-set-number-2 c = search needs
+
+cast-set-number-3 : tie.Need-cast-set-number-3
+cast-set-number-3 c = search needs
+
+set-number-requires-2 : tie.Need-set-number-requires-2
+set-number-requires-2 c κs = search needs
 
 cast-result : tie.Need-cast-result
 cast-result c = search needs
@@ -64,17 +73,17 @@ same-length-4 c = search needs
 
 returns-2 : tie.Need-returns-2
 returns-2 c =
-    let n = c .before .before .before .before .before .before .before .before .before .before .before .before .before .before .before .before .before .before .before .part-count .result in
-    let from = c .before .before .before .before .before .before .before .before .before .before .before .before .before .before .before .number-at .result in
-    let many = c .before .before .before .before .before .before .before .before .before .before .before .before .before .before .before .before .before .before .before .part-count .ensures in (
+    let n = c .before .before .before .before .before .before .before .before .before .before .before .before .before .before .before .before .before .before .before .before .before .before .part-count .result in
+    let from = c .before .before .before .before .before .before .before .before .before .before .before .before .before .before .before .before .before .number .result in
+    let many = c .before .before .before .before .before .before .before .before .before .before .before .before .before .before .before .before .before .before .before .before .before .before .part-count .ensures in (
       omega (arith, many .0),
       λ next s S xs ys y r q e f w.
-          let a = c .before .before .before .before .before .before .before .before .before .before .before .before .before .before .before .before .before .before .before .before .before .before .before .before .args in
+          let a = c .before .before .before .before .before .before .before .before .before .before .before .before .before .before .before .before .before .before .before .before .before .before .before .before .before .before .before .args in
           let l = many .1 next s _ _ _ S xs r e in
           let held = found-row r (a .v .0) e in
-          let row = c .before .before .before .before .before .before .before .before .before .before .before .before .before .before .copy-row .ensures .1 (omega (arith, held .below, c .before .before .before .before .before .before .before .before .before .before .before .before .before .before .before .number-at .ensures)) (omega (arith, held .most, q .places)) in
-          simp (c .before .before .put-number2 .ensures, c .before .before .before .before .before .before .put-number .ensures, c .before .before .before .before .before .before .before .before .before .before .put-place .ensures)
-          (rep-replace (a .d) (a .v) (a .k) n (a .place) r q e f w (sym l) (c .before .before .before .before .before .before .before .before .before .before .before .before .before .before .copy-row .ensures .0) (λ j h. row j h ∙ ap (λ m. getD (a .pool .now) (m + j) 0) (c .before .before .before .before .before .before .before .before .before .before .before .before .before .before .before .number-at .ensures)) (omega (arith, c .before .before .before .before .before .before .before .before .before .before .before .before .before .before .before .before .before .before .if1 .left))),
+          let row = c .before .before .before .before .before .before .before .before .before .before .before .before .before .before .before .before .copy-row .ensures .1 (omega (arith, held .below, c .before .before .before .before .before .before .before .before .before .before .before .before .before .before .before .before .before .number .ensures)) (omega (arith, held .most, q .places)) in
+          simp (c .before .before .set-number2 .ensures, c .before .before .before .before .before .before .before .set-number .ensures, c .before .before .before .before .before .before .before .before .before .before .before .before .set-place .ensures)
+          (rep-replace (a .d) (a .v) (a .k) n (a .place) r q e f w (sym l) (c .before .before .before .before .before .before .before .before .before .before .before .before .before .before .before .before .copy-row .ensures .0) (λ j h. row j h ∙ ap (λ m. getD (a .pool .now) (m + j) 0) (c .before .before .before .before .before .before .before .before .before .before .before .before .before .before .before .before .before .number .ensures)) (omega (arith, c .before .before .before .before .before .before .before .before .before .before .before .before .before .before .before .before .before .before .before .before .before .if1 .left))),
     )
 
 pub replace-spec : {M : Type 1} → statement M
@@ -85,15 +94,18 @@ replace-spec =
     cast-if1
     same-length
     returns
-    number-at-requires
+    cast-number
+    number-requires
     cast-copy-row
     copy-row-requires
-    add-put-place
-    put-place-requires
-    add-put-number
-    put-number-requires
-    cast-put-number
-    put-number-requires-2
+    add-set-place
+    set-place-requires
+    cast-set-number
+    add-set-number
+    set-number-requires
+    cast-set-number-2
+    cast-set-number-3
+    set-number-requires-2
     cast-result
     add-result
     same-length-2

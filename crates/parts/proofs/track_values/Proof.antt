@@ -10,17 +10,23 @@ returns c = (omega arith, λ next S xs r q v l m. absurd (omega (arith, c .if1 .
 put-places-requires : tie.Need-put-places-requires
 put-places-requires c κs = search needs
 
-add-put-number : tie.Need-add-put-number
-add-put-number c = search needs
+cast-set-number : tie.Need-cast-set-number
+cast-set-number c = search needs
 
-put-number-requires : tie.Need-put-number-requires
-put-number-requires c κs = search needs
+add-set-number : tie.Need-add-set-number
+add-set-number c = search needs
 
-cast-put-number : tie.Need-cast-put-number
-cast-put-number c = search needs
+set-number-requires : tie.Need-set-number-requires
+set-number-requires c κs = search needs
 
-put-number-requires-2 : tie.Need-put-number-requires-2
-put-number-requires-2 c κs = search needs
+cast-set-number-2 : tie.Need-cast-set-number-2
+cast-set-number-2 c = search needs
+
+cast-set-number-3 : tie.Need-cast-set-number-3
+cast-set-number-3 c = search needs
+
+set-number-requires-2 : tie.Need-set-number-requires-2
+set-number-requires-2 c κs = search needs
 
 add-result : tie.Need-add-result
 add-result c = search needs
@@ -35,7 +41,7 @@ same-length-3 : tie.Need-same-length-3
 same-length-3 c = search needs
 
 returns-2 : tie.Need-returns-2
-returns-2 c = (omega (arith, c .before .before .before .before .before .before .before .before .before .before .before .before .if1 .left), λ next S xs r q v l m. simp (c .before .before .put-number2 .ensures, c .before .before .before .before .before .before .put-number .ensures) (rep-track xs _ _ r q (c .before .before .before .before .before .before .before .before .before .before .put-places .ensures .0) l m (c .before .before .before .before .before .before .before .before .before .before .put-places .ensures .1 next xs v l (omega (arith, q .places)))))
+returns-2 c = (omega (arith, c .before .before .before .before .before .before .before .before .before .before .before .before .before .before .if1 .left), λ next S xs r q v l m. simp (c .before .before .set-number2 .ensures, c .before .before .before .before .before .before .before .set-number .ensures) (rep-track xs _ _ r q (c .before .before .before .before .before .before .before .before .before .before .before .before .put-places .ensures .0) l m (c .before .before .before .before .before .before .before .before .before .before .before .before .put-places .ensures .1 next xs v l (omega (arith, q .places)))))
 
 pub track-values-spec : {M : Type 1} → statement M
 track-values-spec =
@@ -43,10 +49,12 @@ track-values-spec =
     (tie.spec
     returns
     put-places-requires
-    add-put-number
-    put-number-requires
-    cast-put-number
-    put-number-requires-2
+    cast-set-number
+    add-set-number
+    set-number-requires
+    cast-set-number-2
+    cast-set-number-3
+    set-number-requires-2
     add-result
     same-length
     same-length-2

@@ -4,11 +4,19 @@ use Rattle.parts.proofs.tracked.Tie as tie
 use mathlib.Core.Path.{_∙_}
 use Rattle.parts.proofs.Tables.{found-count}
 
-number-at-requires : tie.Need-number-at-requires
-number-at-requires c κs = search needs
+cast-number : tie.Need-cast-number
+cast-number c = search needs
+
+number-requires : tie.Need-number-requires
+number-requires c κs = search needs
 
 returns : tie.Need-returns
-returns c = λ next s firsts pool used S r. c .number-at .ensures ∙ found-count r _
+returns c = λ next s firsts pool used S r. c .number .ensures ∙ found-count r _
 
 pub tracked-spec : {M : Type 1} → statement M
-tracked-spec = tie.close (tie.spec number-at-requires returns)
+tracked-spec =
+    tie.close
+    (tie.spec
+    cast-number
+    number-requires
+    returns)

@@ -29,11 +29,11 @@ u16-at-requires c κs = search needs
 add-here : tie.Need-add-here Inv-loop μ-loop
 add-here c = search needs
 
-put-place-requires : tie.Need-put-place-requires Inv-loop μ-loop
-put-place-requires c κs = search needs
+set-place-requires : tie.Need-set-place-requires Inv-loop μ-loop
+set-place-requires c κs = search needs
 
 loop-holds : tie.Need-loop-holds Inv-loop μ-loop
-loop-holds c = let a = c .before .before .before .before .before .before .before .before .before .args in index-start (a .b) (a .s .now) (a .at) _ (a .places .now) (c .before .before .before .before .u16-at .ensures) (omega arith) (c .before .before .put-place .ensures)
+loop-holds c = let a = c .before .before .before .before .before .before .before .before .before .args in index-start (a .b) (a .s .now) (a .at) _ (a .places .now) (c .before .before .before .before .u16-at .ensures) (omega arith) (c .before .before .set-place .ensures)
 
 instruction-end-requires : tie.Need-instruction-end-requires Inv-loop μ-loop
 instruction-end-requires c κs = search needs
@@ -41,20 +41,23 @@ instruction-end-requires c κs = search needs
 add-k : tie.Need-add-k Inv-loop μ-loop
 add-k c = search needs
 
-put-place-requires-2 : tie.Need-put-place-requires-2 Inv-loop μ-loop
-put-place-requires-2 c κs = search needs
+cast-set-place : tie.Need-cast-set-place Inv-loop μ-loop
+cast-set-place c = search needs
+
+set-place-requires-2 : tie.Need-set-place-requires-2 Inv-loop μ-loop
+set-place-requires-2 c κs = search needs
 
 loop-less : tie.Need-loop-less Inv-loop μ-loop
 loop-less c = search needs
 
 loop-again : tie.Need-loop-again Inv-loop μ-loop
-loop-again c = let a = c .before .before .before .before .before .before .before .before .before .before .before .before .before .before .before .before .args in let l = c .before .before .before .before .before .before .loop in index-again (a .b) (a .s .now) (a .at) _ (l .k) (l .here) _ _ _ (l .inv) (c .before .before .before .before .before .loop-test .taken) (c .before .before .before .before .instruction-end .ensures .0) (c .before .before .before .before .instruction-end .ensures .1) (c .before .before .put-place2 .ensures)
+loop-again c = let a = c .before .before .before .before .before .before .before .before .before .before .before .before .before .before .before .before .args in let l = c .before .before .before .before .before .before .loop in index-again (a .b) (a .s .now) (a .at) _ (l .k) (l .here) _ _ _ (l .inv) (c .before .before .before .before .before .loop-test .taken) (c .before .before .before .before .instruction-end .ensures .0) (c .before .before .before .before .instruction-end .ensures .1) (c .before .before .set-place2 .ensures)
 
 same-length : tie.Need-same-length Inv-loop μ-loop
 same-length c = search needs
 
 returns-3 : tie.Need-returns-3 Inv-loop μ-loop
-returns-3 c = let a = c .before .before .before .before .before .before .before .before .before .before .before .args in let l = c .before .loop in index-done (a .b) (a .s .now) (a .at) _ (l .k) (l .here) _ _ (a .places .now) (l .inv) (c .loop-test .left) (ap length (c .before .before .before .before .put-place .ensures) ∙ length-set (a .places .now) 0 _)
+returns-3 c = let a = c .before .before .before .before .before .before .before .before .before .before .before .args in let l = c .before .loop in index-done (a .b) (a .s .now) (a .at) _ (l .k) (l .here) _ _ (a .places .now) (l .inv) (c .loop-test .left) (ap length (c .before .before .before .before .set-place .ensures) ∙ length-set (a .places .now) 0 _)
 
 pub index-block-spec : {M : Type 1} → statement M
 index-block-spec =
@@ -67,11 +70,12 @@ index-block-spec =
     returns-2
     u16-at-requires
     add-here
-    put-place-requires
+    set-place-requires
     loop-holds
     instruction-end-requires
     add-k
-    put-place-requires-2
+    cast-set-place
+    set-place-requires-2
     loop-less
     loop-again
     same-length

@@ -13,8 +13,8 @@ abbrev μ-loop : tie.MeasureT-loop
 loop-holds : tie.Need-loop-holds Inv-loop μ-loop
 loop-holds c = via-start _ _ _ _
 
-read-at-requires : tie.Need-read-at-requires Inv-loop μ-loop
-read-at-requires c κs = search needs
+number-requires : tie.Need-number-requires Inv-loop μ-loop
+number-requires c κs = search needs
 
 note-reader-requires : tie.Need-note-reader-requires Inv-loop μ-loop
 note-reader-requires c κs = c .before .before .before .before .before .before .pre
@@ -26,7 +26,7 @@ loop-less : tie.Need-loop-less Inv-loop μ-loop
 loop-less c = search needs
 
 loop-again : tie.Need-loop-again Inv-loop μ-loop
-loop-again c = let a = c .before .before .before .before .before .before .before .before .before .args in let l = c .before .before .before .before .before .before .loop in via-again (a .own) (a .buffer .now) (a .n) _ (l .readers) _ (l .k) _ (l .inv) (c .before .before .before .before .before .loop-test .taken) (c .before .before .before .read-at .ensures) (c .before .before .note-reader .ensures) (search needs)
+loop-again c = let a = c .before .before .before .before .before .before .before .before .before .args in let l = c .before .before .before .before .before .before .loop in via-again (a .own) (a .buffer .now) (a .n) _ (l .readers) _ (l .k) _ (l .inv) (c .before .before .before .before .before .loop-test .taken) (c .before .before .before .number .ensures) (c .before .before .note-reader .ensures) (search needs)
 
 same-length : tie.Need-same-length Inv-loop μ-loop
 same-length c = search needs
@@ -41,7 +41,7 @@ note-reads-spec =
     Inv-loop
     μ-loop
     loop-holds
-    read-at-requires
+    number-requires
     note-reader-requires
     add-k
     loop-less

@@ -9,14 +9,14 @@ returns c = let a = c .before .before .before .args in abroad-past (a .marks .no
 shared-slice-read-if2 : tie.Need-shared-slice-read-if2
 shared-slice-read-if2 c = search needs
 
-reader-at-requires : tie.Need-reader-at-requires
-reader-at-requires c κs = search needs
+byte-at-requires : tie.Need-byte-at-requires
+byte-at-requires c κs = search needs
 
 is-foreign-requires : tie.Need-is-foreign-requires
 is-foreign-requires c κs = search needs
 
 returns-2 : tie.Need-returns-2
-returns-2 c = let a = c .before .before .before .before .before .before .before .args in abroad-marked (a .marks .now) (a .own) (a .readers .now) (a .k) (c .before .before .if2 .taken) (c .is-foreign .ensures) (c .before .reader-at .ensures)
+returns-2 c = let a = c .before .before .before .before .before .before .before .args in abroad-marked (a .marks .now) (a .own) (a .readers .now) (a .k) (c .before .before .if2 .taken) (c .is-foreign .ensures) (c .before .byte-at .ensures)
 
 returns-3 : tie.Need-returns-3
 returns-3 c = let a = c .before .before .before .before .before .args in abroad-unmarked (a .marks .now) (a .own) (a .readers .now) (a .k) (c .if2 .left)
@@ -27,7 +27,7 @@ read-abroad-spec =
     (tie.spec
     returns
     shared-slice-read-if2
-    reader-at-requires
+    byte-at-requires
     is-foreign-requires
     returns-2
     returns-3)

@@ -4,11 +4,11 @@ use Rattle.rebuild.proofs.put_part.Tie as tie
 use native.Mathlib.Omega.{arith}
 use Rattle.rebuild.proofs.Writing.{part-at, part-none}
 
-add-place-at : tie.Need-add-place-at
-add-place-at c = search needs
+add-place : tie.Need-add-place
+add-place c = search needs
 
-place-at-requires : tie.Need-place-at-requires
-place-at-requires c κs = search needs
+place-requires : tie.Need-place-requires
+place-requires c κs = search needs
 
 put-value-at-requires : tie.Need-put-value-at-requires
 put-value-at-requires c κs = search needs
@@ -17,7 +17,7 @@ same-length : tie.Need-same-length
 same-length c = search needs
 
 returns : tie.Need-returns
-returns c = (c .before .before .put-value-at .ensures .0, λ xs r l. c .before .before .put-value-at .ensures .1 _ (part-at _ _ _ _ _ _ xs r (c .before .before .before .before .place-at .ensures) (omega (arith, c .before .before .before .before .before .if1 .taken))))
+returns c = (c .before .before .put-value-at .ensures .0, λ xs r l. c .before .before .put-value-at .ensures .1 _ (part-at _ _ _ _ _ _ xs r (c .before .before .before .before .place .ensures) (omega (arith, c .before .before .before .before .before .if1 .taken))))
 
 put-value-requires : tie.Need-put-value-requires
 put-value-requires c κs = search needs
@@ -32,8 +32,8 @@ pub put-part-spec : {M : Type 1} → statement M
 put-part-spec =
     tie.close
     (tie.spec
-    add-place-at
-    place-at-requires
+    add-place
+    place-requires
     put-value-at-requires
     same-length
     returns

@@ -13,14 +13,14 @@ abbrev μ-loop : tie.MeasureT-loop
 loop-holds : tie.Need-loop-holds Inv-loop μ-loop
 loop-holds c = sought-start _ _ _
 
-value-at-requires : tie.Need-value-at-requires Inv-loop μ-loop
-value-at-requires c κs = search needs
+number-requires : tie.Need-number-requires Inv-loop μ-loop
+number-requires c κs = search needs
 
 is-marked-requires : tie.Need-is-marked-requires Inv-loop μ-loop
 is-marked-requires c κs = search needs
 
 returns : tie.Need-returns Inv-loop μ-loop
-returns c = let a = c .before .before .before .before .before .before .before .args in let l = c .before .before .before .before .loop in sought-found (a .buffer .now) (a .n) (a .dropped .now) (l .k) _ _ (l .inv) (c .before .before .before .loop-test .taken) (c .before .before .value-at .ensures) (c .before .is-marked .ensures) (c .if1 .taken)
+returns c = let a = c .before .before .before .before .before .before .before .args in let l = c .before .before .before .before .loop in sought-found (a .buffer .now) (a .n) (a .dropped .now) (l .k) _ _ (l .inv) (c .before .before .before .loop-test .taken) (c .before .before .number .ensures) (c .before .is-marked .ensures) (c .if1 .taken)
 
 add-k : tie.Need-add-k Inv-loop μ-loop
 add-k c = search needs
@@ -29,7 +29,7 @@ loop-less : tie.Need-loop-less Inv-loop μ-loop
 loop-less c = search needs
 
 loop-again : tie.Need-loop-again Inv-loop μ-loop
-loop-again c = let a = c .before .before .before .before .before .before .before .args in let l = c .before .before .before .before .loop in sought-again (a .buffer .now) (a .n) (a .dropped .now) (l .k) _ _ (l .inv) (c .before .before .before .loop-test .taken) (c .before .before .value-at .ensures) (c .before .is-marked .ensures) (c .if1 .left)
+loop-again c = let a = c .before .before .before .before .before .before .before .args in let l = c .before .before .before .before .loop in sought-again (a .buffer .now) (a .n) (a .dropped .now) (l .k) _ _ (l .inv) (c .before .before .before .loop-test .taken) (c .before .before .number .ensures) (c .before .is-marked .ensures) (c .if1 .left)
 
 returns-2 : tie.Need-returns-2 Inv-loop μ-loop
 returns-2 c = let a = c .before .before .before .before .args in let l = c .before .loop in sought-done (a .buffer .now) (a .n) (a .dropped .now) (l .k) (l .inv) (c .loop-test .left)
@@ -41,7 +41,7 @@ clean-buffer-spec =
     Inv-loop
     μ-loop
     loop-holds
-    value-at-requires
+    number-requires
     is-marked-requires
     returns
     add-k

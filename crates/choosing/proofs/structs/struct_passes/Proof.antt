@@ -34,11 +34,11 @@ is-marked-requires c κs = search needs
 returns-3 : tie.Need-returns-3
 returns-3 c = let a = c .before .before .before .before .before .before .before .before .before .before .before .before .before .before .args in let t = a .t .now in passes-marked (a .b) (a .s .now) (a .types .now) (a .recorded .now) (a .settings) (a .cross .now) t (a .size) (c .before .before .before .before .before .before .before .u16-at .result) (c .before .before .before .before .before .before .before .u16-at .ensures) (c .before .before .before .before .before .before .type-eligible .result) (c .before .before .before .before .before .before .type-eligible .ensures) (not-false _ (c .before .before .before .before .before .if2 .left)) (c .before .before .u16-at2 .result) (c .before .before .u16-at2 .ensures ∙ ap (λ u. at16 u 0) (c .before .before .before .tail .ensures ∙ ap (λ o. drop o t) (c .before .before .before .before .fields-place .ensures))) (c .before .is-marked .result) (c .before .is-marked .ensures) (c .if3 .taken)
 
-cast-number-at : tie.Need-cast-number-at
-cast-number-at c = search needs
+cast-number : tie.Need-cast-number
+cast-number c = search needs
 
-number-at-requires : tie.Need-number-at-requires
-number-at-requires c κs = search needs
+number-requires : tie.Need-number-requires
+number-requires c κs = search needs
 
 goes-by-requires : tie.Need-goes-by-requires
 goes-by-requires c κs = search needs
@@ -47,7 +47,7 @@ told-by-requires : tie.Need-told-by-requires
 told-by-requires c κs = search needs
 
 returns-4 : tie.Need-returns-4
-returns-4 c = let a = c .before .before .before .before .before .before .before .before .before .before .before .before .before .before .before .before .before .args in let t = a .t .now in passes-told (a .b) (a .s .now) (a .types .now) (a .recorded .now) (a .settings) (a .cross .now) t (a .size) (c .before .before .before .before .before .before .before .before .before .before .u16-at .result) (c .before .before .before .before .before .before .before .before .before .before .u16-at .ensures) (c .before .before .before .before .before .before .before .before .before .type-eligible .result) (c .before .before .before .before .before .before .before .before .before .type-eligible .ensures) (not-false _ (c .before .before .before .before .before .before .before .before .if2 .left)) (c .before .before .before .before .before .u16-at2 .result) (c .before .before .before .before .before .u16-at2 .ensures ∙ ap (λ u. at16 u 0) (c .before .before .before .before .before .before .tail .ensures ∙ ap (λ o. drop o t) (c .before .before .before .before .before .before .before .fields-place .ensures))) (c .before .before .before .before .is-marked .result) (c .before .before .before .before .is-marked .ensures) (c .before .before .before .if3 .left) (c .before .before .number-at .result) (c .before .before .number-at .ensures) (c .before .goes-by .result) (c .before .goes-by .ensures) (c .told-by .result) (c .told-by .ensures)
+returns-4 c = let a = c .before .before .before .before .before .before .before .before .before .before .before .before .before .before .before .before .before .args in let t = a .t .now in passes-told (a .b) (a .s .now) (a .types .now) (a .recorded .now) (a .settings) (a .cross .now) t (a .size) (c .before .before .before .before .before .before .before .before .before .before .u16-at .result) (c .before .before .before .before .before .before .before .before .before .before .u16-at .ensures) (c .before .before .before .before .before .before .before .before .before .type-eligible .result) (c .before .before .before .before .before .before .before .before .before .type-eligible .ensures) (not-false _ (c .before .before .before .before .before .before .before .before .if2 .left)) (c .before .before .before .before .before .u16-at2 .result) (c .before .before .before .before .before .u16-at2 .ensures ∙ ap (λ u. at16 u 0) (c .before .before .before .before .before .before .tail .ensures ∙ ap (λ o. drop o t) (c .before .before .before .before .before .before .before .fields-place .ensures))) (c .before .before .before .before .is-marked .result) (c .before .before .before .before .is-marked .ensures) (c .before .before .before .if3 .left) (c .before .before .number .result) (c .before .before .number .ensures) (c .before .goes-by .result) (c .before .goes-by .ensures) (c .told-by .result) (c .told-by .ensures)
 
 pub struct-passes-spec : {M : Type 1} → statement M
 struct-passes-spec =
@@ -62,8 +62,8 @@ struct-passes-spec =
     u16-at-requires-2
     is-marked-requires
     returns-3
-    cast-number-at
-    number-at-requires
+    cast-number
+    number-requires
     goes-by-requires
     told-by-requires
     returns-4)

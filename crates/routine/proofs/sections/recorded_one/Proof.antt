@@ -12,14 +12,14 @@ use Rattle.routine.proofs.Recording.{recorded-no, recorded-some, record
 map-bit-requires : tie.Need-map-bit-requires
 map-bit-requires c κs = search needs
 
-put-type-requires : tie.Need-put-type-requires
-put-type-requires c κs = search needs
+set-number-requires : tie.Need-set-number-requires
+set-number-requires c κs = search needs
 
 same-length : tie.Need-same-length
 same-length c = search needs
 
 returns : tie.Need-returns
-returns c = let a = c .before .before .before .before .before .before .before .before .args in recorded-no (a .types) (drop (a .map) (a .s .now)) (a .v) (a .here) (a .s .now) (a .recorded .now) (sym (c .before .before .before .before .before .map-bit .ensures) ∙ not-true _ (c .before .before .before .before .if1 .taken)) (c .before .before .put-type .ensures)
+returns c = let a = c .before .before .before .before .before .before .before .before .args in recorded-no (a .types) (drop (a .map) (a .s .now)) (a .v) (a .here) (a .s .now) (a .recorded .now) (sym (c .before .before .before .before .before .map-bit .ensures) ∙ not-true _ (c .before .before .before .before .if1 .taken)) (c .before .before .set-number .ensures)
 
 sub-read-u16 : tie.Need-sub-read-u16
 sub-read-u16 c = search needs
@@ -36,8 +36,8 @@ read-u16-requires c κs = search needs
 enum-known-c : tie.Need-enum-known-c
 enum-known-c c = search needs
 
-add-t22 : tie.Need-add-t22
-add-t22 c = let a = c .before .before .before .before .before .before .before .before .before .args in omega (arith, told-size as16 u16Of (a .here) (a .s .now) (λ t. size-number 2 t) (c .before .before .before .before .before .before .before .before .before .pre) (c .before .before .before .read-u16 .ensures) (c .before .c .given .1))
+add-t23 : tie.Need-add-t23
+add-t23 c = let a = c .before .before .before .before .before .before .before .before .before .args in omega (arith, told-size as16 u16Of (a .here) (a .s .now) (λ t. size-number 2 t) (c .before .before .before .before .before .before .before .before .before .pre) (c .before .before .before .read-u16 .ensures) (c .before .c .given .1))
 
 enum-known-t : tie.Need-enum-known-t
 enum-known-t c = search needs
@@ -45,11 +45,11 @@ enum-known-t c = search needs
 returns-2 : tie.Need-returns-2
 returns-2 c = let a = c .before .before .before .before .before .before .before .before .before .before .args in recorded-past (a .types) (drop (a .map) (a .s .now)) (a .v) (a .here) (a .s .now) (a .recorded .now) (sym (c .before .before .before .before .before .before .before .map-bit .ensures) ∙ not-false _ (c .before .before .before .before .before .before .if1 .left)) (told as16 u16Of (a .here) (a .s .now) (c .before .before .before .before .read-u16 .ensures) (c .before .before .t .given .1)) (c .if2 .taken)
 
-add-put-type : tie.Need-add-put-type
-add-put-type c = search needs
+add-set-number : tie.Need-add-set-number
+add-set-number c = search needs
 
-put-type-requires-2 : tie.Need-put-type-requires-2
-put-type-requires-2 c κs = search needs
+set-number-requires-2 : tie.Need-set-number-requires-2
+set-number-requires-2 c κs = search needs
 
 add-t29 : tie.Need-add-t29
 add-t29 c = let a = c .before .before .before .before .before .before .before .before .before .before .before .before .before .before .args in omega (arith, told-size as16 u16Of (a .here) (a .s .now) (λ t. size-number 2 t) (c .before .before .before .before .before .before .before .before .before .before .before .before .before .before .pre) (c .before .before .before .before .before .before .before .before .read-u16 .ensures) (c .before .before .before .before .before .before .t .given .1))
@@ -61,14 +61,14 @@ same-length-2 : tie.Need-same-length-2
 same-length-2 c = search needs
 
 returns-4 : tie.Need-returns-4
-returns-4 c = let a = c .before .before .before .before .before .before .before .before .before .before .before .before .before .before .args in recorded-some (a .types) (drop (a .map) (a .s .now)) (a .v) (a .here) (a .s .now) (a .recorded .now) (sym (c .before .before .before .before .before .before .before .before .before .before .before .map-bit .ensures) ∙ not-false _ (c .before .before .before .before .before .before .before .before .before .before .if1 .left)) (told as16 u16Of (a .here) (a .s .now) (c .before .before .before .before .before .before .before .before .read-u16 .ensures) (c .before .before .before .before .before .before .t .given .1)) (c .before .before .before .before .if2 .left) (c .before .before .put-type2 .ensures)
+returns-4 c = let a = c .before .before .before .before .before .before .before .before .before .before .before .before .before .before .args in recorded-some (a .types) (drop (a .map) (a .s .now)) (a .v) (a .here) (a .s .now) (a .recorded .now) (sym (c .before .before .before .before .before .before .before .before .before .before .before .map-bit .ensures) ∙ not-false _ (c .before .before .before .before .before .before .before .before .before .before .if1 .left)) (told as16 u16Of (a .here) (a .s .now) (c .before .before .before .before .before .before .before .before .read-u16 .ensures) (c .before .before .before .before .before .before .t .given .1)) (c .before .before .before .before .if2 .left) (c .before .before .set-number2 .ensures)
 
 pub recorded-one-spec : {M : Type 1} → statement M
 recorded-one-spec =
     tie.close
     (tie.spec
     map-bit-requires
-    put-type-requires
+    set-number-requires
     same-length
     returns
     sub-read-u16
@@ -76,11 +76,11 @@ recorded-one-spec =
     part-read-u16-end
     read-u16-requires
     enum-known-c
-    add-t22
+    add-t23
     enum-known-t
     returns-2
-    add-put-type
-    put-type-requires-2
+    add-set-number
+    set-number-requires-2
     add-t29
     returns-3
     same-length-2

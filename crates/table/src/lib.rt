@@ -1,0 +1,62 @@
+// Reads and stores of tables that ask for no room: past the end a read gives 0 or false, and a store does nothing.
+// (wire::byte_at reads a table of bytes.)
+ghost use mathlib.Core.Path.{_≡_};
+ghost use mathlib.Core.Bool.{false};
+ghost use lib.ListN.{getD, set};
+
+// The number at a place.
+pub fn number(l: &[u16], i: usize) -> u16
+    ensures { λ r. ⌜ r ≡ getD (now (l .entry)) i 0 ⌝ }
+{
+    if i < l.len() { l[i] } else { 0 }
+}
+
+// The place that stands in slot `i`.
+pub fn place(l: &[usize], i: usize) -> usize
+    ensures { λ r. ⌜ r ≡ getD (now (l .entry)) i 0 ⌝ }
+{
+    if i < l.len() { l[i] } else { 0 }
+}
+
+// The flag at a place.
+pub fn flag(l: &[bool], i: usize) -> bool
+    ensures { λ r. ⌜ r ≡ getD (now (l .entry)) i false ⌝ }
+{
+    if i < l.len() { l[i] } else { false }
+}
+
+// Stores a number.
+pub fn set_number(l: &mut [u16], i: usize, n: u16)
+    ensures { λ _. ⌜ now (l .exit) ≡ set (now (l .entry)) i n ⌝ }
+{
+    if i < l.len() {
+        l[i] = n;
+    }
+}
+
+// Stores a place.
+pub fn set_place(l: &mut [usize], i: usize, place: usize)
+    ensures { λ _. ⌜ now (l .exit) ≡ set (now (l .entry)) i place ⌝ }
+{
+    if i < l.len() {
+        l[i] = place;
+    }
+}
+
+// Stores a flag.
+pub fn set_flag(l: &mut [bool], i: usize, on: bool)
+    ensures { λ _. ⌜ now (l .exit) ≡ set (now (l .entry)) i on ⌝ }
+{
+    if i < l.len() {
+        l[i] = on;
+    }
+}
+
+// Stores a byte.
+pub fn set_byte(l: &mut [u8], i: usize, b: u8)
+    ensures { λ _. ⌜ now (l .exit) ≡ set (now (l .entry)) i b ⌝ }
+{
+    if i < l.len() {
+        l[i] = b;
+    }
+}

@@ -13,9 +13,9 @@ use Rattle.wire.specs.Number.{at16}
 use Rattle.wire.specs.declared.NameId.{NameId}
 use Rattle.wire.specs.declared.TypeId.{TypeId}
 use Rattle.wire.specs.declared.ValueId.{ValueId}
-use Rattle.types.specs.Syntax.{StructField, MirType, Felt, Bool, U32, Tuple, Struct, FixedArray, Pointer, Function, Unit, Error, Unknown}
-use Rattle.types.specs.Decode.{typeOf}
-use Rattle.types.specs.Index.{TypesAt}
+use Rattle.typetable.specs.Syntax.{StructField, MirType, Felt, Bool, U32, Tuple, Struct, FixedArray, Pointer, Function, Unit, Error, Unknown}
+use Rattle.typetable.specs.Decode.{typeOf}
+use Rattle.typetable.specs.Index.{TypesAt}
 use Rattle.routine.specs.Index.{recordedNumber, recordedFrom, asRecorded}
 use Rattle.routine.specs.declared.Recorded.{Recorded}
 use Rattle.facts.proofs.Rows.{type-said}

@@ -21,9 +21,9 @@ ghost use Rattle.wire.specs.declared.TypeId.{TypeId as AnyType};
 ghost use Rattle.form.specs.Syntax.{Projection, Place, Instruction, InstructionKind};
 ghost use Rattle.form.specs.Decode.{instructionOf};
 ghost use Rattle.form.specs.declared.Bounds.{Bounds as DeclaredBounds};
-ghost use Rattle.types.specs.Syntax.{StructField, MirType};
-ghost use Rattle.types.specs.Decode.{typeOf};
-ghost use Rattle.types.specs.Index.{TypesAt};
+ghost use Rattle.typetable.specs.Syntax.{StructField, MirType};
+ghost use Rattle.typetable.specs.Decode.{typeOf};
+ghost use Rattle.typetable.specs.Index.{TypesAt};
 ghost use Rattle.lookup.specs.Fields.{asStep};
 ghost use Rattle.eligibility.specs.Climb.{isSome};
 ghost use Rattle.eligibility.specs.Lookup.{Types, valueRow, position, fieldIndex};
@@ -82,7 +82,7 @@ pub fn field_index(s: &[u8], types: &[usize], many: u16, t: u16, name: NameId) -
     if many <= t {
         return Position::Nothing;
     }
-    row_position(form::tail(s, types::type_place(types, TypeId(t))), name)
+    row_position(form::tail(s, typetable::type_place(types, TypeId(t))), name)
 }
 
 // The same in the recorded type of a value.

@@ -16,8 +16,8 @@ use Rattle.wire.specs.declared.ValueId.{ValueId}
 use Rattle.wire.specs.declared.TypeId.{TypeId}
 use Rattle.wire.proofs.Laws.{from-16}
 use Rattle.wire.proofs.Inv.{both, image, and-inv, map-inv}
-use Rattle.types.specs.Syntax.{StructField, MirType}
-use Rattle.types.specs.Index.{TypesAt}
+use Rattle.typetable.specs.Syntax.{StructField, MirType}
+use Rattle.typetable.specs.Index.{TypesAt}
 use Rattle.form.specs.Syntax.{FieldInit, Instruction, InstructionKind, MakeStruct}
 use Rattle.form.specs.Reads.{kindNumber}
 use Rattle.form.specs.Decode.{definedOf, typeIdOf, listOf, fieldInitOf, makeStructOf, instructionOf}

@@ -9,7 +9,7 @@ use lib.ListN.{length, getD, drop, drop-of-length-le}
 use lib.Seq.{drop-cons}
 use Rattle.wire.specs.Number.{at16}
 use Rattle.wire.specs.declared.Value.{Value}
-use Rattle.types.specs.Syntax.{StructField}
+use Rattle.typetable.specs.Syntax.{StructField}
 use Rattle.form.specs.Syntax.{FieldInit}
 use Rattle.canon.proofs.Bits.{true-false}
 use Rattle.eligibility.specs.Climb.{given, consPart, fromStructFields, isSome}

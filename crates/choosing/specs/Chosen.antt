@@ -6,7 +6,7 @@ use mathlib.Core.Bool.{Bool, false, cond}
 use mathlib.Core.Option.{Option, none, some}
 use lib.ListN.{length, getD, set, replicate}
 use Rattle.wire.specs.declared.ValueId.{ValueId}
-use Rattle.types.specs.Syntax.{MirType}
+use Rattle.typetable.specs.Syntax.{MirType}
 use Rattle.form.specs.Syntax.{FieldInit, Instruction, Block}
 use Rattle.form.specs.declared.Bounds.{Bounds}
 use Rattle.block.specs.declared.Mosts.{Mosts}

@@ -13,8 +13,8 @@ ghost use lib.ListN.{length, getD};
 ghost use Rattle.wire.specs.Parse.{ok};
 ghost use Rattle.wire.specs.declared.ValueId.{ValueId};
 ghost use Rattle.wire.specs.declared.TypeId.{TypeId as DeclaredTypeId};
-ghost use Rattle.types.specs.Syntax.{StructField};
-ghost use Rattle.types.specs.Index.{TypesAt};
+ghost use Rattle.typetable.specs.Syntax.{StructField};
+ghost use Rattle.typetable.specs.Index.{TypesAt};
 ghost use Rattle.form.specs.Syntax.{FieldInit, Instruction, MakeStruct};
 ghost use Rattle.form.specs.Reads.{kindNumber};
 ghost use Rattle.form.specs.Decode.{instructionOf};
@@ -69,7 +69,7 @@ fn told_by(s: &[u8], types: &[usize], many: u16, y: u16, t: &[u8]) -> bool
     if facts::type_shape(s, types, many, y) != 2 {
         return false;
     }
-    let u = form::tail(s, types::type_place(types, TypeId(y)));
+    let u = form::tail(s, typetable::type_place(types, TypeId(y)));
     let off = lookup::fields_place(t);
     all_given(
         t,

@@ -14,9 +14,9 @@ use Rattle.wire.specs.declared.NameId.{NameId}
 use Rattle.wire.specs.declared.Literal.{Literal}
 use Rattle.wire.specs.declared.Value.{Value}
 use Rattle.wire.specs.WellFormed.{FitValue}
-use Rattle.types.specs.Syntax.{StructField, MirType, Felt, Bool, U32, Tuple, Struct, FixedArray, Pointer, Function, Unit, Error, Unknown}
-use Rattle.types.specs.Decode.{hasName}
-use Rattle.types.specs.WellFormed.{FitFields, FitMirType, FitTypes}
+use Rattle.typetable.specs.Syntax.{StructField, MirType, Felt, Bool, U32, Tuple, Struct, FixedArray, Pointer, Function, Unit, Error, Unknown}
+use Rattle.typetable.specs.Decode.{hasName}
+use Rattle.typetable.specs.WellFormed.{FitFields, FitMirType, FitTypes}
 use Rattle.form.specs.Syntax.{Projection, Index, Field, Place, FieldInit, Source, Instruction, InstructionKind, Assign, UnaryOp, BinaryOp, Call, Cast, Load, Store, Debug, Nop, Phi}
 use Rattle.form.specs.Syntax.{MakeTuple, ExtractTupleElement, MakeStruct, ExtractStructField, InsertField, InsertTuple, MakeFixedArray, AssertEq, HeapAllocCells}
 use Rattle.form.specs.Syntax.{Terminator, Jump, If, BranchCmp, Return, Unreachable, Block}

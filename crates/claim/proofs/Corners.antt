@@ -16,8 +16,8 @@ use Rattle.wire.specs.Value.{valueOf, integer}
 use Rattle.form.specs.Decode.{listOf, definedSeq, definedsOf, projectionOf, metaOf, instructionOf, terminatorOf, jumpOf, ifOf, branchOf, returnOf}
 use Rattle.form.specs.Decode.{assignOf, unaryOf, binaryOf, returnsOf, callOf, castOf, loadOf, storeOf, debugOf, phiOf, makeTupleOf, extractTupleOf, makeStructOf, extractFieldOf, insertFieldOf, insertTupleOf, makeArrayOf, assertEqOf, heapAllocOf}
 use Rattle.block.specs.Decode.{instructionsOf, blockOf}
-use Rattle.types.specs.Encode.{typeBytes, typesBytes}
-use Rattle.types.specs.Decode.{typeOf, structOf, structFields, hasType, typeSeq, typesOf}
+use Rattle.typetable.specs.Encode.{typeBytes, typesBytes}
+use Rattle.typetable.specs.Decode.{typeOf, structOf, structFields, hasType, typeSeq, typesOf}
 use Rattle.routine.specs.Decode.{mosts, mapOf, recordedOf, blocksOf, sizesOf, bodyOf, routineOf, wholeOf}
 
 -- every definition on the way, opened

@@ -11,9 +11,9 @@ use lib.ListN.{length, getD, set, length-set}
 use lib.Seq.{getD-set-same, getD-set-other}
 use Rattle.wire.specs.declared.ValueId.{ValueId}
 use Rattle.wire.specs.declared.NameId.{NameId}
-use Rattle.types.specs.Syntax.{StructField, MirType, Felt, Bool, U32, Tuple, Struct, FixedArray, Pointer, Function, Unit, Error, Unknown}
-use Rattle.types.specs.Decode.{hasName}
-use Rattle.types.specs.WellFormed.{FitFields, FitMirType, FitTypes}
+use Rattle.typetable.specs.Syntax.{StructField, MirType, Felt, Bool, U32, Tuple, Struct, FixedArray, Pointer, Function, Unit, Error, Unknown}
+use Rattle.typetable.specs.Decode.{hasName}
+use Rattle.typetable.specs.WellFormed.{FitFields, FitMirType, FitTypes}
 use Rattle.form.specs.Syntax.{Instruction, InstructionKind, Block}
 use Rattle.form.specs.Reads.{dests, isPhi}
 use Rattle.form.specs.Decode.{mark}

@@ -12,9 +12,9 @@ use lib.Dec.{eqb}
 use Rattle.wire.specs.declared.ValueId.{ValueId}
 use Rattle.wire.specs.declared.TypeId.{TypeId}
 use Rattle.wire.specs.declared.NameId.{NameId}
-use Rattle.types.specs.Syntax.{StructField, MirType, Felt, Bool, U32, Tuple, Struct, FixedArray, Pointer, Function, Unit, Error, Unknown}
-use Rattle.types.specs.Decode.{typeOf}
-use Rattle.types.specs.Index.{TypesAt}
+use Rattle.typetable.specs.Syntax.{StructField, MirType, Felt, Bool, U32, Tuple, Struct, FixedArray, Pointer, Function, Unit, Error, Unknown}
+use Rattle.typetable.specs.Decode.{typeOf}
+use Rattle.typetable.specs.Index.{TypesAt}
 use Rattle.form.specs.Syntax.{FieldInit, InstructionKind}
 use Rattle.facts.specs.Facts.{rowShape}
 use Rattle.facts.proofs.Rows.{shape-found}

@@ -87,7 +87,7 @@ pub fn make_struct(s: &[u8], b: Bounds, types: &[usize], recorded: &[u16], t: &[
     let n = wire::byte_at(t, 2);
     let e = fields::values_end(t, 3, 2, n);
     let y = fields::type_at(t, b, e);
-    let row = form::tail(s, types::type_place(types, TypeId(wire::u16_at(t, e))));
+    let row = form::tail(s, typetable::type_place(types, TypeId(wire::u16_at(t, e))));
     if !typing::has_parts(s, b, types, y, n as u32) {
         return false;
     }

@@ -11,7 +11,7 @@ use Rattle.wire.specs.Parse.{ok}
 use Rattle.form.specs.Syntax.{Instruction, Block}
 use Rattle.form.specs.Decode.{instructionOf}
 use Rattle.form.specs.declared.Bounds.{Bounds}
-use Rattle.types.specs.Index.{TypesAt}
+use Rattle.typetable.specs.Index.{TypesAt}
 use Rattle.routine.specs.Index.{noBlock}
 use Rattle.places.specs.Places.{noInstruction, InstructionsAt}
 use Rattle.index.specs.Code.{CodeAt, standing}

@@ -10,7 +10,7 @@ ghost use Rattle.wire.specs.Parse.{ok};
 ghost use Rattle.form.specs.Syntax.{Instruction, Block};
 ghost use Rattle.form.specs.Decode.{instructionOf};
 ghost use Rattle.form.specs.declared.Bounds.{Bounds as DeclaredBounds};
-ghost use Rattle.types.specs.Index.{TypesAt};
+ghost use Rattle.typetable.specs.Index.{TypesAt};
 ghost use Rattle.routine.specs.Index.{noBlock};
 ghost use Rattle.places.specs.Places.{InstructionsAt};
 ghost use Rattle.index.specs.Code.{CodeAt};

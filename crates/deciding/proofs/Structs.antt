@@ -14,9 +14,9 @@ use Rattle.wire.specs.declared.ValueId.{ValueId}
 use Rattle.wire.specs.declared.TypeId.{TypeId}
 use Rattle.wire.specs.declared.NameId.{NameId}
 use Rattle.wire.proofs.Canon.{bytes-drop}
-use Rattle.types.specs.Syntax.{StructField, MirType, Felt, Bool, U32, Tuple, Struct, FixedArray, Pointer, Function, Unit, Error, Unknown}
-use Rattle.types.specs.Decode.{typeOf}
-use Rattle.types.proofs.Canon.{type-fit}
+use Rattle.typetable.specs.Syntax.{StructField, MirType, Felt, Bool, U32, Tuple, Struct, FixedArray, Pointer, Function, Unit, Error, Unknown}
+use Rattle.typetable.specs.Decode.{typeOf}
+use Rattle.typetable.proofs.Canon.{type-fit}
 use Rattle.form.specs.Syntax.{FieldInit}
 use Rattle.form.specs.declared.Bounds.{Bounds}
 use Rattle.facts.proofs.Rows.{type-said}

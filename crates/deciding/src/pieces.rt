@@ -25,7 +25,7 @@ ghost use Rattle.form.specs.Syntax.{Instruction, FieldInit};
 ghost use Rattle.form.specs.Decode.{instructionOf};
 ghost use Rattle.form.specs.declared.Bounds.{Bounds as BoundsOf};
 ghost use Rattle.lookup.specs.Fields.{operandFields};
-ghost use Rattle.types.specs.Index.{TypesAt};
+ghost use Rattle.typetable.specs.Index.{TypesAt};
 ghost use Rattle.eligibility.specs.Lookup.{Types, rowOf, isAggregate};
 ghost use Rattle.eligibility.specs.Tables.{Known};
 ghost use Rattle.eligibility.specs.Climb.{structRow, structParts};
@@ -160,7 +160,7 @@ pub fn build_struct(
             used: used,
         };
     }
-    let row = form::tail(s, types::type_place(types, t));
+    let row = form::tail(s, typetable::type_place(types, t));
     let n = wire::byte_at(s, off + 2);
     let m = wire::byte_at(row, 3);
     let r = parts::track_named(s, counts, firsts, pool, used, d, off + 3, n, row, 4, m);

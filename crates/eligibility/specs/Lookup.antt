@@ -12,7 +12,7 @@ use Rattle.wire.specs.declared.NameId.{NameId}
 use Rattle.wire.specs.declared.Literal.{Literal}
 use Rattle.wire.specs.declared.Value.{Value}
 use Rattle.eligibility.specs.declared.Settings.{Settings}
-use Rattle.types.specs.Syntax.{StructField, MirType, Felt, Bool, U32, Tuple, Struct, FixedArray, Pointer, Function, Unit, Error, Unknown}
+use Rattle.typetable.specs.Syntax.{StructField, MirType, Felt, Bool, U32, Tuple, Struct, FixedArray, Pointer, Function, Unit, Error, Unknown}
 
 -- what does not change while a routine is rewritten: its type table, and the recorded type of each value
 pub record Types : Type 0 where

@@ -4,7 +4,7 @@ use mathlib.Core.Path.{_≡_}
 use mathlib.Core.List.{List}
 use mathlib.Core.Bool.{Bool, false}
 use lib.ListN.{length, getD}
-use Rattle.types.specs.Index.{TypesAt}
+use Rattle.typetable.specs.Index.{TypesAt}
 use Rattle.routine.specs.Index.{RecordedAt}
 use Rattle.eligibility.specs.declared.Settings.{Settings}
 use Rattle.eligibility.specs.Lookup.{Types, valueRow, isScalarizable, shape}

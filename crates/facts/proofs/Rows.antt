@@ -19,9 +19,9 @@ use Rattle.wire.specs.declared.TypeId.{TypeId}
 use Rattle.wire.proofs.Laws.{from-8, from-32}
 use Rattle.wire.proofs.Inv.{no-ok, both, behind, image, later-inv, and-inv, map-inv, checked-inv, number-inv, below-inv, tagged-inv}
 use Rattle.form.specs.Decode.{typeIdOf, nameIdOf, countOf, listOf}
-use Rattle.types.specs.Syntax.{StructField, MirType}
-use Rattle.types.specs.Decode.{newNameOf, structFields, structOf, typeKinds, typeOf}
-use Rattle.types.specs.Index.{TypesAt}
+use Rattle.typetable.specs.Syntax.{StructField, MirType}
+use Rattle.typetable.specs.Decode.{newNameOf, structFields, structOf, typeKinds, typeOf}
+use Rattle.typetable.specs.Index.{TypesAt}
 use Rattle.eligibility.specs.declared.Settings.{Settings}
 use Rattle.eligibility.specs.Lookup.{shape, isScalarizable}
 use Rattle.facts.specs.Facts.{rowShape, rowEligible}

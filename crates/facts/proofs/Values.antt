@@ -10,8 +10,8 @@ use native.Mathlib.Omega.{arith}
 use lib.ListN.{length, getD, getElem?, set, length-set}
 use lib.Seq.{getD-set-same, getD-set-other}
 use Rattle.wire.specs.declared.TypeId.{TypeId}
-use Rattle.types.specs.Syntax.{MirType}
-use Rattle.types.specs.Index.{TypesAt}
+use Rattle.typetable.specs.Syntax.{MirType}
+use Rattle.typetable.specs.Index.{TypesAt}
 use Rattle.routine.specs.Index.{recordedNumber}
 use Rattle.eligibility.specs.declared.Settings.{Settings}
 use Rattle.eligibility.specs.Lookup.{Types, rowOf, recordedType, valueRow, isScalarizable, shape}

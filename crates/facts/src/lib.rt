@@ -9,8 +9,8 @@ ghost use Prim.Native.Nat.{ℕ, _≤_, _<_};
 ghost use lib.ListN.{length, getD, getElem?, drop};
 ghost use lib.Dec.{leb, ltb};
 ghost use Rattle.wire.specs.declared.TypeId.{TypeId as DeclaredTypeId};
-ghost use Rattle.types.specs.Syntax.{MirType};
-ghost use Rattle.types.specs.Index.{TypesAt};
+ghost use Rattle.typetable.specs.Syntax.{MirType};
+ghost use Rattle.typetable.specs.Index.{TypesAt};
 ghost use Rattle.routine.specs.Index.{recordedNumber};
 ghost use Rattle.eligibility.specs.Lookup.{Types, rowOf, isScalarizable, shape};
 ghost use Rattle.eligibility.specs.Tables.{Known, FactsAt};
@@ -54,7 +54,7 @@ fn row_place(s: &[u8], types: &[usize], many: u16, t: u16) -> usize
     ensures { λ r. ⌜ r ≡ cond (ltb t many) (getD (now (types .entry)) t 0) (length (now (s .entry))) ⌝ }
 {
     if t < many {
-        return types::type_place(types, TypeId(t));
+        return typetable::type_place(types, TypeId(t));
     }
     s.len()
 }

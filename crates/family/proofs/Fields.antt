@@ -27,8 +27,8 @@ use Rattle.form.specs.Reads.{kindNumber}
 use Rattle.form.specs.Decode.{definedOf, typeIdOf, nameIdOf, listOf, projectionOf, instructionOf, assignOf, loadOf, storeOf, insertFieldOf, insertTupleOf}
 use Rattle.form.specs.Decode as decode
 use Rattle.form.specs.declared.Bounds.{Bounds}
-use Rattle.types.specs.Syntax.{MirType}
-use Rattle.types.specs.Index.{TypesAt}
+use Rattle.typetable.specs.Syntax.{MirType}
+use Rattle.typetable.specs.Index.{TypesAt}
 use Rattle.lookup.specs.Fields.{fieldsPlace, placeSteps}
 use Rattle.lookup.proofs.Instruction.{chosen, KindAt, instruction-fields}
 use Rattle.eligibility.specs.Lookup.{Types, rowOf, shape}

@@ -14,7 +14,7 @@ use Rattle.wire.specs.Parse.{ok}
 use Rattle.form.specs.Syntax.{Instruction}
 use Rattle.form.specs.Decode.{instructionOf}
 use Rattle.form.specs.declared.Bounds.{Bounds}
-use Rattle.types.specs.Index.{TypesAt}
+use Rattle.typetable.specs.Index.{TypesAt}
 use Rattle.places.specs.Places.{noInstruction, InstructionsAt}
 use Rattle.eligibility.specs.Lookup.{Types}
 use Rattle.eligibility.specs.Family.{Marks, placeOf}

@@ -19,7 +19,7 @@ ghost use Rattle.wire.specs.declared.Value.{Value as ValueOf};
 ghost use Rattle.wire.specs.declared.ValueId.{ValueId as DeclaredId};
 ghost use Rattle.form.specs.Syntax.{Instruction};
 ghost use Rattle.form.specs.Decode.{instructionOf};
-ghost use Rattle.types.specs.Index.{TypesAt};
+ghost use Rattle.typetable.specs.Index.{TypesAt};
 ghost use Rattle.places.specs.Places.{InstructionsAt};
 ghost use Rattle.lookup.specs.Fields.{asStep};
 ghost use Rattle.eligibility.specs.Lookup.{Types, rowOf, valueRow, shape as shapeOf, isInteger};

@@ -10,7 +10,7 @@ ghost use lib.ListN.{length, getD};
 ghost use Rattle.wire.specs.declared.ValueId.{ValueId as AnyId};
 ghost use Rattle.wire.specs.declared.TypeId.{TypeId as AnyType};
 ghost use Rattle.wire.specs.declared.Value.{Value as AnyValue};
-ghost use Rattle.types.specs.Syntax.{StructField};
+ghost use Rattle.typetable.specs.Syntax.{StructField};
 ghost use Rattle.form.specs.Syntax.{Source, FieldInit};
 ghost use Rattle.parts.specs.Rows.{ValueAt, Inits, Names, InitAt, noField};
 ghost use Rattle.routine.specs.Index.{recordedNumber};

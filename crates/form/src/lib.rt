@@ -190,7 +190,14 @@ pub fn tail(s: &[u8], at: usize) -> &[u8]
 }
 
 // A projection: its kind, then a value, a name or an index.
-pub fn projection_at(s: &[u8], at: usize, n: usize, late: bool, next: u16, buffer: &mut [u16]) -> Scan
+pub fn projection_at(
+    s: &[u8],
+    at: usize,
+    n: usize,
+    late: bool,
+    next: u16,
+    buffer: &mut [u16],
+) -> Scan
     ensures { λ r. ⌜ ((seen : List Bool) → let w = walkOf seen (now (buffer .entry)) n late in asScan r seen (now (buffer .exit)) ≡ later at (mapParse (usesProjection w) (projectionOf next (drop at (now (s .entry)))))) ⌝ }
 {
     if s.len() <= at {

@@ -11,7 +11,7 @@ use Rattle.wire.specs.declared.ValueId.{ValueId}
 use Rattle.form.specs.Encode.{eachBytes, optionBytes, typeIdBytes, valueIdBytes, blockIdBytes, listBytes}
 use Rattle.emit.proofs.Sets.{sets-append}
 use Rattle.block.specs.Encode.{blockBytes}
-use Rattle.types.specs.Encode.{typesBytes}
+use Rattle.typetable.specs.Encode.{typesBytes}
 use Rattle.routine.specs.Routine.{Routine}
 use Rattle.routine.specs.Encode.{encode, mapNumber, recordedBytes}
 use Rattle.rebuild.specs.Written.{Writes}

@@ -8,7 +8,7 @@ use lib.Seq.{slice}
 use Rattle.wire.specs.Number.{toBytes}
 use Rattle.wire.specs.declared.TypeId.{TypeId}
 use Rattle.form.specs.Encode.{valueIdBytes, blockIdBytes, listBytes}
-use Rattle.types.specs.Encode.{typesBytes}
+use Rattle.typetable.specs.Encode.{typesBytes}
 use Rattle.routine.specs.Routine.{Routine}
 use Rattle.routine.specs.Encode.{recordedBytes}
 use Rattle.routine.specs.Index.{RecordedAt}

@@ -9,7 +9,7 @@ ghost use lib.Seq.{sets};
 ghost use Rattle.wire.specs.Number.{toBytes};
 ghost use Rattle.wire.specs.declared.TypeId.{TypeId};
 ghost use Rattle.form.specs.Encode.{eachBytes, optionBytes, typeIdBytes, stands};
-ghost use Rattle.types.specs.Encode.{typesBytes};
+ghost use Rattle.typetable.specs.Encode.{typesBytes};
 ghost use Rattle.routine.specs.Routine.{Routine};
 ghost use Rattle.routine.specs.Encode.{encode, mapNumber};
 ghost use Rattle.routine.specs.Index.{recordedNumber};

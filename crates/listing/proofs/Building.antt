@@ -14,7 +14,7 @@ use Rattle.wire.specs.declared.Value.{Value}
 use Rattle.form.specs.Syntax.{Instruction}
 use Rattle.form.specs.Encode.{eachBytes, instructionBytes}
 use Rattle.form.specs.declared.Bounds.{Bounds}
-use Rattle.types.specs.Syntax.{MirType, Felt, Bool as TBool, U32, Tuple, Struct, FixedArray, Pointer, Function, Unit, Error, Unknown}
+use Rattle.typetable.specs.Syntax.{MirType, Felt, Bool as TBool, U32, Tuple, Struct, FixedArray, Pointer, Function, Unit, Error, Unknown}
 use Rattle.lookup.specs.Fields.{valueEnd}
 use Rattle.eligibility.specs.Lookup.{Types, rowOf}
 use Rattle.eligibility.specs.Family.{Marks}

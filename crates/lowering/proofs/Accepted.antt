@@ -20,7 +20,7 @@ use Rattle.canon.specs.WellFormed.{FitType}
 use Rattle.block.specs.Decode.{marks}
 use Rattle.block.specs.WellFormed.{WideMosts}
 use Rattle.block.specs.declared.Mosts.{Mosts}
-use Rattle.types.specs.Index.{TypesAt}
+use Rattle.typetable.specs.Index.{TypesAt}
 use Rattle.routine.specs.Routine.{Routine}
 use Rattle.routine.specs.Decode.{mosts, boundsOf, routineOf, ended, wholeOf}
 use Rattle.routine.specs.Encode.{encode}

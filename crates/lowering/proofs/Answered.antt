@@ -16,7 +16,7 @@ use Rattle.form.specs.declared.Bounds.{Bounds}
 use Rattle.canon.proofs.Bits.{true-false}
 use Rattle.block.specs.Encode.{blockBytes}
 use Rattle.emit.proofs.Sets.{sets-append}
-use Rattle.types.specs.Encode.{typesBytes}
+use Rattle.typetable.specs.Encode.{typesBytes}
 use Rattle.routine.specs.Routine.{Routine}
 use Rattle.routine.specs.Decode.{mosts, wholeOf}
 use Rattle.routine.specs.Encode.{encode}

@@ -16,7 +16,7 @@ use Rattle.canon.specs.WellFormed.{Wide}
 use Rattle.canon.proofs.BackFields as B
 use Rattle.block.specs.Decode.{marks}
 use Rattle.block.specs.Encode.{blockBytes}
-use Rattle.types.specs.Encode.{typesBytes}
+use Rattle.typetable.specs.Encode.{typesBytes}
 use Rattle.routine.specs.Routine.{Routine}
 use Rattle.routine.specs.Decode.{mosts, boundsOf}
 use Rattle.routine.specs.Encode.{recordedBytes, encode}

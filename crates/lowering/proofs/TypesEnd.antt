@@ -8,10 +8,10 @@ use lib.Seq.{take-suc, take-length}
 use Rattle.wire.specs.WellFormed.{Bytes}
 use Rattle.wire.proofs.Canon.{bytes-drop}
 use Rattle.form.specs.Encode.{eachBytes}
-use Rattle.types.specs.Syntax.{MirType}
-use Rattle.types.specs.Encode.{typeBytes, typesBytes}
-use Rattle.types.specs.Index.{TypesAt}
-use Rattle.types.proofs.Canon.{type-canon}
+use Rattle.typetable.specs.Syntax.{MirType}
+use Rattle.typetable.specs.Encode.{typeBytes, typesBytes}
+use Rattle.typetable.specs.Index.{TypesAt}
+use Rattle.typetable.proofs.Canon.{type-canon}
 use Rattle.progress.proofs.Laws.{each-append}
 
 -- one more type

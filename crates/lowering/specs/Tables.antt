@@ -10,7 +10,7 @@ use Rattle.wire.specs.WellFormed.{Bytes}
 use Rattle.form.specs.Encode.{eachBytes}
 use Rattle.form.specs.declared.Bounds.{Bounds}
 use Rattle.block.specs.Encode.{blockBytes}
-use Rattle.types.specs.Index.{TypesAt}
+use Rattle.typetable.specs.Index.{TypesAt}
 use Rattle.routine.specs.Routine.{Routine}
 use Rattle.routine.specs.Decode.{mosts, wholeOf, boundsOf}
 use Rattle.routine.specs.Index.{RecordedAt, BlocksAt}

@@ -15,9 +15,9 @@ ghost use mathlib.Core.List.{List};
 ghost use Prim.Native.Nat.{ℕ, _+_, _≤_, _<_};
 ghost use lib.ListN.{length, getD};
 ghost use Rattle.wire.specs.WellFormed.{Bytes};
-ghost use Rattle.types.specs.Syntax.{MirType};
-ghost use Rattle.types.specs.Index.{TypesAt};
-ghost use Rattle.types.specs.Encode.{typesBytes};
+ghost use Rattle.typetable.specs.Syntax.{MirType};
+ghost use Rattle.typetable.specs.Index.{TypesAt};
+ghost use Rattle.typetable.specs.Encode.{typesBytes};
 ghost use Rattle.rewriting.specs.Run.{rewrittenBlocks};
 ghost use Rattle.shelf.specs.Answer.{answer as given};
 ghost use Rattle.progress.specs.Effect.{PutLow};
@@ -35,8 +35,8 @@ fn types_end(types: &[usize], many: u16) -> usize
     requires { ⌜ getD (now types) many 0 < 1099511627776 ⌝ }
     ensures { λ r. ⌜ ((most : ℕ) (s : List ℕ) (ts : List MirType) → Bytes s → TypesAt most s (now (types .entry)) ts → length ts ≡ many → r ≡ length (typesBytes ts)) ⌝ }
 {
-    let from = types::type_place(types, TypeId(0));
-    let to = types::type_place(types, TypeId(many));
+    let from = typetable::type_place(types, TypeId(0));
+    let to = typetable::type_place(types, TypeId(many));
     if to < from {
         return 0;
     }
@@ -255,7 +255,7 @@ fn lower_chosen(
     requires { ⌜ Chosen settings (now s) (now types) (now recorded) (now blocks) b (now places) (now starts) (now folded) (now skips) ⌝ }
     ensures { λ r. ⌜ Answers (given settings (length (now (out .entry))) (now (s .entry))) r (now (out .entry)) (now (out .exit)) ⌝ }
 {
-    if !unread::any_marked(folded) {
+    if !table::any(folded) {
         return same::lower_same(s, b, settings, types, recorded, blocks, places, starts, out);
     }
     lower_folded(

@@ -7,7 +7,7 @@ use mathlib.Core.Bool.{Bool, true, false}
 use lib.Dec.{eqb}
 use Rattle.wire.specs.declared.Literal.{Literal}
 use Rattle.wire.specs.declared.Value.{Value}
-use Rattle.types.specs.Syntax.{MirType}
+use Rattle.typetable.specs.Syntax.{MirType}
 use Rattle.eligibility.specs.Lookup.{rowOf, recordedType, valueRow, shape, isStruct, structFieldsOf, next, position, fieldIndex, asConstInteger}
 use Rattle.eligibility.specs.Climb.{given, consPart, fromStructFields, orElse, structRow, structParts}
 use Rattle.eligibility.specs.Fold.{behindPhis, phisOf}

@@ -9,7 +9,7 @@ use mathlib.Core.Bool as B
 use Rattle.wire.specs.declared.TypeId.{TypeId}
 use Rattle.wire.specs.declared.Literal.{Literal}
 use Rattle.wire.specs.declared.Value.{Value}
-use Rattle.types.specs.Syntax.{MirType, Felt, Bool, U32, Tuple, Struct, FixedArray, Pointer, Function, Unit, Error, Unknown}
+use Rattle.typetable.specs.Syntax.{MirType, Felt, Bool, U32, Tuple, Struct, FixedArray, Pointer, Function, Unit, Error, Unknown}
 use Rattle.eligibility.specs.Lookup.{Types, rowOf, asConstInteger}
 use Rattle.machine.specs.Values.{Val, scalar, aggregate, Vals, ends, then}
 use Rattle.shelf.specs.Parts.{partType, partCount, counts}

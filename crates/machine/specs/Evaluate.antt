@@ -3,7 +3,7 @@ use Prim.Native.Nat.{ℕ, zero, suc}
 use mathlib.Core.Option.{Option, none, some}
 use mathlib.Core.List.{List, [], _∷_}
 use Rattle.wire.specs.declared.Value.{Value}
-use Rattle.types.specs.Syntax.{MirType}
+use Rattle.typetable.specs.Syntax.{MirType}
 use Rattle.form.specs.Syntax.{Projection, Index, Field, Tuple}
 use Rattle.machine.specs.Values.{Val, Vals, ends, consVal}
 use Rattle.machine.specs.Meaning.{Meaning}

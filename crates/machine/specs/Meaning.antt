@@ -7,7 +7,7 @@ use mathlib.Core.List.{List}
 use Rattle.wire.specs.declared.TypeId.{TypeId}
 use Rattle.wire.specs.declared.Literal.{Literal}
 use Rattle.wire.specs.declared.Value.{Value}
-use Rattle.types.specs.Syntax.{MirType}
+use Rattle.typetable.specs.Syntax.{MirType}
 use Rattle.eligibility.specs.Lookup.{asConstInteger}
 use Rattle.machine.specs.Values.{Val}
 

@@ -4,7 +4,7 @@ use mathlib.Core.Option.{Option, none, some}
 use mathlib.Core.List.{List, [], _∷_}
 use lib.ListN.{getElem?}
 use Rattle.wire.specs.declared.TypeId.{TypeId}
-use Rattle.types.specs.Syntax.{MirType}
+use Rattle.typetable.specs.Syntax.{MirType}
 use Rattle.eligibility.specs.Lookup.{Types, rowOf, fieldIndex}
 use Rattle.shelf.specs.Parts.{partType, onto}
 use Rattle.machine.specs.Values.{Val, partOf, withPart}

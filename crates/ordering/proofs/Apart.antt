@@ -8,7 +8,7 @@ use native.Mathlib.Omega.{arith}
 use lib.ListN.{getD}
 use lib.Dec.{eqb, eqb→eq}
 use Rattle.wire.specs.declared.ValueId.{ValueId}
-use Rattle.types.specs.Syntax.{Bool}
+use Rattle.typetable.specs.Syntax.{Bool}
 use Rattle.form.specs.Syntax.{InstructionKind, Block}
 use Rattle.form.specs.Syntax.{Assign, UnaryOp, BinaryOp, Call, Cast, Load, Store, Debug, Nop, Phi}
 use Rattle.form.specs.Syntax.{MakeTuple, ExtractTupleElement, MakeStruct, ExtractStructField, InsertField, InsertTuple, MakeFixedArray, AssertEq, HeapAllocCells}

@@ -14,8 +14,8 @@ use lib.Dec.{eqb, eqb→eq}
 use Rattle.wire.specs.Parse.{ok}
 use Rattle.wire.specs.declared.TypeId.{TypeId}
 use Rattle.wire.specs.declared.ValueId.{ValueId}
-use Rattle.types.specs.Syntax.{MirType, Felt, Bool, U32, Tuple, Struct, FixedArray, Pointer, Function, Unit, Error, Unknown}
-use Rattle.types.specs.Index.{TypesAt}
+use Rattle.typetable.specs.Syntax.{MirType, Felt, Bool, U32, Tuple, Struct, FixedArray, Pointer, Function, Unit, Error, Unknown}
+use Rattle.typetable.specs.Index.{TypesAt}
 use Rattle.form.specs.Syntax.{Instruction, InstructionKind, Block}
 use Rattle.form.specs.Syntax.{Assign, UnaryOp, BinaryOp, Call, Cast, Load, Store, Debug, Nop, Phi}
 use Rattle.form.specs.Syntax.{MakeTuple, ExtractTupleElement, MakeStruct, ExtractStructField, InsertField, InsertTuple, MakeFixedArray, AssertEq, HeapAllocCells}

@@ -13,7 +13,7 @@ use Rattle.wire.specs.declared.NameId.{NameId}
 use Rattle.wire.specs.declared.TypeId.{TypeId}
 use Rattle.wire.specs.declared.Literal.{Literal}
 use Rattle.wire.specs.declared.Value.{Value}
-use Rattle.types.specs.Syntax.{StructField, MirType}
+use Rattle.typetable.specs.Syntax.{StructField, MirType}
 use Rattle.form.specs.Syntax.{Projection, Index, Field, Place, FieldInit}
 use Rattle.form.specs.Syntax as S
 use Rattle.form.specs.declared.Bounds.{Bounds}

@@ -13,8 +13,8 @@ use Rattle.wire.specs.declared.ValueId.{ValueId}
 use Rattle.wire.specs.declared.TypeId.{TypeId}
 use Rattle.wire.specs.declared.NameId.{NameId}
 use Rattle.wire.specs.declared.Value.{Value}
-use Rattle.types.specs.Syntax.{StructField, MirType, Felt, Bool, U32, Tuple, Struct, FixedArray, Pointer, Function, Unit, Error, Unknown}
-use Rattle.types.specs.WellFormed.{FitFields, FitMirType}
+use Rattle.typetable.specs.Syntax.{StructField, MirType, Felt, Bool, U32, Tuple, Struct, FixedArray, Pointer, Function, Unit, Error, Unknown}
+use Rattle.typetable.specs.WellFormed.{FitFields, FitMirType}
 use Rattle.form.specs.Syntax.{FieldInit, Instruction, InstructionKind}
 use Rattle.form.specs.Reads.{dests, isPhi}
 use Rattle.form.specs.declared.Bounds.{Bounds}

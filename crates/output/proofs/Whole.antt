@@ -12,8 +12,8 @@ use lib.ListN.{length, getElem?, getD, replicate, length-append, length-replicat
 use Rattle.wire.specs.Parse.{ok}
 use Rattle.wire.specs.declared.ValueId.{ValueId}
 use Rattle.wire.specs.declared.TypeId.{TypeId}
-use Rattle.types.specs.Syntax.{MirType}
-use Rattle.types.specs.WellFormed.{FitMirType, FitTypes}
+use Rattle.typetable.specs.Syntax.{MirType}
+use Rattle.typetable.specs.WellFormed.{FitMirType, FitTypes}
 use Rattle.form.specs.Syntax.{Instruction, Terminator, Block}
 use Rattle.form.specs.Reads.{dests, isPhi}
 use Rattle.form.specs.Decode.{mark}

@@ -18,8 +18,8 @@ use Rattle.wire.specs.declared.TypeId.{TypeId}
 use Rattle.wire.specs.declared.NameId.{NameId}
 use Rattle.wire.proofs.Laws.{from-16}
 use Rattle.wire.proofs.Inv.{behind, image, later-inv, map-inv, checked-inv, number-inv, tagged-inv}
-use Rattle.types.specs.Syntax.{StructField, MirType}
-use Rattle.types.specs.Decode.{hasName, newNameOf, structFields, structOf, typeKinds, typeOf}
+use Rattle.typetable.specs.Syntax.{StructField, MirType}
+use Rattle.typetable.specs.Decode.{hasName, newNameOf, structFields, structOf, typeKinds, typeOf}
 use Rattle.form.specs.Syntax.{FieldInit, Instruction, InstructionKind}
 use Rattle.form.specs.Reads.{kindNumber}
 use Rattle.form.specs.Decode.{nameIdOf, listOf, fieldInitOf, makeStructOf, instructionOf}

@@ -14,7 +14,7 @@ use Rattle.wire.specs.Number.{at16}
 use Rattle.wire.specs.declared.Value.{Value}
 use Rattle.wire.specs.declared.ValueId.{ValueId}
 use Rattle.wire.specs.declared.NameId.{NameId}
-use Rattle.types.specs.Syntax.{StructField}
+use Rattle.typetable.specs.Syntax.{StructField}
 use Rattle.form.specs.Syntax.{FieldInit}
 use Rattle.lookup.specs.Fields.{after, valueEnd}
 use Rattle.eligibility.specs.Climb.{given, consPart, fromStructFields, isSome}

@@ -9,7 +9,7 @@ ghost use mathlib.Core.Option.{some};
 ghost use Prim.Native.Nat.{ℕ, _+_, _*_, _≤_, _<_};
 ghost use lib.ListN.{length, getD};
 ghost use Rattle.wire.specs.declared.Value.{Value};
-ghost use Rattle.types.specs.Syntax.{StructField};
+ghost use Rattle.typetable.specs.Syntax.{StructField};
 ghost use Rattle.form.specs.Syntax.{FieldInit};
 ghost use Rattle.eligibility.specs.Climb.{given, fromStructFields, isSome};
 ghost use Rattle.rewriting.specs.State.{AggStates, noStates, insertState, replaced};

@@ -17,8 +17,8 @@ use Rattle.wire.specs.declared.TypeId.{TypeId}
 use Rattle.wire.specs.declared.NameId.{NameId}
 use Rattle.wire.specs.declared.Value.{Value}
 use Rattle.wire.proofs.Inv.{no-ok, behind, image, later-inv, map-inv, tagged-inv}
-use Rattle.types.specs.Syntax.{MirType, Felt, Bool, U32, Struct, FixedArray, Pointer, Function, Unit, Error, Unknown}
-use Rattle.types.specs.Syntax as T
+use Rattle.typetable.specs.Syntax.{MirType, Felt, Bool, U32, Struct, FixedArray, Pointer, Function, Unit, Error, Unknown}
+use Rattle.typetable.specs.Syntax as T
 use Rattle.form.specs.Syntax.{Projection, Index, Field, Tuple, Place}
 use Rattle.form.specs.Decode.{nameIdOf, projectionOf}
 use Rattle.form.specs.Decode as D

@@ -2,10 +2,10 @@
 use block::Mosts;
 use form::Bounds;
 use form::Part;
-use routine::sections;
 use routine::Checked;
 use routine::Layout;
 use routine::SizesRead;
+use routine::sections;
 use wire::BlockId;
 use wire::Cause;
 ghost use mathlib.Core.Path.{_≡_};
@@ -99,7 +99,7 @@ pub fn read_routine(
     requires { ⌜ (m .types < length (now types)) × (m .next ≤ 256) × (m .blocks < length (now blocks)) ⌝ }
     ensures { λ r. ⌜ RoutineRead m (now (s .entry)) r (now (types .exit)) (now (recorded .exit)) (now (blocks .exit)) ⌝ }
 {
-    match types::read_types(s, m.types, m.list, types) {
+    match typetable::read_types(s, m.types, m.list, types) {
         Part::Refused(c, o) => Checked::Refused(c, o),
         Part::Used(at) => match sections::read_sizes(&s[at..], m) {
             SizesRead::Refused(c, o) => Checked::Refused(c, at + o),
@@ -125,7 +125,13 @@ pub extern "C" fn check(input: &[u8], offset: &mut u64) -> u8
     let mut types: [usize; 65] = [0; 65];
     let mut recorded: [u16; 256] = [0; 256];
     let mut blocks: [usize; 33] = [0; 33];
-    match read_routine(input, routine::MOSTS, &mut types, &mut recorded, &mut blocks) {
+    match read_routine(
+        input,
+        routine::MOSTS,
+        &mut types,
+        &mut recorded,
+        &mut blocks,
+    ) {
         Checked::Accepted(_) => {
             *offset = 0;
             0

@@ -13,7 +13,7 @@ use Rattle.wire.specs.declared.Value.{Value}
 use Rattle.form.specs.Syntax.{InstructionKind}
 use Rattle.form.specs.Encode.{eachBytes, valueIdBytes, typeIdBytes, fieldInitBytes, fieldBytes, instructionBytes}
 use Rattle.emit.proofs.Sets.{sets-append, sets-assign}
-use Rattle.types.specs.Syntax.{StructField}
+use Rattle.typetable.specs.Syntax.{StructField}
 use Rattle.rewriting.specs.Rebuild.{plain, fitted, named}
 use Rattle.rebuild.specs.Written.{Writes}
 use Rattle.rebuild.proofs.Writing.{length-fitted, fitted-same, length-named}

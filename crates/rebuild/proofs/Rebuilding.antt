@@ -17,10 +17,10 @@ use Rattle.wire.specs.declared.Value.{Value}
 use Rattle.wire.proofs.Canon.{bytes-drop}
 use Rattle.form.specs.Syntax.{InstructionKind}
 use Rattle.form.specs.Encode.{eachBytes, instructionBytes}
-use Rattle.types.specs.Syntax.{StructField, MirType}
-use Rattle.types.specs.Decode.{typeOf}
-use Rattle.types.specs.Index.{TypesAt}
-use Rattle.types.proofs.Same.{no-true}
+use Rattle.typetable.specs.Syntax.{StructField, MirType}
+use Rattle.typetable.specs.Decode.{typeOf}
+use Rattle.typetable.specs.Index.{TypesAt}
+use Rattle.typetable.proofs.Same.{no-true}
 use Rattle.eligibility.specs.Lookup.{Types, rowOf}
 use Rattle.rewriting.specs.Rebuild.{plain, fitted, named, rebuildAt, clashes}
 use Rattle.rebuild.specs.Written.{Writes, NamesIn, Rebuilds}

@@ -18,10 +18,10 @@ use Rattle.wire.proofs.Inv.{both, behind, image, later-inv, and-inv, map-inv, n
 use Rattle.wire.proofs.Laws.{from-16, from-32}
 use Rattle.form.specs.Decode.{typeIdOf}
 use Rattle.form.specs.Encode.{eachBytes, nameIdBytes}
-use Rattle.types.specs.Syntax.{StructField, MirType, Felt, Bool, U32, Tuple, Struct, FixedArray, Pointer, Function, Unit, Error, Unknown}
-use Rattle.types.specs.Encode.{structFieldBytes, typeBytes}
-use Rattle.types.specs.Decode.{typeKinds, typeOf}
-use Rattle.types.proofs.Canon.{type-canon}
+use Rattle.typetable.specs.Syntax.{StructField, MirType, Felt, Bool, U32, Tuple, Struct, FixedArray, Pointer, Function, Unit, Error, Unknown}
+use Rattle.typetable.specs.Encode.{structFieldBytes, typeBytes}
+use Rattle.typetable.specs.Decode.{typeKinds, typeOf}
+use Rattle.typetable.proofs.Canon.{type-canon}
 use Rattle.rewriting.specs.Rebuild.{rebuildAt, clashes}
 use Rattle.rebuild.specs.Written.{noField, NamesIn}
 

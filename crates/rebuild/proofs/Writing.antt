@@ -12,7 +12,7 @@ use Rattle.wire.specs.declared.Value.{Value}
 use Rattle.form.specs.Syntax.{FieldInit}
 use Rattle.form.specs.Encode.{eachBytes, nameIdBytes, fieldInitBytes}
 use Rattle.emit.proofs.Sets.{sets-append}
-use Rattle.types.specs.Syntax.{StructField}
+use Rattle.typetable.specs.Syntax.{StructField}
 use Rattle.rewriting.specs.Rebuild.{fitted, named}
 use Rattle.parts.specs.Rows.{ValueAt, stands, RowAt}
 use Rattle.rebuild.specs.Written.{Writes, noField, NamesIn}

@@ -11,7 +11,7 @@ use Rattle.wire.specs.declared.ValueId.{ValueId}
 use Rattle.wire.specs.declared.TypeId.{TypeId}
 use Rattle.wire.specs.declared.Value.{Value}
 use Rattle.form.specs.Encode.{eachBytes, instructionBytes, nameIdBytes}
-use Rattle.types.specs.Syntax.{StructField}
+use Rattle.typetable.specs.Syntax.{StructField}
 use Rattle.eligibility.specs.Lookup.{Types, rowOf}
 use Rattle.rewriting.specs.Rebuild.{rebuildAt, clashes}
 use Rattle.rebuild.specs.declared.Rebuilt.{Rebuilt}

@@ -16,9 +16,9 @@ ghost use Rattle.wire.specs.Value.{valueBytes, unit};
 ghost use Rattle.wire.specs.WellFormed.{Bytes};
 ghost use Rattle.form.specs.Syntax.{InstructionKind};
 ghost use Rattle.form.specs.Encode.{eachBytes, valueIdBytes, fieldInitBytes, instructionBytes};
-ghost use Rattle.types.specs.Syntax.{StructField, MirType};
-ghost use Rattle.types.specs.Decode.{typeOf};
-ghost use Rattle.types.specs.Index.{TypesAt};
+ghost use Rattle.typetable.specs.Syntax.{StructField, MirType};
+ghost use Rattle.typetable.specs.Decode.{typeOf};
+ghost use Rattle.typetable.specs.Index.{TypesAt};
 ghost use Rattle.eligibility.specs.Lookup.{Types};
 ghost use Rattle.rewriting.specs.Rebuild.{plain, fitted, named, rebuildAt, clashes};
 ghost use Rattle.parts.specs.Rows.{ValueAt, RowAt};
@@ -250,7 +250,7 @@ pub fn put_rebuild(
     ensures { λ r. ⌜ r .to ≤ to + 1792 ⌝ }
     ensures { λ r. ⌜ ((most : ℕ) (τ : Types) (xs : List Value) → Bytes (now (s .entry)) → TypesAt most (now (s .entry)) (now (types .entry)) (τ .rows) → t .0 < length (τ .rows) → RowAt next (now (s .entry)) (now (pool .entry)) from xs → length xs ≡ have → have ≤ 16 → Rebuilds τ d xs t (now (out .entry)) (now (out .exit)) to r) ⌝ }
 {
-    let row = form::tail(s, types::type_place(types, t));
+    let row = form::tail(s, typetable::type_place(types, t));
     if array_clashes(row, have) {
         return Rebuilt {
             to: to,

@@ -4,7 +4,7 @@ use mathlib.Core.List.{List, [], _∷_}
 use mathlib.Core.Bool.{true, false}
 use Rattle.form.specs.Encode.{fieldBytes, instructionBytes, terminatorBytes}
 use Rattle.block.specs.Encode.{blockBytes}
-use Rattle.types.specs.Encode.{typeBytes, typesBytes}
+use Rattle.typetable.specs.Encode.{typeBytes, typesBytes}
 use Rattle.routine.specs.Encode.{encode}
 use Rattle.routine.proofs.Examples.{example}
 use Rattle.eligibility.specs.declared.Settings.{Settings}

@@ -10,7 +10,7 @@ use Rattle.wire.specs.Value.{unit}
 use Rattle.wire.specs.declared.ValueId.{ValueId}
 use Rattle.wire.specs.declared.TypeId.{TypeId}
 use Rattle.wire.specs.declared.Value.{Value}
-use Rattle.types.specs.Syntax.{StructField, MirType, Felt, Bool, U32, Tuple, Struct, FixedArray, Pointer, Function, Unit, Error, Unknown}
+use Rattle.typetable.specs.Syntax.{StructField, MirType, Felt, Bool, U32, Tuple, Struct, FixedArray, Pointer, Function, Unit, Error, Unknown}
 use Rattle.form.specs.Syntax.{FieldInit, Instruction, InstructionKind}
 use Rattle.eligibility.specs.Lookup.{Types, rowOf, recordedType, isAggregate}
 use Rattle.rewriting.specs.State.{AggStates, stateOf}

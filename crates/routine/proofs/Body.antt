@@ -23,8 +23,8 @@ use Rattle.form.specs.declared.Bounds.{Bounds}
 use Rattle.form.specs.declared.Part.{Part}
 use Rattle.block.specs.Decode.{marks}
 use Rattle.block.specs.declared.Mosts.{Mosts}
-use Rattle.types.specs.Syntax.{MirType}
-use Rattle.types.proofs.Fields.{map-bad}
+use Rattle.typetable.specs.Syntax.{MirType}
+use Rattle.typetable.proofs.Fields.{map-bad}
 use Rattle.routine.specs.Routine.{Routine}
 use Rattle.routine.specs.Decode.{mapOf, recordedOf, blocksOf, boundsOf, bodyOf, ended}
 use Rattle.routine.specs.Index.{RecordedAt, RecordedRead, ParametersRead, BlocksAt, BlocksRead, sizesFrom, BodyRead}

@@ -21,7 +21,7 @@ use Rattle.block.specs.declared.Mosts.{Mosts}
 use Rattle.block.specs.declared.BlockRead.{BlockRead}
 use Rattle.block.proofs.Sizes.{size-block}
 use Rattle.block.proofs.Blocks.{block-count}
-use Rattle.types.proofs.Fields.{map-bad}
+use Rattle.typetable.proofs.Fields.{map-bad}
 use Rattle.routine.specs.Decode.{blocksOf}
 use Rattle.routine.specs.Index.{noBlock, BlockAt, standing, BlocksAt, BlocksRead}
 use Rattle.routine.proofs.Laws.{map-id, no-value}

@@ -14,9 +14,9 @@ use Rattle.form.specs.Decode.{assignOf, unaryOf, binaryOf, returnsOf, callOf, c
 use Rattle.form.specs.Encode.{fieldBytes, instructionBytes, terminatorBytes}
 use Rattle.block.specs.Decode.{instructionsOf, blockOf}
 use Rattle.block.specs.Encode.{blockBytes}
-use Rattle.types.specs.Syntax.{MirType}
-use Rattle.types.specs.Encode.{typeBytes, typesBytes}
-use Rattle.types.specs.Decode.{typeOf, structOf, structFields, hasType, typeSeq, typesOf}
+use Rattle.typetable.specs.Syntax.{MirType}
+use Rattle.typetable.specs.Encode.{typeBytes, typesBytes}
+use Rattle.typetable.specs.Decode.{typeOf, structOf, structFields, hasType, typeSeq, typesOf}
 use Rattle.routine.specs.Routine.{Routine}
 use Rattle.routine.specs.Decode.{mosts, mapOf, recordedOf, blocksOf, sizesOf, bodyOf, routineOf, wholeOf}
 use Rattle.routine.specs.Encode.{encode}

@@ -16,7 +16,7 @@ use Rattle.wire.proofs.Inv.{both, image, and-inv, map-inv, checked-inv, number-
 use Rattle.form.specs.Decode.{blockIdOf}
 use Rattle.form.specs.Walk.{unit}
 use Rattle.block.specs.declared.Mosts.{Mosts}
-use Rattle.types.proofs.Fields.{map-bad}
+use Rattle.typetable.proofs.Fields.{map-bad}
 use Rattle.routine.specs.Decode.{Sizes, atMost, sizesOf}
 
 -- a count that was read is the u16 at the place, and at most its most

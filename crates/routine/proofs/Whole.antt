@@ -16,11 +16,11 @@ use Rattle.wire.proofs.Inv.{no-ok, both, behind, image, later-inv, and-inv, map
 use Rattle.form.specs.Walk.{asPart, unit}
 use Rattle.form.specs.declared.Part.{Part}
 use Rattle.block.specs.declared.Mosts.{Mosts}
-use Rattle.types.specs.Syntax.{MirType}
-use Rattle.types.specs.Decode.{hasType, typeOf, typeSeq, typesOf}
-use Rattle.types.specs.Index.{TypesAt, TypesRead}
-use Rattle.types.proofs.Sizes.{size-types}
-use Rattle.types.proofs.Fields.{map-bad}
+use Rattle.typetable.specs.Syntax.{MirType}
+use Rattle.typetable.specs.Decode.{hasType, typeOf, typeSeq, typesOf}
+use Rattle.typetable.specs.Index.{TypesAt, TypesRead}
+use Rattle.typetable.proofs.Sizes.{size-types}
+use Rattle.typetable.proofs.Fields.{map-bad}
 use Rattle.routine.specs.Routine.{Routine}
 use Rattle.routine.specs.Decode.{Sizes, sizesOf, boundsOf, bodyOf, routineOf, ended, wholeOf}
 use Rattle.routine.specs.Index.{asSizes, asChecked, BodyRead, RoutineRead, verdict}

@@ -17,8 +17,8 @@ use Rattle.form.specs.Decode.{typeIdOf, blockIdOf, definedsOf, bit}
 use Rattle.form.specs.declared.Bounds.{Bounds}
 use Rattle.block.specs.Decode.{marks, blockMarks, blockOf}
 use Rattle.block.specs.declared.Mosts.{Mosts}
-use Rattle.types.specs.Syntax.{MirType}
-use Rattle.types.specs.Decode.{typesOf}
+use Rattle.typetable.specs.Syntax.{MirType}
+use Rattle.typetable.specs.Decode.{typesOf}
 use Rattle.routine.specs.Routine.{Routine}
 
 -- "Most: 64 types, next value 256, 32 blocks, 128 instructions in a block, 256 in all, 16 in any list, 8 projections"

@@ -7,7 +7,7 @@ use Rattle.wire.specs.Number.{toBytes}
 use Rattle.wire.specs.declared.TypeId.{TypeId}
 use Rattle.form.specs.Encode.{valueIdBytes, blockIdBytes, typeIdBytes, eachBytes, listBytes, optionBytes, stands}
 use Rattle.block.specs.Encode.{blockBytes}
-use Rattle.types.specs.Encode.{typesBytes}
+use Rattle.typetable.specs.Encode.{typesBytes}
 use Rattle.routine.specs.Routine.{Routine}
 
 -- the number whose bit v stands where value v has a recorded type

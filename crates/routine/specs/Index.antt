@@ -17,8 +17,8 @@ use Rattle.routine.specs.Decode.{Sizes, hasRecorded, recordedTypeOf, rec
 use Rattle.form.specs.declared.Bounds.{Bounds}
 use Rattle.block.specs.Decode.{marks, blockOf}
 use Rattle.block.specs.declared.Mosts.{Mosts}
-use Rattle.types.specs.Syntax.{MirType}
-use Rattle.types.specs.Index.{TypesAt}
+use Rattle.typetable.specs.Syntax.{MirType}
+use Rattle.typetable.specs.Index.{TypesAt}
 use Rattle.routine.specs.declared.SizesRead.{SizesRead}
 use Rattle.routine.specs.declared.Layout.{Layout}
 use Rattle.routine.specs.declared.Checked.{Checked}

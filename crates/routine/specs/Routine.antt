@@ -6,7 +6,7 @@ use Rattle.wire.specs.declared.ValueId.{ValueId}
 use Rattle.wire.specs.declared.BlockId.{BlockId}
 use Rattle.wire.specs.declared.TypeId.{TypeId}
 use Rattle.form.specs.Syntax.{Block}
-use Rattle.types.specs.Syntax.{MirType}
+use Rattle.typetable.specs.Syntax.{MirType}
 
 pub record Routine : Type 0 where
   pub types : List MirType

@@ -10,7 +10,7 @@ use Rattle.wire.specs.declared.TypeId.{TypeId}
 use Rattle.wire.specs.declared.NameId.{NameId}
 use Rattle.wire.specs.declared.Literal.{Literal}
 use Rattle.wire.specs.declared.Value.{Value}
-use Rattle.types.specs.Syntax.{StructField, MirType, Felt, Bool, U32, Tuple, Struct, FixedArray, Pointer, Function, Unit, Error, Unknown}
+use Rattle.typetable.specs.Syntax.{StructField, MirType, Felt, Bool, U32, Tuple, Struct, FixedArray, Pointer, Function, Unit, Error, Unknown}
 use Rattle.form.specs.Syntax.{Projection, Index, Field, FieldInit}
 use Rattle.form.specs.Syntax as S
 use Rattle.eligibility.specs.Lookup.{Types, rowOf, recordedType, isTuple, isArray, fieldIndex}

@@ -71,7 +71,7 @@ pub fn reason(
     if first != 0 {
         return first;
     }
-    if !unread::any_marked(dropped) {
+    if !table::any(dropped) {
         return 0;
     }
     if !ordering::no_deep_store(s, b, places, starts, b.blocks, dropped) {

@@ -9,11 +9,11 @@ use lib.ListN.{length, getElem?}
 use Rattle.wire.specs.declared.ValueId.{ValueId}
 use Rattle.wire.specs.declared.TypeId.{TypeId}
 use Rattle.wire.specs.declared.Value.{Value}
-use Rattle.types.specs.Syntax.{MirType, StructField}
+use Rattle.typetable.specs.Syntax.{MirType, StructField}
 use Rattle.form.specs.Syntax.{Meta, Instruction, InstructionKind, Terminator, Assign, MakeTuple, MakeStruct, MakeFixedArray, FieldInit}
 use Rattle.form.specs.Reads.{operands, dests, initValues}
 use Rattle.eligibility.specs.Lookup.{Types, rowOf, recordedType, valueRow, shape, isStruct, structFieldsOf}
-use Rattle.types.specs.Syntax as Y
+use Rattle.typetable.specs.Syntax as Y
 use Rattle.eligibility.specs.Climb.{given, fromStructFields, orElse, structRow, structParts}
 use Rattle.rewriting.specs.State.{AggStates, stateOf, onSome}
 use Rattle.rewriting.specs.Rebuild.{aggregateType}

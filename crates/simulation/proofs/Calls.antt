@@ -10,7 +10,7 @@ use lib.ListN.{length}
 use Rattle.wire.specs.declared.ValueId.{ValueId}
 use Rattle.wire.specs.declared.TypeId.{TypeId}
 use Rattle.wire.specs.declared.Value.{Value}
-use Rattle.types.specs.Syntax.{MirType}
+use Rattle.typetable.specs.Syntax.{MirType}
 use Rattle.form.specs.Syntax.{Meta, Instruction, Terminator, Call}
 use Rattle.form.specs.Reads.{operands, reads}
 use Rattle.eligibility.specs.Lookup.{Types, rowOf, isAggregate}

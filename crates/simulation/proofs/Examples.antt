@@ -8,7 +8,7 @@ use Rattle.wire.specs.Value.{integer}
 use Rattle.wire.specs.declared.ValueId.{ValueId}
 use Rattle.wire.specs.declared.TypeId.{TypeId}
 use Rattle.wire.specs.declared.Value.{Value}
-use Rattle.types.specs.Syntax.{MirType}
+use Rattle.typetable.specs.Syntax.{MirType}
 use Rattle.form.specs.Syntax.{Projection, Instruction, InstructionKind, Terminator}
 use Rattle.routine.specs.Routine.{Routine}
 use Rattle.routine.proofs.Examples.{example, noMeta}

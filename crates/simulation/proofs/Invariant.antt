@@ -8,7 +8,7 @@ use lib.Dec.{T, ltb}
 use Rattle.wire.specs.declared.ValueId.{ValueId}
 use Rattle.wire.specs.declared.TypeId.{TypeId}
 use Rattle.wire.specs.declared.Value.{Value}
-use Rattle.types.specs.Syntax.{MirType}
+use Rattle.typetable.specs.Syntax.{MirType}
 use Rattle.form.specs.Syntax.{Instruction}
 use Rattle.form.specs.Reads.{operands, dests}
 use Rattle.eligibility.specs.declared.Settings.{Settings}

@@ -9,11 +9,11 @@ use lib.ListN.{length, getElem?}
 use Rattle.wire.specs.declared.ValueId.{ValueId}
 use Rattle.wire.specs.declared.TypeId.{TypeId}
 use Rattle.wire.specs.declared.Value.{Value}
-use Rattle.types.specs.Syntax.{MirType}
+use Rattle.typetable.specs.Syntax.{MirType}
 use Rattle.form.specs.Syntax.{Meta, Place, Instruction, Terminator, Load, Projection, Index, Field, Tuple}
 use Rattle.form.specs.Reads.{operand, operands, indices}
 use Rattle.eligibility.specs.Lookup.{Types, rowOf, recordedType, valueRow, shape, isTuple, isArray, structFieldsOf, position, fieldIndex, asConstInteger}
-use Rattle.types.specs.Syntax as Y
+use Rattle.typetable.specs.Syntax as Y
 use Rattle.rewriting.specs.State.{AggStates, stateOf, onSome, stepIndex, stepPart, chain, firstInteger}
 use Rattle.rewriting.specs.Rebuild.{aggregateType}
 use Rattle.rewriting.specs.Step.{handOn, stepLoaded, stepLoad, stepKind}

@@ -9,7 +9,7 @@ use lib.ListN.{length}
 use Rattle.wire.specs.Value.{integer}
 use Rattle.wire.specs.declared.TypeId.{TypeId}
 use Rattle.wire.specs.declared.Value.{Value}
-use Rattle.types.specs.Syntax.{MirType}
+use Rattle.typetable.specs.Syntax.{MirType}
 use Rattle.form.specs.Syntax.{Projection, Instruction, InstructionKind, Terminator, Place}
 use Rattle.routine.specs.Routine.{Routine}
 use Rattle.machine.specs.Values.{Val, scalar, aggregate, ends, then}

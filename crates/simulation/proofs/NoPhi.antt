@@ -9,12 +9,12 @@ use lib.ListN.{length, getElem?}
 use Rattle.wire.specs.declared.ValueId.{ValueId}
 use Rattle.wire.specs.declared.TypeId.{TypeId}
 use Rattle.wire.specs.declared.Value.{Value}
-use Rattle.types.specs.Syntax.{MirType}
+use Rattle.typetable.specs.Syntax.{MirType}
 use Rattle.form.specs.Syntax.{Meta, Place, Instruction, InstructionKind, Terminator, Assign, UnaryOp, BinaryOp, Call, Cast, Load, Store, Debug, Nop, Phi}
 use Rattle.form.specs.Syntax.{MakeTuple, ExtractTupleElement, MakeStruct, ExtractStructField, InsertField, InsertTuple, MakeFixedArray, AssertEq, HeapAllocCells}
 use Rattle.eligibility.specs.declared.Settings.{Settings}
 use Rattle.eligibility.specs.Lookup.{Types, rowOf, fieldIndex}
-use Rattle.types.specs.Syntax as Y
+use Rattle.typetable.specs.Syntax as Y
 use Rattle.form.specs.Syntax.{Jump, If, BranchCmp, Return, Unreachable}
 use Rattle.form.specs.Reads.{isPhi}
 use Rattle.eligibility.specs.Climb.{structParts}

@@ -9,7 +9,7 @@ use lib.ListN.{length, getElem?}
 use Rattle.wire.specs.declared.ValueId.{ValueId}
 use Rattle.wire.specs.declared.TypeId.{TypeId}
 use Rattle.wire.specs.declared.Value.{Value}
-use Rattle.types.specs.Syntax.{MirType}
+use Rattle.typetable.specs.Syntax.{MirType}
 use Rattle.form.specs.Syntax.{Meta, Instruction, Terminator, InsertField, InsertTuple}
 use Rattle.form.specs.Reads.{operand, operands, dests}
 use Rattle.eligibility.specs.Lookup.{Types, rowOf, recordedType, valueRow, fieldIndex}

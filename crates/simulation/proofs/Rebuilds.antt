@@ -10,11 +10,11 @@ use lib.ListN.{length}
 use Rattle.wire.specs.declared.ValueId.{ValueId}
 use Rattle.wire.specs.declared.TypeId.{TypeId}
 use Rattle.wire.specs.declared.Value.{Value}
-use Rattle.types.specs.Syntax.{MirType, StructField}
+use Rattle.typetable.specs.Syntax.{MirType, StructField}
 use Rattle.form.specs.Syntax.{Instruction, Terminator, MakeTuple, MakeStruct, MakeFixedArray, FieldInit}
 use Rattle.form.specs.Reads.{operand, operands, initValues}
 use Rattle.eligibility.specs.Lookup.{Types, rowOf, recordedType, valueRow, structFieldsOf, isStruct, shape}
-use Rattle.types.specs.Syntax as Y
+use Rattle.typetable.specs.Syntax as Y
 use Rattle.eligibility.specs.Climb.{given, consPart, fromStructFields, orElse, structRow, structParts}
 use Rattle.rewriting.specs.State.{AggStates, stateOf}
 use Rattle.rewriting.specs.Rebuild.{plain, fitted, named, rebuildAt, Rebuilt, keepValue, rebuildValue, oneValue, Wanted, rebuildAll}

@@ -9,7 +9,7 @@ use lib.ListN.{length, getElem?}
 use Rattle.wire.specs.declared.ValueId.{ValueId}
 use Rattle.wire.specs.declared.TypeId.{TypeId}
 use Rattle.wire.specs.declared.Value.{Value}
-use Rattle.types.specs.Syntax.{MirType}
+use Rattle.typetable.specs.Syntax.{MirType}
 use Rattle.form.specs.Syntax.{Meta, Place, Instruction, Terminator, Store, Projection, Index, Field, Tuple}
 use Rattle.form.specs.Reads.{operand, operands, indices, reads}
 use Rattle.eligibility.specs.Lookup.{Types, rowOf, recordedType, valueRow, isArray, isAggregate, asConstInteger, shape}

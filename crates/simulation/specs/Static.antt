@@ -8,7 +8,7 @@ use mathlib.Core.Bool as B
 use lib.Dec.{T, eqb, ltb}
 use lib.ListN.{length}
 use Rattle.wire.specs.declared.NameId.{NameId}
-use Rattle.types.specs.Syntax.{StructField}
+use Rattle.typetable.specs.Syntax.{StructField}
 use Rattle.form.specs.Syntax.{Instruction}
 use Rattle.form.specs.Reads.{reads, dests, isPhi, terminatorReads}
 use Rattle.routine.specs.Routine.{Routine}

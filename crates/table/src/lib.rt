@@ -2,6 +2,7 @@
 // (wire::byte_at reads a table of bytes.)
 ghost use mathlib.Core.Path.{_≡_};
 ghost use mathlib.Core.Bool.{false};
+ghost use Prim.Native.Nat.{ℕ};
 ghost use lib.ListN.{getD, set};
 
 // The number at a place.
@@ -59,4 +60,19 @@ pub fn set_byte(l: &mut [u8], i: usize, b: u8)
     if i < l.len() {
         l[i] = b;
     }
+}
+
+// Whether a flag stands.
+pub fn any(l: &[bool]) -> bool
+    ensures { λ r. ⌜ (r ≡ false → (v : ℕ) → getD (now (l .entry)) v false ≡ false) ⌝ }
+{
+    let mut found = false;
+    let mut i = 0;
+    while i < l.len() {
+        if l[i] {
+            found = true;
+        }
+        i = i + 1;
+    }
+    found
 }

@@ -18,9 +18,9 @@ use Rattle.wire.specs.declared.TypeId.{TypeId}
 use Rattle.wire.proofs.Laws.{from-16, from-32}
 use Rattle.wire.proofs.Inv.{no-ok, behind, image, later-inv, map-inv, number-inv, below-inv, tagged-inv}
 use Rattle.form.specs.Decode.{typeIdOf, listOf}
-use Rattle.types.specs.Syntax.{MirType}
-use Rattle.types.specs.Decode.{hasName, structFields, structOf, typeKinds, typeOf}
-use Rattle.types.specs.Index.{TypesAt}
+use Rattle.typetable.specs.Syntax.{MirType}
+use Rattle.typetable.specs.Decode.{hasName, structFields, structOf, typeKinds, typeOf}
+use Rattle.typetable.specs.Index.{TypesAt}
 use Rattle.routine.specs.Index.{recordedNumber}
 use Rattle.lookup.specs.Fields.{after}
 use Rattle.lookup.proofs.Places.{Stand, Field, then, last, made, alone, takes-number, takes-map, takes-checked, fixed, Listed, empty, _&_, count, list}

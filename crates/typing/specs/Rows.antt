@@ -8,7 +8,7 @@ use lib.ListN.{getD}
 use lib.Dec.{eqb, ltb}
 use Rattle.wire.specs.Number.{at16, at32}
 use Rattle.wire.specs.declared.TypeId.{TypeId}
-use Rattle.types.specs.Syntax.{MirType}
+use Rattle.typetable.specs.Syntax.{MirType}
 use Rattle.routine.specs.Index.{recordedNumber}
 use Rattle.eligibility.specs.Lookup.{shape}
 use Rattle.shelf.specs.Parts.{partType, partCount, counts}

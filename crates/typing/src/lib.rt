@@ -16,7 +16,7 @@ ghost use Rattle.wire.specs.WellFormed.{FitValue};
 ghost use Rattle.wire.specs.declared.TypeId.{TypeId as AnyType};
 ghost use Rattle.wire.specs.declared.Value.{Value as AnyValue};
 ghost use Rattle.form.specs.Syntax.{Projection};
-ghost use Rattle.types.specs.Index.{TypesAt};
+ghost use Rattle.typetable.specs.Index.{TypesAt};
 ghost use Rattle.routine.specs.Index.{recordedNumber, RecordedAt};
 ghost use Rattle.lookup.specs.Fields.{asStep};
 ghost use Rattle.eligibility.specs.Lookup.{Types, rowOf, recordedType, shape};
@@ -36,7 +36,7 @@ fn row_place(s: &[u8], b: Bounds, types: &[usize], number: u16) -> usize
     if b.types < number {
         return s.len();
     }
-    types::type_place(types, TypeId(number - 1))
+    typetable::type_place(types, TypeId(number - 1))
 }
 
 // The kind of a row; 11 where there is no row.

@@ -1,4 +1,3 @@
 pub mod Buffer
 pub mod Walk
 pub mod Blocks
-pub mod Marks

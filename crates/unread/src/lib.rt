@@ -27,21 +27,6 @@ pub enum Walked {
     Reads,
 }
 
-// Whether a mark is set.
-pub fn any_marked(marks: &[bool]) -> bool
-    ensures { λ r. ⌜ (r ≡ false → (v : ℕ) → getD (now (marks .entry)) v false ≡ false) ⌝ }
-{
-    let mut any = false;
-    let mut i = 0;
-    while i < marks.len() {
-        if marks[i] {
-            any = true;
-        }
-        i = i + 1;
-    }
-    any
-}
-
 // None of the first `n` values of a buffer is dropped.
 fn clean_buffer(buffer: &[u16], n: usize, dropped: &[bool]) -> bool
     ensures { λ r. ⌜ ((vs : List ValueId) → Buffered (now (buffer .entry)) n vs → r ≡ unmarked (now (dropped .entry)) vs) ⌝ }

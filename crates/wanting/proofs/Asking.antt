@@ -15,7 +15,7 @@ use Rattle.wire.specs.declared.TypeId.{TypeId}
 use Rattle.wire.specs.declared.Literal.{Literal}
 use Rattle.wire.specs.declared.Value.{Value}
 use Rattle.form.specs.declared.Bounds.{Bounds}
-use Rattle.types.specs.Syntax.{MirType, Felt, Bool, U32, Tuple, Struct, FixedArray, Pointer, Function, Unit, Error, Unknown}
+use Rattle.typetable.specs.Syntax.{MirType, Felt, Bool, U32, Tuple, Struct, FixedArray, Pointer, Function, Unit, Error, Unknown}
 use Rattle.routine.specs.declared.Recorded.{Recorded}
 use Rattle.routine.specs.Index.{recordedNumber, recordedFrom, asRecorded}
 use Rattle.eligibility.specs.Lookup.{Types, rowOf, recordedType, shape, isTuple, isStruct, isArray, isAggregate}

@@ -13,7 +13,7 @@ ghost use Prim.Native.Nat.{ℕ, _*_, _<_};
 ghost use lib.ListN.{length};
 ghost use lib.Dec.{ltb};
 ghost use Rattle.wire.specs.Number.{at16};
-ghost use Rattle.types.specs.Index.{TypesAt};
+ghost use Rattle.typetable.specs.Index.{TypesAt};
 ghost use Rattle.routine.specs.Index.{asRecorded};
 ghost use Rattle.eligibility.specs.Lookup.{Types};
 ghost use Rattle.eligibility.specs.Tables.{Known};

@@ -19,8 +19,8 @@ use Rattle.form.specs.Encode.{typeIdBytes, eachBytes, optionBytes, stands}
 use Rattle.canon.specs.WellFormed.{Each, FitOption}
 use Rattle.canon.proofs.Back.{Back, then, last, alone, tested, byte, sequence}
 use Rattle.canon.proofs.BackFields.{type}
-use Rattle.types.specs.WellFormed.{FitPart}
-use Rattle.types.proofs.Canon.{only}
+use Rattle.typetable.specs.WellFormed.{FitPart}
+use Rattle.typetable.proofs.Canon.{only}
 use Rattle.routine.specs.Decode.{lastByteOf, mapOf, hasRecorded, recordedTypeOf, recordedOf}
 use Rattle.routine.specs.Encode.{mapNumber}
 use Rattle.whole.proofs.Map.{Small, byte-wide, half, map-bit}

@@ -19,7 +19,7 @@ use Rattle.block.specs.Decode.{marks}
 use Rattle.block.specs.Encode.{blockBytes}
 use Rattle.block.specs.WellFormed.{WideMosts}
 use Rattle.block.specs.declared.Mosts.{Mosts}
-use Rattle.types.proofs.RoundTrip.{types-back}
+use Rattle.typetable.proofs.RoundTrip.{types-back}
 use Rattle.routine.specs.Routine.{Routine}
 use Rattle.routine.specs.Decode.{atMost, Sizes, sizesOf, bodyOf, routineOf, wholeOf}
 use Rattle.routine.specs.Encode.{mapNumber, encode}

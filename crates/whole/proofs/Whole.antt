@@ -26,10 +26,10 @@ use Rattle.block.specs.Decode.{marks}
 use Rattle.block.specs.WellFormed.{WideMosts}
 use Rattle.block.specs.declared.Mosts.{Mosts}
 use Rattle.block.proofs.Canon.{blockMost}
-use Rattle.types.specs.Syntax.{MirType}
-use Rattle.types.specs.Encode.{typesBytes}
-use Rattle.types.specs.WellFormed.{FitPart, FitTypes}
-use Rattle.types.proofs.Canon.{only, types-exact}
+use Rattle.typetable.specs.Syntax.{MirType}
+use Rattle.typetable.specs.Encode.{typesBytes}
+use Rattle.typetable.specs.WellFormed.{FitPart, FitTypes}
+use Rattle.typetable.proofs.Canon.{only, types-exact}
 use Rattle.routine.specs.Routine.{Routine}
 use Rattle.routine.specs.Decode.{atMost, lastByteOf, mapOf, hasRecorded, recordedTypeOf, recordedOf, boundsOf, Sizes, sizesOf, bodyOf, routineOf, ended, wholeOf}
 use Rattle.routine.specs.Encode.{mapNumber, encode}

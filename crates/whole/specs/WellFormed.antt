@@ -10,7 +10,7 @@ use Rattle.canon.specs.WellFormed.{Each, FitOption, FitType, FitBlock, FitNews}
 use Rattle.block.specs.Decode.{marks, blockMarks}
 use Rattle.block.specs.WellFormed.{FitCode}
 use Rattle.block.specs.declared.Mosts.{Mosts}
-use Rattle.types.specs.WellFormed.{FitTypes}
+use Rattle.typetable.specs.WellFormed.{FitTypes}
 use Rattle.routine.specs.Routine.{Routine}
 use Rattle.routine.specs.Decode.{boundsOf}
 

@@ -9,7 +9,7 @@ use native.Mathlib.Omega.{arith}
 use lib.ListN.{length, getD}
 use Rattle.wire.specs.declared.TypeId.{TypeId}
 use Rattle.wire.specs.declared.NameId.{NameId}
-use Rattle.types.specs.Syntax.{StructField}
+use Rattle.typetable.specs.Syntax.{StructField}
 use Rattle.form.specs.Syntax.{FieldInit}
 use Rattle.parts.specs.Rows.{Inits, Names, InitAt, noField}
 use Rattle.routine.specs.Index.{recordedNumber}

@@ -4,11 +4,11 @@ use Rattle.lowering.proofs.Untouched.{same-chosen}
 use Rattle.lowering.proofs.lower_chosen.Statement.{statement}
 use Rattle.lowering.proofs.lower_chosen.Tie as tie
 
-any-marked-requires : tie.Need-any-marked-requires
-any-marked-requires c κs = search needs
+any-requires : tie.Need-any-requires
+any-requires c κs = search needs
 
 lower-same-requires : tie.Need-lower-same-requires
-lower-same-requires c κs = same-chosen (c .before .before .before .before .before .before .before .before .before .before .before .before .pre) (c .before .before .any-marked .ensures (not-true _ (c .before .if1 .taken)))
+lower-same-requires c κs = same-chosen (c .before .before .before .before .before .before .before .before .before .before .before .before .pre) (c .before .before .any .ensures (not-true _ (c .before .if1 .taken)))
 
 same-length : tie.Need-same-length
 same-length c = search needs
@@ -26,4 +26,4 @@ returns-2 : tie.Need-returns-2
 returns-2 c = search needs
 
 pub lower-chosen-spec : {M : Type 1} → statement M
-lower-chosen-spec = tie.close (tie.spec any-marked-requires lower-same-requires same-length returns lower-folded-requires same-length-2 returns-2)
+lower-chosen-spec = tie.close (tie.spec any-requires lower-same-requires same-length returns lower-folded-requires same-length-2 returns-2)

@@ -11,11 +11,11 @@ input-reason-requires c κs = search needs
 returns : tie.Need-returns
 returns c = λ x w h. reason-first x w _ (c .before .input-reason .ensures x (h .input)) (c .if1 .taken)
 
-any-marked-requires : tie.Need-any-marked-requires
-any-marked-requires c κs = search needs
+any-requires : tie.Need-any-requires
+any-requires c κs = search needs
 
 returns-2 : tie.Need-returns-2
-returns-2 c = λ x w h. reason-undropped x w 0 (sym (c .before .before .if1 .left) ∙ c .before .before .before .input-reason .ensures x (h .input)) (λ v. sym (h .marked v) ∙ c .before .any-marked .ensures (not-true _ (c .if2 .taken)) v)
+returns-2 c = λ x w h. reason-undropped x w 0 (sym (c .before .before .if1 .left) ∙ c .before .before .before .input-reason .ensures x (h .input)) (λ v. sym (h .marked v) ∙ c .before .any .ensures (not-true _ (c .if2 .taken)) v)
 
 no-deep-store-requires : tie.Need-no-deep-store-requires
 no-deep-store-requires c κs = search needs
@@ -41,7 +41,7 @@ reason-spec =
     (tie.spec
     input-reason-requires
     returns
-    any-marked-requires
+    any-requires
     returns-2
     no-deep-store-requires
     returns-3

@@ -1,0 +1,34 @@
+-- Where the rows of a type table stand, as the code finds them again.
+use Prim.Native.Nat.{ℕ, zero, suc, _+_, _-_, _*_, _≤_, _<_}
+use mathlib.Core.Path.{_≡_}
+use mathlib.Core.List.{List, [], _∷_}
+use lib.ListN.{length, getD, drop}
+use Rattle.wire.specs.Parse.{Parse, ok, andThen, mapParse}
+use Rattle.wire.specs.Number.{at16}
+use Rattle.wire.specs.declared.NameId.{NameId}
+use Rattle.wire.specs.declared.TypeId.{TypeId}
+use Rattle.form.specs.Decode.{typeIdOf}
+use Rattle.form.specs.Walk.{unit}
+use Rattle.typetable.specs.Syntax.{MirType}
+use Rattle.typetable.specs.Decode.{newNameOf, typeOf, typesOf}
+
+-- the names of the first k fields that begin at `from`, four bytes each, the last one first
+abbrev pub namesAt : List ℕ → ℕ → ℕ → List NameId
+namesAt s from zero = []
+namesAt s from (suc k) = record { 0 = at16 s (from + 4 * k) } ∷ namesAt s from k
+
+-- a struct's field, of which only its type is kept
+abbrev pub fieldOf : ℕ → List NameId → List ℕ → Parse TypeId
+fieldOf own names s = andThen s (newNameOf names s) (λ n t. typeIdOf own t)
+
+-- type k stands from place k of `starts` to place k + 1
+pub record TypesAt (most : ℕ) (s starts : List ℕ) (ts : List MirType) : Type 0 where
+  pub each : (k : ℕ) → k < length ts → typeOf most k (drop (getD starts k 0) s) ≡ ok (getD ts k MirType.Unit) (getD starts (suc k) 0 - getD starts k 0)
+  pub rises : (k : ℕ) → k < length ts → getD starts k 0 ≤ getD starts (suc k) 0
+  pub within : (k : ℕ) → k ≤ length ts → getD starts k 0 ≤ length s
+
+-- what reading the table gives: the definition's answer and, where that is a table, its places
+pub record TypesRead (mostTypes most : ℕ) (s : List ℕ) (answer : Parse (Unit {0})) (before starts : List ℕ) : Type 0 where
+  pub answers : answer ≡ mapParse unit (typesOf mostTypes most s)
+  pub long : length starts ≡ length before
+  pub places : (ts : List MirType) (n : ℕ) → typesOf mostTypes most s ≡ ok ts n → TypesAt most s starts ts

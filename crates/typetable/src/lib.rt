@@ -1,0 +1,241 @@
+// The type table of a routine.
+use form::Bounds;
+use form::Part;
+use form::Scan;
+use wire::Cause;
+use wire::Read16;
+ghost use mathlib.Core.Path.{_≡_};
+ghost use mathlib.Core.List.{List, [], _∷_};
+ghost use mathlib.Core.Bool.{Bool};
+ghost use Prim.Native.Nat.{ℕ, _+_, _-_, _*_, _≤_, _<_};
+ghost use lib.ListN.{length, getD, take, drop};
+ghost use Rattle.wire.specs.Parse.{Parse, ok, andThen, mapParse, later};
+ghost use Rattle.wire.specs.WellFormed.{Bytes};
+ghost use Rattle.form.specs.Decode.{typeIdOf};
+ghost use Rattle.form.specs.Walk.{asScan, asPart, unit};
+ghost use Rattle.typetable.specs.Syntax.{MirType};
+ghost use Rattle.typetable.specs.Decode.{hasName, newNameOf, structFields, structOf, typeOf, sameBytes, hasType, typesOf};
+ghost use Rattle.typetable.specs.Index.{namesAt, fieldOf, TypesAt, TypesRead};
+
+// The classes of each kind's fields (see rows::then_row), in `MirType` order. A Struct has no row: its names differ.
+pub const TYPE_ROWS: [u32; 11] = [0x0, 0x0, 0x0, 0xb, 0x0, 0x53, 0x3, 0x3b, 0x0, 0x0, 0x0];
+
+// The name stands among the first `i` of the fields that begin at `from`.
+fn name_before(s: &[u8], from: usize, i: u8, x: u16) -> bool
+    requires { ⌜ from + 4 * i ≤ length (now s) ⌝ }
+    ensures { λ r. ⌜ r ≡ hasName (record { 0 = x }) (namesAt (now (s .entry)) from i) ⌝ }
+{
+    let mut j = i;
+    while 0 < j {
+        j = j - 1;
+        let at = from + 4 * (j as usize);
+        if wire::u16_at(s, at) == x {
+            return true;
+        }
+    }
+    false
+}
+
+// Field `i` of the fields that begin at `from`: a new name, then a type below the struct's own number.
+fn struct_field(s: &[u8], from: usize, i: u8, own: u16) -> Part
+    requires { ⌜ from + 4 * i ≤ length (now s) ⌝ }
+    ensures { λ r. ⌜ asPart r ≡ later (from + 4 * i) (mapParse unit (fieldOf own (namesAt (now (s .entry)) from i) (drop (from + 4 * i) (now (s .entry))))) ⌝ }
+{
+    let at = from + 4 * (i as usize);
+    match wire::read_u16(&s[at..]) {
+        Read16::Refused(c, o) => Part::Refused(c, at + o),
+        Read16::Got(x, _) => {
+            if name_before(s, from, i, x) {
+                return Part::Refused(Cause::Repeated, at);
+            }
+            let behind = at + 2;
+            match wire::read_u16(&s[behind..]) {
+                Read16::Refused(c, o) => Part::Refused(c, behind + o),
+                Read16::Got(t, n) => {
+                    if t < own {
+                        Part::Used(behind + n)
+                    } else {
+                        Part::Refused(Cause::OutOfRange, behind)
+                    }
+                }
+            }
+        }
+    }
+}
+
+fn struct_fields(s: &[u8], from: usize, count: u8, own: u16) -> Part
+    requires { ⌜ from ≤ length (now s) ⌝ }
+    ensures { λ r. ⌜ asPart r ≡ later from (mapParse unit (structFields own [] count (drop from (now (s .entry))))) ⌝ }
+{
+    let mut at = from;
+    let mut i: u8 = 0;
+    while i < count {
+        match struct_field(s, from, i, own) {
+            Part::Refused(c, o) => {
+                return Part::Refused(c, o);
+            }
+            Part::Used(n) => {
+                at = n;
+            }
+        }
+        i = i + 1;
+    }
+    Part::Used(at)
+}
+
+// A Struct, from its kind on.
+fn struct_type(s: &[u8], most: u8, own: u16) -> Part
+    requires { ⌜ 1 ≤ length (now s) ⌝ }
+    ensures { λ r. ⌜ asPart r ≡ later 1 (mapParse unit (structOf most own (drop 1 (now (s .entry))))) ⌝ }
+{
+    match wire::read_u16(&s[1..]) {
+        Read16::Refused(c, o) => Part::Refused(c, 1 + o),
+        Read16::Got(_, _) => {
+            if s.len() <= 3 {
+                return Part::Refused(Cause::Truncated, 3);
+            }
+            let count = s[3];
+            if most < count {
+                return Part::Refused(Cause::TooMany, 3);
+            }
+            struct_fields(s, 4, count, own)
+        }
+    }
+}
+
+fn part_of(p: Scan) -> Part
+    ensures { λ r. ⌜ ((seen : List Bool) (buffer : List ℕ) → asPart r ≡ mapParse unit (asScan p seen buffer)) ⌝ }
+{
+    match p {
+        Scan::Used(at, _, _) => Part::Used(at),
+        Scan::Refused(c, o) => Part::Refused(c, o),
+    }
+}
+
+// A type, from its kind on. Its parts stay below its own number.
+pub fn read_type(s: &[u8], most: u8, own: u16) -> Part
+    ensures { λ r. ⌜ asPart r ≡ mapParse unit (typeOf most own (now (s .entry))) ⌝ }
+{
+    if s.len() < 1 {
+        return Part::Refused(Cause::Truncated, 0);
+    }
+    let kind = s[0];
+    if 11 <= kind {
+        return Part::Refused(Cause::Undefined, 0);
+    }
+    if kind == 4 {
+        return struct_type(s, most, own);
+    }
+    let b = Bounds {
+        types: own,
+        next: 0,
+        blocks: 0,
+        list: most,
+        projections: 0,
+    };
+    let mut seen: [bool; 0] = [false; 0];
+    let mut reads: [u16; 0] = [0; 0];
+    let k = kind as usize;
+    let p = rows::then_row(
+        s,
+        Scan::Used(1, 0, false),
+        TYPE_ROWS[k],
+        0,
+        b,
+        &mut seen,
+        &mut reads,
+    );
+    part_of(p)
+}
+
+fn same_bytes(a: &[u8], b: &[u8]) -> bool
+    ensures { λ r. ⌜ r ≡ sameBytes (now (a .entry)) (now (b .entry)) ⌝ }
+{
+    if a.len() != b.len() {
+        return false;
+    }
+    let mut i = 0;
+    while i < a.len() {
+        if a[i] != b[i] {
+            return false;
+        }
+        i = i + 1;
+    }
+    true
+}
+
+// The bytes from `a` to `e`; none where these are no place and its end.
+fn between(s: &[u8], a: usize, e: usize) -> &[u8]
+    ensures { λ r. ⌜ (a ≤ e → e ≤ length (now (s .entry)) → now r ≡ take (e - a) (drop a (now (s .entry)))) ⌝ }
+{
+    let n = s.len();
+    if e < a {
+        return &s[n..];
+    }
+    if n < e {
+        return &s[n..];
+    }
+    &s[a..e]
+}
+
+// One of the `k` types before has the bytes from `at` to `end`.
+fn type_before(s: &[u8], starts: &[usize], k: u16, at: usize, end: usize) -> bool
+    requires { ⌜ (k < length (now starts)) × (at ≤ end) × (end ≤ length (now s)) ⌝ }
+    ensures { λ r. ⌜ ((most own : ℕ) (ts : List MirType) (t : MirType) → Bytes (now (s .entry)) → length ts ≡ k → TypesAt most (now (s .entry)) (now (starts .entry)) ts → typeOf most own (drop at (now (s .entry))) ≡ ok t (end - at) → r ≡ hasType t ts) ⌝ }
+{
+    let here = between(s, at, end);
+    let mut j: u16 = 0;
+    while j < k {
+        let i = j as usize;
+        let other = between(s, starts[i], starts[i + 1]);
+        if same_bytes(here, other) {
+            return true;
+        }
+        j = j + 1;
+    }
+    false
+}
+
+// The type table, from its count on. `starts` is given each type's place, and the place behind the last.
+pub fn read_types(s: &[u8], limit: u16, most: u8, starts: &mut [usize]) -> Part
+    requires { ⌜ limit < length (now starts) ⌝ }
+    ensures { λ r. ⌜ TypesRead limit most (now (s .entry)) (asPart r) (now (starts .entry)) (now (starts .exit)) ⌝ }
+{
+    match wire::read_u16(s) {
+        Read16::Refused(c, o) => Part::Refused(c, o),
+        Read16::Got(count, n) => {
+            if limit < count {
+                return Part::Refused(Cause::TooMany, 0);
+            }
+            let mut at = n;
+            starts[0] = at;
+            let mut k: u16 = 0;
+            while k < count {
+                match read_type(&s[at..], most, k) {
+                    Part::Refused(c, o) => {
+                        return Part::Refused(c, at + o);
+                    }
+                    Part::Used(size) => {
+                        let end = at + size;
+                        if type_before(s, starts, k, at, end) {
+                            return Part::Refused(Cause::Repeated, at);
+                        }
+                        at = end;
+                    }
+                }
+                k = k + 1;
+                let i = k as usize;
+                starts[i] = at;
+            }
+            Part::Used(at)
+        }
+    }
+}
+
+// The place of a type's kind.
+pub fn type_place(starts: &[usize], t: wire::TypeId) -> usize
+    ensures { λ r. ⌜ r ≡ getD (now (starts .entry)) (t .0) 0 ⌝ }
+{
+    let i = t.0 as usize;
+    if i < starts.len() { starts[i] } else { 0 }
+}

@@ -20,6 +20,7 @@ use Rattle.facts.specs.Facts.{rowShape}
 use Rattle.facts.proofs.Rows.{shape-found}
 use Rattle.parts.specs.Rows.{Names, noField}
 use Rattle.parts.proofs.Builds.{type-names}
+use Rattle.chains.proofs.Fields.{some-at}
 use Rattle.eligibility.specs.Lookup.{Types, rowOf, recordedType, shape, isStruct, structFieldsOf}
 use Rattle.shelf.specs.Parts.{fieldType, partType, partCount, counts}
 use Rattle.shelf.specs.Fits.{sameType, fieldsFit}
@@ -98,11 +99,6 @@ unfolding agrees
 struct-yes τ d fs y p q = p ∙ ap (λ b. sameType (recordedType τ d) (some y) && b) q
 
 -- the row of a struct type
-some-at : {A : Type 0} (xs : List A) (k : ℕ) (d : A) → k < length xs → getElem? xs k ≡ some (getD xs k d)
-some-at [] k d h = absurd (omega (arith, h))
-some-at (x ∷ xs) zero d h = refl
-some-at (x ∷ xs) (suc k) d h = some-at xs k d (omega (arith, h))
-
 pub struct-parts : (n : NameId) (ss : List StructField) (row : Option MirType) → row ≡ some (Struct n ss) → (k : ℕ) → k < length ss → partType row k ≡ some (getD ss k noField .part)
 unfolding partType fieldType
 struct-parts n ss row e k h = rw e (ap fieldType (some-at ss k noField h))

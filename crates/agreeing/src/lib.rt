@@ -63,7 +63,7 @@ fn branch(s: &[u8], b: Bounds, types: &[usize], recorded: &[u16], t: &[u8]) -> b
     ensures { λ r. ⌜ ((τ : Types) (i : Terminator) (n : ℕ) → Ground b (now (s .entry)) (now (types .entry)) (now (recorded .entry)) τ → branchOf b (now (t .entry)) ≡ ok i n → r ≡ endAgrees τ i) ⌝ }
 {
     let left = fields::value_scalar(s, b, types, recorded, t, 1);
-    let right = fields::value_scalar(s, b, types, recorded, t, fields::value_end(t, 1));
+    let right = fields::value_scalar(s, b, types, recorded, t, lookup::value_end(t, 1));
     fields::both(left, right)
 }
 

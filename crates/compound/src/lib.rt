@@ -26,7 +26,7 @@ pub fn store(s: &[u8], b: Bounds, types: &[usize], recorded: &[u16], t: &[u8]) -
     ensures { λ r. ⌜ ((τ : Types) (seen : List Bool) (i : InstructionKind) (n : ℕ) → Ground b (now (s .entry)) (now (types .entry)) (now (recorded .entry)) τ → storeOf b seen (now (t .entry)) ≡ ok i n → r ≡ agrees τ i) ⌝ }
 {
     let e = lookup::projections_end(t, 3, wire::byte_at(t, 2));
-    let y = fields::type_at(t, b, fields::value_end(t, e));
+    let y = fields::type_at(t, b, lookup::value_end(t, e));
     let value = fields::value_fits(s, b, types, recorded, t, e, y);
     let place = reaching::place_fits(s, b, types, recorded, t, 0, y);
     fields::both(value, place)

@@ -6,16 +6,12 @@ use mathlib.Core.Option.{none, some}
 use native.Mathlib.Omega.{arith}
 use lib.ListN.{length, getD, drop}
 use Rattle.wire.specs.Number.{at16}
-use Rattle.wire.specs.Value.{valueOf, asValue}
 use Rattle.wire.specs.WellFormed.{Bytes, FitValue}
 use Rattle.wire.specs.declared.ValueId.{ValueId}
 use Rattle.wire.specs.declared.TypeId.{TypeId}
 use Rattle.wire.specs.declared.Value.{Value}
 use Rattle.wire.specs.declared.Literal.{Literal}
-use Rattle.wire.specs.declared.Cause.{Cause}
-use Rattle.wire.specs.declared.ReadValue.{ReadValue}
 use Rattle.wire.proofs.Canon.{value-fit, bytes-drop}
-use Rattle.lookup.proofs.Loops.{same-value, refused-value}
 use Rattle.form.specs.declared.Bounds.{Bounds}
 use Rattle.routine.specs.Index.{recordedNumber, RecordedAt}
 use Rattle.parts.specs.Rows.{ValueAt, stands}
@@ -23,12 +19,9 @@ use Rattle.eligibility.specs.Lookup.{Types, recordedType}
 use Rattle.progress.specs.Ground.{Ground}
 use Rattle.fields.specs.Fields.{IdAt, TypeAt, operandType}
 
--- a value
-pub value-read : (next : ℕ) (u t : List ℕ) (at : ℕ) {r : ReadValue} {x y : Value} {m : ℕ} → Bytes t → next ≤ 65536 → asValue r ≡ valueOf next u → u ≡ drop at t → r ≡ ReadValue.Got x m → ValueAt next t at y → (x ≡ y) × FitValue next y
-value-read next u t at h l p q e (stands n f) = (same-value next u (drop at t) p q e f, value-fit next (drop at t) (bytes-drop t at h) f l)
-
-pub value-refused : (next : ℕ) (u t : List ℕ) (at : ℕ) {A : Type 0} {r : ReadValue} {c : Cause} {o : ℕ} {y : Value} → asValue r ≡ valueOf next u → u ≡ drop at t → r ≡ ReadValue.Refused c o → ValueAt next t at y → A
-value-refused next u t at p q e (stands n f) = absurd (refused-value next u (drop at t) p q e f)
+-- a value that stands somewhere fits
+pub value-fits : (next : ℕ) (t : List ℕ) (at : ℕ) {x : Value} → Bytes t → next ≤ 65536 → ValueAt next t at x → FitValue next x
+value-fits next t at h l (stands n f) = value-fit next (drop at t) (bytes-drop t at h) f l
 
 -- elsewhere
 pub type-moved : {types : ℕ} {t : List ℕ} {p q : ℕ} {y : TypeId} → p ≡ q → TypeAt types t q y → TypeAt types t p y

@@ -1,8 +1,6 @@
 // Single fields of an instruction: what is read at a place, and tests on it.
 use form::Bounds;
 use lookup::Step;
-use wire::NameId;
-use wire::ReadValue;
 use wire::Value;
 use wire::ValueId;
 ghost use mathlib.Core.Path.{_≡_};
@@ -16,7 +14,7 @@ ghost use Rattle.wire.specs.declared.ValueId.{ValueId as AnyId};
 ghost use Rattle.wire.specs.declared.TypeId.{TypeId as AnyType};
 ghost use Rattle.wire.specs.declared.Value.{Value as AnyValue};
 ghost use Rattle.form.specs.Syntax.{Projection};
-ghost use Rattle.lookup.specs.Fields.{valueEnd, projectionEnd, asStep, after};
+ghost use Rattle.lookup.specs.Fields.{asStep, after};
 ghost use Rattle.parts.specs.Rows.{ValueAt};
 ghost use Rattle.routine.specs.Index.{recordedNumber};
 ghost use Rattle.eligibility.specs.Lookup.{Types, rowOf, recordedType, shape};
@@ -31,19 +29,6 @@ pub fn both(a: bool, c: bool) -> bool
     if a { c } else { false }
 }
 
-// The place behind the value that stands at a place.
-pub fn value_end(t: &[u8], at: usize) -> usize
-    requires { ⌜ at < 9223372036854775808 ⌝ }
-    ensures { λ r. ⌜ (r ≡ valueEnd (now (t .entry)) at) × (r ≤ at + 5) ⌝ }
-{
-    match wire::byte_at(t, at) {
-        0 => at + 5,
-        1 => at + 2,
-        3 => at + 3,
-        _ => at + 1,
-    }
-}
-
 // The place behind `n` values, `before` bytes before each.
 pub fn values_end(t: &[u8], at: usize, before: u8, n: u8) -> usize
     requires { ⌜ at < 2097152 ⌝ }
@@ -52,7 +37,7 @@ pub fn values_end(t: &[u8], at: usize, before: u8, n: u8) -> usize
     let mut here = at;
     let mut i: u8 = 0;
     while i < n {
-        here = value_end(t, here + before as usize);
+        here = lookup::value_end(t, here + before as usize);
         i = i + 1;
     }
     here
@@ -62,10 +47,7 @@ pub fn values_end(t: &[u8], at: usize, before: u8, n: u8) -> usize
 pub fn value_at(t: &[u8], at: usize, next: u16) -> Value
     ensures { λ r. ⌜ ((x : AnyValue) → ValueAt next (now (t .entry)) at x → (r ≡ x) × FitValue next x) ⌝ }
 {
-    match wire::read_value(form::tail(t, at), next) {
-        ReadValue::Got(x, _) => x,
-        ReadValue::Refused(_, _) => Value::Error,
-    }
+    lookup::value_at(t, at, next)
 }
 
 // The number of the type at a place: one more than its own.
@@ -160,30 +142,9 @@ pub fn has_shape(s: &[u8], b: Bounds, types: &[usize], number: u16, k: u8) -> bo
     typing::shape_of(s, b, types, number) == k
 }
 
-// The place behind the projection that stands at a place.
-pub fn step_end(t: &[u8], at: usize) -> usize
-    requires { ⌜ at < 4611686018427387904 ⌝ }
-    ensures { λ r. ⌜ (r ≡ projectionEnd (now (t .entry)) at) × (r ≤ at + 6) ⌝ }
-{
-    match wire::byte_at(t, at) {
-        0 => value_end(t, at + 1),
-        1 => at + 3,
-        _ => at + 5,
-    }
-}
-
 // The projection at a place.
 pub fn step_at(t: &[u8], at: usize, next: u16) -> Step
     ensures { λ r. ⌜ ((q : Projection) → StepAt next (now (t .entry)) at q → asStep r ≡ some q) ⌝ }
 {
-    let u = form::tail(t, at);
-    let kind = wire::byte_at(u, 0);
-    match kind {
-        0 => match wire::read_value(form::tail(u, 1), next) {
-            ReadValue::Got(x, _) => Step::Index(x),
-            ReadValue::Refused(_, _) => Step::Nothing,
-        },
-        1 => Step::Field(NameId(wire::u16_at(u, 1))),
-        _ => Step::Tuple(wire::u32_at(u, 1)),
-    }
+    lookup::step_at(t, at, next)
 }

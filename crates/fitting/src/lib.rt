@@ -44,7 +44,7 @@ fn all_fit(
         if !fields::value_fits(s, b, types, recorded, t, here, part) {
             return false;
         }
-        here = fields::value_end(t, here);
+        here = lookup::value_end(t, here);
         i = i + 1;
     }
     true
@@ -89,7 +89,7 @@ pub fn sources_fit(
         if !fields::value_fits(s, b, types, recorded, t, here + 2, number) {
             return false;
         }
-        here = fields::value_end(t, here + 2);
+        here = lookup::value_end(t, here + 2);
         i = i + 1;
     }
     true
@@ -117,7 +117,7 @@ pub fn arguments_fit(
         if !fields::value_fits(s, b, types, recorded, t, here, number) {
             return false;
         }
-        here = fields::value_end(t, here);
+        here = lookup::value_end(t, here);
         there = there + 2;
         i = i + 1;
     }
@@ -207,7 +207,7 @@ pub fn all_known(b: Bounds, recorded: &[u16], t: &[u8], at: usize, n: u8) -> boo
         if !value_known(b, recorded, t, here) {
             return false;
         }
-        here = fields::value_end(t, here);
+        here = lookup::value_end(t, here);
         i = i + 1;
     }
     true

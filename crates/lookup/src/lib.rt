@@ -158,7 +158,7 @@ fn found_at(t: &[u8], at: usize, next: u16) -> Found
 }
 
 // The place behind the projection that stands at a place.
-fn projection_end(t: &[u8], at: usize) -> usize
+pub fn projection_end(t: &[u8], at: usize) -> usize
     requires { ⌜ at < 4611686018427387904 ⌝ }
     ensures { λ r. ⌜ (r ≡ projectionEnd (now (t .entry)) at) × (r ≤ at + 6) ⌝ }
 {

@@ -15,7 +15,7 @@ ghost use Rattle.shelf.specs.Agrees.{agrees};
 pub fn assign(s: &[u8], b: Bounds, types: &[usize], recorded: &[u16], t: &[u8]) -> bool
     ensures { λ r. ⌜ ((τ : Types) (seen : List Bool) (i : InstructionKind) (n : ℕ) → Ground b (now (s .entry)) (now (types .entry)) (now (recorded .entry)) τ → assignOf b seen (now (t .entry)) ≡ ok i n → r ≡ agrees τ i) ⌝ }
 {
-    let y = fields::type_at(t, b, fields::value_end(t, 2));
+    let y = fields::type_at(t, b, lookup::value_end(t, 2));
     let dest = fields::id_has(b, recorded, t, 0, y);
     let source = fields::value_fits(s, b, types, recorded, t, 2, y);
     fields::both(dest, source)
@@ -34,7 +34,7 @@ pub fn binary(s: &[u8], b: Bounds, types: &[usize], recorded: &[u16], t: &[u8]) 
 {
     let result = fields::id_scalar(s, b, types, recorded, t, 1);
     let left = fields::value_scalar(s, b, types, recorded, t, 3);
-    let right = fields::value_scalar(s, b, types, recorded, t, fields::value_end(t, 3));
+    let right = fields::value_scalar(s, b, types, recorded, t, lookup::value_end(t, 3));
     let operands = fields::both(left, right);
     fields::both(result, operands)
 }
@@ -59,14 +59,14 @@ pub fn assert_eq(s: &[u8], b: Bounds, types: &[usize], recorded: &[u16], t: &[u8
     ensures { λ r. ⌜ ((τ : Types) (seen : List Bool) (i : InstructionKind) (n : ℕ) → Ground b (now (s .entry)) (now (types .entry)) (now (recorded .entry)) τ → assertEqOf b seen (now (t .entry)) ≡ ok i n → r ≡ agrees τ i) ⌝ }
 {
     let x = fields::value_at(t, 0, b.next);
-    let y = fields::value_at(t, fields::value_end(t, 0), b.next);
+    let y = fields::value_at(t, lookup::value_end(t, 0), b.next);
     typing::equal_types(s, b, types, recorded, x, y)
 }
 
 pub fn extract_tuple(s: &[u8], b: Bounds, types: &[usize], recorded: &[u16], t: &[u8]) -> bool
     ensures { λ r. ⌜ ((τ : Types) (seen : List Bool) (i : InstructionKind) (n : ℕ) → Ground b (now (s .entry)) (now (types .entry)) (now (recorded .entry)) τ → extractTupleOf b seen (now (t .entry)) ≡ ok i n → r ≡ agrees τ i) ⌝ }
 {
-    let e = fields::value_end(t, 2);
+    let e = lookup::value_end(t, 2);
     let y = fields::type_at(t, b, e + 4);
     let from = fields::operand_type(b, recorded, t, 2);
     let part = typing::part_type(s, b, types, from, wire::u32_at(t, e));
@@ -80,7 +80,7 @@ pub fn extract_tuple(s: &[u8], b: Bounds, types: &[usize], recorded: &[u16], t: 
 pub fn extract_field(s: &[u8], b: Bounds, types: &[usize], recorded: &[u16], t: &[u8]) -> bool
     ensures { λ r. ⌜ ((τ : Types) (seen : List Bool) (i : InstructionKind) (n : ℕ) → Ground b (now (s .entry)) (now (types .entry)) (now (recorded .entry)) τ → extractFieldOf b seen (now (t .entry)) ≡ ok i n → r ≡ agrees τ i) ⌝ }
 {
-    let e = fields::value_end(t, 2);
+    let e = lookup::value_end(t, 2);
     let y = fields::type_at(t, b, e + 2);
     let from = fields::operand_type(b, recorded, t, 2);
     let part = typing::field_type(s, b, types, from, NameId(wire::u16_at(t, e)));
@@ -92,8 +92,8 @@ pub fn extract_field(s: &[u8], b: Bounds, types: &[usize], recorded: &[u16], t: 
 pub fn insert_field(s: &[u8], b: Bounds, types: &[usize], recorded: &[u16], t: &[u8]) -> bool
     ensures { λ r. ⌜ ((τ : Types) (seen : List Bool) (i : InstructionKind) (n : ℕ) → Ground b (now (s .entry)) (now (types .entry)) (now (recorded .entry)) τ → insertFieldOf b seen (now (t .entry)) ≡ ok i n → r ≡ agrees τ i) ⌝ }
 {
-    let e = fields::value_end(t, 2);
-    let y = fields::type_at(t, b, fields::value_end(t, e + 2));
+    let e = lookup::value_end(t, 2);
+    let y = fields::type_at(t, b, lookup::value_end(t, e + 2));
     let part = typing::field_type(s, b, types, y, NameId(wire::u16_at(t, e)));
     let same = fields::id_has(b, recorded, t, 0, y);
     let old = fields::value_fits(s, b, types, recorded, t, 2, y);
@@ -105,8 +105,8 @@ pub fn insert_field(s: &[u8], b: Bounds, types: &[usize], recorded: &[u16], t: &
 pub fn insert_tuple(s: &[u8], b: Bounds, types: &[usize], recorded: &[u16], t: &[u8]) -> bool
     ensures { λ r. ⌜ ((τ : Types) (seen : List Bool) (i : InstructionKind) (n : ℕ) → Ground b (now (s .entry)) (now (types .entry)) (now (recorded .entry)) τ → insertTupleOf b seen (now (t .entry)) ≡ ok i n → r ≡ agrees τ i) ⌝ }
 {
-    let e = fields::value_end(t, 2);
-    let y = fields::type_at(t, b, fields::value_end(t, e + 4));
+    let e = lookup::value_end(t, 2);
+    let y = fields::type_at(t, b, lookup::value_end(t, e + 4));
     let part = typing::part_type(s, b, types, y, wire::u32_at(t, e));
     let same = fields::id_has(b, recorded, t, 0, y);
     let old = fields::value_fits(s, b, types, recorded, t, 2, y);

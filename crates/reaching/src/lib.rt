@@ -27,7 +27,7 @@ fn end_type(s: &[u8], b: Bounds, types: &[usize], t: &[u8], at: usize, n: u8, nu
     let mut i: u8 = 0;
     while i < n {
         there = typing::step_type(s, b, types, there, fields::step_at(t, here, b.next));
-        here = fields::step_end(t, here);
+        here = lookup::projection_end(t, here);
         i = i + 1;
     }
     there
@@ -63,7 +63,7 @@ fn indexes_fit(
         if !index_fits(s, b, types, recorded, t, here) {
             return false;
         }
-        here = fields::step_end(t, here);
+        here = lookup::projection_end(t, here);
         i = i + 1;
     }
     true
@@ -86,7 +86,7 @@ fn pointed_type(
         return 0;
     }
     match fields::step_at(t, at, b.next) {
-        Step::Index(_) => end_type(s, b, types, t, fields::step_end(t, at), n - 1, number),
+        Step::Index(_) => end_type(s, b, types, t, lookup::projection_end(t, at), n - 1, number),
         Step::Field(_) => 0,
         Step::Tuple(_) => 0,
         Step::Nothing => 0,

@@ -32,8 +32,8 @@ step-at-requires c κs = search needs
 step-type-requires : tie.Need-step-type-requires Inv-loop μ-loop
 step-type-requires c κs = search needs
 
-step-end-requires : tie.Need-step-end-requires Inv-loop μ-loop
-step-end-requires c κs = search needs
+projection-end-requires : tie.Need-projection-end-requires Inv-loop μ-loop
+projection-end-requires c κs = search needs
 
 add-i : tie.Need-add-i Inv-loop μ-loop
 add-i c = search needs
@@ -42,7 +42,7 @@ loop-less : tie.Need-loop-less Inv-loop μ-loop
 loop-less c = search needs
 
 loop-again : tie.Need-loop-again Inv-loop μ-loop
-loop-again c = (search needs, (search needs, λ recorded τ o ps g e l h. walking-next (c .before .before .before .before .loop .inv .1 .1 recorded τ o ps g e l h) (c .before .before .before .loop-test .taken) (λ o′ q z w. c .before .step-type .ensures τ o′ q (g .known .rows) (g .rows) z (c .before .before .step-at .ensures q w)) (c .step-end .ensures .0)))
+loop-again c = (search needs, (search needs, λ recorded τ o ps g e l h. walking-next (c .before .before .before .before .loop .inv .1 .1 recorded τ o ps g e l h) (c .before .before .before .loop-test .taken) (λ o′ q z w. c .before .step-type .ensures τ o′ q (g .known .rows) (g .rows) z (c .before .before .step-at .ensures q w)) (c .projection-end .ensures .0)))
 
 returns : tie.Need-returns Inv-loop μ-loop
 returns c = λ recorded τ o ps g e l h. walking-done (c .before .loop .inv .1 .1 recorded τ o ps g e l h) (c .loop-test .left)
@@ -56,7 +56,7 @@ end-type-spec =
     loop-holds
     step-at-requires
     step-type-requires
-    step-end-requires
+    projection-end-requires
     add-i
     loop-less
     loop-again

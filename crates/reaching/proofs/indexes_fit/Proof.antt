@@ -31,8 +31,8 @@ index-fits-requires c κs = search needs
 returns : tie.Need-returns Inv-loop μ-loop
 returns c = λ τ ps g l h. left-fail (c .before .before .before .loop .inv .1 .1 τ ps g l h) (c .before .before .loop-test .taken) (λ y q. c .before .index-fits .ensures τ y g q) (if-not _ (c .if1 .taken))
 
-step-end-requires : tie.Need-step-end-requires Inv-loop μ-loop
-step-end-requires c κs = search needs
+projection-end-requires : tie.Need-projection-end-requires Inv-loop μ-loop
+projection-end-requires c κs = search needs
 
 add-i : tie.Need-add-i Inv-loop μ-loop
 add-i c = search needs
@@ -41,7 +41,7 @@ loop-less : tie.Need-loop-less Inv-loop μ-loop
 loop-less c = search needs
 
 loop-again : tie.Need-loop-again Inv-loop μ-loop
-loop-again c = (search needs, (search needs, λ τ ps g l h. left-next (c .before .before .before .before .loop .inv .1 .1 τ ps g l h) (c .before .before .before .loop-test .taken) (λ y q. c .before .before .index-fits .ensures τ y g q) (unless-not _ (c .before .if1 .left)) (c .step-end .ensures .0)))
+loop-again c = (search needs, (search needs, λ τ ps g l h. left-next (c .before .before .before .before .loop .inv .1 .1 τ ps g l h) (c .before .before .before .loop-test .taken) (λ y q. c .before .before .index-fits .ensures τ y g q) (unless-not _ (c .before .if1 .left)) (c .projection-end .ensures .0)))
 
 returns-2 : tie.Need-returns-2 Inv-loop μ-loop
 returns-2 c = λ τ ps g l h. left-done (c .before .loop .inv .1 .1 τ ps g l h) (c .loop-test .left)
@@ -55,7 +55,7 @@ indexes-fit-spec =
     loop-holds
     index-fits-requires
     returns
-    step-end-requires
+    projection-end-requires
     add-i
     loop-less
     loop-again

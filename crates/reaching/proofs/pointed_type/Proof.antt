@@ -16,8 +16,8 @@ step-at-requires c κs = search needs
 enum-told : tie.Need-enum-told
 enum-told c = search needs
 
-step-end-requires : tie.Need-step-end-requires
-step-end-requires c κs = search needs
+projection-end-requires : tie.Need-projection-end-requires
+projection-end-requires c κs = search needs
 
 sub-end-type : tie.Need-sub-end-type
 sub-end-type c = search needs
@@ -35,7 +35,7 @@ enum-told-4 : tie.Need-enum-told-4
 enum-told-4 c = search needs
 
 returns-2 : tie.Need-returns-2
-returns-2 c = λ recorded τ o ps g e l h. pointed-index (c .before .before .before .before .before .before .before .before .before .args .b .next) (c .before .before .before .before .before .before .before .before .before .args .t .now) (c .before .before .before .before .before .before .before .before .before .args .at) (c .before .before .before .before .before .before .before .before .before .args .n) τ o ps l h (c .before .before .before .before .before .if1 .left) (λ q w. sym (ap asStep (c .before .before .enum-told .given .1)) ∙ c .before .before .before .before .step-at .ensures q w) (λ qs m k. c .end-type .ensures recorded τ o qs g e (rw (c .before .step-end .ensures .0) m) k)
+returns-2 c = λ recorded τ o ps g e l h. pointed-index (c .before .before .before .before .before .before .before .before .before .args .b .next) (c .before .before .before .before .before .before .before .before .before .args .t .now) (c .before .before .before .before .before .before .before .before .before .args .at) (c .before .before .before .before .before .before .before .before .before .args .n) τ o ps l h (c .before .before .before .before .before .if1 .left) (λ q w. sym (ap asStep (c .before .before .enum-told .given .1)) ∙ c .before .before .before .before .step-at .ensures q w) (λ qs m k. c .end-type .ensures recorded τ o qs g e (rw (c .before .projection-end .ensures .0) m) k)
 
 returns-3 : tie.Need-returns-3
 returns-3 c = λ recorded τ o ps g e l h. pointed-field (c .before .before .before .before .before .before .before .args .b .next) (c .before .before .before .before .before .before .before .args .t .now) (c .before .before .before .before .before .before .before .args .at) (c .before .before .before .before .before .before .before .args .n) τ o ps l h (c .before .before .before .if1 .left) (λ q w. sym (ap asStep (c .enum-told2 .given .1)) ∙ c .before .before .step-at .ensures q w)
@@ -53,7 +53,7 @@ pointed-type-spec =
     returns
     step-at-requires
     enum-told
-    step-end-requires
+    projection-end-requires
     sub-end-type
     end-type-requires
     enum-told-2

@@ -17,7 +17,8 @@ use Rattle.form.specs.Syntax.{Instruction, Call}
 use Rattle.form.specs.Decode.{instructionOf}
 use Rattle.form.specs.Encode.{eachBytes, instructionBytes}
 use Rattle.form.specs.declared.Bounds.{Bounds}
-use Rattle.lookup.specs.Fields.{fieldsPlace, valueEnd, after}
+use Rattle.lookup.specs.Fields.{fieldsPlace, valueStep, after}
+use Rattle.lookup.proofs.Loops.{plain-values}
 use Rattle.canon.proofs.Instruction.{instruction-size}
 use Rattle.eligibility.specs.Lookup.{Types}
 use Rattle.eligibility.specs.Family.{Marks}
@@ -55,7 +56,7 @@ CallPut b s types counts firsts pool at end out fresh p out′ fresh′ r =
     (τ : Types) (S : AggStates) (used : ℕ) (recorded : List ℕ) (i : Instruction) (ds : List ValueId) (g : ℕ) (xs : List Value) (ps rs : List TypeId) (dropped : Marks) (q : Piece) → Ground b s types recorded τ → Rep (b .next) s counts firsts pool used S → instructionOf b [] false (drop at s) ≡ ok i (end - at) → i .kind ≡ Call ds g xs ps rs → q ≡ stepCall S i ds g ps rs (rebuildAll τ S (b .next + p .fresh) (wantedArguments τ xs ps)) (rebuildAll τ S (b .next + p .fresh) (wantedArguments τ xs ps) .fresh) → b .next + p .fresh + length (q .fresh) < 65536 → Puts (outputOf out fresh dropped p) (pieceEffect q) (q .clash) out′ fresh′ dropped r
 
 module _ (b : Bounds) (s types counts firsts pool : List ℕ) (at end : ℕ) (out fresh : List ℕ) (p : Progress) (nothing t f : List ℕ) (place first many behind np : ℕ)
-    (ht : t ≡ drop at s) (hp : place ≡ fieldsPlace t) (hf : f ≡ drop place t) (h1 : first ≡ 4 + 2 * getD f 0 0) (hm : many ≡ getD f (first - 1) 0) (hb : behind ≡ after (valueEnd f) many first) (hn : np ≡ getD f behind 0)
+    (ht : t ≡ drop at s) (hp : place ≡ fieldsPlace t) (hf : f ≡ drop place t) (h1 : first ≡ 4 + 2 * getD f 0 0) (hm : many ≡ getD f (first - 1) 0) (hb : behind ≡ after (valueStep f 0 0) many first) (hn : np ≡ getD f behind 0)
     (r : Put) (out₁ fresh₁ : List ℕ) (u : AllPut b s f types nothing counts firsts pool (Asks.Types (behind + 1) np) first many out fresh p out₁ fresh₁ r) where
   abbrev asks : Asks
   asks = Asks.Types (behind + 1) np
@@ -73,7 +74,7 @@ module _ (b : Bounds) (s types counts firsts pool : List ℕ) (at end : ℕ) (ou
     te = ap (instructionOf b [] false) ht ∙ e
 
     known : CallKnown (b .next) (end - at) f place ds g xs ps rs first many behind
-    known = call-known-at b t i (end - at) bs te f place hp hf ds g xs ps rs first many behind k h1 hm hb
+    known = call-known-at b t i (end - at) bs te f place hp hf ds g xs ps rs first many behind k h1 hm (hb ∙ plain-values f many first)
 
     same : q ≡ stepCall S i ds g ps rs R (R .fresh)
     same =

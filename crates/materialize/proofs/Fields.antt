@@ -26,7 +26,8 @@ use Rattle.form.specs.declared.Bounds.{Bounds}
 use Rattle.form.proofs.Laws.{head}
 use Rattle.lookup.specs.Fields.{valueSize, valueEnd, projectionEnd, after}
 use Rattle.lookup.proofs.Places.{Stand, Field, then, last, made, alone, because, Takes, takes-number, takes-map, takes-checked, fixed, Listed, empty, _&_, count, list}
-use Rattle.lookup.proofs.EachKind.{value-size, projection-size}
+use Rattle.lookup.proofs.Values.{value-field}
+use Rattle.lookup.proofs.EachKind.{projection-size}
 use Rattle.canon.proofs.Exact.{Exact}
 use Rattle.canon.proofs.Fields as exact
 use Rattle.eligibility.specs.Lookup.{Types}
@@ -41,9 +42,6 @@ sized : {A : Type 0} {t : List ℕ} {at end most : ℕ} {dec : List ℕ → Pars
 sized {A} {t} {at} h x y = record { each = λ a n e. let f = y .each a n e in let c = x .each (drop at t) a n (bytes-drop t at h) e .canon in ((f .0, omega (arith, f .1, c .size)), f .1) }
 
 module _ (b : Bounds) (seen : List Bool) (t : List ℕ) where
-  value-field : {p : ℕ} → Field t p (valueOf (b .next)) (ValueAt (b .next) t p) (valueEnd t p)
-  value-field {p} = record { each = λ a n e. (stands n e, ap (λ m. p + m) (value-size (b .next) (drop p t) e ∙ ap valueSize (head t p))) }
-
   -- a type's number, wherever it stands
   type-field : {p : ℕ} → Field t p (typeIdOf (b .types)) (λ a. at16 t p ≡ a .0) (p + 2)
   type-field {p} =
@@ -69,7 +67,7 @@ module _ (b : Bounds) (seen : List Bool) (t : List ℕ) where
   dests-field = then (count (b .list) 0) (λ k q. because (news seen k 1) (λ ds e r. (tt, rw q at (r .1))))
 
   pub values-field : {p : ℕ} → Field t p (listOf (b .list) (valueOf (b .next))) (λ xs. Listed (ValueAt (b .next) t) (valueEnd t) (p + 1) xs × (length xs ≡ getD t p 0)) (after (valueEnd t) (getD t p 0) (p + 1))
-  values-field {p} = list (λ q. value-field {p = q}) (b .list) p
+  values-field {p} = list (λ q. value-field b t {p = q}) (b .list) p
 
   types-field : {p : ℕ} → Field t p (listOf (b .list) (typeIdOf (b .types))) (λ ts. Listed (λ q a. at16 t q ≡ a .0) (λ q. q + 2) (p + 1) ts × (length ts ≡ getD t p 0)) (after (λ q. q + 2) (getD t p 0) (p + 1))
   types-field {p} = list (λ q. type-field {p = q}) (b .list) p
@@ -119,7 +117,7 @@ module _ (b : Bounds) (seen : List Bool) (t : List ℕ) where
   unfolding storeOf
   store-stands h =
       then (sized h (exact.place b) place-field) (λ l u.
-      then (sized h (exact.value b) value-field) (λ x v.
+      then (sized h (exact.value b) (value-field b t)) (λ x v.
       last _ type-field (λ y w. store-at l x y (after (projectionEnd t) (getD t 2 0) 3) refl (omega (arith, u .1)) (v .0) (v .1) w)))
 
 -- values that stand one behind another

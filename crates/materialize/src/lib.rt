@@ -78,7 +78,7 @@ pub fn put_call(
     let f = form::tail(t, place);
     let first = 4 + 2 * wire::byte_at(f, 0) as usize;
     let many = wire::byte_at(f, first - 1);
-    let behind = wanting::values_end(f, first, many);
+    let behind = lookup::values_end(f, first, 0, 0, many);
     let asks = Asks::Types(behind + 1, wire::byte_at(f, behind));
     let none: [u16; 0] = [0; 0];
     let q = match listing::put_builds(
@@ -150,8 +150,8 @@ pub fn put_store(
     let t = form::tail(s, at);
     let place = lookup::fields_place(t);
     let f = form::tail(t, place);
-    let first = wanting::projections_end(f, 3, wire::byte_at(f, 2));
-    let behind = wanting::value_end(f, first);
+    let first = lookup::projections_end(f, 3, wire::byte_at(f, 2));
+    let behind = lookup::value_end(f, first);
     let asks = Asks::Types(behind, 1);
     let none: [u16; 0] = [0; 0];
     let q = match listing::put_builds(

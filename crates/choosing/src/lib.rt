@@ -110,7 +110,7 @@ fn choose_tables(
     let mut tuples: [bool; 2048] = [false; 2048];
     let mut buildable: [bool; 256] = [false; 256];
     let mut blocked: [bool; 256] = [false; 256];
-    let edges = climb::scan::scan_block(
+    let edges = scanning::scan_block(
         s,
         b,
         places,

@@ -1,6 +1,4 @@
 // Which builds of a block are taken apart: a climb over the builds that take a value as a part.
-pub mod scan;
-
 use eligibility::Settings;
 use wire::ValueId;
 ghost use mathlib.Core.Path.{_≡_};

@@ -44,7 +44,7 @@ pub fn input_reason(
     if !ordering::in_order(s, b, places, starts, b.blocks) {
         return 2;
     }
-    if !ordering::kept_apart(s, b, types, recorded, places, starts, b.blocks) {
+    if !apart::kept_apart(s, b, types, recorded, places, starts, b.blocks) {
         return 3;
     }
     0
@@ -74,7 +74,7 @@ pub fn reason(
     if !table::any(dropped) {
         return 0;
     }
-    if !ordering::no_deep_store(s, b, places, starts, b.blocks, dropped) {
+    if !shallow::no_deep_store(s, b, places, starts, b.blocks, dropped) {
         return 4;
     }
     if !unread::reads_no_dropped(out, at, widened(b, next), b.blocks, dropped) {

@@ -3,7 +3,7 @@ use Rattle.ordering.proofs.block_ordered.Tie as tie
 use borrow.Author.Needs.{needs}
 use Prim.Native.Nat.{_-_}
 use mathlib.Core.Path.{refl}
-use Rattle.ordering.proofs.Backwards.{Backward, backward-start, backward-again, backward-stop, backward-done}
+use Rattle.marking.proofs.Backwards.{Backward, backward-start, backward-again, backward-stop, backward-done}
 
 abbrev Inv-loop : tie.InvT-loop
 Inv-loop s b places count phis marks₀ k₀ marks k = Backward s b places count phis marks k

@@ -1,7 +1,7 @@
 use Rattle.ordering.proofs.counted_clear.Statement.{statement}
 use Rattle.ordering.proofs.counted_clear.Tie as tie
 use borrow.Author.Needs.{needs}
-use Rattle.ordering.proofs.Backwards.{counted-debug, counted-other}
+use Rattle.marking.proofs.Backwards.{counted-debug, counted-other}
 
 byte-at-requires : tie.Need-byte-at-requires
 byte-at-requires c κs = search needs

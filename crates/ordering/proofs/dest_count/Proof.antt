@@ -2,7 +2,7 @@ use Rattle.ordering.proofs.dest_count.Statement.{statement}
 use Rattle.ordering.proofs.dest_count.Tie as tie
 use borrow.Author.Needs.{needs}
 use mathlib.Core.Path.{refl}
-use Rattle.ordering.proofs.Backwards.{count-call, count-none, count-one}
+use Rattle.marking.proofs.Backwards.{count-call, count-none, count-one}
 
 byte-at-requires : tie.Need-byte-at-requires
 byte-at-requires c κs = search needs

@@ -2,7 +2,7 @@ use Rattle.ordering.proofs.dest_first.Statement.{statement}
 use Rattle.ordering.proofs.dest_first.Tie as tie
 use mathlib.Core.Path.{refl}
 use native.Mathlib.Omega.{arith}
-use Rattle.ordering.proofs.Backwards.{first-zero, first-one}
+use Rattle.marking.proofs.Backwards.{first-zero, first-one}
 
 returns : tie.Need-returns
 returns c = (first-one 1 _ refl (c .match .keys1), omega arith)

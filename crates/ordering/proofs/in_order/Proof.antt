@@ -2,8 +2,8 @@ use Rattle.ordering.proofs.in_order.Statement.{statement}
 use Rattle.ordering.proofs.in_order.Tie as tie
 use borrow.Author.Needs.{needs}
 use Prim.Native.Nat.{_-_}
-use Rattle.ordering.proofs.Scanning.{Blocks, blocks-start, blocks-again, blocks-stop, blocks-done}
-use Rattle.ordering.specs.Tests.{orderedBehind}
+use Rattle.marking.proofs.Scanning.{Blocks, blocks-start, blocks-again, blocks-stop, blocks-done}
+use Rattle.marking.specs.Tests.{orderedBehind}
 use Prim.Native.Nat.{_+_, _≤_}
 
 abbrev Inv-loop : tie.InvT-loop

@@ -1,7 +1,7 @@
 use Rattle.ordering.proofs.mark_dests.Statement.{statement}
 use Rattle.ordering.proofs.mark_dests.Tie as tie
 use borrow.Author.Needs.{needs}
-use Rattle.ordering.proofs.Backwards.{dests-marked}
+use Rattle.marking.proofs.Backwards.{dests-marked}
 
 fields-place-requires : tie.Need-fields-place-requires
 fields-place-requires c κs = search needs

@@ -3,7 +3,7 @@ use Rattle.ordering.proofs.mark_values.Tie as tie
 use borrow.Author.Needs.{needs}
 use Prim.Native.Nat.{_-_}
 use native.Mathlib.Omega.{arith}
-use Rattle.ordering.proofs.Backwards.{Putting, putting-start, putting-again, putting-done}
+use Rattle.marking.proofs.Backwards.{Putting, putting-start, putting-again, putting-done}
 
 abbrev Inv-loop : tie.InvT-loop
 Inv-loop u first n marks₀ at₀ j₀ marks at j = Putting u first n marks₀ marks at j

@@ -4,15 +4,13 @@ use deciding::Counted;
 use form::Bounds;
 use progress::Progress;
 use rewriting::Counts;
-use wire::ReadValue;
 use wire::TypeId;
-use wire::Value;
 use wire::ValueId;
 ghost use mathlib.Core.Path.{_≡_};
 ghost use mathlib.Core.List.{List, []};
 ghost use mathlib.Core.Bool.{false};
 ghost use Prim.Native.Nat.{ℕ, _+_, _-_, _≤_, _<_};
-ghost use lib.ListN.{length, getD, take, drop};
+ghost use lib.ListN.{length, take, drop};
 ghost use lib.Seq.{sets};
 ghost use Rattle.wire.specs.Parse.{ok};
 ghost use Rattle.wire.specs.WellFormed.{Bytes};
@@ -27,13 +25,6 @@ ghost use Rattle.parts.specs.Rows.{ValueAt};
 ghost use Rattle.progress.specs.Effect.{outputOf, behind, pieceEffect, Low};
 ghost use Rattle.deciding.specs.Decided.{countedAs, Does};
 ghost use Rattle.walking.specs.Stepping.{movedTo, raisedBy};
-
-// The flag at a place; past the end false.
-pub fn flag_at(flags: &[bool], i: usize) -> bool
-    ensures { λ r. ⌜ r ≡ getD (now (flags .entry)) i false ⌝ }
-{
-    if i < flags.len() { flags[i] } else { false }
-}
 
 // The bytes of the input from one place to another; none where they do not stand there.
 pub fn input_part(s: &[u8], at: usize, end: usize) -> &[u8]
@@ -146,16 +137,6 @@ fn mark_dropped(dropped: &mut [bool], d: ValueId)
     }
 }
 
-// The value that stands at a place; Error where none does.
-fn value_at(s: &[u8], at: usize, next: u16) -> Value
-    ensures { λ r. ⌜ ((x : ValueOf) → ValueAt next (now (s .entry)) at x → r ≡ x) ⌝ }
-{
-    match wire::read_value(form::tail(s, at), next) {
-        ReadValue::Got(x, _) => x,
-        ReadValue::Refused(_, _) => Value::Error,
-    }
-}
-
 // An Assign of the value that stands at a place; an extract is counted.
 fn put_assigned(
     out: &mut [u8],
@@ -170,7 +151,7 @@ fn put_assigned(
     ensures { λ r. ⌜ ((k : ℕ) → Low k p → Low (k + 1) r) ⌝ }
     ensures { λ r. ⌜ ((S : AggStates) (x : ValueOf) (types : List ℕ) (dropped : Marks) → ValueAt next (now (s .entry)) place x → outputOf (now (out .exit)) types dropped r ≡ behind (outputOf (now (out .entry)) types dropped p) (pieceEffect (assigned oneExtract S d x t))) ⌝ }
 {
-    let x = value_at(s, place, next);
+    let x = lookup::value_at(s, place, next);
     let to = emit::put_assign(out, p.to, d, x, t);
     let before = p.counts;
     let counts = one_more(before, Counted::Extract);

@@ -58,7 +58,7 @@ fn put_instructions(
     while j < count {
         let at = places::place_at(places, j);
         let end = places::place_at(places, j + 1);
-        let fold = actions::flag_at(folded, first as usize + j as usize);
+        let fold = table::flag(folded, first as usize + j as usize);
         let now = w.progress;
         match steps::step(
             s,

@@ -43,13 +43,6 @@ fn capped(n: u16) -> u16
     if n <= 128 { n } else { 0 }
 }
 
-fn number_at(table: &[u16], k: u16) -> u16
-    ensures { λ r. ⌜ r ≡ getD (now (table .entry)) k 0 ⌝ }
-{
-    let i = k as usize;
-    if i < table.len() { table[i] } else { 0 }
-}
-
 // Block k: copied where it is skipped, else rewritten.
 fn one_block(
     s: &[u8],
@@ -75,13 +68,13 @@ fn one_block(
     ensures { λ r. ⌜ ((n : ℕ) → Low n p → PutLow (n + 130) r) ⌝ }
     ensures { λ r. ⌜ ((τ : Types) (c : Choice) (m : Mosts) (ks : List Block) → InCode m b (now (s .entry)) (now (types .entry)) (now (recorded .entry)) (now (blocks .entry)) (now (places .entry)) (now (starts .entry)) (now (folded .entry)) (now (skips .entry)) τ c ks → k < length ks → p .lines ≡ 0 → b .next + p .fresh + length ((allBlocks settings τ c (b .next + p .fresh) (getD ks k noBlock ∷ [])) .fresh) < 65536 → Puts (outputOf (now (out .entry)) (now (fresh .entry)) (now (dropped .entry)) p) (rewrittenEffect (allBlocks settings τ c (b .next + p .fresh) (getD ks k noBlock ∷ []))) ((allBlocks settings τ c (b .next + p .fresh) (getD ks k noBlock ∷ [])) .clash) (now (out .exit)) (now (fresh .exit)) (now (dropped .exit)) r) ⌝ }
 {
-    if actions::flag_at(skips, k as usize) {
+    if table::flag(skips, k as usize) {
         let to = actions::copy_part(out, p.to, routine::block_bytes(s, blocks, BlockId(k)));
         return Put::Went(actions::moved(p, to, p.lines));
     }
     let own = index::block_places(places, starts, k);
     let count = capped(index::instruction_count(starts, k));
-    let first = number_at(starts, k);
+    let first = table::number(starts, k as usize);
     body::put_block(
         s,
         b,

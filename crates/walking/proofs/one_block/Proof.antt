@@ -9,8 +9,8 @@ use Rattle.routine.specs.Index.{noBlock}
 use Rattle.walking.proofs.Lows.{low-mono, low-moved}
 use Rattle.walking.proofs.Laying.{in-block, skips-as, walked-puts, skipped-puts}
 
-flag-at-requires : tie.Need-flag-at-requires
-flag-at-requires c κs = search needs
+flag-requires : tie.Need-flag-requires
+flag-requires c κs = search needs
 
 block-bytes-requires : tie.Need-block-bytes-requires
 block-bytes-requires c κs = search needs
@@ -25,7 +25,7 @@ same-length : tie.Need-same-length
 same-length c = search needs
 
 returns : tie.Need-returns
-returns c = let a = c .before .before .before .before .before .before .before .before .before .before .before .before .before .before .before .before .before .before .before .before .before .before .args in (λ n l. low-mono (n + 1) (n + 130) _ (omega arith) (low-moved n (a .p) _ _ _ (c .moved .ensures) l (omega (arith, c .before .before .before .copy-part .ensures .0)) (omega arith)), λ τ ch m ks g h z bd. skipped-puts m (a .b) (a .s .now) (a .types .now) (a .recorded .now) (a .blocks .now) (a .places .now) (a .starts .now) (a .folded .now) (a .skips .now) τ ch ks g (a .k) h (a .settings) (a .out .now) (a .fresh .now) (a .dropped .now) (a .p) _ _ _ _ (sym (skips-as m (a .b) (a .s .now) (a .types .now) (a .recorded .now) (a .blocks .now) (a .places .now) (a .starts .now) (a .folded .now) (a .skips .now) τ ch ks g (a .k) h _ (c .before .before .before .before .before .before .before .flag-at .ensures)) ∙ c .before .before .before .before .before .before .if1 .taken) (c .before .before .before .before .block-bytes .ensures m (a .b) ks (g .ground .bytes) (g .blocks-at) h) (c .before .before .before .copy-part .ensures .1) (c .moved .ensures))
+returns c = let a = c .before .before .before .before .before .before .before .before .before .before .before .before .before .before .before .before .before .before .before .before .before .before .args in (λ n l. low-mono (n + 1) (n + 130) _ (omega arith) (low-moved n (a .p) _ _ _ (c .moved .ensures) l (omega (arith, c .before .before .before .copy-part .ensures .0)) (omega arith)), λ τ ch m ks g h z bd. skipped-puts m (a .b) (a .s .now) (a .types .now) (a .recorded .now) (a .blocks .now) (a .places .now) (a .starts .now) (a .folded .now) (a .skips .now) τ ch ks g (a .k) h (a .settings) (a .out .now) (a .fresh .now) (a .dropped .now) (a .p) _ _ _ _ (sym (skips-as m (a .b) (a .s .now) (a .types .now) (a .recorded .now) (a .blocks .now) (a .places .now) (a .starts .now) (a .folded .now) (a .skips .now) τ ch ks g (a .k) h _ (c .before .before .before .before .before .before .before .flag .ensures)) ∙ c .before .before .before .before .before .before .if1 .taken) (c .before .before .before .before .block-bytes .ensures m (a .b) ks (g .ground .bytes) (g .blocks-at) h) (c .before .before .before .copy-part .ensures .1) (c .moved .ensures))
 
 block-places-requires : tie.Need-block-places-requires
 block-places-requires c κs = search needs
@@ -36,8 +36,8 @@ instruction-count-requires c κs = search needs
 capped-requires : tie.Need-capped-requires
 capped-requires c κs = search needs
 
-number-at-requires : tie.Need-number-at-requires
-number-at-requires c κs = search needs
+number-requires : tie.Need-number-requires
+number-requires c κs = search needs
 
 put-block-requires : tie.Need-put-block-requires
 put-block-requires c κs = search needs
@@ -61,13 +61,13 @@ same-length-7 : tie.Need-same-length-7
 same-length-7 c = search needs
 
 returns-2 : tie.Need-returns-2
-returns-2 c = let a = c .before .before .before .before .before .before .before .before .before .before .before .before .before .before .before .before .before .before .before .before .before .before .before .before .before .before .before .before .before .before .before .before .before .before .before .before .before .before .before .args in (c .before .before .before .before .before .before .before .before .before .before .before .before .put-block .ensures .0, λ τ ch m ks g h z bd. let sk = sym (skips-as m (a .b) (a .s .now) (a .types .now) (a .recorded .now) (a .blocks .now) (a .places .now) (a .starts .now) (a .folded .now) (a .skips .now) τ ch ks g (a .k) h _ (c .before .before .before .before .before .before .before .before .before .before .before .before .before .before .before .before .before .before .before .before .before .before .before .before .flag-at .ensures)) ∙ c .before .before .before .before .before .before .before .before .before .before .before .before .before .before .before .before .before .before .before .before .before .before .before .if1 .left in walked-puts m (a .b) (a .s .now) (a .types .now) (a .recorded .now) (a .blocks .now) (a .places .now) (a .starts .now) (a .folded .now) (a .skips .now) τ ch ks g (a .k) h (a .settings) (a .out .now) (a .fresh .now) (a .dropped .now) (a .p) _ _ _ _ sk bd (λ v. c .before .before .before .before .before .before .before .before .before .before .before .before .put-block .ensures .1 τ (ch .folds (getD ks (a .k) noBlock)) (getD ks (a .k) noBlock) (in-block m (a .b) (a .s .now) (a .types .now) (a .recorded .now) (a .blocks .now) (a .places .now) (a .starts .now) (a .folded .now) (a .skips .now) τ ch ks g (a .k) h _ _ _ _ (c .before .before .before .before .before .before .before .before .before .before .before .before .before .before .before .before .before .before .before .before .before .before .block-places .ensures) (c .before .before .before .before .before .before .before .before .before .before .before .before .before .before .before .before .before .before .before .before .before .instruction-count .ensures (a .b) (a .s .now) (a .places .now) ks (g .code) h) (c .before .before .before .before .before .before .before .before .before .before .before .before .before .before .before .before .before .before .before .before .capped .ensures .1) (c .before .before .before .before .before .before .before .before .before .before .before .before .before .before .before .before .before .before .before .number-at .ensures) sk) z v))
+returns-2 c = let a = c .before .before .before .before .before .before .before .before .before .before .before .before .before .before .before .before .before .before .before .before .before .before .before .before .before .before .before .before .before .before .before .before .before .before .before .before .before .before .before .args in (c .before .before .before .before .before .before .before .before .before .before .before .before .put-block .ensures .0, λ τ ch m ks g h z bd. let sk = sym (skips-as m (a .b) (a .s .now) (a .types .now) (a .recorded .now) (a .blocks .now) (a .places .now) (a .starts .now) (a .folded .now) (a .skips .now) τ ch ks g (a .k) h _ (c .before .before .before .before .before .before .before .before .before .before .before .before .before .before .before .before .before .before .before .before .before .before .before .before .flag .ensures)) ∙ c .before .before .before .before .before .before .before .before .before .before .before .before .before .before .before .before .before .before .before .before .before .before .before .if1 .left in walked-puts m (a .b) (a .s .now) (a .types .now) (a .recorded .now) (a .blocks .now) (a .places .now) (a .starts .now) (a .folded .now) (a .skips .now) τ ch ks g (a .k) h (a .settings) (a .out .now) (a .fresh .now) (a .dropped .now) (a .p) _ _ _ _ sk bd (λ v. c .before .before .before .before .before .before .before .before .before .before .before .before .put-block .ensures .1 τ (ch .folds (getD ks (a .k) noBlock)) (getD ks (a .k) noBlock) (in-block m (a .b) (a .s .now) (a .types .now) (a .recorded .now) (a .blocks .now) (a .places .now) (a .starts .now) (a .folded .now) (a .skips .now) τ ch ks g (a .k) h _ _ _ _ (c .before .before .before .before .before .before .before .before .before .before .before .before .before .before .before .before .before .before .before .before .before .before .block-places .ensures) (c .before .before .before .before .before .before .before .before .before .before .before .before .before .before .before .before .before .before .before .before .before .instruction-count .ensures (a .b) (a .s .now) (a .places .now) ks (g .code) h) (c .before .before .before .before .before .before .before .before .before .before .before .before .before .before .before .before .before .before .before .before .capped .ensures .1) (c .before .before .before .before .before .before .before .before .before .before .before .before .before .before .before .before .before .before .before .number .ensures) sk) z v))
 
 pub one-block-spec : {M : Type 1} → statement M
 one-block-spec =
     tie.close
     (tie.spec
-    flag-at-requires
+    flag-requires
     block-bytes-requires
     copy-part-requires
     moved-requires
@@ -76,7 +76,7 @@ one-block-spec =
     block-places-requires
     instruction-count-requires
     capped-requires
-    number-at-requires
+    number-requires
     put-block-requires
     same-length-2
     same-length-3

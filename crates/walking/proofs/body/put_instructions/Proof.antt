@@ -25,14 +25,14 @@ add-place-at c = search needs
 place-at-requires-2 : tie.Need-place-at-requires-2 Inv-loop μ-loop
 place-at-requires-2 c κs = search needs
 
-cast-flag-at : tie.Need-cast-flag-at Inv-loop μ-loop
-cast-flag-at c = search needs
+cast-flag : tie.Need-cast-flag Inv-loop μ-loop
+cast-flag c = search needs
 
-add-flag-at : tie.Need-add-flag-at Inv-loop μ-loop
-add-flag-at c = search needs
+add-flag : tie.Need-add-flag Inv-loop μ-loop
+add-flag c = search needs
 
-flag-at-requires : tie.Need-flag-at-requires Inv-loop μ-loop
-flag-at-requires c κs = search needs
+flag-requires : tie.Need-flag-requires Inv-loop μ-loop
+flag-requires c κs = search needs
 
 step-requires : tie.Need-step-requires Inv-loop μ-loop
 step-requires c κs = let l = c .before .before .before .before .before .before .before .before .before .before .before .loop in (low-mono (5000 + l .j) 8000 _ (omega (arith, c .before .before .before .before .before .before .before .before .before .before .loop-test .taken, c .before .before .before .before .before .before .before .before .before .before .before .before .before .before .before .before .before .before .before .before .before .before .before .pre .1 .0)) (l .inv .low 5000 (c .before .before .before .before .before .before .before .before .before .before .before .before .before .before .before .before .before .before .before .before .before .before .before .pre .0)), (omega (arith, l .inv .used, c .before .before .before .before .before .before .before .before .before .before .loop-test .taken, c .before .before .before .before .before .before .before .before .before .before .before .before .before .before .before .before .before .before .before .before .before .before .before .pre .1 .0), c .before .before .before .before .before .before .before .before .before .before .before .before .before .before .before .before .before .before .before .before .before .before .before .pre .1 .1 .1))
@@ -59,7 +59,7 @@ same-length-6 : tie.Need-same-length-6 Inv-loop μ-loop
 same-length-6 c = search needs
 
 returns : tie.Need-returns Inv-loop μ-loop
-returns c = let a = c .before .before .before .before .before .before .before .before .before .before .before .before .before .before .before .before .before .before .before .before .before .before .before .before .before .before .before .before .before .before .before .before .before .before .before .before .before .before .args in let l = c .before .before .before .before .before .before .before .before .before .before .before .before .before .before .before .before .before .before .before .before .before .before .before .before .before .before .loop in let q = c .before .before .before .before .before .before .before .before .before .before .before .before .before .before .before .before .before .before .before .before .before .before .before .before .before .before .before .before .before .before .before .before .before .before .before .before .before .before .pre in (λ k z. tt, walking-clash (a .settings) (a .b) (a .s .now) (a .types .now) (a .recorded .now) (a .places .now) (a .count) (a .folded .now) (a .first) (a .counts .now) (a .firsts .now) (a .pool .now) (a .out .now) (a .fresh .now) (a .dropped .now) _ (l .counts) (l .firsts) (l .pool) (l .out) (l .fresh) (l .dropped) (l .w) (l .j) (l .inv) (c .before .before .before .before .before .before .before .before .before .before .before .before .before .before .before .before .before .before .before .before .before .before .before .before .before .loop-test .taken) (q .1 .0) (q .1 .1 .0) _ _ (c .before .before .before .before .before .before .before .before .before .before .before .before .before .before .before .before .before .before .before .before .before .before .before .before .place-at .ensures) (c .before .before .before .before .before .before .before .before .before .before .before .before .before .before .before .before .before .before .before .before .before .before .before .place-at2 .ensures) _ (c .before .before .before .before .before .before .before .before .before .before .before .before .before .before .before .before .before .before .before .before .before .before .flag-at .ensures) _ _ _ _ _ _ _ (c .before .before .before .before .before .before .before .before .before .before .before .before .before .before .step .ensures .1) (c .enum-told .given .1))
+returns c = let a = c .before .before .before .before .before .before .before .before .before .before .before .before .before .before .before .before .before .before .before .before .before .before .before .before .before .before .before .before .before .before .before .before .before .before .before .before .before .before .args in let l = c .before .before .before .before .before .before .before .before .before .before .before .before .before .before .before .before .before .before .before .before .before .before .before .before .before .before .loop in let q = c .before .before .before .before .before .before .before .before .before .before .before .before .before .before .before .before .before .before .before .before .before .before .before .before .before .before .before .before .before .before .before .before .before .before .before .before .before .before .pre in (λ k z. tt, walking-clash (a .settings) (a .b) (a .s .now) (a .types .now) (a .recorded .now) (a .places .now) (a .count) (a .folded .now) (a .first) (a .counts .now) (a .firsts .now) (a .pool .now) (a .out .now) (a .fresh .now) (a .dropped .now) _ (l .counts) (l .firsts) (l .pool) (l .out) (l .fresh) (l .dropped) (l .w) (l .j) (l .inv) (c .before .before .before .before .before .before .before .before .before .before .before .before .before .before .before .before .before .before .before .before .before .before .before .before .before .loop-test .taken) (q .1 .0) (q .1 .1 .0) _ _ (c .before .before .before .before .before .before .before .before .before .before .before .before .before .before .before .before .before .before .before .before .before .before .before .before .place-at .ensures) (c .before .before .before .before .before .before .before .before .before .before .before .before .before .before .before .before .before .before .before .before .before .before .before .place-at2 .ensures) _ (c .before .before .before .before .before .before .before .before .before .before .before .before .before .before .before .before .before .before .before .before .before .before .flag .ensures) _ _ _ _ _ _ _ (c .before .before .before .before .before .before .before .before .before .before .before .before .before .before .step .ensures .1) (c .enum-told .given .1))
 
 enum-known-q : tie.Need-enum-known-q Inv-loop μ-loop
 enum-known-q c = search needs
@@ -71,7 +71,7 @@ loop-less : tie.Need-loop-less Inv-loop μ-loop
 loop-less c = omega (arith, c .before .before .before .before .before .before .before .before .before .before .before .before .before .before .before .before .before .before .before .before .before .before .before .before .before .before .loop-test .taken)
 
 loop-again : tie.Need-loop-again Inv-loop μ-loop
-loop-again c = let a = c .before .before .before .before .before .before .before .before .before .before .before .before .before .before .before .before .before .before .before .before .before .before .before .before .before .before .before .before .before .before .before .before .before .before .before .before .before .before .before .args in let l = c .before .before .before .before .before .before .before .before .before .before .before .before .before .before .before .before .before .before .before .before .before .before .before .before .before .before .before .loop in let q = c .before .before .before .before .before .before .before .before .before .before .before .before .before .before .before .before .before .before .before .before .before .before .before .before .before .before .before .before .before .before .before .before .before .before .before .before .before .before .before .pre in walking-again (a .settings) (a .b) (a .s .now) (a .types .now) (a .recorded .now) (a .places .now) (a .count) (a .folded .now) (a .first) (a .counts .now) (a .firsts .now) (a .pool .now) (a .out .now) (a .fresh .now) (a .dropped .now) _ (l .counts) (l .firsts) (l .pool) (l .out) (l .fresh) (l .dropped) (l .w) (l .j) (l .inv) (c .before .before .before .before .before .before .before .before .before .before .before .before .before .before .before .before .before .before .before .before .before .before .before .before .before .before .loop-test .taken) (q .1 .0) (q .1 .1 .0) _ _ (c .before .before .before .before .before .before .before .before .before .before .before .before .before .before .before .before .before .before .before .before .before .before .before .before .before .place-at .ensures) (c .before .before .before .before .before .before .before .before .before .before .before .before .before .before .before .before .before .before .before .before .before .before .before .before .place-at2 .ensures) _ (c .before .before .before .before .before .before .before .before .before .before .before .before .before .before .before .before .before .before .before .before .before .before .before .flag-at .ensures) _ _ _ _ _ _ _ (c .before .before .before .before .before .before .before .before .before .before .before .before .before .before .before .step .ensures .1) _ (c .before .q .given .1) (c .before .before .before .before .before .before .before .before .before .before .before .before .before .before .before .step .ensures .0) (c .before .before .before .before .before .before .before .before .before .before .before .before .before .before .before .step .kept .1 .1 .1 .1 .1 .1 .1 .1 .0) (c .before .before .before .before .before .before .before .before .before .before .before .before .before .before .before .step .kept .1 .1 .1 .1 .1 .1 .1 .1 .1 .0) (c .before .before .before .before .before .before .before .before .before .before .before .before .before .before .before .step .kept .1 .1 .1 .1 .1 .1 .1 .1 .1 .1 .0) (c .before .before .before .before .before .before .before .before .before .before .before .before .before .before .before .step .kept .1 .1 .1 .1 .1 .1 .1 .1 .1 .1 .1 .1 .0) (c .before .before .before .before .before .before .before .before .before .before .before .before .before .before .before .step .kept .1 .1 .1 .1 .1 .1 .1 .1 .1 .1 .1 .1 .1 .1 .0) (c .before .before .before .before .before .before .before .before .before .before .before .before .before .before .before .step .kept .1 .1 .1 .1 .1 .1 .1 .1 .1 .1 .1 .1 .1 .1 .1 .0) (q .0)
+loop-again c = let a = c .before .before .before .before .before .before .before .before .before .before .before .before .before .before .before .before .before .before .before .before .before .before .before .before .before .before .before .before .before .before .before .before .before .before .before .before .before .before .before .args in let l = c .before .before .before .before .before .before .before .before .before .before .before .before .before .before .before .before .before .before .before .before .before .before .before .before .before .before .before .loop in let q = c .before .before .before .before .before .before .before .before .before .before .before .before .before .before .before .before .before .before .before .before .before .before .before .before .before .before .before .before .before .before .before .before .before .before .before .before .before .before .before .pre in walking-again (a .settings) (a .b) (a .s .now) (a .types .now) (a .recorded .now) (a .places .now) (a .count) (a .folded .now) (a .first) (a .counts .now) (a .firsts .now) (a .pool .now) (a .out .now) (a .fresh .now) (a .dropped .now) _ (l .counts) (l .firsts) (l .pool) (l .out) (l .fresh) (l .dropped) (l .w) (l .j) (l .inv) (c .before .before .before .before .before .before .before .before .before .before .before .before .before .before .before .before .before .before .before .before .before .before .before .before .before .before .loop-test .taken) (q .1 .0) (q .1 .1 .0) _ _ (c .before .before .before .before .before .before .before .before .before .before .before .before .before .before .before .before .before .before .before .before .before .before .before .before .before .place-at .ensures) (c .before .before .before .before .before .before .before .before .before .before .before .before .before .before .before .before .before .before .before .before .before .before .before .before .place-at2 .ensures) _ (c .before .before .before .before .before .before .before .before .before .before .before .before .before .before .before .before .before .before .before .before .before .before .before .flag .ensures) _ _ _ _ _ _ _ (c .before .before .before .before .before .before .before .before .before .before .before .before .before .before .before .step .ensures .1) _ (c .before .q .given .1) (c .before .before .before .before .before .before .before .before .before .before .before .before .before .before .before .step .ensures .0) (c .before .before .before .before .before .before .before .before .before .before .before .before .before .before .before .step .kept .1 .1 .1 .1 .1 .1 .1 .1 .0) (c .before .before .before .before .before .before .before .before .before .before .before .before .before .before .before .step .kept .1 .1 .1 .1 .1 .1 .1 .1 .1 .0) (c .before .before .before .before .before .before .before .before .before .before .before .before .before .before .before .step .kept .1 .1 .1 .1 .1 .1 .1 .1 .1 .1 .0) (c .before .before .before .before .before .before .before .before .before .before .before .before .before .before .before .step .kept .1 .1 .1 .1 .1 .1 .1 .1 .1 .1 .1 .1 .0) (c .before .before .before .before .before .before .before .before .before .before .before .before .before .before .before .step .kept .1 .1 .1 .1 .1 .1 .1 .1 .1 .1 .1 .1 .1 .1 .0) (c .before .before .before .before .before .before .before .before .before .before .before .before .before .before .before .step .kept .1 .1 .1 .1 .1 .1 .1 .1 .1 .1 .1 .1 .1 .1 .1 .0) (q .0)
 
 same-length-7 : tie.Need-same-length-7 Inv-loop μ-loop
 same-length-7 c = search needs
@@ -104,9 +104,9 @@ put-instructions-spec =
     place-at-requires
     add-place-at
     place-at-requires-2
-    cast-flag-at
-    add-flag-at
-    flag-at-requires
+    cast-flag
+    add-flag
+    flag-requires
     step-requires
     enum-told
     same-length

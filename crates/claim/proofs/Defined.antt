@@ -28,7 +28,8 @@ use Rattle.shelf.specs.Lists.{every, among}
 use Rattle.shelf.specs.Reads.{definedIn}
 use Rattle.simulation.specs.Static.{once, noPhi, unlike, fieldsOnce}
 use Rattle.simulation.proofs.Tools.{and-l, and-r, and-i, nor-i, split, passes, fails, cond-yes, cond-no}
-use Rattle.output.proofs.Marks.{dests-new, mark-stays, marks-stay, marks-length}
+use Rattle.block.proofs.Marks.{mark-stays, marks-stay, marks-length}
+use Rattle.output.proofs.Marks.{dests-new}
 
 -- ---- refusal 5
 

@@ -1,7 +1,6 @@
 -- The static facts of the runs, from a decoded routine of shelf reason 0.
 use Prim.Native.Nat.{ℕ, zero, suc, _+_, _≤_}
-use mathlib.Core.Path.{_≡_, refl, ap, _∙_, sym}
-use mathlib.Core.Option.{some}
+use mathlib.Core.Path.{_≡_, ap, sym}
 use mathlib.Core.List.{List, [], _∷_}
 use mathlib.Core.Bool.{Bool, true, false, cond, _&&_}
 use native.Mathlib.Omega.{arith}
@@ -13,7 +12,7 @@ use Rattle.form.specs.declared.Bounds.{Bounds}
 use Rattle.block.specs.Decode.{marks, blockMarks}
 use Rattle.block.specs.declared.Mosts.{Mosts}
 use Rattle.block.specs.WellFormed.{FitCode}
-use Rattle.form.specs.Reads.{dests}
+use Rattle.block.proofs.Marks.{marks-length, block-length}
 use Rattle.routine.specs.Routine.{Routine}
 use Rattle.whole.specs.WellFormed.{FitBlocks, bounds, unmarked, WellFormed}
 use Rattle.eligibility.specs.declared.Settings.{Settings}
@@ -21,7 +20,6 @@ use Rattle.eligibility.specs.Lookup.{Types, recordedType}
 use Rattle.eligibility.specs.Climb.{isSome}
 use Rattle.eligibility.specs.Fold.{behindPhis}
 use Rattle.rewriting.specs.Run.{Choice, typesIn}
-use Rattle.output.proofs.Marks.{marks-length}
 use Rattle.shelf.specs.Lists.{every, among}
 use Rattle.shelf.specs.Reads.{clean, cleanTerminator}
 use Rattle.shelf.specs.Agrees.{agrees, endAgrees, blockAgrees}
@@ -42,10 +40,6 @@ each-block m b total seen [] p l f h = tt
 each-block m b total seen (k ∷ ks) p l f h =
     and-i (p k) (every p ks) (f total seen k l (h .0))
     (each-block m b (total + length (k .instructions)) (blockMarks seen (k .instructions)) ks p (rw (block-length seen (k .instructions)) l) f (h .1))
-  where
-    block-length : (seen : List Bool) (is : List Instruction) → length (blockMarks seen is) ≡ length seen
-    block-length seen [] = refl
-    block-length seen (i ∷ is) = block-length (marks seen (dests (i .kind))) is ∙ marks-length seen (dests (i .kind))
 
 -- ---- reason 0
 

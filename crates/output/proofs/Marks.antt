@@ -1,16 +1,16 @@
 -- The marks of the values defined so far, in the input and in the output: the output has fewer below next, and its fresh
 -- numbers come in order.
-use Prim.Native.Nat.{ℕ, zero, suc, _+_, _≤_, _<_}
+use Prim.Native.Nat.{ℕ, suc, _+_, _≤_, _<_}
 use mathlib.Core.Path.{_≡_, refl, ap, _∙_, sym}
 use mathlib.Core.List.{List, [], _∷_, _++_}
 use mathlib.Core.Bool.{true, false, not, _||_}
 use mathlib.Core.Bool as B
 use native.Mathlib.Omega.{arith}
 use lib.Dec.{T, eqb, eqb→eq, eqb-refl}
-use lib.ListN.{length, getD, set, length-set}
+use lib.ListN.{length, getD, length-set}
 use lib.Seq.{getD-set-same, getD-set-other}
 use Rattle.wire.specs.declared.ValueId.{ValueId}
-use Rattle.form.specs.Syntax.{Instruction, InstructionKind, Assign, UnaryOp, BinaryOp, Call, Cast, Load, Store, Debug, Nop, Phi}
+use Rattle.form.specs.Syntax.{InstructionKind, Assign, UnaryOp, BinaryOp, Call, Cast, Load, Store, Debug, Nop, Phi}
 use Rattle.form.specs.Syntax.{MakeTuple, ExtractTupleElement, MakeStruct, ExtractStructField, InsertField, InsertTuple, MakeFixedArray, AssertEq, HeapAllocCells}
 use Rattle.form.specs.Reads.{dests, isPhi}
 use Rattle.form.specs.Decode.{mark}
@@ -18,6 +18,7 @@ use Rattle.form.specs.declared.Bounds.{Bounds}
 use Rattle.canon.specs.WellFormed.{FitNew, FitNews, FitKind}
 use Rattle.canon.proofs.Bits.{true-false}
 use Rattle.block.specs.Decode.{marks, blockMarks}
+use Rattle.block.proofs.Marks.{mark-stays}
 
 -- a test with its answer
 pub data Split (b : B.Bool) : Type 0 where
@@ -50,37 +51,7 @@ dests-new b seen (MakeFixedArray d xs t c) h = (h .0, tt)
 dests-new b seen (AssertEq x y) h = tt
 dests-new b seen (HeapAllocCells d x) h = (h .0, tt)
 
--- a mark stays, and a defined value has one
-pub mark-stays : (seen : List B.Bool) (d : ValueId) (v : ℕ) → getD seen v false ≡ true → getD (mark seen d) v false ≡ true
-mark-stays seen d v h =
-    elim (split (eqb v (d .0))) [
-      | passes y ↦ there (eqb→eq v (d .0) y)
-      | fails y ↦ getD-set-other seen (d .0) v true false (λ e. not-same e y) ∙ h
-    ]
-  where
-    not-same : v ≡ d .0 → T (not (eqb v (d .0))) → ⊥
-    not-same e y = no (eqb v (d .0)) (rw e (eqb-refl (d .0))) y
-      where
-        no : (b : B.Bool) → T b → T (not b) → ⊥
-        no true s t = t
-        no false s t = s
-
-    below : (l : List B.Bool) (k : ℕ) → getD l k false ≡ true → k < length l
-    below [] k e = absurd (true-false (sym e))
-    below (x ∷ l) zero e = omega arith
-    below (x ∷ l) (suc k) e = omega (arith, below l k e)
-
-    there : v ≡ d .0 → getD (set seen (d .0) true) v false ≡ true
-    there e = ap (λ k. getD (set seen (d .0) true) k false) e ∙ getD-set-same seen (d .0) true false (below seen (d .0) (sym (ap (λ k. getD seen k false) e) ∙ h))
-
-pub marks-stay : (seen : List B.Bool) (ds : List ValueId) (v : ℕ) → getD seen v false ≡ true → getD (marks seen ds) v false ≡ true
-marks-stay seen [] v h = h
-marks-stay seen (d ∷ ds) v h = marks-stay (mark seen d) ds v (mark-stays seen d v h)
-
-pub marks-length : (seen : List B.Bool) (ds : List ValueId) → length (marks seen ds) ≡ length seen
-marks-length seen [] = refl
-marks-length seen (d ∷ ds) = marks-length (mark seen d) ds ∙ length-set seen (d .0) true
-
+-- a defined value has a mark
 differ : (v d : ℕ) → T (not (eqb v d)) → v ≡ d → ⊥
 differ v d y e = no (eqb v d) (rw e (eqb-refl d)) y
   where

@@ -42,7 +42,7 @@ use Rattle.output.proofs.Wider.{Wider, kind-wider, end-wider}
 use Rattle.output.proofs.Parts.{no-states}
 use Rattle.output.proofs.Rebuilt.{Typed, each-append}
 use Rattle.output.proofs.Steps.{walk-fit}
-use Rattle.output.proofs.Marks.{Split, passes, fails, split, dests-new, marks-length, Both, news-both, both-kept}
+use Rattle.output.proofs.Marks.{Split, passes, fails, split, dests-new, Both, news-both, both-kept}
 use Rattle.output.proofs.Blocks.{Fits, fits-lowers}
 use Rattle.output.proofs.Counts.{lists-within, all-most, lowers-count}
 

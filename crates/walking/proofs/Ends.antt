@@ -31,7 +31,7 @@ use Rattle.rewriting.specs.Run.{Walked, ends, finish, walk}
 use Rattle.progress.specs.declared.Progress.{Progress}
 use Rattle.progress.specs.declared.Put.{Put}
 use Rattle.progress.specs.Effect.{Effect, Output, outputOf, behind, further, walkedEffect, markAll, numbersOf, Puts}
-use Rattle.walking.specs.Stepping.{movedTo, Left, InBlock}
+use Rattle.stepping.specs.Stepping.{movedTo, Left, InBlock}
 
 -- what the reader of a terminator answers at a place
 module _ (b : Bounds) (s t : List ℕ) (at : ℕ) (r : Scan) (w : Walk) (seen : List Bool) (buffer : List ℕ) (e : asScan r seen buffer ≡ mapParse (leaves w) (terminatorOf b t)) (h : t ≡ drop at s) where

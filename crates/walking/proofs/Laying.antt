@@ -28,7 +28,7 @@ use Rattle.rewriting.specs.Run.{Walked, Rewritten, Choice, walk, allBlocks}
 use Rattle.progress.specs.declared.Progress.{Progress}
 use Rattle.progress.specs.declared.Put.{Put}
 use Rattle.progress.specs.Effect.{outputOf, behind, further, walkedEffect, rewrittenEffect, numbersOf, markAll, Puts, Low, PutLow}
-use Rattle.walking.specs.Stepping.{movedTo, InBlock, Tabled}
+use Rattle.stepping.specs.Stepping.{movedTo, InBlock, Tabled}
 use Rattle.walking.specs.Blocks.{blockEffect, InCode}
 use Rattle.walking.proofs.Ends.{puts-went, body-clash}
 use Rattle.walking.proofs.Whole.{block-out, skip-effect, walk-effect}

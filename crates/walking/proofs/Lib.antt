@@ -1,6 +1,3 @@
-pub mod Lows
-pub mod Performing
-pub mod Turns
 pub mod Walks
 pub mod Ends
 pub mod Whole

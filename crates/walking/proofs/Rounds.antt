@@ -19,9 +19,9 @@ use Rattle.progress.specs.declared.Progress.{Progress}
 use Rattle.progress.specs.declared.Put.{Put}
 use Rattle.progress.specs.Effect.{Effect, Output, outputOf, behind, further, rewrittenEffect, Puts, Low, PutLow}
 use Rattle.progress.proofs.Laws.{behind-then, behind-none}
-use Rattle.walking.specs.Stepping.{Tabled}
+use Rattle.stepping.specs.Stepping.{Tabled}
 use Rattle.walking.specs.Blocks.{InCode, BlocksLeft}
-use Rattle.walking.proofs.Lows.{low-mono}
+use Rattle.stepping.proofs.Lows.{low-mono}
 use Rattle.walking.proofs.Ends.{puts-went, body-clash}
 use Rattle.walking.proofs.Whole.{cons-blocks}
 use Rattle.walking.proofs.Laying.{low-told}

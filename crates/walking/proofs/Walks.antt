@@ -24,11 +24,11 @@ use Rattle.parts.specs.Rows.{Rep}
 use Rattle.progress.specs.Ground.{Ground, Tables}
 use Rattle.progress.specs.Effect.{Output, outputOf, behind, further, pieceEffect, walkedEffect, Low}
 use Rattle.progress.proofs.Laws.{behind-then, glue-effect}
-use Rattle.walking.specs.declared.Reached.{Reached}
-use Rattle.walking.specs.declared.Stepped.{Stepped}
-use Rattle.walking.specs.Stepping.{SteppedLow, Gone, Steps, Left, InBlock, Arrives, Tabled}
-use Rattle.walking.proofs.Lows.{low-mono}
-use Rattle.walking.proofs.Turns.{no-clash, no-went}
+use Rattle.stepping.specs.declared.Reached.{Reached}
+use Rattle.stepping.specs.declared.Stepped.{Stepped}
+use Rattle.stepping.specs.Stepping.{SteppedLow, Gone, Steps, Left, InBlock, Arrives, Tabled}
+use Rattle.stepping.proofs.Lows.{low-mono}
+use Rattle.stepping.proofs.Turns.{no-clash, no-went}
 
 module _ (σ : Settings) (τ : Types) (folds : ValueId → Bool) (b : Bounds) (s : List ℕ) (t : Terminator) (o : Output) (whole : Walked) where
   module _ (i : Instruction) (rest : List Instruction) (counts firsts pool : List ℕ) (used : ℕ) (now : Output) (l : Left σ τ folds b s t o whole (i ∷ rest) counts firsts pool used now) where

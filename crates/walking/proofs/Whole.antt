@@ -25,7 +25,7 @@ use Rattle.rewriting.specs.Step.{kept, step, stepKind, noCounts}
 use Rattle.rewriting.specs.Run.{Walked, Rewritten, Choice, glue, walk, addCounts, blockThen, skipThen, oneBlock, allBlocks}
 use Rattle.progress.specs.declared.Progress.{Progress}
 use Rattle.progress.specs.Effect.{outputOf, behind, further, thenEffect, walkedEffect, rewrittenEffect, markAll, numbersOf}
-use Rattle.walking.specs.Stepping.{movedTo}
+use Rattle.stepping.specs.Stepping.{movedTo}
 use Rattle.walking.specs.Blocks.{blockEffect}
 
 -- multiples of 256 do not change the lowest byte

@@ -1,13 +1,12 @@
 // One block: its instructions, its terminator, and its count in front.
-use crate::Reached;
-use crate::Stepped;
-use crate::actions;
-use crate::steps;
 use eligibility::Settings;
 use form::Bounds;
 use form::Scan;
 use progress::Progress;
 use progress::Put;
+use stepping::Reached;
+use stepping::Stepped;
+use stepping::actions;
 ghost use mathlib.Core.Path.{_≡_};
 ghost use mathlib.Core.List.{[]};
 ghost use mathlib.Core.Bool.{Bool, false};
@@ -24,7 +23,7 @@ ghost use Rattle.rewriting.specs.Run.{finish, walk};
 ghost use Rattle.parts.specs.Rows.{Rep};
 ghost use Rattle.progress.specs.Ground.{Ground};
 ghost use Rattle.progress.specs.Effect.{outputOf, walkedEffect, Puts, Low, PutLow};
-ghost use Rattle.walking.specs.Stepping.{SteppedLow, InBlock, Arrives, Tabled};
+ghost use Rattle.stepping.specs.Stepping.{SteppedLow, InBlock, Arrives, Tabled};
 ghost use Rattle.walking.specs.Blocks.{blockEffect};
 
 // A block's instructions, one after another: `count` of them stand at `places`, their flags from `first` on.
@@ -60,7 +59,7 @@ fn put_instructions(
         let end = places::place_at(places, j + 1);
         let fold = table::flag(folded, first as usize + j as usize);
         let now = w.progress;
-        match steps::step(
+        match stepping::step(
             s,
             at,
             end,

@@ -1,7 +1,5 @@
 // Blocks rewritten one after another: what is decided of each instruction is put out.
-mod actions;
 mod body;
-mod steps;
 
 use eligibility::Settings;
 use form::Bounds;
@@ -21,20 +19,8 @@ ghost use Rattle.rewriting.specs.Run.{Choice, allBlocks};
 ghost use Rattle.progress.specs.Ground.{Ground};
 ghost use Rattle.progress.specs.Chosen.{Follows};
 ghost use Rattle.progress.specs.Effect.{outputOf, rewrittenEffect, Puts, Low, PutLow};
-ghost use Rattle.walking.specs.Stepping.{Tabled};
+ghost use Rattle.stepping.specs.Stepping.{Tabled};
 ghost use Rattle.walking.specs.Blocks.{InCode};
-
-// How far the output is written, and how much of the pool is used.
-pub struct Reached {
-    pub progress: Progress,
-    pub used: usize,
-}
-
-// What a step answers: an array rebuild met another count, or how far all went.
-pub enum Stepped {
-    Clash,
-    Went(Reached),
-}
 
 // A number that is at most 128; a greater one is 0.
 fn capped(n: u16) -> u16
@@ -69,8 +55,12 @@ fn one_block(
     ensures { λ r. ⌜ ((τ : Types) (c : Choice) (m : Mosts) (ks : List Block) → InCode m b (now (s .entry)) (now (types .entry)) (now (recorded .entry)) (now (blocks .entry)) (now (places .entry)) (now (starts .entry)) (now (folded .entry)) (now (skips .entry)) τ c ks → k < length ks → p .lines ≡ 0 → b .next + p .fresh + length ((allBlocks settings τ c (b .next + p .fresh) (getD ks k noBlock ∷ [])) .fresh) < 65536 → Puts (outputOf (now (out .entry)) (now (fresh .entry)) (now (dropped .entry)) p) (rewrittenEffect (allBlocks settings τ c (b .next + p .fresh) (getD ks k noBlock ∷ []))) ((allBlocks settings τ c (b .next + p .fresh) (getD ks k noBlock ∷ [])) .clash) (now (out .exit)) (now (fresh .exit)) (now (dropped .exit)) r) ⌝ }
 {
     if table::flag(skips, k as usize) {
-        let to = actions::copy_part(out, p.to, routine::block_bytes(s, blocks, BlockId(k)));
-        return Put::Went(actions::moved(p, to, p.lines));
+        let to = stepping::actions::copy_part(
+            out,
+            p.to,
+            routine::block_bytes(s, blocks, BlockId(k)),
+        );
+        return Put::Went(stepping::actions::moved(p, to, p.lines));
     }
     let own = index::block_places(places, starts, k);
     let count = capped(index::instruction_count(starts, k));

@@ -6,7 +6,7 @@ use native.Mathlib.Omega.{arith}
 use mathlib.Core.Path.{_∙_, sym}
 use lib.ListN.{getD}
 use Rattle.routine.specs.Index.{noBlock}
-use Rattle.walking.proofs.Lows.{low-mono, low-moved}
+use Rattle.stepping.proofs.Lows.{low-mono, low-moved}
 use Rattle.walking.proofs.Laying.{in-block, skips-as, walked-puts, skipped-puts}
 
 flag-requires : tie.Need-flag-requires

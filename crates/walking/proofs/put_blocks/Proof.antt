@@ -3,7 +3,7 @@ use Rattle.walking.proofs.put_blocks.Tie as tie
 use Prim.Native.Nat.{_-_, _+_, _*_}
 use native.Mathlib.Omega.{arith}
 use borrow.Author.Needs.{needs}
-use Rattle.walking.proofs.Lows.{low-mono}
+use Rattle.stepping.proofs.Lows.{low-mono}
 use Rattle.walking.proofs.Rounds.{Laying, laying-start, laying-ready, laying-done, laying-clash, laying-again}
 
 abbrev Inv-loop : tie.InvT-loop

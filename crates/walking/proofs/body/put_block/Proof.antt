@@ -4,7 +4,7 @@ use Rattle.walking.proofs.body.put_block.Tie as tie
 use Prim.Native.Nat.{_+_}
 use native.Mathlib.Omega.{arith}
 use mathlib.Core.Path.{_∙_}
-use Rattle.walking.proofs.Lows.{low-mono, low-moved, put-mono}
+use Rattle.stepping.proofs.Lows.{low-mono, low-moved, put-mono}
 use Rattle.walking.proofs.Laying.{tabled-on, low-reset, low-told, block-clash, block-went}
 
 clear-requires : tie.Need-clear-requires

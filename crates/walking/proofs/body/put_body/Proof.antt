@@ -3,7 +3,7 @@ use Rattle.walking.proofs.body.put_body.Statement.{statement}
 use Rattle.walking.proofs.body.put_body.Tie as tie
 use Prim.Native.Nat.{_+_}
 use native.Mathlib.Omega.{arith}
-use Rattle.walking.proofs.Lows.{low-mono, low-arrived, low-end}
+use Rattle.stepping.proofs.Lows.{low-mono, low-arrived, low-end}
 use Rattle.walking.proofs.Ends.{body-puts, body-clash, body-bound, end-at}
 
 put-instructions-requires : tie.Need-put-instructions-requires

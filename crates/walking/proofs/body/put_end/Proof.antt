@@ -6,7 +6,7 @@ use native.Mathlib.Omega.{arith}
 use mathlib.Core.Path.{ap, _∙_}
 use Rattle.wire.specs.Parse.{ok}
 use Rattle.rewriting.specs.Run.{finish}
-use Rattle.walking.proofs.Lows.{low-moved}
+use Rattle.stepping.proofs.Lows.{low-moved}
 use Rattle.walking.proofs.Ends.{return-puts, other-puts}
 
 tail-requires : tie.Need-tail-requires

@@ -3,7 +3,7 @@ use Rattle.walking.proofs.body.put_instructions.Tie as tie
 use Prim.Native.Nat.{_-_, _+_}
 use native.Mathlib.Omega.{arith}
 use borrow.Author.Needs.{needs}
-use Rattle.walking.proofs.Lows.{low-mono}
+use Rattle.stepping.proofs.Lows.{low-mono}
 use Rattle.walking.proofs.Walks.{Walking, walking-start, walking-done, walking-clash, walking-again}
 use mathlib.Core.Path.{refl}
 

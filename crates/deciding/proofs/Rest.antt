@@ -21,8 +21,8 @@ use Rattle.rewriting.specs.State.{AggStates}
 use Rattle.rewriting.specs.Step.{kept, step, stepKind}
 use Rattle.parts.specs.Rows.{Rep}
 use Rattle.progress.specs.Ground.{Ground, Tables}
-use Rattle.deciding.specs.Decided.{SpotAt, Here}
-use Rattle.deciding.specs.declared.Spot.{Spot}
+use Rattle.decided.specs.Decided.{SpotAt, Here}
+use Rattle.decided.specs.declared.Spot.{Spot}
 
 -- what stands beside the kind is short
 small : (a b c : Bool) → cond a 8 0 + (cond b 12 0 + cond c 4 0) ≤ 24

@@ -30,14 +30,14 @@ use Rattle.parts.specs.Rows.{ValueAt, Rep, Room, Values, Inits, InitAt}
 use Rattle.parts.specs.declared.Init.{Init}
 use Rattle.parts.proofs.Builds.{build-values, build-inits}
 use Rattle.chains.specs.Chained.{asPosition, loadedPart}
-use Rattle.deciding.specs.Decided.{Decided, Here, Below, stepTaken, Built, tuple, array}
+use Rattle.decided.specs.Decided.{Decided, Here, Below, stepTaken, Built, tuple, array}
 use Rattle.chains.specs.declared.Position.{Position}
-use Rattle.deciding.specs.declared.Decision.{Decision}
-use Rattle.deciding.specs.declared.Spot.{Spot}
-use Rattle.deciding.proofs.Actions.{stays}
-use Rattle.deciding.proofs.Arms.{behind-16, behind-32, behind-value, value-below, taken-extract, whole-aggregate, load-taken}
-use Rattle.deciding.proofs.Own.{Named, Dest, IsAssign, is-assign, assign-stands, IsLoad, is-load, load-stands, IsTuple, is-tuple, tuple-stands, IsArray, is-array, array-stands, IsStruct, is-struct, struct-stands}
-use Rattle.deciding.proofs.Own.{IsElement, is-element, element-stands, IsField, is-field, field-stands, IsInsertField, is-insert-field, insert-field-stands, IsInsertElement, is-insert-element, insert-element-stands}
+use Rattle.decided.specs.declared.Decision.{Decision}
+use Rattle.decided.specs.declared.Spot.{Spot}
+use Rattle.decided.proofs.Actions.{stays}
+use Rattle.decided.proofs.Arms.{behind-16, behind-32, behind-value, value-below, taken-extract, whole-aggregate, load-taken}
+use Rattle.decided.proofs.Own.{Named, Dest, IsAssign, is-assign, assign-stands, IsLoad, is-load, load-stands, IsTuple, is-tuple, tuple-stands, IsArray, is-array, array-stands, IsStruct, is-struct, struct-stands}
+use Rattle.decided.proofs.Own.{IsElement, is-element, element-stands, IsField, is-field, field-stands, IsInsertField, is-insert-field, insert-field-stands, IsInsertElement, is-insert-element, insert-element-stands}
 
 module _ {b : Bounds} {s types recorded counts firsts pool : List ℕ} {used : ℕ} {τ : Types} {S : AggStates} {p : Spot} {i : Instruction} {n : ℕ} (h : Here b s types recorded counts firsts pool used τ S p i n) where
   -- the decoder of the kind has read the fields

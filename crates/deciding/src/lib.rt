@@ -1,8 +1,9 @@
 // What becomes of one instruction, all kinds but Call and Store: sroa.rs 796 to 1305. The parts of what it defines, if
 // they are tracked then, go into the rows.
-pub mod pieces;
-
 use chains::Position;
+use decided::Action;
+use decided::Decision;
+use decided::Spot;
 use eligibility::Settings;
 use form::Bounds;
 use wire::NameId;
@@ -26,43 +27,7 @@ ghost use Rattle.rewriting.specs.State.{AggStates};
 ghost use Rattle.rewriting.specs.Step.{step};
 ghost use Rattle.parts.specs.Rows.{Rep};
 ghost use Rattle.progress.specs.Ground.{Ground, Tables};
-ghost use Rattle.deciding.specs.Decided.{Decided, SpotAt, Here, Built};
-
-// What an instruction that is left out counts as.
-pub enum Counted {
-    Build,
-    Extract,
-    Insert,
-    Assign,
-}
-
-// The instruction stays; or it is left out and its dest is tracked; or an Assign stands for it, of the value that stands
-// at a place of the input.
-pub enum Action {
-    Keep,
-    Track(ValueId, Counted),
-    Assign(ValueId, usize, TypeId),
-}
-
-// What to do, and how much of the pool is used then.
-pub struct Decision {
-    pub action: Action,
-    pub used: usize,
-}
-
-// A value that is tracked, or any other.
-pub enum Source {
-    Tracked(ValueId),
-    Untracked,
-}
-
-// An instruction: where it stands, where its own fields begin, what its first field defines, its kind.
-pub struct Spot {
-    pub at: usize,
-    pub off: usize,
-    pub dest: ValueId,
-    pub kind: u8,
-}
+ghost use Rattle.decided.specs.Decided.{Decided, SpotAt, Here, Built};
 
 // The instruction at a place.
 fn find_spot(s: &[u8], at: usize) -> Spot
@@ -92,10 +57,10 @@ fn step_assign(
     ensures { λ r. ⌜ r .used ≡ used ⌝ }
     ensures { λ r. ⌜ ((recorded pool : List ℕ) (τ : Types) (S : AggStates) (σ : SettingsOf) (folds : IdOf → Bool) (m : ℕ) (i : Instruction) (n : ℕ) → Here b (now (s .entry)) (now (types .entry)) recorded (now (counts .entry)) (now (firsts .entry)) pool used τ S p i n → p .kind ≡ 0 → Decided (b .next) (now (s .entry)) (now (counts .exit)) (now (firsts .exit)) pool S i (step σ τ folds S m i) r) ⌝ }
 {
-    let x = pieces::first_operand(s, p.at, b);
-    let t = pieces::last_type(s, p.at, b);
-    let whole = pieces::is_aggregate(s, types, b.types, t);
-    pieces::assign(p.dest, x, whole, counts, firsts, used)
+    let x = decided::first_operand(s, p.at, b);
+    let t = decided::last_type(s, p.at, b);
+    let whole = decided::is_aggregate(s, types, b.types, t);
+    decided::assign(p.dest, x, whole, counts, firsts, used)
 }
 
 // A Load, where tuples are taken apart.
@@ -121,9 +86,9 @@ fn step_load(
         };
     }
     let init = chains::load_part(s, p.at, b, types, recorded, counts, firsts, pool);
-    let t = pieces::last_type(s, p.at, b);
-    let whole = pieces::is_aggregate(s, types, b.types, t);
-    pieces::take(s, b.next, init, p.dest, t, whole, counts, firsts, used)
+    let t = decided::last_type(s, p.at, b);
+    let whole = decided::is_aggregate(s, types, b.types, t);
+    decided::take(s, b.next, init, p.dest, t, whole, counts, firsts, used)
 }
 
 // A build of a tuple or an array.
@@ -141,7 +106,7 @@ fn step_build(
     ensures { λ r. ⌜ r .used ≤ used + 16 ⌝ }
     ensures { λ r. ⌜ ((types recorded : List ℕ) (τ : Types) (S : AggStates) (σ : SettingsOf) (folds : IdOf → Bool) (m : ℕ) (i : Instruction) (n : ℕ) → Here b (now (s .entry)) types recorded (now (counts .entry)) (now (firsts .entry)) (now (pool .entry)) used τ S p i n → Built (p .kind) → ((d : IdOf) → buildDest (i .kind) ≡ some d → fold ≡ folds d) → Decided (b .next) (now (s .entry)) (now (counts .exit)) (now (firsts .exit)) (now (pool .exit)) S i (step σ τ folds S m i) r) ⌝ }
 {
-    pieces::build(s, p.off, p.dest, fold, counts, firsts, pool, used)
+    decided::build(s, p.off, p.dest, fold, counts, firsts, pool, used)
 }
 
 // A build of a struct.
@@ -161,8 +126,8 @@ fn step_struct(
     ensures { λ r. ⌜ r .used ≤ used + 16 ⌝ }
     ensures { λ r. ⌜ ((τ : Types) (S : AggStates) (σ : SettingsOf) (folds : IdOf → Bool) (m : ℕ) (i : Instruction) (n : ℕ) → Here b (now (s .entry)) (now (types .entry)) (now (recorded .entry)) (now (counts .entry)) (now (firsts .entry)) (now (pool .entry)) used τ S p i n → p .kind ≡ 12 → ((d : IdOf) → buildDest (i .kind) ≡ some d → fold ≡ folds d) → Decided (b .next) (now (s .entry)) (now (counts .exit)) (now (firsts .exit)) (now (pool .exit)) S i (step σ τ folds S m i) r) ⌝ }
 {
-    let t = pieces::last_type(s, p.at, b);
-    pieces::build_struct(
+    let t = decided::last_type(s, p.at, b);
+    decided::build_struct(
         s,
         p.off,
         p.dest,
@@ -199,11 +164,11 @@ fn step_element(
             used: used,
         };
     }
-    let x = pieces::first_operand(s, p.at, b);
+    let x = decided::first_operand(s, p.at, b);
     let k = wire::u32_at(s, lookup::value_end(s, p.off + 2));
-    let init = pieces::part(counts, firsts, pool, x, k);
-    let t = pieces::last_type(s, p.at, b);
-    pieces::take(s, b.next, init, p.dest, t, true, counts, firsts, used)
+    let init = decided::part(counts, firsts, pool, x, k);
+    let t = decided::last_type(s, p.at, b);
+    decided::take(s, b.next, init, p.dest, t, true, counts, firsts, used)
 }
 
 // An extract of a struct's field.
@@ -229,11 +194,11 @@ fn step_field(
             used: used,
         };
     }
-    let x = pieces::first_operand(s, p.at, b);
+    let x = decided::first_operand(s, p.at, b);
     let name = NameId(wire::u16_at(s, lookup::value_end(s, p.off + 2)));
-    let init = pieces::field_part(s, types, b.types, recorded, counts, firsts, pool, x, name);
-    let t = pieces::last_type(s, p.at, b);
-    pieces::take(s, b.next, init, p.dest, t, true, counts, firsts, used)
+    let init = decided::field_part(s, types, b.types, recorded, counts, firsts, pool, x, name);
+    let t = decided::last_type(s, p.at, b);
+    decided::take(s, b.next, init, p.dest, t, true, counts, firsts, used)
 }
 
 // An insert of a struct's field.
@@ -258,15 +223,15 @@ fn step_insert_field(
             used: used,
         };
     }
-    let x = pieces::first_operand(s, p.at, b);
+    let x = decided::first_operand(s, p.at, b);
     let end = lookup::value_end(s, p.off + 2);
-    let t = pieces::last_type(s, p.at, b);
+    let t = decided::last_type(s, p.at, b);
     match chains::field_index(s, types, b.types, t.0, NameId(wire::u16_at(s, end))) {
         Position::Nothing => Decision {
             action: Action::Keep,
             used: used,
         },
-        Position::At(k) => pieces::insert(p.dest, x, k, end + 2, counts, firsts, pool, used),
+        Position::At(k) => decided::insert(p.dest, x, k, end + 2, counts, firsts, pool, used),
     }
 }
 
@@ -291,10 +256,10 @@ fn step_insert_element(
             used: used,
         };
     }
-    let x = pieces::first_operand(s, p.at, b);
+    let x = decided::first_operand(s, p.at, b);
     let end = lookup::value_end(s, p.off + 2);
     let k = wire::u32_at(s, end);
-    pieces::insert(p.dest, x, k, end + 4, counts, firsts, pool, used)
+    decided::insert(p.dest, x, k, end + 4, counts, firsts, pool, used)
 }
 
 // What becomes of the instruction at a place, where it is no Call and no Store. `fold`: it is a build that is taken apart.

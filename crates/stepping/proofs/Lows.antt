@@ -8,8 +8,8 @@ use Rattle.progress.specs.declared.Put.{Put}
 use Rattle.progress.specs.Effect.{Low, PutLow}
 use Rattle.stepping.specs.declared.Reached.{Reached}
 use Rattle.stepping.specs.declared.Stepped.{Stepped}
-use Rattle.deciding.specs.declared.Counted.{Counted}
-use Rattle.deciding.specs.Decided.{countedAs}
+use Rattle.decided.specs.declared.Counted.{Counted}
+use Rattle.decided.specs.Decided.{countedAs}
 use Rattle.stepping.specs.Stepping.{movedTo, withUsed, SteppedLow}
 
 pub low-mono : (k m : ℕ) (p : Progress) → k ≤ m → Low k p → Low m p

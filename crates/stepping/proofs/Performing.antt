@@ -29,9 +29,9 @@ use Rattle.rewriting.specs.Run.{addCounts}
 use Rattle.parts.specs.Rows.{ValueAt}
 use Rattle.progress.specs.declared.Progress.{Progress}
 use Rattle.progress.specs.Effect.{Output, outputOf, behind, further, pieceEffect, markAll, numbersOf}
-use Rattle.deciding.specs.declared.Counted.{Counted}
-use Rattle.deciding.specs.declared.Action.{Action}
-use Rattle.deciding.specs.Decided.{countedAs, Does, Assigned, assigned-from}
+use Rattle.decided.specs.declared.Counted.{Counted}
+use Rattle.decided.specs.declared.Action.{Action}
+use Rattle.decided.specs.Decided.{countedAs, Does, Assigned, assigned-from}
 use Rattle.stepping.specs.Stepping.{movedTo, raisedBy}
 
 -- the bytes of an instruction, where they stand

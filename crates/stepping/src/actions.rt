@@ -1,6 +1,6 @@
 // What is decided of an instruction is put out: it stays as it stands, it is left out, or an Assign stands for it.
-use deciding::Action;
-use deciding::Counted;
+use decided::Action;
+use decided::Counted;
 use form::Bounds;
 use progress::Progress;
 use rewriting::Counts;
@@ -23,7 +23,7 @@ ghost use Rattle.rewriting.specs.Step.{Piece, kept, assigned, oneExtract};
 ghost use Rattle.rewriting.specs.Run.{addCounts};
 ghost use Rattle.parts.specs.Rows.{ValueAt};
 ghost use Rattle.progress.specs.Effect.{outputOf, behind, pieceEffect, Low};
-ghost use Rattle.deciding.specs.Decided.{countedAs, Does};
+ghost use Rattle.decided.specs.Decided.{countedAs, Does};
 ghost use Rattle.stepping.specs.Stepping.{movedTo, raisedBy};
 
 // The bytes of the input from one place to another; none where they do not stand there.

@@ -1,7 +1,7 @@
 // One instruction: what is decided of it is put out. A Call, a Store, or any other kind.
 pub mod actions;
 
-use deciding::Counted;
+use decided::Counted;
 use eligibility::Settings;
 use form::Bounds;
 use progress::Progress;

@@ -3,9 +3,9 @@ use Rattle.deciding.proofs.decide.Statement.{statement}
 use Rattle.deciding.proofs.decide.Tie as tie
 use mathlib.Core.Path.{refl}
 use native.Mathlib.Omega.{arith}
-use Rattle.deciding.proofs.Actions.{stays}
+use Rattle.decided.proofs.Actions.{stays}
 use Rattle.deciding.proofs.Rest.{here-of, other-step}
-use Rattle.deciding.specs.Decided.{tuple, array}
+use Rattle.decided.specs.Decided.{tuple, array}
 
 find-spot-requires : tie.Need-find-spot-requires
 find-spot-requires c κs = search needs

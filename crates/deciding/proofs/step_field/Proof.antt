@@ -3,7 +3,7 @@ use Rattle.deciding.proofs.step_field.Statement.{statement}
 use Rattle.deciding.proofs.step_field.Tie as tie
 use mathlib.Core.Path.{refl, _∙_}
 use borrow.Author.Tests.{not-true, not-false}
-use Rattle.deciding.proofs.Actions.{stays}
+use Rattle.decided.proofs.Actions.{stays}
 use Rattle.deciding.proofs.Stepping.{field-step, field-off}
 
 returns : tie.Need-returns

@@ -4,7 +4,7 @@ use Rattle.deciding.proofs.step_insert_element.Tie as tie
 use mathlib.Core.Path.{_∙_}
 use native.Mathlib.Omega.{arith}
 use borrow.Author.Tests.{not-true, not-false}
-use Rattle.deciding.proofs.Actions.{stays}
+use Rattle.decided.proofs.Actions.{stays}
 use Rattle.deciding.proofs.Stepping.{insert-element-step, insert-element-off}
 
 returns : tie.Need-returns

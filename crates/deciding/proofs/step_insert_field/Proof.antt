@@ -4,7 +4,7 @@ use Rattle.deciding.proofs.step_insert_field.Tie as tie
 use mathlib.Core.Path.{_∙_}
 use native.Mathlib.Omega.{arith}
 use borrow.Author.Tests.{not-true, not-false}
-use Rattle.deciding.proofs.Actions.{stays}
+use Rattle.decided.proofs.Actions.{stays}
 use Rattle.deciding.proofs.Stepping.{insert-field-step, insert-field-off, insert-field-unknown}
 
 returns : tie.Need-returns

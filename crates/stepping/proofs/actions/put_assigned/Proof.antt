@@ -2,7 +2,7 @@ use borrow.Author.Needs.{needs}
 use Rattle.stepping.proofs.actions.put_assigned.Statement.{statement}
 use Rattle.stepping.proofs.actions.put_assigned.Tie as tie
 use native.Mathlib.Omega.{arith}
-use Rattle.deciding.specs.declared.Counted.{Counted}
+use Rattle.decided.specs.declared.Counted.{Counted}
 use Rattle.stepping.proofs.Lows.{low-raised}
 use Rattle.stepping.proofs.Performing.{assigned-out, assign-short}
 

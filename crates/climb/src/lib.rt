@@ -21,7 +21,7 @@ pub struct Climbed {
 }
 
 // The value's build passes its own conditions, and nothing wants the value whole.
-fn allowed(buildable: &[bool], blocked: &[bool], at: usize) -> bool
+pub fn allowed(buildable: &[bool], blocked: &[bool], at: usize) -> bool
     ensures { λ r. ⌜ r ≡ getD (now (buildable .entry)) at false && not (getD (now (blocked .entry)) at false) ⌝ }
 {
     if table::flag(buildable, at) {

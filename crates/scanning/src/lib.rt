@@ -166,7 +166,7 @@ fn passes(at: usize, shape: u8, shapes: &[u8], eligible: &[bool], cross: &[bool]
     ensures { λ r. ⌜ r ≡ eqb (getD (now (shapes .entry)) at 0) shape && (getD (now (eligible .entry)) at false && not (getD (now (cross .entry)) at false)) ⌝ }
 {
     if wire::byte_at(shapes, at) == shape {
-        super::allowed(eligible, cross, at)
+        climb::allowed(eligible, cross, at)
     } else {
         false
     }

@@ -2,11 +2,10 @@
 use Prim.Native.Nat.{ℕ, _≤_, _<_}
 use mathlib.Core.Path.{_≡_, ap, _∙_, sym, subst}
 use mathlib.Core.List.{List}
-use mathlib.Core.Bool.{false}
 use mathlib.Core.Option.{none, some}
 use native.Mathlib.Omega.{arith}
 use borrow.Author.Tests.{eqb-true}
-use lib.ListN.{length, getD, drop, length-drop, length-replicate}
+use lib.ListN.{length, getD, drop, length-drop}
 use lib.Dec.{eqb}
 use Rattle.wire.specs.Parse.{Parse, ok, bad, mapParse}
 use Rattle.wire.specs.WellFormed.{Bytes}
@@ -37,8 +36,10 @@ use Rattle.rewriting.specs.Run.{typesIn, choice, rewrittenBlocks}
 use Rattle.rewriting.proofs.Bound.{bound-blocks}
 use Rattle.progress.specs.Ground.{Ground}
 use Rattle.choosing.specs.Chosen.{Fits}
+use Rattle.choosing.proofs.Fitted.{routine-fits}
+use Rattle.output.proofs.Counts.{lists-within, all-most}
 use Rattle.lowering.specs.Tables.{Accepted}
-use Rattle.lowering.proofs.Fit.{length-marks, each-some, lists-within, fit-count, fit-each, fit-short, slots-count}
+use Rattle.lowering.proofs.Fit.{each-some, fit-short, slots-count}
 
 -- the mosts do not pass their fields
 wide : WideMosts mosts
@@ -122,7 +123,7 @@ module _ {s types recorded blocks : List ℕ} {b : Bounds} (a : Accepted s types
   code = subst (λ (x : Bounds). FitBlocks mosts x 0 (marks (unmarked r) (r .parameters)) (r .blocks)) (sym (a .bounded)) (fit .blocks)
 
   few-instructions : instructionCount (r .blocks) ≤ 256
-  few-instructions = omega (arith, fit-count mosts b 0 (marks (unmarked r) (r .parameters)) (r .blocks) (omega arith) code)
+  few-instructions = all-most mosts r fit
 
   -- the table of places has room
   pub slots-few : slots (r .blocks) ≤ 288
@@ -132,19 +133,15 @@ module _ {s types recorded blocks : List ℕ} {b : Bounds} (a : Accepted s types
   pub indexed : {p q : ℕ} {places starts : List ℕ} → ((m : Mosts) (ks : List Block) → BlocksAt m b s blocks ks → length ks ≡ b .blocks → slots ks ≤ p → slots ks < 65536 → length ks < q → CodeAt b s places starts ks) → 288 ≤ p → 33 ≤ q → CodeAt b s places starts (r .blocks)
   indexed f g h = f mosts (r .blocks) (a .code) (sym many-blocks) (omega (arith, slots-few)) (omega (arith, slots-few)) (omega (arith, many-blocks, blocks-few))
 
-  seen-long : b .next ≤ length (marks (unmarked r) (r .parameters))
-  seen-long = omega (arith, next-is, length-marks (unmarked r) (r .parameters), length-replicate (r .next) false)
-
   pub fits : Fits b (r .blocks)
-  fits = record { mosts = mosts; short = omega arith; each = fit-each mosts b 0 (marks (unmarked r) (r .parameters)) (r .blocks) seen-long code }
+  fits = subst (λ (x : Bounds). Fits x (r .blocks)) (sym (a .bounded)) (routine-fits mosts r fit (omega arith))
 
   pub short : (k : ℕ) → k < length (r .blocks) → length (getD (r .blocks) k noBlock .instructions) ≤ 128
-  unfolding fits
-  short k l = fit-short mosts b (getD (r .blocks) k noBlock) (fits .each k l)
+  short k l = omega (arith, fit-short (fits .mosts) b (getD (r .blocks) k noBlock) (fits .each k l), fits .short)
 
   -- "its next value is at most 4,864"
   pub few-fresh : (σ : Settings) → length ((rewrittenBlocks σ r) .fresh) ≤ 4608
-  few-fresh σ = fresh-few σ r few-instructions (fit .many-blocks) (lists-within b (omega (arith, list-is)) mosts 0 (marks (unmarked r) (r .parameters)) (r .blocks) code)
+  few-fresh σ = fresh-few σ r few-instructions (fit .many-blocks) (lists-within mosts r fit)
 
 -- ## From the reader's answer
 

@@ -36,7 +36,14 @@ pub record Accepted (s types recorded blocks : List ℕ) (b : Bounds) : Type 0 w
   pub long : 256 ≤ length recorded
   pub code : BlocksAt mosts b s blocks (routine .blocks)
 
--- and it is known where its instructions stand, which builds are folded and which blocks are skipped
+-- and it is known where its instructions stand
+pub record Standing (σ : Settings) (s types recorded blocks : List ℕ) (b : Bounds) (places starts : List ℕ) : Type 0 where
+  pub accepted : Accepted s types recorded blocks b
+  pub small : σ .most ≤ 16
+  pub stands : CodeAt b s places starts (accepted .routine .blocks)
+  pub room : length places ≤ 288
+
+-- which builds are folded and which blocks are skipped, too
 pub record Chosen (σ : Settings) (s types recorded blocks : List ℕ) (b : Bounds) (places starts : List ℕ) (folded skips : List Bool) : Type 0 where
   pub accepted : Accepted s types recorded blocks b
   pub small : σ .most ≤ 16

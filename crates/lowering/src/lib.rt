@@ -22,7 +22,7 @@ ghost use Rattle.rewriting.specs.Run.{rewrittenBlocks};
 ghost use Rattle.shelf.specs.Answer.{answer as given};
 ghost use Rattle.progress.specs.Effect.{PutLow};
 ghost use Rattle.lowering.specs.Numbers.{Answers};
-ghost use Rattle.lowering.specs.Tables.{Accepted, Chosen, startAt, Runs, Measured};
+ghost use Rattle.lowering.specs.Tables.{Accepted, Standing, Chosen, startAt, Runs, Measured};
 
 // A refusal's number and offset; or the result, the counts, the shelf reason, and how many bytes the rewritten routine has.
 pub enum Answer {
@@ -273,7 +273,50 @@ fn lower_chosen(
     )
 }
 
-// Lowers an accepted routine, whose tables are given.
+// Chooses, then lowers.
+fn lower_built(
+    s: &[u8],
+    b: Bounds,
+    settings: Settings,
+    types: &[usize],
+    recorded: &[u16],
+    blocks: &[usize],
+    places: &[usize],
+    starts: &[u16],
+    out: &mut [u8],
+) -> Answer
+    requires { ⌜ Standing settings (now s) (now types) (now recorded) (now blocks) b (now places) (now starts) ⌝ }
+    ensures { λ r. ⌜ Answers (given settings (length (now (out .entry))) (now (s .entry))) r (now (out .entry)) (now (out .exit)) ⌝ }
+{
+    let mut folded: [bool; 288] = [false; 288];
+    let mut skips: [bool; 32] = [false; 32];
+    folds::choose_folds(
+        s,
+        b,
+        settings,
+        types,
+        recorded,
+        places,
+        starts,
+        &mut folded,
+        &mut skips,
+    );
+    lower_chosen(
+        s,
+        b,
+        settings,
+        types,
+        recorded,
+        blocks,
+        places,
+        starts,
+        &folded,
+        &skips,
+        out,
+    )
+}
+
+// Lowers an accepted routine, whose tables are given; one without builds is not changed.
 fn lower_read(
     s: &[u8],
     b: Bounds,
@@ -289,8 +332,8 @@ fn lower_read(
     let mut places: [usize; 288] = [0; 288];
     let mut starts: [u16; 33] = [0; 33];
     index::index_routine(s, blocks, b.blocks, b, &mut places, &mut starts);
-    if !choosing::any_builds(s, &places, &starts, b.blocks) {
-        return same::lower_same(
+    if choosing::any_builds(s, &places, &starts, b.blocks) {
+        return lower_built(
             s,
             b,
             settings,
@@ -302,20 +345,7 @@ fn lower_read(
             out,
         );
     }
-    let mut folded: [bool; 288] = [false; 288];
-    let mut skips: [bool; 32] = [false; 32];
-    folds::choose_folds(
-        s,
-        b,
-        settings,
-        types,
-        recorded,
-        &places,
-        &starts,
-        &mut folded,
-        &mut skips,
-    );
-    lower_chosen(
+    same::lower_same(
         s,
         b,
         settings,
@@ -324,8 +354,6 @@ fn lower_read(
         blocks,
         &places,
         &starts,
-        &folded,
-        &skips,
         out,
     )
 }

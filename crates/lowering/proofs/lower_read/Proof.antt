@@ -1,13 +1,11 @@
 use borrow.Author.Needs.{needs}
-use borrow.Author.Tests.{not-true}
 use Rattle.lowering.proofs.lower_read.Statement.{statement}
 use Rattle.lowering.proofs.lower_read.Tie as tie
 use Prim.Native.Nat.{ℕ}
 use mathlib.Core.Path.{sym}
-use mathlib.Core.Bool.{false}
 use lib.ListN.{length-replicate}
 use native.Mathlib.Omega.{arith}
-use Rattle.lowering.proofs.Accepted.{next-few, many-blocks, indexed}
+use Rattle.lowering.proofs.Accepted.{many-blocks, indexed}
 use Rattle.lowering.proofs.Untouched.{same-buildless}
 
 slice-aggregate-index-routine : tie.Need-slice-aggregate-index-routine
@@ -28,6 +26,27 @@ slice-aggregate-any-builds-2 c = search needs
 any-builds-requires : tie.Need-any-builds-requires
 any-builds-requires c κs = search needs
 
+slice-aggregate-lower-built : tie.Need-slice-aggregate-lower-built
+slice-aggregate-lower-built c = search needs
+
+slice-aggregate-lower-built-2 : tie.Need-slice-aggregate-lower-built-2
+slice-aggregate-lower-built-2 c = search needs
+
+lower-built-requires : tie.Need-lower-built-requires
+lower-built-requires c κs = let a = c .before .before .before .before .before .before .before .before .before .before .before .before .before .before .before .before .before .pre .0 in
+    record {
+      accepted = a;
+      small = c .before .before .before .before .before .before .before .before .before .before .before .before .before .before .before .before .before .pre .1;
+      stands = indexed a (c .before .before .before .before .before .before .before .before .before .index-routine .ensures) (omega (arith, length-replicate {A = ℕ} 288 0)) (omega (arith, length-replicate {A = ℕ} 33 0));
+      room = omega (arith, length-replicate {A = ℕ} 288 0, c .before .before .before .before .before .before .before .before .places2 .given);
+    }
+
+same-length : tie.Need-same-length
+same-length c = search needs
+
+returns : tie.Need-returns
+returns c = search needs
+
 slice-aggregate-lower-same : tie.Need-slice-aggregate-lower-same
 slice-aggregate-lower-same c = search needs
 
@@ -37,50 +56,7 @@ slice-aggregate-lower-same-2 c = search needs
 lower-same-requires : tie.Need-lower-same-requires
 lower-same-requires c κs = let a = c .before .before .before .before .before .before .before .before .before .before .before .before .before .before .before .before .before .pre .0 in
     let st = indexed a (c .before .before .before .before .before .before .before .before .before .index-routine .ensures) (omega (arith, length-replicate {A = ℕ} 288 0)) (omega (arith, length-replicate {A = ℕ} 33 0)) in
-    same-buildless a (c .before .before .before .before .before .before .before .before .before .before .before .before .before .before .before .before .before .pre .1) st (c .before .before .before .before .any-builds .ensures (not-true _ (c .before .before .before .if1 .taken)) (c .before .before .before .before .before .before .before .before .before .before .before .before .before .before .before .before .before .args .b) (a .routine .blocks) st (sym (many-blocks a)))
-
-same-length : tie.Need-same-length
-same-length c = search needs
-
-returns : tie.Need-returns
-returns c = search needs
-
-slice-aggregate-choose-folds : tie.Need-slice-aggregate-choose-folds
-slice-aggregate-choose-folds c = search needs
-
-slice-aggregate-choose-folds-2 : tie.Need-slice-aggregate-choose-folds-2
-slice-aggregate-choose-folds-2 c = search needs
-
-slice-aggregate-choose-folds-3 : tie.Need-slice-aggregate-choose-folds-3
-slice-aggregate-choose-folds-3 c = search needs
-
-slice-aggregate-choose-folds-4 : tie.Need-slice-aggregate-choose-folds-4
-slice-aggregate-choose-folds-4 c = search needs
-
-choose-folds-requires : tie.Need-choose-folds-requires
-choose-folds-requires c κs = next-few (c .before .before .before .before .before .before .before .before .before .before .before .before .before .before .before .before .before .before .pre .0)
-
-slice-aggregate-lower-chosen : tie.Need-slice-aggregate-lower-chosen
-slice-aggregate-lower-chosen c = search needs
-
-slice-aggregate-lower-chosen-2 : tie.Need-slice-aggregate-lower-chosen-2
-slice-aggregate-lower-chosen-2 c = search needs
-
-slice-aggregate-lower-chosen-3 : tie.Need-slice-aggregate-lower-chosen-3
-slice-aggregate-lower-chosen-3 c = search needs
-
-slice-aggregate-lower-chosen-4 : tie.Need-slice-aggregate-lower-chosen-4
-slice-aggregate-lower-chosen-4 c = search needs
-
-lower-chosen-requires : tie.Need-lower-chosen-requires
-lower-chosen-requires c κs = let a = c .before .before .before .before .before .before .before .before .before .before .before .before .before .before .before .before .before .before .before .before .before .before .before .before .before .before .pre .0 in
-    let st = indexed a (c .before .before .before .before .before .before .before .before .before .before .before .before .before .before .before .before .before .before .index-routine .ensures) (omega (arith, length-replicate {A = ℕ} 288 0)) (omega (arith, length-replicate {A = ℕ} 33 0)) in
-    record {
-      accepted = a;
-      small = c .before .before .before .before .before .before .before .before .before .before .before .before .before .before .before .before .before .before .before .before .before .before .before .before .before .before .pre .1;
-      stands = st;
-      follows = c .before .before .before .before .before .before .before .choose-folds .ensures _ a st (omega (arith, length-replicate 32 false)) (omega (arith, length-replicate 288 false, c .before .before .before .before .before .before .before .before .before .before .before .before .before .before .before .before .before .places2 .given));
-    }
+    same-buildless a (c .before .before .before .before .before .before .before .before .before .before .before .before .before .before .before .before .before .pre .1) st (c .before .before .before .before .any-builds .ensures (c .before .before .before .if1 .left) (c .before .before .before .before .before .before .before .before .before .before .before .before .before .before .before .before .before .args .b) (a .routine .blocks) st (sym (many-blocks a)))
 
 same-length-2 : tie.Need-same-length-2
 same-length-2 c = search needs
@@ -98,20 +74,13 @@ lower-read-spec =
     slice-aggregate-any-builds
     slice-aggregate-any-builds-2
     any-builds-requires
+    slice-aggregate-lower-built
+    slice-aggregate-lower-built-2
+    lower-built-requires
+    same-length
+    returns
     slice-aggregate-lower-same
     slice-aggregate-lower-same-2
     lower-same-requires
-    same-length
-    returns
-    slice-aggregate-choose-folds
-    slice-aggregate-choose-folds-2
-    slice-aggregate-choose-folds-3
-    slice-aggregate-choose-folds-4
-    choose-folds-requires
-    slice-aggregate-lower-chosen
-    slice-aggregate-lower-chosen-2
-    slice-aggregate-lower-chosen-3
-    slice-aggregate-lower-chosen-4
-    lower-chosen-requires
     same-length-2
     returns-2)

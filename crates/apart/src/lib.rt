@@ -19,7 +19,7 @@ ghost use Rattle.eligibility.specs.Lookup.{Types, valueRow, isAggregate};
 ghost use Rattle.eligibility.specs.Fold.{behindPhis};
 ghost use Rattle.progress.specs.Ground.{Ground};
 ghost use Rattle.shelf.specs.Lists.{every, among};
-ghost use Rattle.shelf.specs.Reads.{aggregateBase, basesIn, bases, apart, shallow};
+ghost use Rattle.shelf.specs.Reads.{aggregateBase, basesIn, bases, apart};
 ghost use Rattle.marking.specs.Tests.{clear, foundReads, partsClear, eachKind, eachBlock};
 
 // Whether a value that was found is no marked operand.
@@ -43,11 +43,11 @@ fn parts_clear(t: &[u8], b: Bounds, marks: &[bool]) -> bool
     let kind = wire::byte_at(t, 1);
     match kind {
         6 => value_clear(lookup::operand(t, b, 0), marks),
-        10 => reads_clear(t, b, marks),
-        12 => reads_clear(t, b, marks),
+        10 => marking::reads_clear(t, b, marks),
+        12 => marking::reads_clear(t, b, marks),
         14 => value_clear(lookup::operand(t, b, 1), marks),
         15 => value_clear(lookup::operand(t, b, 1), marks),
-        16 => reads_clear(t, b, marks),
+        16 => marking::reads_clear(t, b, marks),
         _ => true,
     }
 }
@@ -74,7 +74,7 @@ fn mark_base(s: &[u8], b: Bounds, types: &[usize], recorded: &[u16], t: &[u8], m
     if kind != 6 {
         return;
     }
-    let v = shallow::store_base(t, b);
+    let v = marking::store_base(t, b);
     if is_aggregate(s, b, types, recorded, v) {
         family::mark(marks, v);
     }

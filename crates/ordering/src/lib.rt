@@ -6,7 +6,6 @@ ghost use mathlib.Core.Bool.{false};
 ghost use Prim.Native.Nat.{ℕ, _+_, _≤_, _<_};
 ghost use lib.ListN.{length, getD, drop};
 ghost use Rattle.wire.specs.Parse.{ok};
-ghost use Rattle.wire.specs.declared.ValueId.{ValueId};
 ghost use Rattle.form.specs.Syntax.{Instruction, Block};
 ghost use Rattle.form.specs.Reads.{reads};
 ghost use Rattle.form.specs.Decode.{instructionOf};
@@ -15,33 +14,9 @@ ghost use Rattle.lookup.specs.Fields.{fieldsPlace};
 ghost use Rattle.places.specs.Places.{InstructionsAt};
 ghost use Rattle.index.specs.Code.{CodeAt};
 ghost use Rattle.eligibility.specs.Fold.{behindPhis};
-ghost use Rattle.readers.specs.Readers.{Buffered};
 ghost use Rattle.shelf.specs.Lists.{every};
 ghost use Rattle.shelf.specs.Reads.{countedReads, ordered};
 ghost use Rattle.marking.specs.Tests.{clear, orderedBehind, destCount, destFirst, destsAt};
-
-// Whether none of the first `n` values of a buffer is marked.
-fn none_marked(buffer: &[u16], n: usize, marks: &[bool]) -> bool
-    ensures { λ r. ⌜ ((vs : List ValueId) → Buffered (now (buffer .entry)) n vs → r ≡ clear (now (marks .entry)) vs) ⌝ }
-{
-    let mut k = 0;
-    while k < n {
-        if family::is_marked(marks, table::number(buffer, k)) {
-            return false;
-        }
-        k = k + 1;
-    }
-    true
-}
-
-// Whether the instruction at the head of `t` reads no marked value.
-fn reads_clear(t: &[u8], b: Bounds, marks: &[bool]) -> bool
-    ensures { λ r. ⌜ ((i : Instruction) (n : ℕ) → instructionOf b [] false (now (t .entry)) ≡ ok i n → b .list + b .projections ≤ 30 → r ≡ clear (now (marks .entry)) (reads (i .kind))) ⌝ }
-{
-    let mut buffer: [u16; 32] = [0; 32];
-    let n = lookup::reads_of(t, b, &mut buffer);
-    none_marked(&buffer, n, marks)
-}
 
 // How many dests an instruction of a kind has, whose fields are `u`.
 fn dest_count(u: &[u8], kind: u8) -> u8
@@ -100,7 +75,7 @@ fn counted_clear(t: &[u8], b: Bounds, marks: &[bool]) -> bool
     if kind == 7 {
         return true;
     }
-    reads_clear(t, b, marks)
+    marking::reads_clear(t, b, marks)
 }
 
 // Whether no instruction of a block, phis aside, reads a value that it or a later one defines: from the last to the first.

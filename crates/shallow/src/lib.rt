@@ -4,13 +4,11 @@ use lookup::Step;
 ghost use mathlib.Core.Path.{_≡_};
 ghost use mathlib.Core.List.{List, []};
 ghost use mathlib.Core.Bool.{false};
-ghost use mathlib.Core.Option.{some};
 ghost use Prim.Native.Nat.{ℕ, _+_, _≤_, _<_};
 ghost use lib.ListN.{length, getD};
 ghost use Rattle.wire.specs.Parse.{ok};
 ghost use Rattle.wire.specs.declared.ValueId.{ValueId};
 ghost use Rattle.form.specs.Syntax.{Instruction, Block};
-ghost use Rattle.form.specs.Reads.{reads, storeBase, kindNumber};
 ghost use Rattle.form.specs.Decode.{instructionOf};
 ghost use Rattle.lookup.specs.Fields.{placeSteps};
 ghost use Rattle.places.specs.Places.{InstructionsAt};
@@ -19,15 +17,6 @@ ghost use Rattle.eligibility.specs.Fold.{behindPhis};
 ghost use Rattle.shelf.specs.Lists.{every, among};
 ghost use Rattle.shelf.specs.Reads.{isDeep, shallow};
 ghost use Rattle.marking.specs.Tests.{shallowIn, eachKind};
-
-// The base of the Store at the head of `t`: the first value that it reads.
-pub fn store_base(t: &[u8], b: Bounds) -> u16
-    ensures { λ r. ⌜ ((i : Instruction) (n : ℕ) → instructionOf b [] false (now (t .entry)) ≡ ok i n → b .list + b .projections ≤ 30 → kindNumber (i .kind) ≡ 6 → storeBase (i .kind) ≡ some (record { 0 = r })) ⌝ }
-{
-    let mut buffer: [u16; 32] = [0; 32];
-    lookup::reads_of(t, b, &mut buffer);
-    table::number(&buffer, 0)
-}
 
 // Whether the place of the instruction at the head of `t` has two or more projections.
 fn is_deep(t: &[u8], b: Bounds) -> bool
@@ -52,7 +41,7 @@ fn is_shallow(t: &[u8], b: Bounds, dropped: &[bool]) -> bool
     if !is_deep(t, b) {
         return true;
     }
-    !family::is_marked(dropped, store_base(t, b))
+    !family::is_marked(dropped, marking::store_base(t, b))
 }
 
 // The same for a block, its `count` instructions standing at `places`.

@@ -1,5 +1,5 @@
-use Rattle.ordering.proofs.reads_clear.Statement.{statement}
-use Rattle.ordering.proofs.reads_clear.Tie as tie
+use Rattle.marking.proofs.reads_clear.Statement.{statement}
+use Rattle.marking.proofs.reads_clear.Tie as tie
 use borrow.Author.Needs.{needs}
 use mathlib.Core.Path.{refl}
 use Rattle.readers.proofs.Noting.{instruction-buffered}

@@ -1,9 +1,9 @@
-use Rattle.shallow.proofs.store_base.Statement.{statement}
-use Rattle.shallow.proofs.store_base.Tie as tie
+use Rattle.marking.proofs.store_base.Statement.{statement}
+use Rattle.marking.proofs.store_base.Tie as tie
 use borrow.Author.Needs.{needs}
 use mathlib.Core.Path.{refl}
 use Rattle.readers.proofs.Noting.{instruction-buffered}
 use Rattle.marking.proofs.Storing.{base-found}
 
 slice-aggregate-reads-of : tie.Need-slice-aggregate-reads-of
 slice-aggregate-reads-of c = search needs

@@ -1,8 +1,8 @@
-use Rattle.ordering.proofs.none_marked.Statement.{statement}
-use Rattle.ordering.proofs.none_marked.Tie as tie
+use Rattle.marking.proofs.none_marked.Statement.{statement}
+use Rattle.marking.proofs.none_marked.Tie as tie
 use borrow.Author.Needs.{needs}
 use Prim.Native.Nat.{_-_}
 use Rattle.marking.proofs.Scanning.{Clearing, clearing-start, clearing-again, clearing-stop, clearing-done}
 
 abbrev Inv-loop : tie.InvT-loop
 Inv-loop buffer n marks k₀ k = Clearing buffer n marks k

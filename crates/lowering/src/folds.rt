@@ -10,7 +10,7 @@ ghost use Rattle.eligibility.specs.Tables.{FactsAt};
 ghost use Rattle.index.specs.Code.{CodeAt};
 ghost use Rattle.rewriting.specs.Run.{typesIn, choice};
 ghost use Rattle.progress.specs.Chosen.{Follows};
-ghost use Rattle.lowering.specs.Tables.{Accepted};
+ghost use Rattle.writing.specs.Tables.{Accepted};
 
 // Chooses by the aggregates that are used across blocks; `marks` has a place for each value, and none stands.
 fn choose_crossed(

@@ -13,9 +13,9 @@ use Rattle.eligibility.specs.declared.Settings.{Settings}
 use Rattle.rewriting.specs.declared.Counts.{Counts}
 use Rattle.rewriting.proofs.Outcomes.{too-large}
 use Rattle.shelf.specs.Answer.{Answer as Given, refused, lowered, answer as given}
-use Rattle.lowering.specs.declared.Answer.{Answer}
-use Rattle.lowering.specs.Numbers.{numbersOf, leaves, asAnswer, Answers}
-use Rattle.lowering.proofs.Answered.{given-refused}
+use Rattle.writing.specs.declared.Answer.{Answer}
+use Rattle.writing.specs.Numbers.{numbersOf, leaves, asAnswer, Answers}
+use Rattle.writing.proofs.Answered.{given-refused}
 use Rattle.machine.specs.Meaning.{Meaning}
 use Rattle.claim.specs.Claim.{Indistinguishable}
 use Rattle.claim.proofs.Theorem.{indistinguishable, with-room}

@@ -6,8 +6,8 @@ use native.Mathlib.Omega.{arith}
 use borrow.Author.Tests.{lt-ltb, le-ltb}
 use Rattle.rewriting.specs.declared.Counts.{Counts}
 use Rattle.shelf.specs.Answer.{Answer as Given, refused, lowered}
-use Rattle.lowering.specs.declared.Answer.{Answer}
-use Rattle.lowering.specs.Numbers.{Numbers, numbersOf, asAnswer, Answers}
+use Rattle.writing.specs.declared.Answer.{Answer}
+use Rattle.writing.specs.Numbers.{Numbers, numbersOf, asAnswer, Answers}
 use Rattle.pass.specs.declared.Totals.{Totals}
 use Rattle.pass.specs.Totals.{added, withCounts, totalsAfter, afterAnswer}
 

@@ -7,8 +7,8 @@ use lib.ListN.{set}
 use lib.Seq.{sets}
 use Rattle.wire.specs.Value.{boolByte}
 use Rattle.rewriting.specs.declared.Counts.{Counts}
-use Rattle.lowering.specs.declared.Answer.{Answer}
-use Rattle.lowering.specs.Numbers.{asAnswer}
+use Rattle.writing.specs.declared.Answer.{Answer}
+use Rattle.writing.specs.Numbers.{asAnswer}
 use Rattle.pass.specs.Promise.{inOrder}
 
 pub ten : (l₀ l₁ l₂ l₃ l₄ l₅ l₆ l₇ l₈ l₉ m : List ℕ) (a b c d e f g h i j : ℕ) → l₁ ≡ set l₀ 0 a → l₂ ≡ set l₁ 1 b → l₃ ≡ set l₂ 2 c → l₄ ≡ set l₃ 3 d → l₅ ≡ set l₄ 4 e → l₆ ≡ set l₅ 5 f → l₇ ≡ set l₆ 6 g → l₈ ≡ set l₇ 7 h → l₉ ≡ set l₈ 8 i → m ≡ set l₉ 9 j → m ≡ sets l₀ 0 (a ∷ b ∷ c ∷ d ∷ e ∷ f ∷ g ∷ h ∷ i ∷ j ∷ [])

@@ -8,8 +8,8 @@ use lib.Seq.{sets}
 use Rattle.eligibility.specs.declared.Settings.{Settings}
 use Rattle.rewriting.specs.declared.Counts.{Counts}
 use Rattle.shelf.specs.Answer.{lowered, answer}
-use Rattle.lowering.specs.declared.Answer.{Answer}
-use Rattle.lowering.specs.Numbers.{Numbers, numbersOf, leaves, Answers}
+use Rattle.writing.specs.declared.Answer.{Answer}
+use Rattle.writing.specs.Numbers.{Numbers, numbersOf, leaves, Answers}
 use Rattle.machine.specs.Meaning.{Meaning}
 use Rattle.claim.specs.Claim.{Indistinguishable}
 use Rattle.pass.specs.declared.Totals.{Totals}

@@ -4,7 +4,7 @@ use mathlib.Core.Bool.{cond}
 use lib.Dec.{ltb}
 use Rattle.rewriting.specs.declared.Counts.{Counts}
 use Rattle.shelf.specs.Answer.{Answer as Given, refused, lowered}
-use Rattle.lowering.specs.declared.Answer.{Answer}
+use Rattle.writing.specs.declared.Answer.{Answer}
 use Rattle.pass.specs.declared.Totals.{Totals}
 
 -- a sum that stays at the largest number of 64 bits

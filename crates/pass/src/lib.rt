@@ -2,8 +2,8 @@
 mod numbers;
 
 use eligibility::Settings;
-use lowering::Answer;
 use rewriting::Counts;
+use writing::Answer;
 ghost use mathlib.Core.Path.{_≡_};
 ghost use Rattle.rewriting.specs.Outcome.{settingsOf};
 ghost use Rattle.pass.specs.Promise.{Lowers, Counted};

@@ -1,7 +1,7 @@
 // The numbers that the entry takes and gives.
 use eligibility::Settings;
-use lowering::Answer;
 use rewriting::Counts;
+use writing::Answer;
 ghost use mathlib.Core.Path.{_≡_};
 ghost use mathlib.Core.List.{List};
 ghost use Prim.Native.Nat.{ℕ, _≤_, _<_};
@@ -10,7 +10,7 @@ ghost use lib.Seq.{sets};
 ghost use Rattle.wire.specs.Value.{boolByte};
 ghost use Rattle.rewriting.specs.Outcome.{settingsOf};
 ghost use Rattle.shelf.specs.Answer.{answer as given};
-ghost use Rattle.lowering.specs.Numbers.{asAnswer};
+ghost use Rattle.writing.specs.Numbers.{asAnswer};
 ghost use Rattle.pass.specs.Promise.{inOrder};
 
 // The setting most: all numbers above 16 are refused alike.

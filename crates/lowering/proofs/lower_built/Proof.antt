@@ -4,7 +4,7 @@ use Rattle.lowering.proofs.lower_built.Tie as tie
 use mathlib.Core.Bool.{false}
 use lib.ListN.{length-replicate}
 use native.Mathlib.Omega.{arith}
-use Rattle.lowering.proofs.Accepted.{next-few}
+use Rattle.writing.proofs.Accepted.{next-few}
 
 slice-aggregate-choose-folds : tie.Need-slice-aggregate-choose-folds
 slice-aggregate-choose-folds c = search needs

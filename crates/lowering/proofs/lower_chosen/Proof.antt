@@ -1,6 +1,6 @@
 use borrow.Author.Needs.{needs}
 use borrow.Author.Tests.{not-true}
-use Rattle.lowering.proofs.Untouched.{same-chosen}
+use Rattle.writing.proofs.Untouched.{same-chosen}
 use Rattle.lowering.proofs.lower_chosen.Statement.{statement}
 use Rattle.lowering.proofs.lower_chosen.Tie as tie
 

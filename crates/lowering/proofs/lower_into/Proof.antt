@@ -2,8 +2,8 @@ use borrow.Author.Needs.{needs}
 use Rattle.lowering.proofs.lower_into.Statement.{statement}
 use Rattle.lowering.proofs.lower_into.Tie as tie
 use native.Mathlib.Omega.{arith}
-use Rattle.lowering.proofs.Accepted.{accepted-read, refused-read}
-use Rattle.lowering.proofs.Answered.{answers-large, answers-input}
+use Rattle.writing.proofs.Accepted.{accepted-read, refused-read}
+use Rattle.writing.proofs.Answered.{answers-large, answers-input}
 
 returns : tie.Need-returns
 returns c = answers-large (c .before .before .before .before .args .settings) (c .before .before .before .before .args .input .now) (c .before .before .before .before .args .out .now) (c .if1 .taken)

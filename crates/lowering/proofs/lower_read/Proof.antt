@@ -5,8 +5,8 @@ use Prim.Native.Nat.{ℕ}
 use mathlib.Core.Path.{sym}
 use lib.ListN.{length-replicate}
 use native.Mathlib.Omega.{arith}
-use Rattle.lowering.proofs.Accepted.{many-blocks, indexed}
-use Rattle.lowering.proofs.Untouched.{same-buildless}
+use Rattle.writing.proofs.Accepted.{many-blocks, indexed}
+use Rattle.writing.proofs.Untouched.{same-buildless}
 
 slice-aggregate-index-routine : tie.Need-slice-aggregate-index-routine
 slice-aggregate-index-routine c = search needs

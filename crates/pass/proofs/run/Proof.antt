@@ -42,9 +42,9 @@ use denote.Exit.{yes}
 use Rattle.eligibility.specs.declared.Settings.{Settings}
 use Rattle.eligibility.proofs.Settings as S
 use Rattle.eligibility.proofs.Settings.Laws as S′
-use Rattle.lowering.specs.declared.Answer.{Answer}
-use Rattle.lowering.proofs.Answer as N
-use Rattle.lowering.proofs.Answer.Laws as N′
+use Rattle.writing.specs.declared.Answer.{Answer}
+use Rattle.writing.proofs.Answer as N
+use Rattle.writing.proofs.Answer.Laws as N′
 use Rattle.pass.specs.Promise.{Counted}
 use Rattle.pass.specs.declared.Totals.{Totals}
 use Rattle.pass.specs.declared.Ran.{Ran}

@@ -6,7 +6,7 @@ use mathlib.Core.Bool.{false}
 use lib.ListN.{replicate}
 use native.Mathlib.Omega.{arith}
 use Rattle.rewriting.specs.Run.{typesIn}
-use Rattle.lowering.proofs.Accepted.{ground, many-blocks, blocks-few, short, fits}
+use Rattle.writing.proofs.Accepted.{ground, many-blocks, blocks-few, short, fits}
 use Rattle.lowering.proofs.Choosing.{follows-choice}
 
 cross-marks-requires : tie.Need-cross-marks-requires

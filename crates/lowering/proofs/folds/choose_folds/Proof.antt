@@ -3,7 +3,7 @@ use Rattle.lowering.proofs.folds.choose_folds.Statement.{statement}
 use Rattle.lowering.proofs.folds.choose_folds.Tie as tie
 use Rattle.routine.proofs.Body.{none-marked}
 use Rattle.rewriting.specs.Run.{typesIn}
-use Rattle.lowering.proofs.Accepted.{ground}
+use Rattle.writing.proofs.Accepted.{ground}
 
 slice-aggregate-value-facts : tie.Need-slice-aggregate-value-facts
 slice-aggregate-value-facts c = search needs

@@ -5,11 +5,11 @@ use lib.ListN.{length-replicate}
 use Rattle.routine.specs.Decode.{mosts}
 use Rattle.rewriting.specs.Run.{typesIn, choice}
 use Rattle.progress.specs.declared.Progress.{Progress}
-use Rattle.lowering.proofs.Accepted.{ground, many-blocks, short}
-use Rattle.lowering.proofs.Answered.{run-bound, runs-chosen, low-start}
+use Rattle.writing.proofs.Accepted.{ground, many-blocks, short}
+use Rattle.writing.proofs.Answered.{run-bound, runs-chosen, low-start}
 use borrow.Author.Needs.{needs}
-use Rattle.lowering.proofs.run_blocks.Statement.{statement}
-use Rattle.lowering.proofs.run_blocks.Tie as tie
+use Rattle.writing.proofs.run_blocks.Statement.{statement}
+use Rattle.writing.proofs.run_blocks.Tie as tie
 
 slice-aggregate-put-blocks : tie.Need-slice-aggregate-put-blocks
 slice-aggregate-put-blocks c = search needs

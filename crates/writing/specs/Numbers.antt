@@ -6,7 +6,7 @@ use lib.ListN.{length}
 use lib.Seq.{sets}
 use Rattle.wire.specs.Value.{boolByte}
 use Rattle.shelf.specs.Answer.{Answer as Given, refused, lowered}
-use Rattle.lowering.specs.declared.Answer.{Answer}
+use Rattle.writing.specs.declared.Answer.{Answer}
 
 -- a refusal's number and offset, the result, the five counts, the shelf reason, and how many bytes the rewritten routine has
 pub record Numbers : Type 0 where

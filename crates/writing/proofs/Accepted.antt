@@ -38,8 +38,8 @@ use Rattle.progress.specs.Ground.{Ground}
 use Rattle.choosing.specs.Chosen.{Fits}
 use Rattle.choosing.proofs.Fitted.{routine-fits}
 use Rattle.output.proofs.Counts.{lists-within, all-most}
-use Rattle.lowering.specs.Tables.{Accepted}
-use Rattle.lowering.proofs.Fit.{each-some, fit-short, slots-count}
+use Rattle.writing.specs.Tables.{Accepted}
+use Rattle.writing.proofs.Fit.{each-some, fit-short, slots-count}
 
 -- the mosts do not pass their fields
 wide : WideMosts mosts

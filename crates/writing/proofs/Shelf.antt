@@ -32,9 +32,9 @@ use Rattle.output.proofs.Whole.{well-formed}
 use Rattle.progress.specs.Effect.{markAll}
 use Rattle.shelving.specs.Shelved.{outputBounds, Input, Shelved}
 use Rattle.head.specs.Head.{headBytes, widened}
-use Rattle.lowering.specs.Tables.{Accepted, Chosen}
-use Rattle.lowering.proofs.Accepted.{many-types, next-is, many-blocks, list-is, projections-is, next-few, canon, fit, code, ground, few-fresh}
-use Rattle.lowering.proofs.Dropped.{marks-told, dropped-low}
+use Rattle.writing.specs.Tables.{Accepted, Chosen}
+use Rattle.writing.proofs.Accepted.{many-types, next-is, many-blocks, list-is, projections-is, next-few, canon, fit, code, ground, few-fresh}
+use Rattle.writing.proofs.Dropped.{marks-told, dropped-low}
 
 drop-past : (xs ys : List ℕ) (k : ℕ) → drop (length xs + k) (xs ++ ys) ≡ drop k ys
 drop-past [] ys k = let e : 0 + k ≡ k = omega arith in rw e

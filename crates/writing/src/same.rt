@@ -7,8 +7,8 @@ ghost use Prim.Native.Nat.{_≤_};
 ghost use lib.ListN.{length};
 ghost use lib.Seq.{sets};
 ghost use Rattle.shelf.specs.Answer.{answer as given};
-ghost use Rattle.lowering.specs.Numbers.{Answers};
-ghost use Rattle.lowering.specs.Tables.{Unchanged};
+ghost use Rattle.writing.specs.Numbers.{Answers};
+ghost use Rattle.writing.specs.Tables.{Unchanged};
 
 // Copies all of `s` to the first places of `out`.
 fn copy_whole(s: &[u8], out: &mut [u8])

@@ -1,11 +1,11 @@
 use Prim.Native.Nat.{ℕ}
 use lib.ListN.{length-replicate}
 use native.Mathlib.Omega.{arith}
-use Rattle.lowering.proofs.Accepted.{blocks-few, short-input}
-use Rattle.lowering.proofs.Answered.{measured, answers-clash}
+use Rattle.writing.proofs.Accepted.{blocks-few, short-input}
+use Rattle.writing.proofs.Answered.{measured, answers-clash}
 use borrow.Author.Needs.{needs}
-use Rattle.lowering.proofs.lower_folded.Statement.{statement}
-use Rattle.lowering.proofs.lower_folded.Tie as tie
+use Rattle.writing.proofs.lower_folded.Statement.{statement}
+use Rattle.writing.proofs.lower_folded.Tie as tie
 
 slice-aggregate-run-blocks : tie.Need-slice-aggregate-run-blocks
 slice-aggregate-run-blocks c = search needs

@@ -1,7 +1,7 @@
 use borrow.Author.Needs.{needs}
-use Rattle.lowering.proofs.types_end.Statement.{statement}
-use Rattle.lowering.proofs.types_end.Tie as tie
-use Rattle.lowering.proofs.TypesEnd.{end-found, end-missed}
+use Rattle.writing.proofs.types_end.Statement.{statement}
+use Rattle.writing.proofs.types_end.Tie as tie
+use Rattle.writing.proofs.TypesEnd.{end-found, end-missed}
 
 type-place-requires : tie.Need-type-place-requires
 type-place-requires c κs = search needs

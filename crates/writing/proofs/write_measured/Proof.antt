@@ -1,12 +1,12 @@
 use mathlib.Core.Path.{_∙_, refl, sym}
 use native.Mathlib.Omega.{arith}
 use Rattle.rewriting.specs.Run.{rewrittenBlocks}
-use Rattle.lowering.proofs.Accepted.{many-types, next-is, blocks-few, short-input, types-within, canon}
-use Rattle.lowering.proofs.Shelf.{types-short}
-use Rattle.lowering.proofs.Answered.{tabled, head-asks, went-low, answers-long, answers-written, shelved-written, never-clashes}
+use Rattle.writing.proofs.Accepted.{many-types, next-is, blocks-few, short-input, types-within, canon}
+use Rattle.writing.proofs.Shelf.{types-short}
+use Rattle.writing.proofs.Answered.{tabled, head-asks, went-low, answers-long, answers-written, shelved-written, never-clashes}
 use borrow.Author.Needs.{needs}
-use Rattle.lowering.proofs.write_measured.Statement.{statement}
-use Rattle.lowering.proofs.write_measured.Tie as tie
+use Rattle.writing.proofs.write_measured.Statement.{statement}
+use Rattle.writing.proofs.write_measured.Tie as tie
 
 types-end-requires : tie.Need-types-end-requires
 types-end-requires c κs = let a = c .before .before .before .before .before .before .before .before .before .before .before .pre .chosen .accepted in omega (arith, types-within a, short-input a)

@@ -1,11 +1,11 @@
-use Rattle.lowering.proofs.same.copy_whole.Statement.{statement}
-use Rattle.lowering.proofs.same.copy_whole.Tie as tie
+use Rattle.writing.proofs.same.copy_whole.Statement.{statement}
+use Rattle.writing.proofs.same.copy_whole.Tie as tie
 use Prim.Native.Nat.{_-_}
 use mathlib.Core.Path.{refl}
 use lib.ListN.{length}
 use native.Mathlib.Omega.{arith}
 use borrow.Author.Needs.{needs}
-use Rattle.lowering.proofs.Copied.{Copied, copied-start, copied-on, copied-all}
+use Rattle.writing.proofs.Copied.{Copied, copied-start, copied-on, copied-all}
 
 abbrev Inv-loop : tie.InvT-loop
 Inv-loop s out₀ i₀ out i = Copied s out₀ out i

@@ -22,12 +22,12 @@ use Rattle.shelf.specs.Lists.{among}
 use Rattle.shelf.specs.Answer.{answer as given, refused, lowered}
 use Rattle.shelving.specs.Shelved.{inputReason}
 use Rattle.shelving.proofs.Reasons.{reason-undropped}
-use Rattle.lowering.specs.declared.Answer.{Answer}
-use Rattle.lowering.specs.Numbers.{numbersOf, asAnswer, Answers}
-use Rattle.lowering.specs.Tables.{Accepted, Chosen, Unchanged}
-use Rattle.lowering.proofs.Accepted.{canon, many-blocks}
-use Rattle.lowering.proofs.Answered.{answers, given-refused, given-lowered}
-use Rattle.lowering.proofs.Still.{still}
+use Rattle.writing.specs.declared.Answer.{Answer}
+use Rattle.writing.specs.Numbers.{numbersOf, asAnswer, Answers}
+use Rattle.writing.specs.Tables.{Accepted, Chosen, Unchanged}
+use Rattle.writing.proofs.Accepted.{canon, many-blocks}
+use Rattle.writing.proofs.Answered.{answers, given-refused, given-lowered}
+use Rattle.writing.proofs.Still.{still}
 
 -- a routine without builds comes out as it is
 pub same-buildless : {σ : Settings} {s types recorded blocks : List ℕ} {b : Bounds} {places starts : List ℕ} (a : Accepted s types recorded blocks b) → σ .most ≤ 16 → CodeAt b s places starts (a .routine .blocks) → ((k : ℕ) → k < length (a .routine .blocks) → Buildless (getD (a .routine .blocks) k noBlock .instructions)) → Unchanged σ s types recorded blocks b places starts

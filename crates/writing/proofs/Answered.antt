@@ -38,12 +38,12 @@ use Rattle.progress.specs.declared.Put.{Put}
 use Rattle.progress.proofs.Laws.{numbers-length}
 use Rattle.head.specs.Head.{headBytes, widened, Tabled, frontEnd}
 use Rattle.head.proofs.Front.{front-within}
-use Rattle.lowering.specs.declared.Answer.{Answer}
-use Rattle.lowering.specs.Numbers.{numbersOf, leaves, asAnswer, Answers}
-use Rattle.lowering.specs.Tables.{Accepted, Chosen, startAt, Ran, Runs, Measured}
+use Rattle.writing.specs.declared.Answer.{Answer}
+use Rattle.writing.specs.Numbers.{numbersOf, leaves, asAnswer, Answers}
+use Rattle.writing.specs.Tables.{Accepted, Chosen, startAt, Ran, Runs, Measured}
 use Rattle.shelving.specs.Shelved.{Shelved}
-use Rattle.lowering.proofs.Shelf.{shelved}
-use Rattle.lowering.proofs.Accepted.{next-is, next-few, recorded-many, canon, short-input, few-fresh}
+use Rattle.writing.proofs.Shelf.{shelved}
+use Rattle.writing.proofs.Accepted.{next-is, next-few, recorded-many, canon, short-input, few-fresh}
 
 -- ## A run over the blocks
 

@@ -2,12 +2,12 @@ use mathlib.Core.Path.{ap, sym}
 use Prim.Native.Nat.{_+_}
 use native.Mathlib.Omega.{arith}
 use Rattle.progress.specs.declared.Progress.{Progress}
-use Rattle.lowering.proofs.Accepted.{many-types, short-input, types-within}
-use Rattle.lowering.proofs.Shelf.{types-short, inputs}
-use Rattle.lowering.proofs.Untouched.{same-long, same-written}
+use Rattle.writing.proofs.Accepted.{many-types, short-input, types-within}
+use Rattle.writing.proofs.Shelf.{types-short, inputs}
+use Rattle.writing.proofs.Untouched.{same-long, same-written}
 use borrow.Author.Needs.{needs}
-use Rattle.lowering.proofs.same.lower_same.Statement.{statement}
-use Rattle.lowering.proofs.same.lower_same.Tie as tie
+use Rattle.writing.proofs.same.lower_same.Statement.{statement}
+use Rattle.writing.proofs.same.lower_same.Tie as tie
 
 returns : tie.Need-returns
 returns c = same-long (c .before .before .before .before .before .before .before .before .pre) (c .before .before .before .before .before .before .before .before .args .out .now) (c .if1 .taken)

@@ -101,7 +101,7 @@ fn the_layout_is_the_pairs() {
 fn runs(routine: &Routine, n: Datum) -> [Trace; 2] {
     let lowered = run_routine(routine.clone(), Settings::default()).expect("it is accepted");
     [routine, &lowered.routine]
-        .map(|routine| run(routine, &Plain, &mut List(&[n.clone()]), 99).trace)
+        .map(|routine| run(routine, &Plain, &mut List(std::slice::from_ref(&n)), 99).trace)
 }
 
 fn gives(values: Vec<Datum>) -> Trace {

@@ -58,7 +58,8 @@ impl AddAssign for Counts {
 #[derive(Debug, Clone, Copy, PartialEq, Eq, Hash)]
 #[non_exhaustive]
 pub enum ShelfReason {
-    /// 0: nobody can tell the rewritten routine from the original.
+    /// 0: nobody can tell the rewritten routine from the original, unless the original stops at a
+    /// value that was never written or at a part that is not there.
     Passed,
     /// 1: types disagree.
     TypesDisagree,

@@ -31,6 +31,7 @@ fn all() -> Vec<(&'static str, Vec<u8>)> {
         ("struct.hex", write(&passed::nested_struct())),
         ("loop.hex", write(&passed::counting_loop())),
         ("counts.hex", write(&passed::every_count())),
+        ("unwritten.hex", write(&passed::unwritten())),
         ("reason-1.hex", write(&reasons::other_type())),
         ("reason-2.hex", write(&reasons::read_ahead())),
         ("reason-3.hex", write(&reasons::stored_into_part())),

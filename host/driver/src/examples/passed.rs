@@ -89,3 +89,11 @@ pub fn every_count() -> Routine {
     ];
     of_n(pair_types(), &[FELT, PAIR, PAIR, FELT, PAIR], vec![block(kinds, returned(4))])
 }
+
+/// `let one = (x,);` where `x` is never written: the original stops there, the rewritten routine has
+/// no such build any more.
+pub fn unwritten() -> Routine {
+    let types = vec![Type::Felt, Type::Tuple(vec![FELT])];
+    let kinds = vec![tuple(1, vec![value(0)])];
+    routine(types, &[FELT, TypeNo(1)], vec![block(kinds, Terminator::Return(Vec::new()))])
+}

@@ -126,6 +126,14 @@ fn what_passed_does_the_same() {
     }
 }
 
+/// The theorem says nothing of an original that stops at a value that was never written.
+#[test]
+fn an_unwritten_value_is_left_aside() {
+    let [original, rewritten] = runs(&passed::unwritten(), Datum::Unit);
+    assert_eq!(original.standing, Standing::Stopped(Cause::Unwritten));
+    assert_eq!(rewritten, gives(Vec::new()));
+}
+
 /// Each of reasons 3 to 5 is there for a cause: the rewritten routine does something else.
 #[test]
 fn what_did_not_pass_may_do_another_thing() {

@@ -18,6 +18,8 @@ fn main() {
     let manifest = PathBuf::from(env::var_os("CARGO_MANIFEST_DIR").expect("cargo sets it"));
     let folder = env::var_os(OVERRIDE).map_or_else(|| manifest.join(USUAL), PathBuf::from);
     println!("cargo:rustc-link-search=native={}", folder.display());
+    // The tests compile a C program against the same archives.
+    println!("cargo:rustc-env=POELVIGU_ARCHIVES={}", folder.display());
     for (feature, name) in ARCHIVES {
         if env::var_os(feature).is_some() {
             link(&folder, name);

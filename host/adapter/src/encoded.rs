@@ -1,5 +1,8 @@
 //! A function in the byte form, and the way back.
 
+use std::error::Error;
+use std::fmt;
+
 use mir::{BasicBlock, BasicBlockId, MirFunction, MirType};
 use oracle::form::{Mosts, Routine};
 use oracle::{fill_block, read_output, routine_of, write, Misfit, Spelling};
@@ -18,6 +21,14 @@ pub struct Encoded {
 /// made for.
 #[derive(Debug, Clone, Copy, PartialEq, Eq, Hash)]
 pub struct Foreign;
+
+impl fmt::Display for Foreign {
+    fn fmt(&self, f: &mut fmt::Formatter<'_>) -> fmt::Result {
+        f.write_str("the bytes are no rewriting of the function")
+    }
+}
+
+impl Error for Foreign {}
 
 impl Encoded {
     /// The bytes of a function, or what of it the byte form has no room for. They need not be a

@@ -91,6 +91,7 @@ fn what_is_no_rewriting_is_not_put_back() {
     let mut function = nested_struct();
     assert_eq!(encoded.put_back(encoded.bytes(), &mut function), Err(Foreign));
     assert_eq!(function, nested_struct());
+    assert_eq!(Foreign.to_string(), "the bytes are no rewriting of the function");
 }
 
 /// A name, callee, message or comment that the function does not have is no rewriting of it.

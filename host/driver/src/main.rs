@@ -10,6 +10,8 @@ mod histogram;
 mod judged;
 mod lower_diff;
 mod one;
+#[cfg(test)]
+mod readme;
 mod runs;
 mod store;
 mod stored;
@@ -32,7 +34,7 @@ const USAGE: &str = "usage: driver COMMAND [--NAME VALUE]...
   runs        --count N --seed S                 original and rewritten routine on the machine
   store       --count N --seed S --times N --to FILE
                                                  stored answers for the program `replay`
-  examples    --to FOLDER                        the made routines of the folder examples/
+  examples    --to FOLDER                        the routines of the folder examples/
   run         --hex HEX [--tuples N] [--structs N] [--max N] [--lent N]
                                                  what the Rust makes of one input
 sorts: typed, wild, near, damaged, bytes; without one, a mix of all";

@@ -5,21 +5,32 @@ use std::fmt;
 /// What a count counts; a number counts nothing, but its field has a width.
 #[derive(Debug, Clone, Copy, PartialEq, Eq, Hash)]
 pub enum What {
+    /// Different types, parts of types included.
     Types,
+    /// Values: the function's next value number.
     Values,
+    /// Basic blocks.
     Blocks,
+    /// Instructions in one block.
     InBlock,
+    /// Instructions in all blocks.
     InAll,
+    /// Elements of one list: parameters, parts, fields, arguments, sources, returned values.
     InList,
+    /// Projections of one place.
     Projections,
+    /// A number in a field of 16 or 32 bits.
     Number,
 }
 
 /// A count or number that is higher than the byte form holds.
 #[derive(Debug, Clone, Copy, PartialEq, Eq, Hash)]
 pub struct Misfit {
+    /// What there is too much of.
     pub what: What,
+    /// How much there is, or the number itself.
     pub found: usize,
+    /// The most that the byte form holds.
     pub most: usize,
 }
 

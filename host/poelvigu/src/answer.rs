@@ -4,6 +4,12 @@ use std::fmt;
 use std::ops::AddAssign;
 
 /// What the pass may take apart.
+///
+/// ```
+/// // Structs are left; tuples and arrays of up to four parts are taken apart.
+/// let settings = poelvigu::Settings { structs: false, most: 4, ..Default::default() };
+/// assert!(settings.tuples);
+/// ```
 #[derive(Debug, Clone, Copy, PartialEq, Eq, Hash)]
 pub struct Settings {
     /// Whether tuples and arrays are taken apart, and Loads and Stores forwarded.
@@ -52,7 +58,8 @@ impl AddAssign for Counts {
 #[derive(Debug, Clone, Copy, PartialEq, Eq, Hash)]
 #[non_exhaustive]
 pub enum ShelfReason {
-    /// 0: nobody can tell the rewritten routine from the original.
+    /// 0: nobody can tell the rewritten routine from the original, unless the original stops at a
+    /// value that was never written or at a part that is not there.
     Passed,
     /// 1: types disagree.
     TypesDisagree,

@@ -52,6 +52,15 @@ pub use lower::{lower, lower_into, LONGEST_OUTPUT};
 pub use refusal::{Cause, Refusal};
 
 /// Whether the bytes are a routine: if not, what is wrong with them (numbers 1 to 9) and where.
+///
+/// ```
+/// use poelvigu::{check, Cause};
+///
+/// // A routine that does nothing: no types, no values, one block that is unreachable.
+/// let routine = [0, 0, 0, 0, 1, 0, 0, 0, 0, 0, 0, 4];
+/// assert_eq!(check(&routine), Ok(()));
+/// assert_eq!(check(&routine[..3]).unwrap_err().cause, Cause::Ends);
+/// ```
 #[cfg(feature = "check")]
 pub fn check(input: &[u8]) -> Result<(), Refusal> {
     let (number, offset) = check_numbers(input);

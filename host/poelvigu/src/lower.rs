@@ -3,7 +3,8 @@
 use crate::entries::{numbers, ANSWER};
 use crate::{Cause, Counts, Lowered, Refusal, Settings, ShelfReason};
 
-/// How many bytes the longest routine has that is accepted: one at every most.
+/// How many bytes the longest routine has that is accepted: 4,841 of types and values, 256 Calls of
+/// 148, 32 instruction counts and Returns of 84.
 const LONGEST_INPUT: usize = 45_417;
 
 /// The most numbers that the pass adds: each of 256 instructions and of 32 Returns has at most 16
@@ -23,6 +24,21 @@ pub const LONGEST_OUTPUT: usize = LONGEST_INPUT + MOST_FRESH * MOST_ADDED + MOST
 /// they were; where the input is refused, all of them are. Refused are bytes that are no routine
 /// (numbers 1 to 9), a routine with an array that cannot be rebuilt (10), a routine whose output is
 /// longer than `output` (11) and a setting that is too high (12).
+///
+/// ```
+/// use poelvigu::{lower_into, Cause, Settings};
+///
+/// // A routine that does nothing: no types, no values, one block that is unreachable.
+/// let routine = [0, 0, 0, 0, 1, 0, 0, 0, 0, 0, 0, 4];
+/// let mut output = [7; 14];
+/// let lowered = lower_into(&routine, &mut output, &Settings::default())?;
+/// assert_eq!((lowered.changed, lowered.length), (false, 12));
+/// assert_eq!((&output[..12], &output[12..]), (&routine[..], &[7, 7][..]));
+///
+/// let refusal = lower_into(&routine, &mut output[..11], &Settings::default()).unwrap_err();
+/// assert_eq!(refusal.cause, Cause::OutputTooLong);
+/// # Ok::<(), poelvigu::Refusal>(())
+/// ```
 pub fn lower_into(
     input: &[u8],
     output: &mut [u8],
@@ -36,6 +52,16 @@ pub fn lower_into(
 ///
 /// It finds a buffer that is large enough, of [`LONGEST_OUTPUT`] bytes at most, so it is refused as
 /// [`lower_into`] is, but never with number 11.
+///
+/// ```
+/// use poelvigu::{lower, Cause, Settings};
+///
+/// // A routine that does nothing: no types, no values, one block that is unreachable.
+/// let routine = [0, 0, 0, 0, 1, 0, 0, 0, 0, 0, 0, 4];
+/// let with = |most| lower(&routine, &Settings { most, ..Settings::default() });
+/// assert_eq!(with(16).map(|(_, output)| output), Ok(routine.to_vec()));
+/// assert_eq!(with(17).unwrap_err().cause, Cause::MostAbove16);
+/// ```
 pub fn lower(input: &[u8], settings: &Settings) -> Result<(Lowered, Vec<u8>), Refusal> {
     let likely = input.len().saturating_mul(2).min(LONGEST_OUTPUT);
     match lower_within(input, settings, likely) {

@@ -80,6 +80,15 @@ impl Cause {
 }
 
 /// A refused input: what is wrong, and where.
+///
+/// ```
+/// use poelvigu::{Cause, Refusal};
+///
+/// let refusal = Refusal { cause: Cause::ValueTwice, offset: 40 };
+/// assert_eq!(refusal.number(), 6);
+/// let text = "the value at byte 40 is defined there for the second time (refusal 6)";
+/// assert_eq!(refusal.to_string(), text);
+/// ```
 #[derive(Debug, Clone, Copy, PartialEq, Eq, Hash)]
 pub struct Refusal {
     /// What is wrong.

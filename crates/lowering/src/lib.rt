@@ -152,7 +152,7 @@ pub fn lower_into(input: &[u8], out: &mut [u8], settings: Settings) -> Answer
     ensures { λ r. ⌜ Answers (given settings (length (now (out .entry))) (now (input .entry))) r (now (out .entry)) (now (out .exit)) ⌝ }
 {
     if 16 < settings.most {
-        return Answer::Refused(12, 0);
+        return Answer::TooLarge;
     }
     let mut types: [usize; 65] = [0; 65];
     let mut recorded: [u16; 256] = [0; 256];
@@ -164,7 +164,7 @@ pub fn lower_into(input: &[u8], out: &mut [u8], settings: Settings) -> Answer
         &mut recorded,
         &mut blocks,
     ) {
-        Checked::Refused(c, o) => Answer::Refused(wire::cause_number(c), o),
+        Checked::Refused(c, o) => Answer::Malformed(c, o),
         Checked::Accepted(l) => {
             let b = bounds_of(l);
             lower_read(input, b, settings, &types, &recorded, &blocks, out)

@@ -44,7 +44,10 @@ countsIn n = record { builds = n .builds; extracts = n .extracts; inserts = n .i
 
 by-answer : (t : Totals) → Fit t → (r : Answer) → afterAnswer t r ≡ withCounts t (countsIn (asAnswer r))
 unfolding afterAnswer
-by-answer t f (Answer.Refused n o) = sym (with-none t f)
+by-answer t f (Answer.Malformed c o) = sym (with-none t f)
+by-answer t f Answer.Clash = sym (with-none t f)
+by-answer t f Answer.NoRoom = sym (with-none t f)
+by-answer t f Answer.TooLarge = sym (with-none t f)
 by-answer t f (Answer.Lowered w c k size) = refl
 
 by-given : (t : Totals) → Fit t → (o : Given) → totalsAfter t o ≡ withCounts t (countsIn (numbersOf o))

@@ -29,5 +29,8 @@ totalsAfter t (lowered w c k bytes) = withCounts t c
 
 -- the same, of what the code answers
 unfoldable pub afterAnswer : Totals → Answer → Totals
-afterAnswer t (Answer.Refused n o) = t
+afterAnswer t (Answer.Malformed c o) = t
+afterAnswer t Answer.Clash = t
+afterAnswer t Answer.NoRoom = t
+afterAnswer t Answer.TooLarge = t
 afterAnswer t (Answer.Lowered w c k size) = withCounts t c

@@ -76,7 +76,10 @@ fn totals_after(t: Totals, a: Answer) -> Totals
     ensures { λ r. ⌜ r ≡ afterAnswer t a ⌝ }
 {
     match a {
-        Answer::Refused(_, _) => t,
+        Answer::Malformed(_, _) => t,
+        Answer::Clash => t,
+        Answer::NoRoom => t,
+        Answer::TooLarge => t,
         Answer::Lowered(_, c, _, _) => with_counts(t, c),
     }
 }

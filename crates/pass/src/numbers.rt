@@ -10,7 +10,7 @@ ghost use lib.Seq.{sets};
 ghost use Rattle.wire.specs.Value.{boolByte};
 ghost use Rattle.rewriting.specs.Outcome.{settingsOf};
 ghost use Rattle.shelf.specs.Answer.{answer as given};
-ghost use Rattle.writing.specs.Numbers.{asAnswer};
+ghost use Rattle.writing.specs.Numbers.{refusal, asAnswer};
 ghost use Rattle.pass.specs.Promise.{inOrder};
 
 // The setting most: all numbers above 16 are refused alike.
@@ -71,23 +71,39 @@ fn put_numbers(
     put_number(answer, 9, size);
 }
 
-// An answer as numbers, from the first place on.
+fn put_refusal(answer: &mut [u64], number: u8, offset: usize)
+    ensures { λ _. ⌜ now (answer .exit) ≡ sets (now (answer .entry)) 0 (inOrder (refusal number offset)) ⌝ }
+{
+    let none = Counts {
+        builds: 0,
+        extracts: 0,
+        inserts: 0,
+        assigns: 0,
+        materializations: 0,
+    };
+    put_numbers(answer, number as u64, offset as u64, 0, none, 0, 0);
+}
+
+// An answer as numbers, from the first place on: the number and values that document 01 gives it.
 pub fn put_answer(answer: &mut [u64], a: Answer)
     ensures { λ _. ⌜ now (answer .exit) ≡ sets (now (answer .entry)) 0 (inOrder (asAnswer a)) ⌝ }
 {
     match a {
-        Answer::Refused(n, o) => {
-            let none = Counts {
-                builds: 0,
-                extracts: 0,
-                inserts: 0,
-                assigns: 0,
-                materializations: 0,
-            };
-            put_numbers(answer, n as u64, o as u64, 0, none, 0, 0);
+        Answer::Malformed(c, o) => {
+            put_refusal(answer, wire::cause_number(c), o);
+        }
+        Answer::Clash => {
+            put_refusal(answer, 10, 0);
+        }
+        Answer::NoRoom => {
+            put_refusal(answer, 11, 0);
+        }
+        Answer::TooLarge => {
+            put_refusal(answer, 12, 0);
         }
         Answer::Lowered(w, c, reason, size) => {
-            put_numbers(answer, 0, 0, flag(w), c, reason as u64, size as u64);
+            let number = shelving::reason_number(reason);
+            put_numbers(answer, 0, 0, flag(w), c, number as u64, size as u64);
         }
     }
 }

@@ -10,7 +10,32 @@ ghost use Rattle.block.specs.Encode.{blockBytes};
 ghost use Rattle.routine.specs.Routine.{Routine};
 ghost use Rattle.rewriting.specs.Run.{Rewritten};
 ghost use Rattle.shelf.specs.Reason.{shelfReason};
+ghost use Rattle.shelving.specs.Number.{numberOfReason};
 ghost use Rattle.shelving.specs.Shelved.{Input, inputReason, Shelved};
+
+// What the shelf test says: document 01's reasons 0 to 5, in their order.
+pub enum ShelfReason {
+    Passed,
+    TypesDisagree,
+    ReadsEarly,
+    BaseAsPart,
+    DeepStore,
+    ReadsDropped,
+}
+
+// The number document 01 gives the reason.
+pub fn reason_number(k: ShelfReason) -> u8
+    ensures { λ r. ⌜ r ≡ numberOfReason k ⌝ }
+{
+    match k {
+        ShelfReason::Passed => 0,
+        ShelfReason::TypesDisagree => 1,
+        ShelfReason::ReadsEarly => 2,
+        ShelfReason::BaseAsPart => 3,
+        ShelfReason::DeepStore => 4,
+        ShelfReason::ReadsDropped => 5,
+    }
+}
 
 // What the numbers of the output stay below: its next value is higher.
 fn widened(b: Bounds, next: u16) -> Bounds
@@ -25,7 +50,7 @@ fn widened(b: Bounds, next: u16) -> Bounds
     }
 }
 
-// The lowest of the reasons 1, 2 and 3, which are reasons of the input alone; else 0. The input `s` has its tables beside it, its parameters
+// The lowest of the reasons 1, 2 and 3, which are reasons of the input alone; else passed. The input `s` has its tables beside it, its parameters
 // stand at `parameters`.
 pub fn input_reason(
     s: &[u8],
@@ -35,19 +60,19 @@ pub fn input_reason(
     parameters: usize,
     places: &[usize],
     starts: &[u16],
-) -> u8
-    ensures { λ r. ⌜ ((x : Routine) → Input (now (s .entry)) b (now (types .entry)) (now (recorded .entry)) parameters (now (places .entry)) (now (starts .entry)) x → r ≡ inputReason x) ⌝ }
+) -> ShelfReason
+    ensures { λ r. ⌜ ((x : Routine) → Input (now (s .entry)) b (now (types .entry)) (now (recorded .entry)) parameters (now (places .entry)) (now (starts .entry)) x → numberOfReason r ≡ inputReason x) ⌝ }
 {
     if !agreeing::types_agree(s, b, types, recorded, parameters, places, starts, b.blocks) {
-        return 1;
+        return ShelfReason::TypesDisagree;
     }
     if !ordering::in_order(s, b, places, starts, b.blocks) {
-        return 2;
+        return ShelfReason::ReadsEarly;
     }
     if !apart::kept_apart(s, b, types, recorded, places, starts, b.blocks) {
-        return 3;
+        return ShelfReason::BaseAsPart;
     }
-    0
+    ShelfReason::Passed
 }
 
 // "Reason 0 is passed; else the lowest that holds". The blocks of the output stand at `at` of `out`, and its next value is `next`. `dropped`
@@ -64,21 +89,21 @@ pub fn reason(
     at: usize,
     next: u16,
     dropped: &[bool],
-) -> u8
-    ensures { λ r. ⌜ ((x : Routine) (w : Rewritten) → Shelved (now (s .entry)) b (now (types .entry)) (now (recorded .entry)) parameters (now (places .entry)) (now (starts .entry)) (now (out .entry)) at next (now (dropped .entry)) x w → r ≡ shelfReason false x w) ⌝ }
+) -> ShelfReason
+    ensures { λ r. ⌜ ((x : Routine) (w : Rewritten) → Shelved (now (s .entry)) b (now (types .entry)) (now (recorded .entry)) parameters (now (places .entry)) (now (starts .entry)) (now (out .entry)) at next (now (dropped .entry)) x w → numberOfReason r ≡ shelfReason false x w) ⌝ }
 {
     let first = input_reason(s, b, types, recorded, parameters, places, starts);
-    if first != 0 {
+    if reason_number(first) != 0 {
         return first;
     }
     if !table::any(dropped) {
-        return 0;
+        return ShelfReason::Passed;
     }
     if !shallow::no_deep_store(s, b, places, starts, b.blocks, dropped) {
-        return 4;
+        return ShelfReason::DeepStore;
     }
     if !unread::reads_no_dropped(out, at, widened(b, next), b.blocks, dropped) {
-        return 5;
+        return ShelfReason::ReadsDropped;
     }
-    0
+    ShelfReason::Passed
 }

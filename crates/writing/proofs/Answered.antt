@@ -41,6 +41,8 @@ use Rattle.head.proofs.Front.{front-within}
 use Rattle.writing.specs.declared.Answer.{Answer}
 use Rattle.writing.specs.Numbers.{numbersOf, leaves, asAnswer, Answers}
 use Rattle.writing.specs.Tables.{Accepted, Chosen, startAt, Ran, Runs, Measured}
+use Rattle.shelving.specs.declared.ShelfReason.{ShelfReason}
+use Rattle.shelving.specs.Number.{numberOfReason}
 use Rattle.shelving.specs.Shelved.{Shelved}
 use Rattle.writing.proofs.Shelf.{shelved}
 use Rattle.writing.proofs.Accepted.{next-is, next-few, recorded-many, canon, short-input, few-fresh}
@@ -172,17 +174,17 @@ pub given-lowered : (σ : Settings) (room : ℕ) (s : List ℕ) (x : Routine) (n
 unfolding given withReason reasonOf
 given-lowered σ room s x n k w c bytes e f g = rw (e, g, f)
 
-pub answers-large : (σ : Settings) (s out : List ℕ) → 16 < σ .most → Answers (given σ (length out) s) (Answer.Refused 12 0) out out
+pub answers-large : (σ : Settings) (s out : List ℕ) → 16 < σ .most → Answers (given σ (length out) s) Answer.TooLarge out out
 answers-large σ s out h = answers _ (refused 12 0) _ out out (given-refused σ (length out) s 12 0 (too-large σ (length out) s h)) refl refl
 
-pub answers-input : (σ : Settings) (s out : List ℕ) (c : Cause) (n o : ℕ) → σ .most ≤ 16 → wholeOf mosts s ≡ bad c o → n ≡ numberOfCause c → Answers (given σ (length out) s) (Answer.Refused n o) out out
-answers-input σ s out c n o h e f = answers _ (refused (numberOfCause c) o) _ out out (given-refused σ (length out) s (numberOfCause c) o (refused-input σ (length out) s h c o e)) (rw f) refl
+pub answers-input : (σ : Settings) (s out : List ℕ) (c : Cause) (o : ℕ) → σ .most ≤ 16 → wholeOf mosts s ≡ bad c o → Answers (given σ (length out) s) (Answer.Malformed c o) out out
+answers-input σ s out c o h e = answers _ (refused (numberOfCause c) o) _ out out (given-refused σ (length out) s (numberOfCause c) o (refused-input σ (length out) s h c o e)) refl refl
 
 module _ {σ : Settings} {s types recorded blocks : List ℕ} {b : Bounds} {places starts : List ℕ} {folded skips : List Bool} (h : Chosen σ s types recorded blocks b places starts folded skips) (out : List ℕ) where
   abbrev routine : Routine
   routine = h .accepted .routine
 
-  pub answers-clash : (rewrittenBlocks σ routine) .clash ≡ true → Answers (given σ (length out) s) (Answer.Refused 10 0) out out
+  pub answers-clash : (rewrittenBlocks σ routine) .clash ≡ true → Answers (given σ (length out) s) Answer.Clash out out
   answers-clash e = answers _ (refused 10 0) _ out out (given-refused σ (length out) s 10 0 (clashing σ (length out) s (h .small) routine (h .accepted .used) (h .accepted .reads) e)) refl refl
 
 -- one is folded where the count is not 0
@@ -191,7 +193,7 @@ some-folded zero = refl
 some-folded (suc n) = rw (lt-ltb 0 (suc n) (omega arith), ne-eqb (suc n) 0 (λ e. omega arith))
 
 -- the numbers of a run that went through
-numbers-of : (w : Bool) (c d : Counts) (k n : ℕ) (bytes : List ℕ) → c ≡ d → w ≡ not (eqb (d .builds) 0) → n ≡ length bytes → asAnswer (Answer.Lowered (ltb 0 (c .builds)) c k n) ≡ numbersOf (lowered w d k bytes)
+numbers-of : (w : Bool) (c d : Counts) (k : ShelfReason) (n : ℕ) (bytes : List ℕ) → c ≡ d → w ≡ not (eqb (d .builds) 0) → n ≡ length bytes → asAnswer (Answer.Lowered (ltb 0 (c .builds)) c k n) ≡ numbersOf (lowered w d (numberOfReason k) bytes)
 numbers-of w c d k n bytes e f g = rw (e, f, g, some-folded (d .builds))
 
 module _ {σ : Settings} {s types recorded blocks : List ℕ} {b : Bounds} {places starts : List ℕ} {folded skips : List Bool} {fresh : List ℕ} {p : Progress} (m : Measured σ s types recorded blocks b places starts folded skips fresh p) (out : List ℕ) where
@@ -208,7 +210,7 @@ module _ {σ : Settings} {s types recorded blocks : List ℕ} {b : Bounds} {plac
   whole-length = ap length (rewritten-bytes σ x) ∙ length-append head body
 
   -- where it is too long
-  pub answers-long : (n : ℕ) → n ≡ 0 + length head → length out < n + p .to → Answers (given σ (length out) s) (Answer.Refused 11 0) out out
+  pub answers-long : (n : ℕ) → n ≡ 0 + length head → length out < n + p .to → Answers (given σ (length out) s) Answer.NoRoom out out
   answers-long n e l = answers _ (refused 11 0) _ out out (given-refused σ (length out) s 11 0 (too-long σ (length out) s (m .chosen .small) x (m .chosen .accepted .used) (m .chosen .accepted .reads) (m .calm) (omega (arith, whole-length, m .place)))) refl refl
 
   -- where it has room, the output is the rewritten routine's bytes
@@ -217,13 +219,13 @@ module _ {σ : Settings} {s types recorded blocks : List ℕ} {b : Bounds} {plac
       let z : sets out 0 (head ++ body) ≡ sets (sets out 0 head) (0 + length head) body = sets-append out 0 head body in
       g .written ∙ ap (λ k. sets out₁ k body) (w .0) ∙ ap (λ t. sets t (0 + length head) body) (w .1) ∙ sym z
 
-  pub answers-written : (n : ℕ) → n ≡ 0 + length head → n + p .to ≤ length out → (out₁ out₂ fresh′ : List ℕ) (dropped dropped′ : Marks) (to k : ℕ) (q : Progress) → Writes head out out₁ 0 to → Ran (rewrittenBlocks σ x) to out₁ fresh dropped out₂ fresh′ dropped′ q → k ≡ shelfReason false x (rewrittenBlocks σ x)
+  pub answers-written : (n : ℕ) → n ≡ 0 + length head → n + p .to ≤ length out → (out₁ out₂ fresh′ : List ℕ) (dropped dropped′ : Marks) (to : ℕ) (k : ShelfReason) (q : Progress) → Writes head out out₁ 0 to → Ran (rewrittenBlocks σ x) to out₁ fresh dropped out₂ fresh′ dropped′ q → numberOfReason k ≡ shelfReason false x (rewrittenBlocks σ x)
       → Answers (given σ (length out) s) (Answer.Lowered (ltb 0 (q .counts .builds)) (q .counts) k (q .to)) out out₂
   answers-written n e l out₁ out₂ fresh′ dropped dropped′ to k q w g f =
       let i : q .to ≡ length (encode (rewrite σ x)) = omega (arith, whole-length, g .place, w .0) in
       let j : out₂ ≡ sets out 0 (encode (rewrite σ x)) = written-all out₁ out₂ fresh′ dropped dropped′ to q w g ∙ ap (sets out 0) (sym (rewritten-bytes σ x)) in
       let o : outcome σ (length out) s ≡ O.lowered ((rewrittenBlocks σ x) .changed) ((rewrittenBlocks σ x) .counts) (encode (rewrite σ x)) = accepted σ (length out) s (m .chosen .small) x (m .chosen .accepted .used) (m .chosen .accepted .reads) (m .calm) (omega (arith, whole-length, m .place)) in
-      answers _ (lowered ((rewrittenBlocks σ x) .changed) ((rewrittenBlocks σ x) .counts) k (encode (rewrite σ x))) _ out out₂ (given-lowered σ (length out) s x (m .chosen .accepted .used) k _ _ _ (m .chosen .accepted .reads) f o) (numbers-of ((rewrittenBlocks σ x) .changed) (q .counts) ((rewrittenBlocks σ x) .counts) k (q .to) (encode (rewrite σ x)) (g .counted) (result-count σ x) i) j
+      answers _ (lowered ((rewrittenBlocks σ x) .changed) ((rewrittenBlocks σ x) .counts) (numberOfReason k) (encode (rewrite σ x))) _ out out₂ (given-lowered σ (length out) s x (m .chosen .accepted .used) (numberOfReason k) _ _ _ (m .chosen .accepted .reads) f o) (numbers-of ((rewrittenBlocks σ x) .changed) (q .counts) ((rewrittenBlocks σ x) .counts) k (q .to) (encode (rewrite σ x)) (g .counted) (result-count σ x) i) j
 
   -- and the shelf test sees it so
   pub shelved-written : (n : ℕ) → n ≡ 0 + length head → n + p .to ≤ length out → (out₁ out₂ fresh′ : List ℕ) (dropped dropped′ : Marks) (at to next : ℕ) (q : Progress) → Writes head out out₁ 0 to → Ran (rewrittenBlocks σ x) to out₁ fresh dropped out₂ fresh′ dropped′ q → at ≡ length (typesBytes (x .types)) → (b .next + q .fresh < 65536 → next ≡ b .next + q .fresh) → dropped ≡ replicate 256 false

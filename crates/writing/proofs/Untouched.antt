@@ -20,6 +20,8 @@ use Rattle.rewriting.proofs.Unchanged.{untouchedBlocks, unchanged}
 use Rattle.rewriting.proofs.Outcomes.{unchanged-result, too-long, accepted-unchanged}
 use Rattle.shelf.specs.Lists.{among}
 use Rattle.shelf.specs.Answer.{answer as given, refused, lowered}
+use Rattle.shelving.specs.declared.ShelfReason.{ShelfReason}
+use Rattle.shelving.specs.Number.{numberOfReason}
 use Rattle.shelving.specs.Shelved.{inputReason}
 use Rattle.shelving.proofs.Reasons.{reason-undropped}
 use Rattle.writing.specs.declared.Answer.{Answer}
@@ -45,7 +47,7 @@ module _ {σ : Settings} {s types recorded blocks : List ℕ} {b : Bounds} {plac
   untouched = unchanged-result σ x (u .still)
 
   -- where the input is longer than the output
-  pub same-long : length out < length s → Answers (given σ (length out) s) (Answer.Refused 11 0) out out
+  pub same-long : length out < length s → Answers (given σ (length out) s) Answer.NoRoom out out
   same-long l =
       let e : encode (rewrite σ x) ≡ s = ap encode (unchanged σ x (u .still)) ∙ canon (u .accepted) in
       answers _ (refused 11 0) _ out out (given-refused σ (length out) s 11 0 (too-long σ (length out) s (u .small) x (u .accepted .used) (u .accepted .reads) (ap (λ (w : Rewritten). w .clash) untouched) (rw e l))) refl refl
@@ -54,9 +56,9 @@ module _ {σ : Settings} {s types recorded blocks : List ℕ} {b : Bounds} {plac
   none-dropped v = ap (λ (w : Rewritten). among v (w .dropped)) untouched
 
   -- where it has room
-  pub same-written : length s ≤ length out → (k : ℕ) → k ≡ inputReason x → (c : Counts) → c ≡ noCounts → (out′ : List ℕ) → out′ ≡ sets out 0 s → Answers (given σ (length out) s) (Answer.Lowered false c k (length s)) out out′
+  pub same-written : length s ≤ length out → (k : ShelfReason) → numberOfReason k ≡ inputReason x → (c : Counts) → c ≡ noCounts → (out′ : List ℕ) → out′ ≡ sets out 0 s → Answers (given σ (length out) s) (Answer.Lowered false c k (length s)) out out′
   same-written l k ek c ec out′ eo =
       let e : encode x ≡ s = canon (u .accepted) in
-      answers _ (lowered false noCounts k (encode x)) _ out out′
-      (given-lowered σ (length out) s x (u .accepted .used) k false noCounts (encode x) (u .accepted .reads) (reason-undropped x (rewrittenBlocks σ x) k ek none-dropped) (accepted-unchanged σ (length out) s (u .small) x (u .accepted .used) (u .accepted .reads) (u .still) (rw e l)))
+      answers _ (lowered false noCounts (numberOfReason k) (encode x)) _ out out′
+      (given-lowered σ (length out) s x (u .accepted .used) (numberOfReason k) false noCounts (encode x) (u .accepted .reads) (reason-undropped x (rewrittenBlocks σ x) (numberOfReason k) ek none-dropped) (accepted-unchanged σ (length out) s (u .small) x (u .accepted .used) (u .accepted .reads) (u .still) (rw e l)))
       (rw (ec, e)) (rw e eo)

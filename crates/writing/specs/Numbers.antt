@@ -2,10 +2,14 @@
 use Prim.Native.Nat.{ℕ}
 use mathlib.Core.Path.{_≡_}
 use mathlib.Core.List.{List}
+use mathlib.Core.Bool.{Bool}
 use lib.ListN.{length}
 use lib.Seq.{sets}
+use Rattle.wire.specs.Parse.{numberOfCause}
 use Rattle.wire.specs.Value.{boolByte}
+use Rattle.rewriting.specs.declared.Counts.{Counts}
 use Rattle.shelf.specs.Answer.{Answer as Given, refused, lowered}
+use Rattle.shelving.specs.Number.{numberOfReason}
 use Rattle.writing.specs.declared.Answer.{Answer}
 
 -- a refusal's number and offset, the result, the five counts, the shelf reason, and how many bytes the rewritten routine has
@@ -21,12 +25,13 @@ pub record Numbers : Type 0 where
   pub reason : ℕ
   pub size : ℕ
 
+-- a refusal: its number and its offset
 abbrev pub refusal : ℕ → ℕ → Numbers
 refusal n o = record { number = n; offset = o; result = 0; builds = 0; extracts = 0; inserts = 0; assigns = 0; materializations = 0; reason = 0; size = 0 }
 
-abbrev pub numbersOf : Given → Numbers
-numbersOf (refused n o) = refusal n o
-numbersOf (lowered w c k bytes) =
+-- what is not refused: the result, the counts, the shelf reason and the size
+abbrev pub acceptance : Bool → Counts → ℕ → ℕ → Numbers
+acceptance w c k n =
     record {
       number = 0;
       offset = 0;
@@ -37,30 +42,25 @@ numbersOf (lowered w c k bytes) =
       assigns = c .assigns;
       materializations = c .materializations;
       reason = k;
-      size = length bytes;
+      size = n;
     }
+
+abbrev pub numbersOf : Given → Numbers
+numbersOf (refused n o) = refusal n o
+numbersOf (lowered w c k bytes) = acceptance w c k (length bytes)
 
 -- a refusal leaves the output as it was; else the bytes stand from its first place on
 abbrev pub leaves : Given → List ℕ → List ℕ
 leaves (refused n o) out = out
 leaves (lowered w c k bytes) out = sets out 0 bytes
 
--- what the code answers
+-- document 01's number and values of each answer of the code
 abbrev pub asAnswer : Answer → Numbers
-asAnswer (Answer.Refused n o) = refusal n o
-asAnswer (Answer.Lowered w c k size) =
-    record {
-      number = 0;
-      offset = 0;
-      result = boolByte w;
-      builds = c .builds;
-      extracts = c .extracts;
-      inserts = c .inserts;
-      assigns = c .assigns;
-      materializations = c .materializations;
-      reason = k;
-      size = size;
-    }
+asAnswer (Answer.Malformed c o) = refusal (numberOfCause c) o
+asAnswer Answer.Clash = refusal 10 0
+asAnswer Answer.NoRoom = refusal 11 0
+asAnswer Answer.TooLarge = refusal 12 0
+asAnswer (Answer.Lowered w c k size) = acceptance w c (numberOfReason k) size
 
 -- the code answers what is given, and leaves what it should
 pub record Answers (o : Given) (r : Answer) (out out′ : List ℕ) : Type 0 where

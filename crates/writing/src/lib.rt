@@ -6,6 +6,8 @@ use form::Bounds;
 use progress::Progress;
 use progress::Put;
 use rewriting::Counts;
+use shelving::ShelfReason;
+use wire::Cause;
 use wire::TypeId;
 ghost use mathlib.Core.Path.{_≡_};
 ghost use mathlib.Core.List.{List};
@@ -21,10 +23,18 @@ ghost use Rattle.progress.specs.Effect.{PutLow};
 ghost use Rattle.writing.specs.Numbers.{Answers};
 ghost use Rattle.writing.specs.Tables.{Chosen, startAt, Runs, Measured};
 
-// A refusal's number and offset; or the result, the counts, the shelf reason, and how many bytes the rewritten routine has.
+// What a call answers.
 pub enum Answer {
-    Refused(u8, usize),
-    Lowered(bool, Counts, u8, usize),
+    // Rows 1 to 9 of document 01's table: the input is no routine; with the offset.
+    Malformed(Cause, usize),
+    // Row 10: an array rebuild meets another count.
+    Clash,
+    // Row 11: the output is longer than the lent buffer.
+    NoRoom,
+    // Row 12: max_aggregate_size is above 16.
+    TooLarge,
+    // The result, the counts, the shelf reason, and how many bytes the rewritten routine has.
+    Lowered(bool, Counts, ShelfReason, usize),
 }
 
 // The place behind the type table, whose `many` types stand at `types`.
@@ -137,7 +147,7 @@ fn write_measured(
     let at = types_end(types, b.types);
     let head = head::put_head(nothing, s, at, recorded, b.next, fresh, p.fresh);
     if out.len() < head + p.to {
-        return Answer::Refused(11, 0);
+        return Answer::NoRoom;
     }
     let to = head::put_head(out, s, at, recorded, b.next, fresh, p.fresh);
     let mut dropped: [bool; 256] = [false; 256];
@@ -157,7 +167,7 @@ fn write_measured(
         fresh,
         &mut dropped,
     ) {
-        Put::Clash => Answer::Refused(10, 0),
+        Put::Clash => Answer::Clash,
         Put::Went(q) => {
             let c = q.counts;
             let next = next_value(b.next, q.fresh);
@@ -215,7 +225,7 @@ pub fn lower_folded(
         &mut fresh,
         &mut marks,
     ) {
-        Put::Clash => Answer::Refused(10, 0),
+        Put::Clash => Answer::Clash,
         Put::Went(p) => write_measured(
             s,
             b,

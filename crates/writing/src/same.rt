@@ -38,7 +38,7 @@ pub fn lower_same(
     ensures { λ r. ⌜ Answers (given settings (length (now (out .entry))) (now (s .entry))) r (now (out .entry)) (now (out .exit)) ⌝ }
 {
     if out.len() < s.len() {
-        return Answer::Refused(11, 0);
+        return Answer::NoRoom;
     }
     copy_whole(s, out);
     let at = super::types_end(types, b.types);

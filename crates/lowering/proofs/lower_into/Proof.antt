@@ -23,9 +23,6 @@ read-routine-requires c κs = search needs
 enum-known-c : tie.Need-enum-known-c
 enum-known-c c = search needs
 
-cause-number-requires : tie.Need-cause-number-requires
-cause-number-requires c κs = search needs
-
 enum-known-l : tie.Need-enum-known-l
 enum-known-l c = search needs
 
@@ -45,7 +42,7 @@ lower-read-requires : tie.Need-lower-read-requires
 lower-read-requires c κs = (accepted-read (c .before .before .before .before .before .before .before .before .before .before .before .before .before .before .before .before .before .before .before .args .input .now) _ _ _ (λ j. omega (arith, c .before .before .before .before .before .before .before .before .before .before .before .before .before .before .before .before .before .before .shared-slice-known .given j)) _ (c .before .before .before .before .before .before .before .before .before .before .before .read-routine .ensures) (c .before .before .before .before .before .before .l .given .0 .0) _ (c .before .before .before .before .before .before .l .given .1) (c .before .before .before .before .bounds-of .ensures) (omega (arith, c .before .before .before .before .before .before .before .before .before .recorded2 .given)), c .before .before .before .before .before .before .before .before .before .before .before .before .before .before .before .if1 .left)
 
 returns-2 : tie.Need-returns-2
-returns-2 c = answers-input (c .before .before .before .before .before .before .before .before .before .before .before .before .before .before .before .args .settings) (c .before .before .before .before .before .before .before .before .before .before .before .before .before .before .before .args .input .now) (c .before .before .before .before .before .before .before .before .before .before .before .before .before .before .before .args .out .now) (c .before .before .c .given .0 .0) _ _ (c .before .before .before .before .before .before .before .before .before .before .before .if1 .left) (refused-read (c .before .before .before .before .before .before .before .before .before .before .before .before .before .before .before .args .input .now) _ _ _ (λ j. omega (arith, c .before .before .before .before .before .before .before .before .before .before .before .before .before .before .shared-slice-known .given j)) _ (c .before .before .before .before .before .before .before .read-routine .ensures) _ _ (c .before .before .c .given .1)) (c .cause-number .ensures)
+returns-2 c = answers-input (c .before .before .before .before .before .before .before .before .before .before .before .before .before .before .args .settings) (c .before .before .before .before .before .before .before .before .before .before .before .before .before .before .args .input .now) (c .before .before .before .before .before .before .before .before .before .before .before .before .before .before .args .out .now) (c .before .c .given .0 .0) _ (c .before .before .before .before .before .before .before .before .before .before .if1 .left) (refused-read (c .before .before .before .before .before .before .before .before .before .before .before .before .before .before .args .input .now) _ _ _ (λ j. omega (arith, c .before .before .before .before .before .before .before .before .before .before .before .before .before .shared-slice-known .given j)) _ (c .before .before .before .before .before .before .read-routine .ensures) _ _ (c .before .c .given .1))
 
 same-length : tie.Need-same-length
 same-length c = search needs
@@ -63,7 +60,6 @@ lower-into-spec =
     slice-aggregate-read-routine-3
     read-routine-requires
     enum-known-c
-    cause-number-requires
     enum-known-l
     bounds-of-requires
     slice-aggregate-lower-read

@@ -4,8 +4,8 @@ use wire::Value;
 ghost use mathlib.Core.Path.{_≡_};
 ghost use mathlib.Core.List.{List};
 ghost use mathlib.Core.Bool.{Bool, cond, not};
-ghost use Prim.Native.Nat.{ℕ, _+_, _≤_, _<_};
-ghost use lib.ListN.{length, set, drop};
+ghost use Prim.Native.Nat.{ℕ, _+_, _-_, _≤_, _<_};
+ghost use lib.ListN.{length, set, take, drop};
 ghost use lib.Dec.{ltb};
 ghost use Rattle.wire.specs.Parse.{andThen, mapParse, later};
 ghost use Rattle.wire.specs.Number.{numberOf, below};
@@ -161,6 +161,20 @@ pub fn tail(s: &[u8], at: usize) -> &[u8]
         return &s[at..];
     }
     &s[n..]
+}
+
+// The bytes from `a` to `e`, as far as they stand there.
+pub fn between(s: &[u8], a: usize, e: usize) -> &[u8]
+    ensures { λ r. ⌜ now r ≡ take (e - a) (drop a (now (s .entry))) ⌝ }
+{
+    let n = s.len();
+    if n < e {
+        return tail(s, a);
+    }
+    if e < a {
+        return &s[n..];
+    }
+    &s[a..e]
 }
 
 // A projection: its kind, then a value, a name or an index.

@@ -67,7 +67,7 @@ uses-seen w [] = refl
 uses-seen w (v ∷ vs) = uses-seen (uses w v) vs
 
 -- definitions add theirs
-defines-seen : (w : Walk) (ds : List ValueId) → fold defines w ds .seen ≡ marks (w .seen) ds
+pub defines-seen : (w : Walk) (ds : List ValueId) → fold defines w ds .seen ≡ marks (w .seen) ds
 defines-seen w [] = refl
 defines-seen w (d ∷ ds) = defines-seen (defines w d) ds
 

@@ -15,7 +15,7 @@ use Rattle.wire.specs.WellFormed.{FitValue}
 use Rattle.wire.specs.declared.Cause.{Cause}
 use Rattle.wire.specs.declared.Literal.{Literal}
 use Rattle.wire.specs.declared.Value.{Value}
-use Rattle.wire.proofs.Canon.{value-canon, value-fit}
+use Rattle.wire.proofs.Canon.{value-canon, value-fit, value-short}
 use Rattle.form.specs.Decode.{typeIdOf, blockIdOf, nameIdOf, listOf, mark, definedOf, definedSeq, definedsOf, operationOf, projectionOf, placeOf, sourceOf, fieldInitOf, optional, bit, spanOf, expressionOf, metaOf}
 use Rattle.form.specs.Encode.{valueIdBytes, typeIdBytes, blockIdBytes, nameIdBytes, eachBytes, listBytes, projectionBytes, placeBytes, sourceBytes, fieldInitBytes, optionBytes, spanBytes, expressionBytes, metaBytes, stands}
 use Rattle.form.specs.declared.Bounds.{Bounds}
@@ -46,15 +46,8 @@ value b =
     record {
       each = λ s v n h e.
           let c = value-canon (b .next) s h e in
-          record { canon = c; good = λ w. value-fit (b .next) s h e (w .next); small = omega (arith, short v, c .size) };
+          record { canon = c; good = λ w. value-fit (b .next) s h e (w .next); small = omega (arith, value-short v, c .size) };
     }
-  where
-    short : (v : Value) → length (valueBytes v) ≤ 5
-    short (Value.Literal (Literal.Integer x)) = omega arith
-    short (Value.Literal (Literal.Boolean x)) = omega arith
-    short (Value.Literal Literal.Unit) = omega arith
-    short (Value.Operand v) = omega arith
-    short Value.Error = omega arith
 
 -- what each of a list is, given the bounds
 given : {A W : Type 0} (P : A → Type 0) (xs : List A) → Each (λ a. W → P a) xs → W → Each P xs

@@ -25,7 +25,7 @@ use Rattle.form.specs.declared.Bounds.{Bounds}
 use Rattle.lookup.specs.Fields.{fieldsPlace}
 use Rattle.lookup.proofs.Instruction.{instruction-fields}
 use Rattle.routine.specs.Index.{recordedNumber}
-use Rattle.facts.proofs.Rows.{type-said}
+use Rattle.facts.proofs.Rows.{type-said, struct-kind}
 use Rattle.eligibility.specs.declared.Settings.{Settings}
 use Rattle.eligibility.specs.Lookup.{Types, rowOf, recordedType, valueRow, shape, isStruct, structFieldsOf, isScalarizable}
 use Rattle.eligibility.specs.Family.{Marks}
@@ -35,8 +35,9 @@ use Rattle.climb.specs.Noted.{StructsAt}
 use Rattle.parts.proofs.Builds.{build-inits, type-names}
 use Rattle.progress.specs.Ground.{Ground}
 use Rattle.choosing.specs.Chosen.{toldBy, goesBy}
-use Rattle.choosing.proofs.FrontPhis.{dest-at, type-at}
+use Rattle.choosing.proofs.FrontPhis.{type-at}
 use Rattle.choosing.proofs.Given.{AllGiven}
+use Rattle.climb.proofs.Found.{dest-at}
 
 -- how many bytes an instruction takes
 pub size-none : (at end x y : ℕ) → at ≡ x → end ≡ y → end < at → _≡_ {A = ℕ} 0 (y - x)
@@ -131,15 +132,6 @@ TellsRow s types many y t r =
 
 abbrev pub TellsShape : List ℕ → List ℕ → ℕ → ℕ → ℕ → Type 0
 TellsShape s types many y r = (most : ℕ) (ts : List MirType) → TypesAt most s types ts → length ts ≡ many → r ≡ shape (getElem? ts y)
-
-struct-kind : (k : ℕ) → _≡_ {A = ℕ} (getD (0 ∷ 0 ∷ 0 ∷ 1 ∷ 2 ∷ 3 ∷ []) k 0) 2 → k ≡ 4
-struct-kind zero e = absurd (omega arith)
-struct-kind (suc zero) e = absurd (omega arith)
-struct-kind (suc (suc zero)) e = absurd (omega arith)
-struct-kind (suc (suc (suc zero))) e = absurd (omega arith)
-struct-kind (suc (suc (suc (suc zero)))) e = refl
-struct-kind (suc (suc (suc (suc (suc zero))))) e = absurd (omega arith)
-struct-kind (suc (suc (suc (suc (suc (suc k)))))) e = absurd (omega arith)
 
 -- the row of a struct's number is there
 row-there : (l : List MirType) (k : ℕ) → shape (getElem? l k) ≡ 2 → (k < length l) × (getElem? l k ≡ some (getD l k MirType.Unit))

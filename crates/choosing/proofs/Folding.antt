@@ -1,13 +1,12 @@
 -- What is decided of one build.
-use Prim.Native.Nat.{ℕ, zero, suc, _≤_, _<_}
+use Prim.Native.Nat.{ℕ, _≤_, _<_}
 use mathlib.Core.Path.{_≡_, refl, ap, _∙_, sym}
 use mathlib.Core.List.{List, [], _∷_}
 use mathlib.Core.Bool.{Bool, true, false, cond, _||_}
-use mathlib.Core.Option.{none, some}
-use native.Mathlib.Omega.{arith}
+use mathlib.Core.Option.{none, some, Option·none-ne-some}
 use borrow.Author.Tests.{eq-eqb}
 use lib.Dec.{eqb}
-use lib.ListN.{length, getD, take, drop, replicate}
+use lib.ListN.{length, getD, drop, replicate}
 use Rattle.wire.specs.Parse.{ok}
 use Rattle.wire.specs.Number.{at16}
 use Rattle.wire.specs.declared.ValueId.{ValueId}
@@ -32,64 +31,55 @@ use Rattle.climb.specs.Decided.{Decided}
 use Rattle.climb.proofs.Found.{DestAt, dest, kind-at, tuple-place, struct-place, array-place}
 use Rattle.choosing.specs.Chosen.{Seen}
 
-no : {A : Type 0} {a : A} → none ≡ some a → ⊥
-no {a} e = let z : _≡_ {A = ℕ} 0 1 = cc in omega arith
-
 neither : (t u : Bool) → (t || u) ≡ false → (t ≡ false) × (u ≡ false)
 neither true u h = absurd (true-false h)
 neither false u h = (refl, h)
 
--- a front part of clear marks
-pub take-clear : (n m : ℕ) → n ≤ m → take n (replicate m false) ≡ replicate n false
-take-clear zero m h = refl
-take-clear (suc n) zero h = absurd (omega arith)
-take-clear (suc n) (suc m) h = ap (λ (r : List Bool). false ∷ r) (take-clear n m (omega arith))
-
 -- the decision on a value is the one on its build
 fold-any : (σ : Settings) (τ : Types) (cross : Marks) (is : List Instruction) (i : InstructionKind) (v : ValueId) (kind : ℕ) (looked r : Bool) → kind ≡ kindNumber i → buildDest i ≡ some v → buildOf σ τ cross v is ≡ some i → Decided σ τ cross is v kind looked r → (kind ≡ 16 → looked ≡ hasDynamicIndex τ v is) → r ≡ foldsBuild σ τ cross is (some i)
 unfolding buildDest foldsBuild
-fold-any σ τ cross is (Assign d x t) v kind looked r h e o w l = absurd (no e)
-fold-any σ τ cross is (UnaryOp op d x) v kind looked r h e o w l = absurd (no e)
-fold-any σ τ cross is (BinaryOp op d x y) v kind looked r h e o w l = absurd (no e)
-fold-any σ τ cross is (Call ds f xs ps rs) v kind looked r h e o w l = absurd (no e)
-fold-any σ τ cross is (Cast d x t u) v kind looked r h e o w l = absurd (no e)
-fold-any σ τ cross is (Load d p t) v kind looked r h e o w l = absurd (no e)
-fold-any σ τ cross is (Store p x t) v kind looked r h e o w l = absurd (no e)
-fold-any σ τ cross is (Debug n xs) v kind looked r h e o w l = absurd (no e)
-fold-any σ τ cross is Nop v kind looked r h e o w l = absurd (no e)
-fold-any σ τ cross is (Phi d t ss) v kind looked r h e o w l = absurd (no e)
+fold-any σ τ cross is (Assign d x t) v kind looked r h e o w l = absurd (Option·none-ne-some _ e)
+fold-any σ τ cross is (UnaryOp op d x) v kind looked r h e o w l = absurd (Option·none-ne-some _ e)
+fold-any σ τ cross is (BinaryOp op d x y) v kind looked r h e o w l = absurd (Option·none-ne-some _ e)
+fold-any σ τ cross is (Call ds f xs ps rs) v kind looked r h e o w l = absurd (Option·none-ne-some _ e)
+fold-any σ τ cross is (Cast d x t u) v kind looked r h e o w l = absurd (Option·none-ne-some _ e)
+fold-any σ τ cross is (Load d p t) v kind looked r h e o w l = absurd (Option·none-ne-some _ e)
+fold-any σ τ cross is (Store p x t) v kind looked r h e o w l = absurd (Option·none-ne-some _ e)
+fold-any σ τ cross is (Debug n xs) v kind looked r h e o w l = absurd (Option·none-ne-some _ e)
+fold-any σ τ cross is Nop v kind looked r h e o w l = absurd (Option·none-ne-some _ e)
+fold-any σ τ cross is (Phi d t ss) v kind looked r h e o w l = absurd (Option·none-ne-some _ e)
 fold-any σ τ cross is (MakeTuple d xs) v kind looked r h e o w l = let q : d ≡ v = cc in rw q (w .tuple xs h (rw q at o))
-fold-any σ τ cross is (ExtractTupleElement d x k t) v kind looked r h e o w l = absurd (no e)
+fold-any σ τ cross is (ExtractTupleElement d x k t) v kind looked r h e o w l = absurd (Option·none-ne-some _ e)
 fold-any σ τ cross is (MakeStruct d fs t) v kind looked r h e o w l = let q : d ≡ v = cc in rw q (w .struct h)
-fold-any σ τ cross is (ExtractStructField d x n t) v kind looked r h e o w l = absurd (no e)
-fold-any σ τ cross is (InsertField d x n y t) v kind looked r h e o w l = absurd (no e)
-fold-any σ τ cross is (InsertTuple d x k y t) v kind looked r h e o w l = absurd (no e)
+fold-any σ τ cross is (ExtractStructField d x n t) v kind looked r h e o w l = absurd (Option·none-ne-some _ e)
+fold-any σ τ cross is (InsertField d x n y t) v kind looked r h e o w l = absurd (Option·none-ne-some _ e)
+fold-any σ τ cross is (InsertTuple d x k y t) v kind looked r h e o w l = absurd (Option·none-ne-some _ e)
 fold-any σ τ cross is (MakeFixedArray d xs t c) v kind looked r h e o w l = let q : d ≡ v = cc in rw q (w .array h (l h))
-fold-any σ τ cross is (AssertEq x y) v kind looked r h e o w l = absurd (no e)
-fold-any σ τ cross is (HeapAllocCells d x) v kind looked r h e o w l = absurd (no e)
+fold-any σ τ cross is (AssertEq x y) v kind looked r h e o w l = absurd (Option·none-ne-some _ e)
+fold-any σ τ cross is (HeapAllocCells d x) v kind looked r h e o w l = absurd (Option·none-ne-some _ e)
 
 -- a build is one of three kinds
 build-kind : {P : Type 0} (i : InstructionKind) (v : ValueId) → buildDest i ≡ some v → (kindNumber i ≡ 10 → P) → (kindNumber i ≡ 12 → P) → (kindNumber i ≡ 16 → P) → P
 unfolding buildDest
-build-kind (Assign d x t) v e h10 h12 h16 = absurd (no e)
-build-kind (UnaryOp op d x) v e h10 h12 h16 = absurd (no e)
-build-kind (BinaryOp op d x y) v e h10 h12 h16 = absurd (no e)
-build-kind (Call ds f xs ps rs) v e h10 h12 h16 = absurd (no e)
-build-kind (Cast d x t u) v e h10 h12 h16 = absurd (no e)
-build-kind (Load d p t) v e h10 h12 h16 = absurd (no e)
-build-kind (Store p x t) v e h10 h12 h16 = absurd (no e)
-build-kind (Debug n xs) v e h10 h12 h16 = absurd (no e)
-build-kind Nop v e h10 h12 h16 = absurd (no e)
-build-kind (Phi d t ss) v e h10 h12 h16 = absurd (no e)
+build-kind (Assign d x t) v e h10 h12 h16 = absurd (Option·none-ne-some _ e)
+build-kind (UnaryOp op d x) v e h10 h12 h16 = absurd (Option·none-ne-some _ e)
+build-kind (BinaryOp op d x y) v e h10 h12 h16 = absurd (Option·none-ne-some _ e)
+build-kind (Call ds f xs ps rs) v e h10 h12 h16 = absurd (Option·none-ne-some _ e)
+build-kind (Cast d x t u) v e h10 h12 h16 = absurd (Option·none-ne-some _ e)
+build-kind (Load d p t) v e h10 h12 h16 = absurd (Option·none-ne-some _ e)
+build-kind (Store p x t) v e h10 h12 h16 = absurd (Option·none-ne-some _ e)
+build-kind (Debug n xs) v e h10 h12 h16 = absurd (Option·none-ne-some _ e)
+build-kind Nop v e h10 h12 h16 = absurd (Option·none-ne-some _ e)
+build-kind (Phi d t ss) v e h10 h12 h16 = absurd (Option·none-ne-some _ e)
 build-kind (MakeTuple d xs) v e h10 h12 h16 = h10 refl
-build-kind (ExtractTupleElement d x k t) v e h10 h12 h16 = absurd (no e)
+build-kind (ExtractTupleElement d x k t) v e h10 h12 h16 = absurd (Option·none-ne-some _ e)
 build-kind (MakeStruct d fs t) v e h10 h12 h16 = h12 refl
-build-kind (ExtractStructField d x n t) v e h10 h12 h16 = absurd (no e)
-build-kind (InsertField d x n y t) v e h10 h12 h16 = absurd (no e)
-build-kind (InsertTuple d x k y t) v e h10 h12 h16 = absurd (no e)
+build-kind (ExtractStructField d x n t) v e h10 h12 h16 = absurd (Option·none-ne-some _ e)
+build-kind (InsertField d x n y t) v e h10 h12 h16 = absurd (Option·none-ne-some _ e)
+build-kind (InsertTuple d x k y t) v e h10 h12 h16 = absurd (Option·none-ne-some _ e)
 build-kind (MakeFixedArray d xs t c) v e h10 h12 h16 = h16 refl
-build-kind (AssertEq x y) v e h10 h12 h16 = absurd (no e)
-build-kind (HeapAllocCells d x) v e h10 h12 h16 = absurd (no e)
+build-kind (AssertEq x y) v e h10 h12 h16 = absurd (Option·none-ne-some _ e)
+build-kind (HeapAllocCells d x) v e h10 h12 h16 = absurd (Option·none-ne-some _ e)
 
 -- its dest is its first field
 data BuildAt (b : Bounds) (t : List ℕ) (v : ValueId) : Type 0 where

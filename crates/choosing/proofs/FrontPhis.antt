@@ -2,19 +2,17 @@
 use Prim.Native.Nat.{ℕ, suc, _+_, _-_, _≤_, _<_}
 use mathlib.Core.Path.{_≡_, refl, ap, _∙_, sym}
 use mathlib.Core.List.{List, []}
-use mathlib.Core.Bool.{Bool, true, false, not, _||_}
+use mathlib.Core.Bool.{Bool, true, false, _||_}
 use native.Mathlib.Omega.{arith}
 use lib.ListN.{length, getD, drop, drop-of-length-le}
 use lib.Seq.{drop-cons}
 use lib.Dec.{eqb}
 use Rattle.wire.specs.Parse.{ok}
 use Rattle.wire.specs.Number.{at16, below}
-use Rattle.wire.specs.Value.{valueIdOf}
-use Rattle.wire.specs.declared.Cause.{Cause}
 use Rattle.wire.specs.declared.ValueId.{ValueId}
 use Rattle.wire.specs.declared.TypeId.{TypeId}
 use Rattle.wire.proofs.Laws.{from-16}
-use Rattle.wire.proofs.Inv.{both, image, and-inv, map-inv, checked-inv, number-inv, below-inv}
+use Rattle.wire.proofs.Inv.{both, image, and-inv, map-inv, number-inv, below-inv}
 use Rattle.form.specs.Syntax.{Source, Instruction, InstructionKind}
 use Rattle.form.specs.Syntax.{Assign, UnaryOp, BinaryOp, Call, Cast, Load, Store, Debug, Nop, Phi}
 use Rattle.form.specs.Syntax.{MakeTuple, ExtractTupleElement, MakeStruct, ExtractStructField, InsertField, InsertTuple, MakeFixedArray, AssertEq, HeapAllocCells}
@@ -28,18 +26,9 @@ use Rattle.eligibility.specs.declared.Settings.{Settings}
 use Rattle.eligibility.specs.Lookup.{Types, valueRow, shape, isTuple, isStruct, any}
 use Rattle.eligibility.specs.Tables.{FactsAt}
 use Rattle.eligibility.specs.Fold.{aggregatePhi, skipped}
+use Rattle.climb.proofs.Found.{dest-at}
 
--- a value's number, and a type's
-pub value-at : (next : ℕ) (t : List ℕ) (p : ℕ) {d : ValueId} {n : ℕ} → valueIdOf next (drop p t) ≡ ok d n → (d .0 ≡ at16 t p) × (d .0 < next) × (n ≡ 2)
-value-at next t p e =
-    elim (map-inv (λ x. record { 0 = x }) (below next (drop p t)) e) [
-      | image x f g ↦
-          let h = below-inv next (drop p t) f in
-          let k = number-inv 2 (drop p t) (h .0) in
-          let i = ap (λ (a : ValueId). a .0) g in
-          (i ∙ k .1 ∙ from-16 t p, rw i (h .1), k .2)
-    ]
-
+-- a type's number at a place
 pub type-at : (types : ℕ) (t : List ℕ) (p : ℕ) {y : TypeId} {n : ℕ} → typeIdOf types (drop p t) ≡ ok y n → (y .0 ≡ at16 t p) × (y .0 < types) × (n ≡ 2)
 type-at types t p e =
     elim (map-inv (λ x. record { 0 = x }) (below types (drop p t)) e) [
@@ -49,9 +38,6 @@ type-at types t p e =
           let i = ap (λ (a : TypeId). a .0) g in
           (i ∙ k .1 ∙ from-16 t p, rw i (h .1), k .2)
     ]
-
-pub dest-at : (next : ℕ) (seen : List Bool) (t : List ℕ) {d : ValueId} {n : ℕ} → definedOf next seen t ≡ ok d n → (d .0 ≡ at16 t 0) × (d .0 < next) × (n ≡ 2)
-dest-at next seen t e = value-at next t 0 (checked-inv Cause.Redefined (λ d. not (getD seen (d .0) false)) (valueIdOf next t) e .0)
 
 -- a phi's dest is its first field
 data PhiAt (next : ℕ) (t : List ℕ) (i : InstructionKind) : Type 0 where

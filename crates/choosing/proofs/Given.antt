@@ -3,29 +3,16 @@ use Prim.Native.Nat.{ℕ, suc, _+_, _*_, _≤_, _<_}
 use mathlib.Core.Path.{_≡_, refl, ap, _∙_, sym}
 use mathlib.Core.List.{List}
 use mathlib.Core.Bool.{Bool, true, false}
-use mathlib.Core.Option.{Option, none, some}
 use native.Mathlib.Omega.{arith}
 use lib.ListN.{length, getD, drop, drop-of-length-le}
 use lib.Seq.{drop-cons}
 use Rattle.wire.specs.Number.{at16}
-use Rattle.wire.specs.declared.Value.{Value}
 use Rattle.typetable.specs.Syntax.{StructField}
 use Rattle.form.specs.Syntax.{FieldInit}
-use Rattle.canon.proofs.Bits.{true-false}
 use Rattle.eligibility.specs.Climb.{given, consPart, fromStructFields, isSome}
 use Rattle.parts.specs.Rows.{Inits, Names, InitAt, noField}
 use Rattle.parts.specs.declared.Init.{Init}
-
-cons-some : (o : Option Value) (r : Option (List Value)) → isSome o ≡ true → isSome (consPart o r) ≡ isSome r
-unfolding isSome consPart
-cons-some none r h = absurd (true-false (sym h))
-cons-some (some x) none h = refl
-cons-some (some x) (some xs) h = refl
-
-cons-none : (o : Option Value) (r : Option (List Value)) → isSome o ≡ false → isSome (consPart o r) ≡ false
-unfolding isSome consPart
-cons-none none r h = refl
-cons-none (some x) r h = absurd (true-false h)
+use Rattle.parts.proofs.ByName.{part-given, part-missing}
 
 -- the first i names are given
 pub record Naming (t : List ℕ) (at n : ℕ) (u : List ℕ) (names m i : ℕ) : Type 0 where
@@ -60,12 +47,12 @@ module _ {t : List ℕ} {at n : ℕ} {u : List ℕ} {names m : ℕ} where
         record {
           low = omega arith;
           left = λ next fs ts a l b k.
-              front h x e next fs ts a l b k ∙ cons-some (given (record { 0 = x }) fs) (fromStructFields fs (drop (suc i) ts)) (sym (finds next fs a l .told) ∙ y) ∙ ap (λ (o : ℕ). isSome (fromStructFields fs (drop o ts))) z;
+              front h x e next fs ts a l b k ∙ part-given (given (record { 0 = x }) fs) (fromStructFields fs (drop (suc i) ts)) (sym (finds next fs a l .told) ∙ y) ∙ ap (λ (o : ℕ). isSome (fromStructFields fs (drop o ts))) z;
         }
 
     pub naming-missing : i < m → (x : ℕ) → x ≡ at16 u (names + 4 * i) → (r : Init) → FindsInit t at n x r → r .given ≡ false → AllGiven t at n u names m false
     naming-missing h x e r finds y next fs ts a l b k =
-        sym (front h x e next fs ts a l b k ∙ cons-none (given (record { 0 = x }) fs) (fromStructFields fs (drop (suc i) ts)) (sym (finds next fs a l .told) ∙ y))
+        sym (front h x e next fs ts a l b k ∙ part-missing (given (record { 0 = x }) fs) (fromStructFields fs (drop (suc i) ts)) (sym (finds next fs a l .told) ∙ y))
 
     pub naming-all : m ≤ i → AllGiven t at n u names m true
     unfolding fromStructFields isSome

@@ -3,7 +3,7 @@ use Prim.Native.Nat.{ℕ, zero, suc, _≤_, _<_}
 use mathlib.Core.Path.{_≡_, refl, _∙_, sym}
 use mathlib.Core.List.{List, [], _∷_}
 use mathlib.Core.Bool.{Bool, true, false, cond, not, _||_}
-use mathlib.Core.Option.{Option, none, some}
+use mathlib.Core.Option.{Option, none, some, Option·none-ne-some}
 use native.Mathlib.Nat.{le-trans}
 use native.Mathlib.Omega.{arith}
 use borrow.Author.Tests.{eqb-true, eq-eqb}
@@ -31,53 +31,50 @@ use Rattle.eligibility.specs.Climb.{isBuildOf, buildOf}
 use Rattle.eligibility.specs.Fold.{behindPhis}
 use Rattle.choosing.specs.Chosen.{Fitting, fitting, Standing}
 
-no : {A : Type 0} {a : A} → none ≡ some a → ⊥
-no {a} e = let z : _≡_ {A = ℕ} 0 1 = cc in omega arith
-
 -- a build's dest is new, and it is all that the build defines
 pub build-new : (b : Bounds) (seen : List Bool) (i : InstructionKind) (v : ValueId) → FitKind b seen i → buildDest i ≡ some v → FitNew b seen v
 unfolding buildDest
-build-new b seen (Assign d x t) v g e = absurd (no e)
-build-new b seen (UnaryOp op d x) v g e = absurd (no e)
-build-new b seen (BinaryOp op d x y) v g e = absurd (no e)
-build-new b seen (Call ds f xs ps rs) v g e = absurd (no e)
-build-new b seen (Cast d x t u) v g e = absurd (no e)
-build-new b seen (Load d p t) v g e = absurd (no e)
-build-new b seen (Store p x t) v g e = absurd (no e)
-build-new b seen (Debug n xs) v g e = absurd (no e)
-build-new b seen Nop v g e = absurd (no e)
-build-new b seen (Phi d t ss) v g e = absurd (no e)
+build-new b seen (Assign d x t) v g e = absurd (Option·none-ne-some _ e)
+build-new b seen (UnaryOp op d x) v g e = absurd (Option·none-ne-some _ e)
+build-new b seen (BinaryOp op d x y) v g e = absurd (Option·none-ne-some _ e)
+build-new b seen (Call ds f xs ps rs) v g e = absurd (Option·none-ne-some _ e)
+build-new b seen (Cast d x t u) v g e = absurd (Option·none-ne-some _ e)
+build-new b seen (Load d p t) v g e = absurd (Option·none-ne-some _ e)
+build-new b seen (Store p x t) v g e = absurd (Option·none-ne-some _ e)
+build-new b seen (Debug n xs) v g e = absurd (Option·none-ne-some _ e)
+build-new b seen Nop v g e = absurd (Option·none-ne-some _ e)
+build-new b seen (Phi d t ss) v g e = absurd (Option·none-ne-some _ e)
 build-new b seen (MakeTuple d xs) v g e = let z : d ≡ v = cc in rw z at (g .0)
-build-new b seen (ExtractTupleElement d x k t) v g e = absurd (no e)
+build-new b seen (ExtractTupleElement d x k t) v g e = absurd (Option·none-ne-some _ e)
 build-new b seen (MakeStruct d fs t) v g e = let z : d ≡ v = cc in rw z at (g .0)
-build-new b seen (ExtractStructField d x n t) v g e = absurd (no e)
-build-new b seen (InsertField d x n y t) v g e = absurd (no e)
-build-new b seen (InsertTuple d x k y t) v g e = absurd (no e)
+build-new b seen (ExtractStructField d x n t) v g e = absurd (Option·none-ne-some _ e)
+build-new b seen (InsertField d x n y t) v g e = absurd (Option·none-ne-some _ e)
+build-new b seen (InsertTuple d x k y t) v g e = absurd (Option·none-ne-some _ e)
 build-new b seen (MakeFixedArray d xs t c) v g e = let z : d ≡ v = cc in rw z at (g .0)
-build-new b seen (AssertEq x y) v g e = absurd (no e)
-build-new b seen (HeapAllocCells d x) v g e = absurd (no e)
+build-new b seen (AssertEq x y) v g e = absurd (Option·none-ne-some _ e)
+build-new b seen (HeapAllocCells d x) v g e = absurd (Option·none-ne-some _ e)
 
 build-dests : (i : InstructionKind) (v : ValueId) → buildDest i ≡ some v → dests i ≡ v ∷ []
 unfolding buildDest
-build-dests (Assign d x t) v e = absurd (no e)
-build-dests (UnaryOp op d x) v e = absurd (no e)
-build-dests (BinaryOp op d x y) v e = absurd (no e)
-build-dests (Call ds f xs ps rs) v e = absurd (no e)
-build-dests (Cast d x t u) v e = absurd (no e)
-build-dests (Load d p t) v e = absurd (no e)
-build-dests (Store p x t) v e = absurd (no e)
-build-dests (Debug n xs) v e = absurd (no e)
-build-dests Nop v e = absurd (no e)
-build-dests (Phi d t ss) v e = absurd (no e)
+build-dests (Assign d x t) v e = absurd (Option·none-ne-some _ e)
+build-dests (UnaryOp op d x) v e = absurd (Option·none-ne-some _ e)
+build-dests (BinaryOp op d x y) v e = absurd (Option·none-ne-some _ e)
+build-dests (Call ds f xs ps rs) v e = absurd (Option·none-ne-some _ e)
+build-dests (Cast d x t u) v e = absurd (Option·none-ne-some _ e)
+build-dests (Load d p t) v e = absurd (Option·none-ne-some _ e)
+build-dests (Store p x t) v e = absurd (Option·none-ne-some _ e)
+build-dests (Debug n xs) v e = absurd (Option·none-ne-some _ e)
+build-dests Nop v e = absurd (Option·none-ne-some _ e)
+build-dests (Phi d t ss) v e = absurd (Option·none-ne-some _ e)
 build-dests (MakeTuple d xs) v e = let z : d ≡ v = cc in rw z refl
-build-dests (ExtractTupleElement d x k t) v e = absurd (no e)
+build-dests (ExtractTupleElement d x k t) v e = absurd (Option·none-ne-some _ e)
 build-dests (MakeStruct d fs t) v e = let z : d ≡ v = cc in rw z refl
-build-dests (ExtractStructField d x n t) v e = absurd (no e)
-build-dests (InsertField d x n y t) v e = absurd (no e)
-build-dests (InsertTuple d x k y t) v e = absurd (no e)
+build-dests (ExtractStructField d x n t) v e = absurd (Option·none-ne-some _ e)
+build-dests (InsertField d x n y t) v e = absurd (Option·none-ne-some _ e)
+build-dests (InsertTuple d x k y t) v e = absurd (Option·none-ne-some _ e)
 build-dests (MakeFixedArray d xs t c) v e = let z : d ≡ v = cc in rw z refl
-build-dests (AssertEq x y) v e = absurd (no e)
-build-dests (HeapAllocCells d x) v e = absurd (no e)
+build-dests (AssertEq x y) v e = absurd (Option·none-ne-some _ e)
+build-dests (HeapAllocCells d x) v e = absurd (Option·none-ne-some _ e)
 
 -- a list is as short as the bounds say
 list-fit : (b : Bounds) (seen : List Bool) (i : InstructionKind) → FitKind b seen i → length (listValues i) ≤ b .list

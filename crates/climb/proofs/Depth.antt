@@ -2,7 +2,7 @@
 use Prim.Native.Nat.{ℕ, zero, suc, _+_, _≤_, _<_}
 use mathlib.Core.Path.{_≡_, refl, ap, _∙_, sym}
 use mathlib.Core.List.{List, [], _∷_, _++_}
-use mathlib.Core.Bool.{Bool, true, false, cond}
+use mathlib.Core.Bool.{Bool, true, false, cond, true≢false}
 use mathlib.Core.Option.{Option, none, some}
 use native.Mathlib.Nat.{le-refl, le-trans}
 use native.Mathlib.Omega.{arith}
@@ -12,13 +12,15 @@ use Rattle.eligibility.specs.Family.{Marks}
 use Rattle.climb.specs.Edges.{Edge, Sight, arrayIn, allowedIn, onto, parents, climbIn, unmarked, climbOf}
 use Rattle.climb.specs.Scanned.{Each}
 
-no : true ≡ false → ⊥
-no e = let z : _≡_ {A = ℕ} 0 1 = cc in omega arith
+-- both arms are the same
+pub both-arms : {A : Type 0} (b : Bool) (a : A) → cond b a a ≡ a
+both-arms true a = refl
+both-arms false a = refl
 
 pub unmarked-set : (m : Marks) (v : ℕ) → getD m v true ≡ false → suc (unmarked (set m v true)) ≡ unmarked m
 unfolding unmarked
-unmarked-set [] v h = absurd (no h)
-unmarked-set (true ∷ m) zero h = absurd (no h)
+unmarked-set [] v h = absurd (true≢false h)
+unmarked-set (true ∷ m) zero h = absurd (true≢false h)
 unmarked-set (false ∷ m) zero h = refl
 unmarked-set (true ∷ m) (suc v) h = unmarked-set m v h
 unmarked-set (false ∷ m) (suc v) h = ap suc (unmarked-set m v h)
@@ -107,11 +109,7 @@ climb-met t v m e = simp e
 
 pub climb-barred : (t : Sight) (v : ℕ) (m : Marks) → allowedIn t v ≡ false → climbOf t v m ≡ none
 unfolding climbOf climbIn
-climb-barred t v m e = rw e (same (getD m v true))
-  where
-    same : (b : Bool) → cond {A = Option Marks} b none none ≡ none
-    same true = refl
-    same false = refl
+climb-barred t v m e = rw e (both-arms (getD m v true) none)
 
 pub climb-on : (t : Sight) (v : ℕ) (m : Marks) → getD m v true ≡ false → allowedIn t v ≡ true → climbOf t v m ≡ parents (climbOf t) (arrayIn t v) v (t .edges) (set m v true)
 unfolding climbOf climbIn

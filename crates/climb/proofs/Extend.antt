@@ -19,16 +19,13 @@ use Rattle.eligibility.specs.declared.Settings.{Settings}
 use Rattle.eligibility.specs.Lookup.{Types, isOperand, any}
 use Rattle.eligibility.specs.Family.{Marks, buildDest, placeOf}
 use Rattle.eligibility.specs.Climb.{buildable, isBuildOf, buildOf, buildableOf}
-use Rattle.climb.specs.Edges.{Edge, partEdges, buildEdges, edgesOf, tupleEdgesOf, variesFirst, variesAt, blocks, blockedIn}
+use Rattle.climb.specs.Edges.{partEdges, buildEdges, edgesOf, tupleEdgesOf, variesFirst, variesAt, blocks, blockedIn}
 use Rattle.climb.specs.Scanned.{Each, Scanned}
 use Rattle.climb.specs.Noted.{Edges, notedWhole, notedArguments, notedParts, Roomy, Tables, Hold}
 use Rattle.climb.proofs.Noting.{whole-long}
 use Rattle.climb.proofs.Sorts.{Idle, Calls, Walks, builds}
 use Rattle.climb.proofs.Room.{Holds, parts-hold, parts-each}
-
-same-list : (f : Bool) (ts : List Edge) → cond f ts ts ≡ ts
-same-list true ts = refl
-same-list false ts = refl
+use Rattle.climb.proofs.Depth.{both-arms}
 
 -- a mark that is set, at every place
 set-mark : (m : Marks) (w v : ℕ) (x : Bool) → v < length m → getD (set m w x) v false ≡ cond (eqb w v) x (getD m v false)
@@ -82,7 +79,7 @@ module _ (σ : Settings) (τ : Types) (cross : Marks) (is : List Instruction) (i
   no-build d m f =
       record {
         edges = rw d (h .edges);
-        tuple-edges = rw (d, same-list (eqb (kindNumber (i .kind)) 10) (tupleEdgesOf is)) (h .tuple-edges);
+        tuple-edges = rw (d, both-arms (eqb (kindNumber (i .kind)) 10) (tupleEdgesOf is)) (h .tuple-edges);
         built = λ v l. rw d (h .built v l);
         barred = λ v l. f v l;
         below = rw d (h .below);

@@ -25,7 +25,7 @@ use Rattle.lookup.proofs.Instruction.{KindAt, chosen, instruction-fields, instr
 use Rattle.eligibility.specs.Family.{buildDest, placeOf}
 
 -- a value's number at a place
-id-at : (next : ℕ) (t : List ℕ) (p : ℕ) {d : ValueId} {n : ℕ} → valueIdOf next (drop p t) ≡ ok d n → (d .0 ≡ at16 t p) × (d .0 < next) × (n ≡ 2)
+pub id-at : (next : ℕ) (t : List ℕ) (p : ℕ) {d : ValueId} {n : ℕ} → valueIdOf next (drop p t) ≡ ok d n → (d .0 ≡ at16 t p) × (d .0 < next) × (n ≡ 2)
 id-at next t p e =
     elim (map-inv (λ x. record { 0 = x }) (below next (drop p t)) e) [
       | image x f g ↦
@@ -35,7 +35,7 @@ id-at next t p e =
           (i ∙ k .1 ∙ from-16 t p, rw i (h .1), k .2)
     ]
 
-dest-at : (next : ℕ) (seen : List Bool) (t : List ℕ) {d : ValueId} {n : ℕ} → definedOf next seen t ≡ ok d n → (d .0 ≡ at16 t 0) × (d .0 < next) × (n ≡ 2)
+pub dest-at : (next : ℕ) (seen : List Bool) (t : List ℕ) {d : ValueId} {n : ℕ} → definedOf next seen t ≡ ok d n → (d .0 ≡ at16 t 0) × (d .0 < next) × (n ≡ 2)
 dest-at next seen t e = id-at next t 0 (checked-inv Cause.Redefined (λ d. not (getD seen (d .0) false)) (valueIdOf next t) e .0)
 
 -- a build's dest is its first field

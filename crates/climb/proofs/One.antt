@@ -3,7 +3,7 @@ use Prim.Native.Nat.{ℕ, zero, suc, _+_, _≤_, _<_}
 use mathlib.Core.Path.{_≡_, refl, ap, _∙_, sym}
 use mathlib.Core.List.{List, [], _∷_}
 use mathlib.Core.Bool.{Bool, true, false, cond, not, _&&_, _||_}
-use mathlib.Core.Option.{Option, none, some}
+use mathlib.Core.Option.{Option, some}
 use native.Mathlib.Omega.{arith}
 use lib.ListN.{length, getD, set, drop, length-set}
 use lib.Dec.{eqb}
@@ -27,9 +27,6 @@ use Rattle.climb.specs.Noted.{Edges, notedArguments, notedParts, PartsNo
 use Rattle.climb.proofs.Sorts.{idle, calls, walks}
 use Rattle.climb.proofs.Found.{dest, base, DestAt, BaseAt, kind-at, tuple-place, struct-place, array-place, load-place, store-place, list-count}
 use Rattle.climb.proofs.Extend.{idle-step, call-step, walk-step, build-step}
-
-no : {A : Type 0} {a : A} → none ≡ some a → ⊥
-no {a} e = let z : _≡_ {A = ℕ} 0 1 = cc in omega arith
 
 -- the conditions of a tuple, and of an array, by the tables
 abbrev Passes : List ℕ → List Bool → List Bool → ℕ → ℕ → Bool

@@ -2,7 +2,7 @@
 use Prim.Native.Nat.{ℕ, zero, suc}
 use mathlib.Core.Path.{_≡_, refl, ap, sym, _∙_}
 use mathlib.Core.List.{List, [], _∷_}
-use mathlib.Core.Bool.{Bool, true, false, cond, not, _&&_, _||_}
+use mathlib.Core.Bool.{Bool, true, false, cond, not, _&&_, _||_, or-false}
 use mathlib.Core.Option.{Option, none, some}
 use native.Mathlib.Omega.{arith}
 use borrow.Author.Tests.{eq-eqb, ne-eqb, eqb-true, eqb-false}
@@ -20,14 +20,7 @@ use Rattle.eligibility.specs.Lookup.{Types, valueRow, isArray, isOperand, isInt
 use Rattle.eligibility.specs.Family.{Marks, buildDest, placeOf}
 use Rattle.eligibility.specs.Climb.{constantFirst, onBase, onward, climbParts, climbBuild, climbOne, climbAll}
 use Rattle.climb.specs.Edges.{Edge, edge, partEdge, partEdges, buildEdges, edgesOf, arguments, variesFirst, variesAt, blocks, blockedIn, onto, parents}
-
-or-false : (t : Bool) → (t || false) ≡ t
-or-false true = refl
-or-false false = refl
-
-same-none : (b : Bool) → cond {A = Option Marks} b none none ≡ none
-same-none true = refl
-same-none false = refl
+use Rattle.climb.proofs.Depth.{both-arms}
 
 module _ (up : ℕ → Marks → Option Marks) (a : Bool) (v : ℕ) where
   -- an edge of another value is passed over
@@ -62,8 +55,8 @@ module _ (σ : Settings) (τ : Types) (cross : Marks) (up : ValueId → Marks �
   -- the value stands as a part
   met : (f g : Marks → Option Marks) (b : Bool) (es : List Edge) → ((m : Marks) → onward σ τ cross f (g m) ≡ cond b none (walk es m)) → (a : Bool) (r : Option Marks) → onward σ τ cross f (onward σ τ cross g (cond a none r)) ≡ cond b none (cond a none (onto r (λ w. walk es w)))
   unfolding onward
-  met f g b es h true r = sym (same-none b)
-  met f g b es h false none = sym (same-none b)
+  met f g b es h true r = sym (both-arms b none)
+  met f g b es h false none = sym (both-arms b none)
   met f g b es h false (some w) = h w
 
   module _ (f : Marks → Option Marks) (b : Bool) (es : List Edge) (behind : Behind f b es) (d : ValueId) where

@@ -15,6 +15,7 @@ use Rattle.wire.specs.declared.Value.{Value}
 use Rattle.climb.specs.Edges.{Edge, edge, partEdge, partEdges}
 use Rattle.climb.specs.Scanned.{Each, edgesDown, tuplesDown}
 use Rattle.climb.specs.Noted.{Edges, edgesIn, pushed, notedPart, notedParts, Roomy}
+use Rattle.climb.proofs.Depth.{both-arms}
 
 length-down : (cs ps : List ℕ) (k : ℕ) → length (edgesDown cs ps k) ≡ k
 unfolding edgesDown
@@ -66,19 +67,15 @@ push-holds c p f t es ts h l =
       };
     })
 
-same-list : (f : Bool) (ts : List Edge) → cond f ts ts ≡ ts
-same-list true ts = refl
-same-list false ts = refl
-
 part-holds : (d : ℕ) (f : Bool) (t : Edges) (es ts : List Edge) (x : Value) → Holds t es ts → length (partEdge d x es) ≤ 2048 → Holds (notedPart d f t (some x)) (partEdge d x es) (cond f (partEdge d x ts) ts)
 unfolding partEdge
-part-holds d f t es ts (Value.Literal l) h k = rw (same-list f ts) h
+part-holds d f t es ts (Value.Literal l) h k = rw (both-arms f ts) h
 part-holds d f t es ts (Value.Operand w) h k = go (eqb (w .0) d) k
   where
     go : (b : Bool) → length (cond b es (edge (w .0) d ∷ es)) ≤ 2048 → Holds (cond b t (pushed (w .0) d f t)) (cond b es (edge (w .0) d ∷ es)) (cond f (cond b ts (edge (w .0) d ∷ ts)) ts)
-    go true l = rw (same-list f ts) h
+    go true l = rw (both-arms f ts) h
     go false l = push-holds (w .0) d f t es ts h (omega (arith, many-edges t es ts h))
-part-holds d f t es ts Value.Error h k = rw (same-list f ts) h
+part-holds d f t es ts Value.Error h k = rw (both-arms f ts) h
 
 part-more : (d : ℕ) (x : Value) (es : List Edge) → length es ≤ length (partEdge d x es)
 unfolding partEdge
@@ -96,7 +93,7 @@ twice false d x us ts = refl
 
 pub parts-hold : (d : ℕ) (f : Bool) (t : Edges) (es ts : List Edge) (xs : List Value) → Holds t es ts → length (partEdges d xs es) ≤ 2048 → Holds (notedParts d f t xs) (partEdges d xs es) (cond f (partEdges d xs ts) ts)
 unfolding notedParts partEdges
-parts-hold d f t es ts [] h k = rw (same-list f ts) h
+parts-hold d f t es ts [] h k = rw (both-arms f ts) h
 parts-hold d f t es ts (x ∷ xs) h k =
     let ih = parts-hold d f t es ts xs h (le-trans (part-more d x (partEdges d xs es)) k) in
     rw twice at (part-holds d f (notedParts d f t xs) (partEdges d xs es) (cond f (partEdges d xs ts) ts) x ih k)

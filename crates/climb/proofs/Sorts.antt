@@ -2,8 +2,8 @@
 use Prim.Native.Nat.{ℕ, zero, suc}
 use mathlib.Core.Path.{_≡_, refl, ap, _∙_, sym}
 use mathlib.Core.List.{List, [], _∷_}
-use mathlib.Core.Bool.{Bool, true, false, not, _&&_, _||_}
-use mathlib.Core.Option.{Option, none, some}
+use mathlib.Core.Bool.{false, not, _&&_, or-false}
+use mathlib.Core.Option.{Option, none, some, Option·none-ne-some}
 use native.Mathlib.Omega.{arith}
 use lib.Dec.{eqb}
 use Rattle.wire.specs.declared.ValueId.{ValueId}
@@ -15,13 +15,6 @@ use Rattle.lookup.specs.Fields.{listValues}
 use Rattle.eligibility.specs.Lookup.{isOperand, any}
 use Rattle.eligibility.specs.Family.{buildDest, placeOf}
 use Rattle.climb.specs.Edges.{arguments, variesAt, blocks}
-
-no : {A : Type 0} {a : A} → none ≡ some a → ⊥
-no {a} e = let z : _≡_ {A = ℕ} 0 1 = cc in omega arith
-
-or-false : (t : Bool) → (t || false) ≡ t
-or-false true = refl
-or-false false = refl
 
 -- no build, and no value that it wants whole
 pub record Idle (i : InstructionKind) : Type 0 where
@@ -84,45 +77,45 @@ pub record Walks (i : InstructionKind) (p : Place) : Type 0 where
 
 pub walks : (i : InstructionKind) (p : Place) → placeOf i ≡ some p → Walks i p
 unfolding buildDest blocks arguments variesAt placeOf any
-walks (Assign d x t) q h = absurd (no h)
-walks (UnaryOp op d x) q h = absurd (no h)
-walks (BinaryOp op d x y) q h = absurd (no h)
-walks (Call ds f xs ps rs) q h = absurd (no h)
-walks (Cast d x t u) q h = absurd (no h)
+walks (Assign d x t) q h = absurd (Option·none-ne-some _ h)
+walks (UnaryOp op d x) q h = absurd (Option·none-ne-some _ h)
+walks (BinaryOp op d x y) q h = absurd (Option·none-ne-some _ h)
+walks (Call ds f xs ps rs) q h = absurd (Option·none-ne-some _ h)
+walks (Cast d x t u) q h = absurd (Option·none-ne-some _ h)
 walks (Load d q t) p h = let e : q ≡ p = cc in record { no-dest = refl; varies = λ v. ap (λ (x : Place). variesAt v (some x)) e }
 walks (Store q x t) p h = let e : q ≡ p = cc in record { no-dest = refl; varies = λ v. ap (λ (x : Place). variesAt v (some x)) e }
-walks (Debug n xs) q h = absurd (no h)
-walks Nop q h = absurd (no h)
-walks (Phi d t ss) q h = absurd (no h)
-walks (MakeTuple d xs) q h = absurd (no h)
-walks (ExtractTupleElement d x k t) q h = absurd (no h)
-walks (MakeStruct d fs t) q h = absurd (no h)
-walks (ExtractStructField d x n t) q h = absurd (no h)
-walks (InsertField d x n y t) q h = absurd (no h)
-walks (InsertTuple d x k y t) q h = absurd (no h)
-walks (MakeFixedArray d xs t c) q h = absurd (no h)
-walks (AssertEq x y) q h = absurd (no h)
-walks (HeapAllocCells d x) q h = absurd (no h)
+walks (Debug n xs) q h = absurd (Option·none-ne-some _ h)
+walks Nop q h = absurd (Option·none-ne-some _ h)
+walks (Phi d t ss) q h = absurd (Option·none-ne-some _ h)
+walks (MakeTuple d xs) q h = absurd (Option·none-ne-some _ h)
+walks (ExtractTupleElement d x k t) q h = absurd (Option·none-ne-some _ h)
+walks (MakeStruct d fs t) q h = absurd (Option·none-ne-some _ h)
+walks (ExtractStructField d x n t) q h = absurd (Option·none-ne-some _ h)
+walks (InsertField d x n y t) q h = absurd (Option·none-ne-some _ h)
+walks (InsertTuple d x k y t) q h = absurd (Option·none-ne-some _ h)
+walks (MakeFixedArray d xs t c) q h = absurd (Option·none-ne-some _ h)
+walks (AssertEq x y) q h = absurd (Option·none-ne-some _ h)
+walks (HeapAllocCells d x) q h = absurd (Option·none-ne-some _ h)
 
 -- a build wants nothing whole
 pub builds : (i : InstructionKind) (d : ValueId) → buildDest i ≡ some d → (v : ℕ) → blocks v i ≡ false
 unfolding buildDest blocks arguments variesAt placeOf any
-builds (Assign d x t) e h v = absurd (no h)
-builds (UnaryOp op d x) e h v = absurd (no h)
-builds (BinaryOp op d x y) e h v = absurd (no h)
-builds (Call ds f xs ps rs) e h v = absurd (no h)
-builds (Cast d x t u) e h v = absurd (no h)
-builds (Load d p t) e h v = absurd (no h)
-builds (Store p x t) e h v = absurd (no h)
-builds (Debug n xs) e h v = absurd (no h)
-builds Nop e h v = absurd (no h)
-builds (Phi d t ss) e h v = absurd (no h)
+builds (Assign d x t) e h v = absurd (Option·none-ne-some _ h)
+builds (UnaryOp op d x) e h v = absurd (Option·none-ne-some _ h)
+builds (BinaryOp op d x y) e h v = absurd (Option·none-ne-some _ h)
+builds (Call ds f xs ps rs) e h v = absurd (Option·none-ne-some _ h)
+builds (Cast d x t u) e h v = absurd (Option·none-ne-some _ h)
+builds (Load d p t) e h v = absurd (Option·none-ne-some _ h)
+builds (Store p x t) e h v = absurd (Option·none-ne-some _ h)
+builds (Debug n xs) e h v = absurd (Option·none-ne-some _ h)
+builds Nop e h v = absurd (Option·none-ne-some _ h)
+builds (Phi d t ss) e h v = absurd (Option·none-ne-some _ h)
 builds (MakeTuple d xs) e h v = refl
-builds (ExtractTupleElement d x k t) e h v = absurd (no h)
+builds (ExtractTupleElement d x k t) e h v = absurd (Option·none-ne-some _ h)
 builds (MakeStruct d fs t) e h v = refl
-builds (ExtractStructField d x n t) e h v = absurd (no h)
-builds (InsertField d x n y t) e h v = absurd (no h)
-builds (InsertTuple d x k y t) e h v = absurd (no h)
+builds (ExtractStructField d x n t) e h v = absurd (Option·none-ne-some _ h)
+builds (InsertField d x n y t) e h v = absurd (Option·none-ne-some _ h)
+builds (InsertTuple d x k y t) e h v = absurd (Option·none-ne-some _ h)
 builds (MakeFixedArray d xs t c) e h v = refl
-builds (AssertEq x y) e h v = absurd (no h)
-builds (HeapAllocCells d x) e h v = absurd (no h)
+builds (AssertEq x y) e h v = absurd (Option·none-ne-some _ h)
+builds (HeapAllocCells d x) e h v = absurd (Option·none-ne-some _ h)

@@ -2,7 +2,7 @@
 use Prim.Native.Nat.{ℕ, zero, suc}
 use mathlib.Core.Path.{_≡_, refl, ap, sym, _∙_}
 use mathlib.Core.List.{List, [], _∷_}
-use mathlib.Core.Bool.{Bool, true, false, cond, not, _&&_, _||_}
+use mathlib.Core.Bool.{Bool, true, false, cond, not, _&&_, _||_, or-true}
 use borrow.Author.Tests.{eq-eqb, ne-eqb, eqb-true, eqb-false}
 use lib.Dec.{eqb}
 use Rattle.wire.specs.declared.ValueId.{ValueId}
@@ -18,10 +18,6 @@ use Rattle.eligibility.specs.Family.{Marks, buildDest}
 use Rattle.eligibility.specs.Climb.{canScalarize}
 use Rattle.eligibility.specs.Fold.{tupleParent}
 use Rattle.climb.specs.Edges.{Edge, edge, partEdge, partEdges, buildEdges, tupleEdgesOf, tuplesClimb}
-
-or-true : (t : Bool) → (t || true) ≡ true
-or-true true = refl
-or-true false = refl
 
 module _ (can : ℕ → Bool) (v : ℕ) where
   -- one part of a tuple d: the part is its own dest, or the value, or another

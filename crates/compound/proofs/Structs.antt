@@ -1,8 +1,8 @@
 -- A struct build against its type.
-use Prim.Native.Nat.{ℕ, zero, suc, _<_}
+use Prim.Native.Nat.{ℕ, _<_}
 use mathlib.Core.Path.{_≡_, refl, ap, _∙_, sym}
-use mathlib.Core.List.{List, [], _∷_}
-use mathlib.Core.Bool.{true, false, _&&_, cond}
+use mathlib.Core.List.{List}
+use mathlib.Core.Bool.{true, false, _&&_, cond, true≢false}
 use mathlib.Core.Bool as B
 use mathlib.Core.Option.{Option, none, some}
 use native.Mathlib.Omega.{arith}
@@ -17,7 +17,7 @@ use Rattle.typetable.specs.Decode.{typeOf}
 use Rattle.typetable.specs.Index.{TypesAt}
 use Rattle.form.specs.Syntax.{FieldInit, InstructionKind}
 use Rattle.facts.specs.Facts.{rowShape}
-use Rattle.facts.proofs.Rows.{shape-found}
+use Rattle.facts.proofs.Rows.{shape-found, struct-kind}
 use Rattle.parts.specs.Rows.{Names, noField}
 use Rattle.parts.proofs.Builds.{type-names}
 use Rattle.chains.proofs.Fields.{some-at}
@@ -25,7 +25,6 @@ use Rattle.eligibility.specs.Lookup.{Types, rowOf, recordedType, shape, isStruc
 use Rattle.shelf.specs.Parts.{fieldType, partType, partCount, counts}
 use Rattle.shelf.specs.Fits.{sameType, fieldsFit}
 use Rattle.shelf.specs.Agrees.{agrees}
-use Rattle.fitting.proofs.Tests.{true-false}
 
 -- a struct type, or another
 data StructOr (row : Option MirType) : Type 0 where
@@ -86,7 +85,7 @@ rest-fit τ fs row {f} h s k =
       | a-struct n ss e ↦
           let h′ : eqb (length ss) (length fs) ≡ true = rw e at h in
           rw e (k n ss e (eqb-true (length ss) (length fs) h′) ∙ ap (λ b. b && fieldsFit τ fs ss) (sym (turn (length fs) (length ss) ∙ h′)))
-      | no-struct z ↦ true-false (sym s ∙ z)
+      | no-struct z ↦ absurd (true≢false (sym s ∙ z))
     ]
 
 -- the whole of it
@@ -103,15 +102,6 @@ pub struct-parts : (n : NameId) (ss : List StructField) (row : Option MirType) �
 unfolding partType fieldType
 struct-parts n ss row e k h = rw e (ap fieldType (some-at ss k noField h))
 
-four : (k : ℕ) → _≡_ {A = ℕ} (getD (0 ∷ 0 ∷ 0 ∷ 1 ∷ 2 ∷ 3 ∷ []) k 0) 2 → k ≡ 4
-four zero e = absurd (omega (arith, e))
-four (suc zero) e = absurd (omega (arith, e))
-four (suc (suc zero)) e = absurd (omega (arith, e))
-four (suc (suc (suc zero))) e = absurd (omega (arith, e))
-four (suc (suc (suc (suc zero)))) e = refl
-four (suc (suc (suc (suc (suc zero))))) e = absurd (omega (arith, e))
-four (suc (suc (suc (suc (suc (suc k)))))) e = absurd (omega (arith, e))
-
 pub struct-names : (most many : ℕ) (s types : List ℕ) (τ : Types) (y : TypeId) (n : NameId) (ss : List StructField) (u : List ℕ) → TypesAt most s types (τ .rows) → length (τ .rows) ≡ many → y .0 < many → u ≡ drop (getD types (y .0) 0) s → rowOf τ (some y) ≡ some (Struct n ss) → Names u 4 ss
 unfolding rowOf shape
 struct-names most many s types τ y n ss u a m l e f =
@@ -120,4 +110,4 @@ struct-names most many s types τ y n ss u a m l e f =
     let z : getD (τ .rows) k MirType.Unit ≡ Struct n ss = (let w : some (getD (τ .rows) k MirType.Unit) ≡ some (Struct n ss) = sym (some-at (τ .rows) k MirType.Unit h) ∙ f in cc) in
     let g : rowShape u ≡ shape (getElem? (τ .rows) k) = shape-found most many k s types (τ .rows) {at = getD types k 0} refl e (ap (λ b. cond b (getD types k 0) (length s)) (sym (lt-ltb k many l))) a m in
     let j : rowShape u ≡ 2 = g ∙ ap shape f in
-    type-names most k u 0 (ap (typeOf most k) e ∙ a .each k h) (four (getD u 0 0) j) z .0
+    type-names most k u 0 (ap (typeOf most k) e ∙ a .each k h) (struct-kind (getD u 0 0) j) z .0

@@ -57,7 +57,7 @@ pub fn make_array(s: &[u8], b: Bounds, types: &[usize], recorded: &[u16], t: &[u
 {
     let y = fields::id_type(b, recorded, t, 0);
     let n = wire::byte_at(t, 2);
-    let part = fields::type_at(t, b, fields::values_end(t, 3, 0, n));
+    let part = fields::type_at(t, b, lookup::values_end(t, 3, 0, 0, n));
     let shaped = fields::has_shape(s, b, types, y, 3);
     let same = typing::same_type(typing::part_type(s, b, types, y, 0), part);
     let all = fitting::parts_fit(s, b, types, recorded, t, 3, n, y);
@@ -71,7 +71,7 @@ pub fn call(s: &[u8], b: Bounds, types: &[usize], recorded: &[u16], t: &[u8]) ->
     let dests = wire::byte_at(t, 0);
     let at = 1 + 2 * dests as usize + 2;
     let n = wire::byte_at(t, at);
-    let e = fields::values_end(t, at + 1, 0, n);
+    let e = lookup::values_end(t, at + 1, 0, 0, n);
     if wire::byte_at(t, e) != n {
         return false;
     }
@@ -85,7 +85,7 @@ pub fn make_struct(s: &[u8], b: Bounds, types: &[usize], recorded: &[u16], t: &[
     ensures { λ r. ⌜ ((τ : Types) (seen : List Bool) (i : InstructionKind) (n : ℕ) → Ground b (now (s .entry)) (now (types .entry)) (now (recorded .entry)) τ → makeStructOf b seen (now (t .entry)) ≡ ok i n → r ≡ agrees τ i) ⌝ }
 {
     let n = wire::byte_at(t, 2);
-    let e = fields::values_end(t, 3, 2, n);
+    let e = lookup::values_end(t, 3, 2, 0, n);
     let y = fields::type_at(t, b, e);
     let row = form::tail(s, typetable::type_place(types, TypeId(wire::u16_at(t, e))));
     if !typing::has_parts(s, b, types, y, n as u32) {

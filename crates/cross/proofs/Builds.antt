@@ -20,7 +20,7 @@ use Rattle.form.specs.Reads.{kindNumber}
 use Rattle.form.specs.Decode.{definedOf, typeIdOf, listOf, fieldInitOf, instructionOf, makeTupleOf, makeStructOf, makeArrayOf, bit}
 use Rattle.form.specs.declared.Bounds.{Bounds}
 use Rattle.lookup.specs.Fields.{fieldsPlace}
-use Rattle.lookup.proofs.Instruction.{chosen, instruction-fields}
+use Rattle.lookup.proofs.Instruction.{instruction-fields, fields-read}
 use Rattle.eligibility.specs.Lookup.{Types, valueRow, shape, isScalarizable}
 use Rattle.eligibility.specs.Family.{Marks, family, buildDest, union, readElsewhere, crossFamily, crossBuild}
 use Rattle.eligibility.specs.declared.Settings.{Settings}
@@ -103,11 +103,6 @@ other-build (HeapAllocCells e v) f g h = refl
 
 -- what build_dest finds
 module _ (b : Bounds) (t u : List ℕ) (fp kind dest : ℕ) (ef : fp ≡ fieldsPlace t) (eu : u ≡ drop fp t) (ed : dest ≡ at16 u 0) (ek : kind ≡ getD t 1 0) where
-  chose : (i : Instruction) (n : ℕ) (e : instructionOf b [] false t ≡ ok i n) (j : ℕ) → kind ≡ j → chosen b [] (getD t 0 0) j u ≡ ok (i .kind) (instruction-fields b [] false t i n e .size)
-  chose i n e j h =
-      let own : u ≡ drop (fieldsPlace t) t = eu ∙ ap (λ a. drop a t) ef in
-      ap (λ a. chosen b [] (getD t 0 0) a u) (sym h ∙ ek) ∙ ap (λ a. chosen b [] (getD t 0 0) (getD t 1 0) a) own ∙ instruction-fields b [] false t i n e .read
-
   built : (k : InstructionKind) → BuildAt (b .next) u k → Built (b .next) (BuildRead.Dest dest) k
   built k a =
       record {
@@ -116,13 +111,13 @@ module _ (b : Bounds) (t u : List ℕ) (fp kind dest : ℕ) (ef : fp ≡ fieldsP
       }
 
   pub found-tuple : kind ≡ 10 → (i : Instruction) (n : ℕ) → instructionOf b [] false t ≡ ok i n → Built (b .next) (BuildRead.Dest dest) (i .kind)
-  found-tuple h i n e = built (i .kind) (tuple-at b u (chose i n e 10 h))
+  found-tuple h i n e = built (i .kind) (tuple-at b u (fields-read b t ef eu ek i n e 10 h))
 
   pub found-struct : kind ≡ 12 → (i : Instruction) (n : ℕ) → instructionOf b [] false t ≡ ok i n → Built (b .next) (BuildRead.Dest dest) (i .kind)
-  found-struct h i n e = built (i .kind) (struct-at b u (chose i n e 12 h))
+  found-struct h i n e = built (i .kind) (struct-at b u (fields-read b t ef eu ek i n e 12 h))
 
   pub found-array : kind ≡ 16 → (i : Instruction) (n : ℕ) → instructionOf b [] false t ≡ ok i n → Built (b .next) (BuildRead.Dest dest) (i .kind)
-  found-array h i n e = built (i .kind) (array-at b (bit 3 (getD t 0 0)) u (chose i n e 16 h))
+  found-array h i n e = built (i .kind) (array-at b (bit 3 (getD t 0 0)) u (fields-read b t ef eu ek i n e 16 h))
 
   pub found-none : (kind ≡ 10 → ⊥) → (kind ≡ 12 → ⊥) → (kind ≡ 16 → ⊥) → (i : Instruction) (n : ℕ) → instructionOf b [] false t ≡ ok i n → Built (b .next) BuildRead.Nothing (i .kind)
   found-none f g h i n e =

@@ -2,7 +2,7 @@
 use Prim.Native.Nat.{ℕ, suc, _+_, _≤_, _<_, zero-le}
 use mathlib.Core.Path.{_≡_, refl, ap, _∙_, sym}
 use mathlib.Core.List.{List, [], _∷_}
-use mathlib.Core.Bool.{Bool, true, false}
+use mathlib.Core.Bool.{Bool, false}
 use mathlib.Core.Logic.{⊎-elim}
 use mathlib.Core.Option.{Option, none, some}
 use native.Mathlib.Nat.{eq-or-lt-of-le}
@@ -75,7 +75,3 @@ module _ (σ : Settings) (τ : Types) (shapes : List ℕ) (eligible : List Bool)
   idle-builds (i ∷ is) h =
       ap (λ y. crossBuilds σ τ ks own x is y) (idle-build (i .kind) (h .each 0 (omega arith)))
       ∙ idle-builds is (record { each = λ k q. h .each (suc k) (omega arith) })
-
--- one was found
-pub was-found : {A : Type 0} → true ≡ false → A
-was-found h = absurd (let z : _≡_ {A = ℕ} 0 1 = cc in omega arith)

@@ -3,18 +3,11 @@ use Prim.Native.Nat.{ℕ, suc, _+_, _-_, _*_, _/_, _%_, _≤_, _<_}
 use mathlib.Core.Path.{_≡_, refl, ap, _∙_, sym}
 use mathlib.Core.List.{List, [], _∷_, _++_}
 use native.Mathlib.Nat.{add-zero}
-use native.Mathlib.Numerals.{add-one}
+use native.Mathlib.Numerals.{add-one, add-two}
 use native.Mathlib.Omega.{arith}
 use lib.ListN.{length, getD, take, drop, set, length-set}
 use lib.Seq.{sets, set-out, set-comm, getD-set-other, take-set-le, drop-set-lt, slice, slice-cons, slice-empty}
 use Rattle.wire.specs.Number.{toBytes}
-use Rattle.wire.specs.Value.{valueBytes}
-use Rattle.wire.specs.declared.Literal.{Literal}
-use Rattle.wire.specs.declared.Value.{Value}
-
--- a place two further on, as `sets` counts
-pub add-two : (n : ℕ) → n + 2 ≡ suc (suc n)
-add-two n = omega arith
 
 -- two runs, the second behind the first, are one
 pub sets-append : {A : Type 0} (l : List A) (i : ℕ) (a b : List A) → sets l i (a ++ b) ≡ sets (sets l i a) (i + length a) b
@@ -85,14 +78,6 @@ halves x =
 -- and so a u32 is stored by its halves
 pub sets-halves : (l : List ℕ) (i x : ℕ) → sets (sets l i (toBytes 2 (x % 65536))) (i + 2) (toBytes 2 (x / 65536)) ≡ sets l i (toBytes 4 x)
 sets-halves l i x = sym (ap (sets l i) (halves x) ∙ sets-append l i (toBytes 2 (x % 65536)) (toBytes 2 (x / 65536)))
-
--- a value takes 5 bytes at most
-pub value-short : (x : Value) → length (valueBytes x) ≤ 5
-value-short (Value.Literal (Literal.Integer x)) = omega arith
-value-short (Value.Literal (Literal.Boolean b)) = omega arith
-value-short (Value.Literal Literal.Unit) = omega arith
-value-short (Value.Operand v) = omega arith
-value-short Value.Error = omega arith
 
 -- two bytes, a run of two, and two runs behind them, as an Assign is written
 pub sets-assign : (l : List ℕ) (i a b : ℕ) (ds xs ts : List ℕ) → length ds ≡ 2 → sets (sets (sets (sets (sets l i (a ∷ [])) (i + 1) (b ∷ [])) (i + 2) ds) (i + 4) xs) (i + 4 + length xs) ts ≡ sets l i (a ∷ b ∷ (ds ++ (xs ++ ts)))

@@ -19,9 +19,7 @@ ghost use Rattle.emit.specs.Plain.{plain};
 pub fn put_u8(out: &mut [u8], to: usize, b: u8)
     ensures { λ _. ⌜ now (out .exit) ≡ sets (now (out .entry)) to (b ∷ []) ⌝ }
 {
-    if to < out.len() {
-        out[to] = b;
-    }
+    table::set_byte(out, to, b)
 }
 
 pub fn put_u16(out: &mut [u8], to: usize, x: u16)

@@ -1,39 +1,31 @@
 -- A type's row says its shape and its number of parts.
-use Prim.Native.Nat.{ℕ, zero, suc, _+_, _≤_, _<_}
+use Prim.Native.Nat.{ℕ, zero, suc, _+_, _<_}
 use mathlib.Core.Path.{_≡_, refl, ap, _∙_, sym}
 use mathlib.Core.List.{List, [], _∷_, map}
 use mathlib.Core.Bool.{true, false, cond, _&&_}
 use mathlib.Core.Bool as B
-use mathlib.Core.Option.{Option, none, some}
+use mathlib.Core.Option.{Option, some}
 use native.Mathlib.Nat.{add-zero}
 use native.Mathlib.Omega.{arith}
 use borrow.Author.Tests.{ltb-true, ltb-false}
 use lib.ListN.{length, getD, getElem?, drop, take}
 use lib.Seq.{drop-length, getD-drop}
-use lib.Dec.{leb, ltb}
+use lib.Dec.{ltb}
+use Rattle.table.proofs.Elements.{some-at, none-at}
 use Rattle.wire.specs.Parse.{Parse, ok, bad, later, andThen, mapParse, checked, seqOf}
-use Rattle.wire.specs.Number.{u8Of, u16Of, u32Of, below, at32, fromBytes}
-use Rattle.wire.specs.declared.Cause.{Cause}
+use Rattle.wire.specs.Number.{u16Of, u32Of, below, at32, fromBytes}
 use Rattle.wire.specs.declared.NameId.{NameId}
 use Rattle.wire.specs.declared.TypeId.{TypeId}
-use Rattle.wire.proofs.Laws.{from-8, from-32}
-use Rattle.wire.proofs.Inv.{no-ok, both, behind, image, later-inv, and-inv, map-inv, checked-inv, number-inv, below-inv, tagged-inv}
+use Rattle.wire.proofs.Laws.{from-32}
+use Rattle.wire.proofs.Inv.{no-ok, both, behind, image, later-inv, and-inv, map-inv, number-inv, below-inv, tagged-inv, seq-length}
 use Rattle.form.specs.Decode.{typeIdOf, nameIdOf, countOf, listOf}
+use Rattle.form.proofs.Rows.{count-first}
 use Rattle.typetable.specs.Syntax.{StructField, MirType}
 use Rattle.typetable.specs.Decode.{newNameOf, structFields, structOf, typeKinds, typeOf}
 use Rattle.typetable.specs.Index.{TypesAt}
 use Rattle.eligibility.specs.declared.Settings.{Settings}
 use Rattle.eligibility.specs.Lookup.{shape, isScalarizable}
 use Rattle.facts.specs.Facts.{rowShape, rowEligible}
-
--- a sequence has as many as are asked for
-seq-length : {A : Type 0} (dec : List ℕ → Parse A) (k : ℕ) (s : List ℕ) {xs : List A} {n : ℕ} → seqOf dec k s ≡ ok xs n → length xs ≡ k
-unfolding seqOf
-seq-length dec zero s {xs} e = let p : xs ≡ [] = cc in ap length p
-seq-length dec (suc k) s e =
-    elim (and-inv s (dec s) (λ a t. mapParse (λ xs. a ∷ xs) (seqOf dec k t)) e) [
-      | both a m j p q r ↦ elim (map-inv (λ xs. a ∷ xs) (seqOf dec k (drop m s)) q) [ image xs f g ↦ ap length g ∙ ap suc (seq-length dec k (drop m s) f) ]
-    ]
 
 -- a struct has as many fields
 fields-length : (own : ℕ) (names : List NameId) (k : ℕ) (s : List ℕ) {fs : List StructField} {n : ℕ} → structFields own names k s ≡ ok fs n → length fs ≡ k
@@ -47,15 +39,11 @@ fields-length own names (suc k) s e =
           ]
     ]
 
--- a count is the byte that stands there
-count-byte : (most : ℕ) (s : List ℕ) {k n : ℕ} → countOf most s ≡ ok k n → k ≡ getD s 0 0
-count-byte most s e = number-inv 1 s (checked-inv Cause.TooMany (λ n. leb n most) (u8Of s) e .0) .1 ∙ from-8 s 0
-
 -- a list has as many as its first byte says
 list-length : {A : Type 0} (most : ℕ) (dec : List ℕ → Parse A) (s : List ℕ) {xs : List A} {n : ℕ} → listOf most dec s ≡ ok xs n → length xs ≡ getD s 0 0
 unfolding listOf
 list-length most dec s e =
-    elim (and-inv s (countOf most s) (λ n t. seqOf dec n t) e) [ both k m j p q r ↦ seq-length dec k (drop m s) q ∙ count-byte most s p ]
+    elim (and-inv s (countOf most s) (λ n t. seqOf dec n t) e) [ both k m j p q r ↦ seq-length dec k (drop m s) q ∙ count-first most s p ]
 
 -- two bytes for a name, or a type
 name-size : (s : List ℕ) {x : NameId} {n : ℕ} → nameIdOf s ≡ ok x n → n ≡ 2
@@ -88,7 +76,7 @@ struct-said most own t e =
                 elim (map-inv (λ fs. MirType.Struct n fs) (structFields own [] k (drop m2 (drop m t))) q2) [
                   | image fs f g ↦
                       let a : m ≡ 2 = name-size t p in
-                      let h : length fs ≡ getD t 2 0 = fields-length own [] k (drop m2 (drop m t)) f ∙ count-byte most (drop m t) p2 ∙ rw (a, getD-drop) in
+                      let h : length fs ≡ getD t 2 0 = fields-length own [] k (drop m2 (drop m t)) f ∙ count-first most (drop m t) p2 ∙ rw (a, getD-drop) in
                       rw g record { shaped = refl; fits = λ σ. rw h }
                 ]
           ]
@@ -138,17 +126,6 @@ type-said most own (suc (suc (suc (suc (suc (suc (suc (suc (suc (suc zero)))))))
 type-said most own (suc (suc (suc (suc (suc (suc (suc (suc (suc (suc (suc a)))))))))) ∷ t) e =
     absurd (no-ok (tagged-inv (typeKinds most own) (suc (suc (suc (suc (suc (suc (suc (suc (suc (suc (suc a)))))))))) ∷ t) e .1))
 
--- an element that is there, and one that is not
-some-at : {A : Type 0} (xs : List A) (k : ℕ) (d : A) → k < length xs → getElem? xs k ≡ some (getD xs k d)
-some-at [] k d h = absurd (omega arith)
-some-at (x ∷ xs) zero d h = refl
-some-at (x ∷ xs) (suc k) d h = some-at xs k d (omega arith)
-
-none-at : {A : Type 0} (xs : List A) (k : ℕ) → length xs ≤ k → getElem? xs k ≡ none
-none-at [] k h = refl
-none-at (x ∷ xs) zero h = absurd (omega arith)
-none-at (x ∷ xs) (suc k) h = none-at xs k (omega arith)
-
 -- the row of a type says its facts, and where there is no row nothing is said
 pub row-said : (most many t : ℕ) (s types : List ℕ) (ts : List MirType) → TypesAt most s types ts → length ts ≡ many → Said (getElem? ts t) (drop (cond (ltb t many) (getD types t 0) (length s)) s)
 unfolding shape isScalarizable
@@ -164,6 +141,16 @@ shape-found most many t s types ts e f g a m = e ∙ rw (f, g) (sym (row-said mo
 
 pub eligible-found : (most many t : ℕ) (s types : List ℕ) (ts : List MirType) (σ : Settings) {r : B.Bool} {at : ℕ} {u : List ℕ} → r ≡ rowEligible σ u → u ≡ drop at s → at ≡ cond (ltb t many) (getD types t 0) (length s) → TypesAt most s types ts → length ts ≡ many → r ≡ isScalarizable σ (getElem? ts t)
 eligible-found most many t s types ts σ e f g a m = e ∙ rw (f, g) (sym (row-said most many t s types ts a m .fits σ))
+
+-- the kind of a row of the second shape
+pub struct-kind : (k : ℕ) → _≡_ {A = ℕ} (getD (0 ∷ 0 ∷ 0 ∷ 1 ∷ 2 ∷ 3 ∷ []) k 0) 2 → k ≡ 4
+struct-kind zero e = absurd (omega arith)
+struct-kind (suc zero) e = absurd (omega arith)
+struct-kind (suc (suc zero)) e = absurd (omega arith)
+struct-kind (suc (suc (suc zero))) e = absurd (omega arith)
+struct-kind (suc (suc (suc (suc zero)))) e = refl
+struct-kind (suc (suc (suc (suc (suc zero))))) e = absurd (omega arith)
+struct-kind (suc (suc (suc (suc (suc (suc k)))))) e = absurd (omega arith)
 
 -- a kind that is none of the three
 pub other-kind : {A : Type 0} (d a b c : A) (k : ℕ) → (k ≡ 3 → ⊥) → (k ≡ 4 → ⊥) → (k ≡ 5 → ⊥) → d ≡ getD (d ∷ d ∷ d ∷ a ∷ b ∷ c ∷ []) k d

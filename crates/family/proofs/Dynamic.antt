@@ -2,7 +2,7 @@
 use Prim.Native.Nat.{ℕ, zero, suc, _+_, _-_, _≤_, _<_, zero-le}
 use mathlib.Core.Path.{_≡_, refl, ap, _∙_, sym}
 use mathlib.Core.List.{List, [], _∷_}
-use mathlib.Core.Bool.{Bool, true, false, cond, not, _&&_, _||_}
+use mathlib.Core.Bool.{Bool, true, false, cond, not, _&&_, _||_, and-true, and-false, or-false, or-assoc}
 use mathlib.Core.Option.{Option, none, some}
 use native.Mathlib.Nat.{add-zero}
 use native.Mathlib.Omega.{arith}
@@ -14,23 +14,6 @@ use Rattle.eligibility.specs.Lookup.{Types, any}
 use Rattle.eligibility.specs.Family.{Marks, marked, family, placeOf, dynamicFirst, dynamicAt, hasDynamicIndex}
 use Rattle.family.specs.Copies.{meets, dynamicPlace, dynamics}
 use Rattle.family.proofs.Sweeps.{family-length}
-
--- laws of or
-pub or-false : (a : Bool) → (a || false) ≡ a
-or-false true = refl
-or-false false = refl
-
-pub or-assoc : (a b c : Bool) → ((a || b) || c) ≡ (a || (b || c))
-or-assoc true b c = refl
-or-assoc false b c = refl
-
-or-swap : (a b c : Bool) → (a || (b || c)) ≡ ((a || b) || c)
-or-swap true b c = refl
-or-swap false b c = refl
-
-pub and-false : (a : Bool) → (a && false) ≡ false
-and-false true = refl
-and-false false = refl
 
 -- nothing is marked
 pub meets-clear : (m : Marks) (n : ℕ) → meets m (replicate n false) ≡ false
@@ -51,7 +34,7 @@ meets-set (a ∷ m) (b ∷ d) zero h = go a b (meets m d)
     go true false true = refl
     go true false false = refl
     go false b c = sym (or-false c)
-meets-set (a ∷ m) (b ∷ d) (suc v) h = ap (λ x. (a && b) || x) (meets-set m d v (omega arith)) ∙ or-swap (a && b) (meets m d) (getD m v false)
+meets-set (a ∷ m) (b ∷ d) (suc v) h = ap (λ x. (a && b) || x) (meets-set m d v (omega arith)) ∙ sym (or-assoc (a && b) (meets m d) (getD m v false))
 
 -- the base of a place, if it is looked into so
 place-length : (d : Marks) (o : Option Place) → length (dynamicPlace d o) ≡ length d
@@ -68,16 +51,8 @@ meets-place m d none h = sym (or-false (meets m d))
 meets-place m d (some p) h = go (dynamicFirst (p .projections))
   where
     go : (b : Bool) → meets m (cond b (set d (p .base .0) true) d) ≡ (meets m d || (marked m (p .base) && b))
-    go true = meets-set m d (p .base .0) h ∙ ap (λ x. meets m d || x) (sym (side (marked m (p .base))))
-      where
-        side : (a : Bool) → (a && true) ≡ a
-        side true = refl
-        side false = refl
-    go false = sym (ap (λ x. meets m d || x) (side (marked m (p .base))) ∙ or-false (meets m d))
-      where
-        side : (a : Bool) → (a && false) ≡ false
-        side true = refl
-        side false = refl
+    go true = meets-set m d (p .base .0) h ∙ ap (λ x. meets m d || x) (sym (and-true (marked m (p .base))))
+    go false = sym (ap (λ x. meets m d || x) (and-false (marked m (p .base))) ∙ or-false (meets m d))
 
 -- the bases of all
 meets-dynamics : (m d : Marks) (is : List Instruction) → length d ≡ length m → meets m (dynamics d is) ≡ (meets m d || any (λ i. dynamicAt m (placeOf (i .kind))) is)

@@ -30,7 +30,7 @@ use Rattle.form.specs.declared.Bounds.{Bounds}
 use Rattle.typetable.specs.Syntax.{MirType}
 use Rattle.typetable.specs.Index.{TypesAt}
 use Rattle.lookup.specs.Fields.{fieldsPlace, placeSteps}
-use Rattle.lookup.proofs.Instruction.{chosen, KindAt, instruction-fields}
+use Rattle.lookup.proofs.Instruction.{chosen, KindAt, instruction-fields, fields-read}
 use Rattle.eligibility.specs.Lookup.{Types, rowOf, shape}
 use Rattle.eligibility.specs.Family.{Marks, placeOf, dynamicFirst}
 use Rattle.family.specs.declared.CopyRead.{CopyRead}
@@ -176,12 +176,6 @@ other-copy τ (HeapAllocCells d x) f g h = refl
 
 -- what copy_at finds: its own fields are u, behind the first of them stands v
 module _ (b : Bounds) (s types : List ℕ) (many : ℕ) (t u v : List ℕ) (fp kind dest : ℕ) (x : ReadValue) (r : CopyRead) (ef : fp ≡ fieldsPlace t) (eu : u ≡ drop fp t) (ed : dest ≡ at16 u 0) (ev : v ≡ drop 2 u) (ex : asValue x ≡ valueOf (b .next) v) (ek : kind ≡ getD t 1 0) where
-  -- the decoder of the kind has read the fields
-  chose : (i : Instruction) (n : ℕ) (e : instructionOf b [] false t ≡ ok i n) (j : ℕ) → kind ≡ j → chosen b [] (getD t 0 0) j u ≡ ok (i .kind) (instruction-fields b [] false t i n e .size)
-  chose i n e j h =
-      let own : u ≡ drop (fieldsPlace t) t = eu ∙ ap (λ a. drop a t) ef in
-      ap (λ a. chosen b [] (getD t 0 0) a u) (sym h ∙ ek) ∙ ap (λ a. chosen b [] (getD t 0 0) (getD t 1 0) a) own ∙ instruction-fields b [] false t i n e .read
-
   -- its value
   value-read : {y : Value} {m : ℕ} → valueOf (b .next) (drop 2 u) ≡ ok y m → asValue x ≡ ok y m
   value-read q = ex ∙ rw ev q
@@ -191,16 +185,16 @@ module _ (b : Bounds) (s types : List ℕ) (many : ℕ) (t u v : List ℕ) (fp k
 
   pub found-assign : kind ≡ 0 → ((most : ℕ) (τ : Types) (y : Value) (n : ℕ) → TypesAt most s types (τ .rows) → length (τ .rows) ≡ many → asValue x ≡ ok y n → asCopy r ≡ assigned (shape (rowOf τ (some (record { 0 = at16 (drop n u) 2 })))) y dest) → (most : ℕ) (τ : Types) (i : Instruction) (n : ℕ) → TypesAt most s types (τ .rows) → length (τ .rows) ≡ many → instructionOf b [] false t ≡ ok i n → asCopy r ≡ copyOf τ (i .kind)
   found-assign h f most τ i n a m e =
-      found-assigned τ (i .kind) (λ y q. f most τ y q a m) (assign-at b u (chose i n e 0 h))
+      found-assigned τ (i .kind) (λ y q. f most τ y q a m) (assign-at b u (fields-read b t ef eu ek i n e 0 h))
 
   found-insert : ((y : Value) (n : ℕ) → asValue x ≡ ok y n → asCopy r ≡ copied 0 y dest) → (τ : Types) (i : InstructionKind) → InsertAt (b .next) u i → asCopy r ≡ copyOf τ i
   found-insert f τ i k = f (k .value) (k .took) (value-read (k .read)) ∙ rw ed (sym (k .copy τ))
 
   pub found-field : kind ≡ 14 → ((y : Value) (n : ℕ) → asValue x ≡ ok y n → asCopy r ≡ copied 0 y dest) → (most : ℕ) (τ : Types) (i : Instruction) (n : ℕ) → TypesAt most s types (τ .rows) → length (τ .rows) ≡ many → instructionOf b [] false t ≡ ok i n → asCopy r ≡ copyOf τ (i .kind)
-  found-field h f most τ i n a m e = found-insert f τ (i .kind) (insert-field-at b u (chose i n e 14 h))
+  found-field h f most τ i n a m e = found-insert f τ (i .kind) (insert-field-at b u (fields-read b t ef eu ek i n e 14 h))
 
   pub found-tuple : kind ≡ 15 → ((y : Value) (n : ℕ) → asValue x ≡ ok y n → asCopy r ≡ copied 0 y dest) → (most : ℕ) (τ : Types) (i : Instruction) (n : ℕ) → TypesAt most s types (τ .rows) → length (τ .rows) ≡ many → instructionOf b [] false t ≡ ok i n → asCopy r ≡ copyOf τ (i .kind)
-  found-tuple h f most τ i n a m e = found-insert f τ (i .kind) (insert-tuple-at b u (chose i n e 15 h))
+  found-tuple h f most τ i n a m e = found-insert f τ (i .kind) (insert-tuple-at b u (fields-read b t ef eu ek i n e 15 h))
 
   pub found-none : (kind ≡ 0 → ⊥) → (kind ≡ 14 → ⊥) → (kind ≡ 15 → ⊥) → (most : ℕ) (τ : Types) (i : Instruction) (n : ℕ) → TypesAt most s types (τ .rows) → length (τ .rows) ≡ many → instructionOf b [] false t ≡ ok i n → none ≡ copyOf τ (i .kind)
   found-none f g h most τ i n a m e =

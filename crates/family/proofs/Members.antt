@@ -122,7 +122,3 @@ round-done sources dests asked count root many v clear m₀ m k e u h =
 pub round-still : (sources dests asked : List ℕ) (count root many : ℕ) (v : ValueId) (clear m₀ m m′ : Marks) (k : ℕ) → m₀ ≡ set clear (v .0) true → Rounding sources dests asked count root many m₀ m k → ((cs : List Copy) → CopiesAt sources dests asked count cs → m′ ≡ joinAll root m cs) → m′ ≡ m → FamilyMade sources dests asked count many root v clear m′
 round-still sources dests asked count root many v clear m₀ m m′ k e u f g =
     made sources dests asked count root many v clear m₀ m′ e (λ cs a. g ∙ sym (u .left cs a ∙ rounds-still root (many - k) m cs (sym (f cs a) ∙ g)))
-
--- true is not false
-pub not-both : {A : Type 0} → true ≡ false → A
-not-both e = absurd (let z : _≡_ {A = ℕ} 0 1 = cc in omega arith)

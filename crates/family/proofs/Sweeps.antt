@@ -29,19 +29,16 @@ copied-any root m (Value.Literal l) d = refl
 copied-any root m (Value.Operand v) d = refl
 copied-any root m Value.Error d = refl
 
+-- both arms leave the marks
+kept-marks : (b : Bool) (m : Marks) → cond b m m ≡ m
+kept-marks true m = refl
+kept-marks false m = refl
+
 -- one that asks for an aggregate's does so at a root of that shape
 copied-some : (root k : ℕ) (m : Marks) (x : Value) (d : ValueId) → (k ≡ 0 → ⊥) → cond (not (eqb root 0) && eqb root k) (joins m x d) m ≡ joined root m (copied k x (d .0))
 unfolding joins joining
-copied-some root k m (Value.Literal l) d h = go (not (eqb root 0) && eqb root k)
-  where
-    go : (b : Bool) → cond b m m ≡ m
-    go true = refl
-    go false = refl
-copied-some root k m Value.Error d h = go (not (eqb root 0) && eqb root k)
-  where
-    go : (b : Bool) → cond b m m ≡ m
-    go true = refl
-    go false = refl
+copied-some root k m (Value.Literal l) d h = kept-marks (not (eqb root 0) && eqb root k) m
+copied-some root k m Value.Error d h = kept-marks (not (eqb root 0) && eqb root k) m
 copied-some root k m (Value.Operand v) d h = go (eqb root k) refl
   where
     go : (b : Bool) → eqb root k ≡ b → cond (not (eqb root 0) && b) (cond (marked m v) (mark m d) m) m ≡ cond (eqb k 0 || eqb k root) (cond (marked m v) (mark m d) m) m

@@ -2,7 +2,7 @@
 use Prim.Native.Nat.{ℕ, suc, _+_, _≤_, _<_}
 use mathlib.Core.Path.{_≡_, refl, ap, _∙_, sym}
 use mathlib.Core.List.{List, [], _∷_}
-use mathlib.Core.Bool.{Bool, true, false, not, _&&_}
+use mathlib.Core.Bool.{Bool, true, false, _&&_}
 use native.Mathlib.Nat.{add-zero}
 use native.Mathlib.Omega.{arith}
 use lib.ListN.{length, getD}
@@ -41,15 +41,7 @@ pub left-done : {A : Type 0} {Q : ℕ → A → Type 0} {end : ℕ → ℕ} {tes
 left-done (left [] l m e) h = sym e
 left-done (left (y ∷ ys) l m e) h = absurd (omega (arith, m))
 
--- a negated test
-pub if-not : (x : Bool) → not x ≡ true → x ≡ false
-if-not true e = sym e
-if-not false e = refl
-
-pub unless-not : (x : Bool) → not x ≡ false → x ≡ true
-unless-not true e = refl
-unless-not false e = sym e
-
+-- two tests
 pub and-both : {a c d e : Bool} → a ≡ d → c ≡ e → (a && c) ≡ (d && e)
 and-both {c} {d} p q = ap (λ z. z && c) p ∙ ap (λ z. d && z) q
 

@@ -1,5 +1,5 @@
 -- What stands at a place of an instruction's own fields, and lists of such things.
-use Prim.Native.Nat.{ℕ, _+_, _<_}
+use Prim.Native.Nat.{ℕ, _<_}
 use mathlib.Core.Path.{_≡_}
 use mathlib.Core.List.{List, [], _∷_}
 use mathlib.Core.Option.{Option, none, some}
@@ -11,7 +11,6 @@ use Rattle.wire.specs.declared.TypeId.{TypeId}
 use Rattle.wire.specs.declared.Value.{Value}
 use Rattle.form.specs.Syntax.{Projection}
 use Rattle.form.specs.Decode.{projectionOf}
-use Rattle.lookup.specs.Fields.{valueEnd}
 use Rattle.eligibility.specs.Lookup.{Types, recordedType}
 
 -- a value's number, and a type's
@@ -32,10 +31,6 @@ infixr 67 _&_
 pub data Lined {A : Type 0} (Q : ℕ → A → Type 0) (end : ℕ → ℕ) : ℕ → List A → Type 0 where
   over : {at : ℕ} → Lined Q end at []
   _&_ : {at : ℕ} {x : A} {xs : List A} → Q at x → Lined Q end (end at) xs → Lined Q end at (x ∷ xs)
-
--- the place behind a value with some bytes before it
-abbrev pub valueBehind : List ℕ → ℕ → ℕ → ℕ
-valueBehind t before p = valueEnd t (p + before)
 
 -- the recorded type of a value that is an operand
 unfoldable pub operandType : Types → Value → Option TypeId

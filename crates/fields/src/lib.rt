@@ -7,40 +7,26 @@ ghost use mathlib.Core.Path.{_≡_};
 ghost use mathlib.Core.Bool.{_&&_};
 ghost use mathlib.Core.List.{List};
 ghost use mathlib.Core.Option.{Option, some};
-ghost use Prim.Native.Nat.{ℕ, _+_, _≤_, _<_};
+ghost use Prim.Native.Nat.{ℕ};
 ghost use lib.Dec.{eqb};
 ghost use Rattle.wire.specs.WellFormed.{FitValue};
 ghost use Rattle.wire.specs.declared.ValueId.{ValueId as AnyId};
 ghost use Rattle.wire.specs.declared.TypeId.{TypeId as AnyType};
 ghost use Rattle.wire.specs.declared.Value.{Value as AnyValue};
 ghost use Rattle.form.specs.Syntax.{Projection};
-ghost use Rattle.lookup.specs.Fields.{asStep, after};
+ghost use Rattle.lookup.specs.Fields.{asStep};
 ghost use Rattle.parts.specs.Rows.{ValueAt};
 ghost use Rattle.routine.specs.Index.{recordedNumber};
 ghost use Rattle.eligibility.specs.Lookup.{Types, rowOf, recordedType, shape};
 ghost use Rattle.progress.specs.Ground.{Ground};
 ghost use Rattle.shelf.specs.Fits.{fits, sameType};
 ghost use Rattle.shelf.specs.Agrees.{isScalarType, isScalar};
-ghost use Rattle.fields.specs.Fields.{IdAt, TypeAt, StepAt, valueBehind, operandType};
+ghost use Rattle.fields.specs.Fields.{IdAt, TypeAt, StepAt, operandType};
 
 pub fn both(a: bool, c: bool) -> bool
     ensures { λ r. ⌜ r ≡ (a && c) ⌝ }
 {
     if a { c } else { false }
-}
-
-// The place behind `n` values, `before` bytes before each.
-pub fn values_end(t: &[u8], at: usize, before: u8, n: u8) -> usize
-    requires { ⌜ at < 2097152 ⌝ }
-    ensures { λ r. ⌜ (r ≡ after (valueBehind (now (t .entry)) before) n at) × (r < 4194304) ⌝ }
-{
-    let mut here = at;
-    let mut i: u8 = 0;
-    while i < n {
-        here = lookup::value_end(t, here + before as usize);
-        i = i + 1;
-    }
-    here
 }
 
 // The value at a place.

@@ -15,12 +15,13 @@ use Rattle.wire.proofs.Inv.{checked-inv}
 use Rattle.form.specs.Decode.{mark, countOf, listOf, definedSeq, definedsOf, sourceOf, fieldInitOf, returnsOf, typeIdOf}
 use Rattle.form.specs.declared.Bounds.{Bounds}
 use Rattle.lookup.specs.Fields.{valueEnd, after, valueStep}
+use Rattle.lookup.proofs.Loops.{plain-step, plain-values}
 use Rattle.lookup.proofs.Places as P
 use Rattle.lookup.proofs.Places.{then, last, alone, because, count, list, sequence, fixed, takes-map, takes-checked, takes-number}
 use Rattle.lookup.proofs.EachKind.{At, at}
 use Rattle.parts.specs.Rows.{ValueAt, stands, Inits}
 use Rattle.parts.proofs.Builds.{OneInit, inits-behind}
-use Rattle.fields.specs.Fields.{Lined, over, _&_, TypeAt, valueBehind}
+use Rattle.fields.specs.Fields.{Lined, over, _&_, TypeAt}
 use Rattle.fields.proofs.Lines.{lined}
 use Rattle.fields.proofs.Standing.{dest-field, type-field, name-field, value-field}
 use Rattle.fitting.specs.Lists.{SourceAt, ValuesAt, SourcesAt, TypesIn, IdsAt, two}
@@ -33,31 +34,26 @@ lined-at {Q} d (x ∷ xs) p (q & l) (suc k) h =
     let z : p + 2 + 2 * k ≡ p + 2 * suc k = omega arith in
     rw z at (lined-at {Q = Q} d xs (p + 2) l k (omega (arith, h)))
 
--- behind some things of two bytes, and behind values
+-- behind some things of two bytes
 pub after-two : (k p : ℕ) → after (λ q. q + 2) k p ≡ p + 2 * k
 unfolding after
 after-two zero p = omega arith
 after-two (suc k) p = after-two k (p + 2) ∙ omega arith
 
-pub after-same : (f g : ℕ → ℕ) → ((p : ℕ) → f p ≡ g p) → (k p : ℕ) → after f k p ≡ after g k p
-unfolding after
-after-same f g e zero p = refl
-after-same f g e (suc k) p = after-same f g e k (f p) ∙ ap (after g k) (e p)
-
 module _ (b : Bounds) (t : List ℕ) where
-  pub values-field : {p : ℕ} → P.Field t p (listOf (b .list) (valueOf (b .next))) (λ xs. ValuesAt (b .next) t (p + 1) xs × (length xs ≡ getD t p 0)) (after (valueBehind t 0) (getD t p 0) (p + 1))
+  pub values-field : {p : ℕ} → P.Field t p (listOf (b .list) (valueOf (b .next))) (λ xs. ValuesAt (b .next) t (p + 1) xs × (length xs ≡ getD t p 0)) (after (valueStep t 0 0) (getD t p 0) (p + 1))
   values-field {p} =
       because
       (list {Q = ValueAt (b .next) t} {end = valueEnd t} (λ q. value-field b t) (b .list) p)
       (λ xs e q. (
-        (lined (λ p x r. r) (λ q. ap (valueEnd t) (sym (add-zero q))) (q .0 .0), q .0 .1),
-        q .1 ∙ after-same (valueEnd t) (valueBehind t 0) (λ q. ap (valueEnd t) (sym (add-zero q))) (getD t p 0) (p + 1),
+        (lined (λ p x r. r) (plain-step t) (q .0 .0), q .0 .1),
+        q .1 ∙ sym (plain-values t (getD t p 0) (p + 1)),
       ))
 
-  pub sources-field : {p : ℕ} → P.Field t p (listOf (b .list) (sourceOf b)) (λ xs. SourcesAt (b .next) t (p + 1) xs × (length xs ≡ getD t p 0)) (after (valueBehind t 2) (getD t p 0) (p + 1))
+  pub sources-field : {p : ℕ} → P.Field t p (listOf (b .list) (sourceOf b)) (λ xs. SourcesAt (b .next) t (p + 1) xs × (length xs ≡ getD t p 0)) (after (valueStep t 2 0) (getD t p 0) (p + 1))
   sources-field {p} =
       because
-      (list {Q = SourceAt (b .next) t} {end = valueBehind t 2} (λ q. then (fixed (takes-map _ (takes-checked Cause.OutOfRange (λ x. ltb x (b .blocks)) (takes-number 2)))) (λ k u. last _ (value-field b t) (λ x r. (record { value = r }, refl)))) (b .list) p)
+      (list {Q = SourceAt (b .next) t} {end = valueStep t 2 0} (λ q. then (fixed (takes-map _ (takes-checked Cause.OutOfRange (λ x. ltb x (b .blocks)) (takes-number 2)))) (λ k u. last _ (value-field b t) (λ x r. (record { value = r }, sym (add-zero _))))) (b .list) p)
       (λ xs e q. ((lined (λ p x r. r) (λ q. refl) (q .0 .0), q .0 .1), q .1))
 
   pub types-field : {p : ℕ} → P.Field t p (listOf (b .list) (typeIdOf (b .types))) (λ xs. TypesIn (b .types) t (p + 1) xs × (length xs ≡ getD t p 0)) (p + 1 + 2 * getD t p 0)
@@ -95,11 +91,11 @@ module _ (b : Bounds) (t : List ℕ) where
   value-there : {p : ℕ} → P.Field t p (valueOf (b .next)) (At (valueOf (b .next)) t p) (valueEnd t p)
   value-there = because (value-field b t) (λ x e q. (elim (q .0) [ stands n f ↦ at n f ], q .1))
 
-  pub inits-here : {p : ℕ} → P.Field t p (listOf (b .list) (fieldInitOf b)) (λ fs. Inits (b .next) t (p + 1) fs × (length fs ≡ getD t p 0)) (after (valueBehind t 2) (getD t p 0) (p + 1))
+  pub inits-here : {p : ℕ} → P.Field t p (listOf (b .list) (fieldInitOf b)) (λ fs. Inits (b .next) t (p + 1) fs × (length fs ≡ getD t p 0)) (after (valueStep t 2 0) (getD t p 0) (p + 1))
   inits-here {p} =
       because
       (list {Q = OneInit (b .next) t} {end = valueStep t 2 0} (λ q. then (name-field b t) (λ k u. last _ value-there (λ x r. (record { named = sym u; value = r }, sym (add-zero _))))) (b .list) p)
       (λ fs e q.
       let z : Inits (b .next) t (0 + (p + 1)) fs = inits-behind (b .next) t 0 (p + 1) fs (q .0 .0) in
       let z′ : 0 + (p + 1) ≡ p + 1 = omega arith in
-      ((rw z′ at z, q .0 .1), q .1 ∙ after-same (valueStep t 2 0) (valueBehind t 2) (λ q. add-zero (valueEnd t (q + 2))) (getD t p 0) (p + 1)))
+      ((rw z′ at z, q .0 .1), q .1))

@@ -2,7 +2,7 @@
 use Prim.Native.Nat.{ℕ, suc, _+_, _*_}
 use mathlib.Core.Path.{_≡_, refl, ap, _∙_, sym}
 use mathlib.Core.List.{List, [], _∷_}
-use mathlib.Core.Bool.{true, false, _&&_, cond}
+use mathlib.Core.Bool.{true, false, _&&_, true≢false}
 use mathlib.Core.Bool as B
 use mathlib.Core.Option.{Option, none, some}
 use native.Mathlib.Nat.{add-zero}
@@ -72,18 +72,15 @@ none-number none e = refl
 none-number (some t) e = absurd (omega (arith, e))
 
 -- a field's value
-pub true-false : {A : Type 0} → true ≡ false → A
-true-false e = absurd (let z : _≡_ {A = ℕ} 1 0 = ap (λ b. cond b 1 0) e in omega (arith, z))
-
 pub given-some : {next : ℕ} {t : List ℕ} (τ : Types) (o : Option Value) (y : TypeId) {init : Init} {r : B.Bool} → InitAt next t o init → init .given ≡ true → ((x : Value) → ValueAt next t (init .place) x → r ≡ fits τ x (some y)) → r ≡ givenFits τ o y
 unfolding givenFits isSome
-given-some τ none y w e f = true-false (sym e ∙ w .told)
+given-some τ none y w e f = absurd (true≢false (sym e ∙ w .told))
 given-some τ (some x) y w e f = f x (w .stands x refl)
 
 pub given-none : {next : ℕ} {t : List ℕ} (τ : Types) (o : Option Value) (y : TypeId) {init : Init} → InitAt next t o init → init .given ≡ false → false ≡ givenFits τ o y
 unfolding givenFits isSome
 given-none τ none y w e = refl
-given-none τ (some x) y w e = true-false (sym (w .told) ∙ e)
+given-none τ (some x) y w e = absurd (true≢false (sym (w .told) ∙ e))
 
 -- the field of a struct type with number k
 pub record FieldHere (τ : Types) (o : Option TypeId) (row : List ℕ) (k : ℕ) (s : StructField) : Type 0 where

@@ -5,8 +5,9 @@ use Rattle.wire.specs.declared.ValueId.{ValueId}
 use Rattle.wire.specs.declared.TypeId.{TypeId}
 use Rattle.wire.specs.declared.Value.{Value}
 use Rattle.form.specs.Syntax.{Source}
+use Rattle.lookup.specs.Fields.{valueStep}
 use Rattle.parts.specs.Rows.{ValueAt}
-use Rattle.fields.specs.Fields.{IdAt, TypeAt, Lined, valueBehind}
+use Rattle.fields.specs.Fields.{IdAt, TypeAt, Lined}
 
 -- a Phi's source: its value stands behind its block
 pub record SourceAt (next : ℕ) (t : List ℕ) (p : ℕ) (x : Source) : Type 0 where
@@ -17,10 +18,10 @@ abbrev pub two : ℕ → ℕ
 two p = p + 2
 
 abbrev pub ValuesAt : ℕ → List ℕ → ℕ → List Value → Type 0
-ValuesAt next t at xs = Lined (ValueAt next t) (valueBehind t 0) at xs
+ValuesAt next t at xs = Lined (ValueAt next t) (valueStep t 0 0) at xs
 
 abbrev pub SourcesAt : ℕ → List ℕ → ℕ → List Source → Type 0
-SourcesAt next t at ss = Lined (SourceAt next t) (valueBehind t 2) at ss
+SourcesAt next t at ss = Lined (SourceAt next t) (valueStep t 2 0) at ss
 
 abbrev pub TypesIn : ℕ → List ℕ → ℕ → List TypeId → Type 0
 TypesIn types t at ts = Lined (TypeAt types t) two at ts

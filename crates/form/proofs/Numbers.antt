@@ -2,12 +2,15 @@
 use Prim.Native.Nat.{ℕ, suc, _-_, _≤_, _<_}
 use mathlib.Core.Path.{_≡_, ap, _∙_, sym}
 use mathlib.Core.List.{List}
+use mathlib.Core.Bool.{Bool, false}
 use native.Mathlib.Omega.{arith}
+use borrow.Author.Tests.{lt-ltb}
 use lib.ListN.{length, getD, take, drop, length-drop}
 use Rattle.wire.specs.Parse.{ok, bad}
 use Rattle.wire.specs.Number.{fromBytes, numberOf, at16}
 use Rattle.wire.specs.declared.Cause.{Cause}
 use Rattle.wire.proofs.Laws.{number-short, number-some, from-8, from-16}
+use Rattle.form.specs.Decode.{definedOf}
 
 module _ (s : List ℕ) (at : ℕ) where
   -- too few bytes
@@ -21,6 +24,10 @@ module _ (s : List ℕ) (at : ℕ) where
   -- a u16
   pub word-here : {x : ℕ} → 2 ≤ length s - at → x ≡ at16 s at → numberOf 2 (drop at s) ≡ ok x 2
   word-here h e = number-here 2 h ∙ ap (λ y. ok y 2) (from-16 s at ∙ sym e)
+
+  -- a value that was not yet defined
+  pub defined-here : {x next : ℕ} (seen : List Bool) → 2 ≤ length s - at → x ≡ at16 s at → x < next → getD seen x false ≡ false → definedOf next seen (drop at s) ≡ ok (record { 0 = x }) 2
+  defined-here seen h e l f = simp (word-here h e, lt-ltb _ _ l, f)
 
   -- no byte
   pub byte-none : length s ≤ at → numberOf 1 (drop at s) ≡ bad Cause.Truncated 0

@@ -282,7 +282,7 @@ defined-length next seen (suc k) s e =
     ]
 
 -- a count is the first byte
-count-first : (most : ℕ) (s : List ℕ) {k n : ℕ} → countOf most s ≡ ok k n → k ≡ getD s 0 0
+pub count-first : (most : ℕ) (s : List ℕ) {k n : ℕ} → countOf most s ≡ ok k n → k ≡ getD s 0 0
 count-first most s e =
     let h = number-inv 1 s (checked-inv Cause.TooMany (λ n. leb n most) (u8Of s) e .0) in
     h .1 ∙ from-8 s 0

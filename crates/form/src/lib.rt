@@ -3,12 +3,12 @@ use wire::Cause;
 use wire::Value;
 ghost use mathlib.Core.Path.{_≡_};
 ghost use mathlib.Core.List.{List};
-ghost use mathlib.Core.Bool.{Bool, true, false, cond, not};
-ghost use Prim.Native.Nat.{ℕ, _+_, _≤_, _<_};
-ghost use lib.ListN.{length, getD, set, drop};
+ghost use mathlib.Core.Bool.{Bool, cond, not};
+ghost use Prim.Native.Nat.{ℕ, _+_, _-_, _≤_, _<_};
+ghost use lib.ListN.{length, set, take, drop};
 ghost use lib.Dec.{ltb};
 ghost use Rattle.wire.specs.Parse.{andThen, mapParse, later};
-ghost use Rattle.wire.specs.Number.{numberOf, below, at16};
+ghost use Rattle.wire.specs.Number.{numberOf, below};
 ghost use Rattle.wire.specs.Value.{valueOf, valueIdOf};
 ghost use Rattle.form.specs.Decode.{definedOf, operationOf, projectionOf, placeOf};
 ghost use Rattle.form.specs.Walk.{walkOf, defines, uses, usesValue, usesPlace, usesProjection, pairWalk, times, firstOf, secondOf, counts, listWalk, placeWalk, fieldWalk, rowWalk, asScan};
@@ -41,22 +41,6 @@ pub enum Part {
     Refused(Cause, usize),
 }
 
-fn mark_defined(seen: &mut [bool], v: u16)
-    ensures { λ _. ⌜ now (seen .exit) ≡ set (now (seen .entry)) v true ⌝ }
-{
-    let i = v as usize;
-    if i < seen.len() {
-        seen[i] = true;
-    }
-}
-
-fn is_defined(seen: &[bool], v: u16) -> bool
-    ensures { λ r. ⌜ r ≡ getD (now (seen .entry)) v false ⌝ }
-{
-    let i = v as usize;
-    if i < seen.len() { seen[i] } else { false }
-}
-
 // Notes that v is read, while there is room.
 fn note(buffer: &mut [u16], n: usize, v: u16) -> usize
     ensures { λ r. ⌜ (r ≡ cond (ltb n (length (now (buffer .entry)))) (n + 1) n) × (now (buffer .exit) ≡ set (now (buffer .entry)) n v) ⌝ }
@@ -78,16 +62,6 @@ pub fn note_value(buffer: &mut [u16], n: usize, x: Value) -> usize
     }
 }
 
-// The u16 at a place.
-fn word(s: &[u8], at: usize) -> u16
-    requires { ⌜ at + 1 < length (now s) ⌝ }
-    ensures { λ r. ⌜ r ≡ at16 (now (s .entry)) at ⌝ }
-{
-    let x = s[at] as u16;
-    let y = s[at + 1] as u16;
-    x + 256 * y
-}
-
 // A number of `width` bytes.
 pub fn number_at(s: &[u8], at: usize, n: usize, late: bool, width: usize) -> Scan
     requires { ⌜ at ≤ length (now s) ⌝ }
@@ -107,7 +81,7 @@ pub fn below_at(s: &[u8], at: usize, n: usize, late: bool, bound: u16) -> Scan
     if s.len() - at < 2 {
         return Scan::Refused(Cause::Truncated, at);
     }
-    if bound <= word(s, at) {
+    if bound <= wire::u16_at(s, at) {
         return Scan::Refused(Cause::OutOfRange, at);
     }
     Scan::Used(at + 2, n, late)
@@ -134,14 +108,14 @@ pub fn defined_at(s: &[u8], at: usize, n: usize, late: bool, next: u16, seen: &m
     if s.len() - at < 2 {
         return Scan::Refused(Cause::Truncated, at);
     }
-    let x = word(s, at);
+    let x = wire::u16_at(s, at);
     if next <= x {
         return Scan::Refused(Cause::OutOfRange, at);
     }
-    if is_defined(seen, x) {
+    if table::flag(seen, x as usize) {
         return Scan::Refused(Cause::Redefined, at);
     }
-    mark_defined(seen, x);
+    table::set_flag(seen, x as usize, true);
     Scan::Used(at + 2, n, late)
 }
 
@@ -153,7 +127,7 @@ pub fn base_at(s: &[u8], at: usize, n: usize, late: bool, next: u16, buffer: &mu
     if s.len() - at < 2 {
         return Scan::Refused(Cause::Truncated, at);
     }
-    let x = word(s, at);
+    let x = wire::u16_at(s, at);
     if next <= x {
         return Scan::Refused(Cause::OutOfRange, at);
     }
@@ -187,6 +161,20 @@ pub fn tail(s: &[u8], at: usize) -> &[u8]
         return &s[at..];
     }
     &s[n..]
+}
+
+// The bytes from `a` to `e`, as far as they stand there.
+pub fn between(s: &[u8], a: usize, e: usize) -> &[u8]
+    ensures { λ r. ⌜ now r ≡ take (e - a) (drop a (now (s .entry))) ⌝ }
+{
+    let n = s.len();
+    if n < e {
+        return tail(s, a);
+    }
+    if e < a {
+        return &s[n..];
+    }
+    &s[a..e]
 }
 
 // A projection: its kind, then a value, a name or an index.

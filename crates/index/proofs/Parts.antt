@@ -5,17 +5,14 @@ use mathlib.Core.List.{List, [], _++_, append-nil}
 use mathlib.Core.Bool.{Bool}
 use native.Mathlib.Omega.{arith}
 use lib.ListN.{length, getD, drop, take, length-drop, drop-of-length-le}
-use lib.Seq.{take-all, length-take-le, drop-at, getD-take, take-at}
+use lib.Seq.{length-take-le, drop-at, getD-take, take-at}
 use Rattle.wire.specs.Parse.{ok}
+use Rattle.wire.proofs.Laws.{rest-all}
 use Rattle.form.specs.Syntax.{Block}
 use Rattle.form.specs.declared.Bounds.{Bounds}
 use Rattle.block.specs.Decode.{blockOf}
 use Rattle.block.specs.declared.Mosts.{Mosts}
 use Rattle.places.specs.Places.{IndexedBlock}
-
--- the part is all that stands behind the place
-pub part-all : (here : ℕ) (places : List ℕ) → take (length places - here) (drop here places) ≡ drop here places
-part-all here places = take-all (length places - here) (drop here places) (omega (arith, length-drop here places))
 
 module _ (here : ℕ) (places ys zs : List ℕ) (h : here ≤ length places) where
   -- before the place nothing changes
@@ -36,7 +33,7 @@ part-indexed b s at here count places part ys zs h ep ez f = (
   λ m total seen x n e r.
       let y : length (drop here places) ≤ length places - here = omega (arith, length-drop here places) in
       let z : zs ≡ [] = ez ∙ drop-of-length-le (drop here places) y in
-      let l : length part ≡ length places - here = ap (λ y. length y) (ep ∙ part-all here places) ∙ length-drop here places in
+      let l : length part ≡ length places - here = ap (λ y. length y) (ep ∙ rest-all here places) ∙ length-drop here places in
       rw (behind-new here places ys zs h z) (f m total seen x n e (omega arith)),
 )
 

@@ -66,7 +66,7 @@ pub data At {A : Type 0} (dec : List ℕ → Parse A) (t : List ℕ) (p : ℕ) (
   at : (n : ℕ) → dec (drop p t) ≡ ok x n → At dec t p x
 
 -- the place behind a projection, counted from its own
-ends : (p v k : ℕ) → p + getD ((1 + v) ∷ 3 ∷ 5 ∷ []) k 5 ≡ getD ((p + 1 + v) ∷ (p + 3) ∷ []) k (p + 5)
+pub ends : (p v k : ℕ) → p + getD ((1 + v) ∷ 3 ∷ 5 ∷ []) k 5 ≡ getD ((p + 1 + v) ∷ (p + 3) ∷ []) k (p + 5)
 ends p v zero = omega arith
 ends p v (suc zero) = refl
 ends p v (suc (suc zero)) = refl

@@ -1,7 +1,7 @@
 -- An instruction's own fields stand behind what stands beside its kind, and lookups find them there.
 use Prim.Native.Nat.{ℕ, _+_, _≤_, _<_}
 use mathlib.Core.Path.{_≡_, refl, ap, _∙_, sym}
-use mathlib.Core.List.{List, map}
+use mathlib.Core.List.{List, map, []}
 use mathlib.Core.Bool.{Bool, true, false, not, cond, _&&_}
 use mathlib.Core.Option.{Option, none, some}
 use native.Mathlib.Omega.{arith}
@@ -115,6 +115,12 @@ instruction-fields b seen late s i n e =
                 ]
           ]
     ]
+
+-- the kind and the fields as code finds them: the decoder of the kind has read the fields
+pub fields-read : (b : Bounds) (t : List ℕ) {u : List ℕ} {fp kind : ℕ} → fp ≡ fieldsPlace t → u ≡ drop fp t → kind ≡ getD t 1 0 → (i : Instruction) (n : ℕ) (e : instructionOf b [] false t ≡ ok i n) (j : ℕ) → kind ≡ j → chosen b [] (getD t 0 0) j u ≡ ok (i .kind) (instruction-fields b [] false t i n e .size)
+fields-read b t {u} ef eu ek i n e j h =
+    let own : u ≡ drop (fieldsPlace t) t = eu ∙ ap (λ a. drop a t) ef in
+    ap (λ a. chosen b [] (getD t 0 0) a u) (sym h ∙ ek) ∙ ap (λ a. chosen b [] (getD t 0 0) (getD t 1 0) a) own ∙ instruction-fields b [] false t i n e .read
 
 -- what stands where in an accepted instruction
 pub instruction-stands : (b : Bounds) (seen : List Bool) (late : Bool) (s : List ℕ) (i : Instruction) (n : ℕ) → instructionOf b seen late s ≡ ok i n → Stands (b .next) (drop (fieldsPlace s) s) (getD s 1 0) (i .kind)

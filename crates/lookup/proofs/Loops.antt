@@ -55,10 +55,13 @@ unfolding after
 gone end k at here i g h = let z : k - i ≡ 0 = omega arith in sym (rw z at (g .left))
 
 -- values with nothing between them
+pub plain-step : (t : List ℕ) (at : ℕ) → valueEnd t at ≡ valueStep t 0 0 at
+plain-step t at = sym (let z : at + 0 ≡ at = omega arith in rw z (omega arith))
+
 pub plain-values : (t : List ℕ) (k at : ℕ) → after (valueStep t 0 0) k at ≡ after (valueEnd t) k at
 unfolding after
 plain-values t zero at = refl
-plain-values t (suc k) at = ap (after (valueStep t 0 0) k) (let z : at + 0 ≡ at = omega arith in rw z (omega arith)) ∙ plain-values t k (valueEnd t at)
+plain-values t (suc k) at = ap (after (valueStep t 0 0) k) (sym (plain-step t at)) ∙ plain-values t k (valueEnd t at)
 
 -- a value that was read from the same bytes
 pub same-value : (next : ℕ) (u v : List ℕ) {r : ReadValue} {x y : Value} {m n : ℕ} → asValue r ≡ valueOf next u → u ≡ v → r ≡ ReadValue.Got x m → valueOf next v ≡ ok y n → x ≡ y

@@ -35,8 +35,7 @@ use Rattle.wanting.specs.declared.Asks.{Asks}
 use Rattle.wanting.specs.Asked.{askedList}
 use Rattle.listing.specs.Lists.{Setting}
 use Rattle.listing.proofs.Building.{AllPut}
-use native.Mathlib.Numerals.{add-one}
-use Rattle.emit.proofs.Sets.{add-two}
+use native.Mathlib.Numerals.{add-one, add-two}
 use Rattle.materialize.specs.Onward.{onward}
 use Rattle.materialize.proofs.Standing.{CallKnown, call-known-at, whole-canon, whole-long}
 use Rattle.materialize.proofs.Effects.{Idle, idle, clash-put, went-put, spent, as-many, call-clash, call-fresh, call-kept, call-anew}

@@ -28,7 +28,8 @@ use Rattle.rewriting.specs.Rebuild.{Rebuilt, plain, Wanted, oneValue, keepValue
 use Rattle.rewriting.specs.Step.{Piece, kept, left, tracked, assigned, stepBuild, foldedParts, stepInsert, handOn, stepExtract, extractIndex, stepLoaded, stepLoad, storeRebuilt, storeKept, stepStore, stepAssign, stepCall, guarded, stepKind, step}
 use Rattle.output.proofs.Wider.{Wider, value-wider, values-wider, list-wider, kind-wider, type-wider, place-wider, types-wider, init-wider}
 use Rattle.output.proofs.Parts.{Parts, FitStates, Holds, holds-at, holds-some, insert-fit, state-fit, on-some, any, holds-any, element-fit, replaced-fit, chain-fit, forward-fit, fields-fit}
-use Rattle.output.proofs.Rebuilt.{each-append, Loose, Typed, RebuiltFit, all-fit, arguments-fit}
+use Rattle.output.proofs.Rebuilt.{Loose, Typed, RebuiltFit, all-fit, arguments-fit}
+use Rattle.whole.proofs.Whole.{both-lists}
 
 pub record PieceFit (c : Bounds) (p : Piece) : Type 0 where
   pub out : Each (Loose c) (p .out)
@@ -134,7 +135,7 @@ module _ (b c : Bounds) (w : Wider b c) (τ : Types) (g : Typed c τ) where
     unfolding storeRebuilt kept
     rebuilt-store m pl t r [] a k q e u v y = record { out = (record { beside = a; other = refl; fits = λ z y. (k, tt, q) }, tt); states = h; fresh = tt }
     rebuilt-store m pl t r (x ∷ xs) a k q e u v y =
-        record { out = each-append (Loose c) (r .before) _ u (record { beside = a; other = refl; fits = λ z y. (k, v .0, q) }, tt); states = h; fresh = y }
+        record { out = both-lists (Loose c) (r .before) _ u (record { beside = a; other = refl; fits = λ z y. (k, v .0, q) }, tt); states = h; fresh = y }
 
     -- its value stands behind the rebuild
     store-fresh : (m : Meta) (pl : Place) (x : Value) (t : TypeId) (rest : ℕ → Rebuilt) (s : Option (List Value)) → let r = oneValue τ n x rest (some t) s in (storeRebuilt S m pl t r (r .values)) .fresh ≡ r .fresh
@@ -164,7 +165,7 @@ module _ (b c : Bounds) (w : Wider b c) (τ : Types) (g : Typed c τ) where
     call-fit ds f xs ps rs r [] e a k s u v x = piece-kept S i h l
     call-fit ds f xs ps rs r (t ∷ ts) e a k s u v x =
         record {
-          out = each-append (Loose c) (r .before) _ u (
+          out = both-lists (Loose c) (r .before) _ u (
             record {
               beside = (tt, tt, tt);
               other = refl;

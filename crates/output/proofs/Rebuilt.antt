@@ -1,7 +1,7 @@
 -- Rebuilds fit, and so do the values behind them.
 use Prim.Native.Nat.{ℕ, zero, suc, _+_, _≤_, _<_}
 use mathlib.Core.Path.{_≡_, refl, ap, _∙_, sym}
-use mathlib.Core.List.{List, [], _∷_, _++_}
+use mathlib.Core.List.{List, [], _∷_}
 use mathlib.Core.Bool.{true, false, cond}
 use mathlib.Core.Bool as B
 use mathlib.Core.Option.{Option, none, some, Option·none-ne-some}
@@ -23,6 +23,7 @@ use Rattle.eligibility.specs.Lookup.{Types, rowOf, recordedType, isAggregate}
 use Rattle.rewriting.specs.State.{AggStates, stateOf}
 use Rattle.rewriting.specs.Rebuild.{plain, fitted, named, rebuildAt, Rebuilt, untouched, keepValue, rebuildValue, oneValue, Wanted, rebuildAll, aggregateType, wantedArguments, returnType, wantedReturns}
 use Rattle.output.proofs.Parts.{Parts, FitStates, Holds, state-fit}
+use Rattle.whole.proofs.Whole.{both-lists}
 
 -- an instruction fits wherever its dests are new; it is no Phi
 pub record Loose (c : Bounds) (i : Instruction) : Type 0 where
@@ -38,10 +39,6 @@ pub record Typed (c : Bounds) (τ : Types) : Type 0 where
 
 pub no-beside : (k : InstructionKind) → FitMeta (plain k .meta)
 no-beside k = (tt, tt, tt)
-
-pub each-append : {A : Type 0} (P : A → Type 0) (xs ys : List A) → Each P xs → Each P ys → Each P (xs ++ ys)
-each-append P [] ys h k = k
-each-append P (x ∷ xs) ys h k = (h .0, each-append P xs ys (h .1) k)
 
 module _ (c : Bounds) (top : c .next ≤ 65536) where
   abbrev fit : Value → Type 0
@@ -100,7 +97,7 @@ module _ (c : Bounds) (top : c .next ≤ 65536) where
     unfolding rebuildValue rowOf
     anew-fit n t xs many r l k p h =
         record {
-          before = each-append (Loose c) (rebuildAt (record { 0 = n }) xs t (getElem? (τ .rows) (t .0))) (r .before) (rebuild-fit (record { 0 = n }) xs t (getElem? (τ .rows) (t .0)) (λ T e. g .rows (t .0) T e) k p) (h .before);
+          before = both-lists (Loose c) (rebuildAt (record { 0 = n }) xs t (getElem? (τ .rows) (t .0))) (r .before) (rebuild-fit (record { 0 = n }) xs t (getElem? (τ .rows) (t .0)) (λ T e. g .rows (t .0) T e) k p) (h .before);
           values = ((l, top), h .values);
           same = ap (λ n. suc n) (h .same);
           fresh = (k, h .fresh);

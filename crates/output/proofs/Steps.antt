@@ -27,8 +27,9 @@ use Rattle.rewriting.specs.Step.{Piece, kept, stepCall, stepStore, guarded, ext
 use Rattle.rewriting.specs.Run.{Walked, ends, returned, finish, glue, walk}
 use Rattle.output.proofs.Wider.{Wider, value-wider, values-wider, list-wider, kind-wider, type-wider, place-wider, types-wider, init-wider, each-wider, end-wider}
 use Rattle.output.proofs.Parts.{Parts, FitStates, Holds, on-some, any, holds-any, forward-fit}
-use Rattle.output.proofs.Rebuilt.{Loose, Typed, all-fit, arguments-fit, returns-fit, each-append}
+use Rattle.output.proofs.Rebuilt.{Loose, Typed, all-fit, arguments-fit, returns-fit}
 use Rattle.output.proofs.Pieces.{PieceFit, kept-loose, piece-kept, build-fit, folded-fit, insert-piece, extract-fit, part-of, put-of, load-fit, assign-fit, state-at, guarded-fit, store-fit, call-fit, struct-parts}
+use Rattle.whole.proofs.Whole.{both-lists}
 
 pub record WalkFit (c : Bounds) (w : Walked) : Type 0 where
   pub out : Each (Loose c) (w .out)
@@ -106,4 +107,4 @@ module _ (b c : Bounds) (w : Wider b c) (τ : Types) (g : Typed c τ) (σ : Sett
       let k : length (p .fresh ++ rest .fresh) ≡ length (p .fresh) + length (rest .fresh) = length-append (p .fresh) (rest .fresh) in
       let y = step-fit S h n seen i (i .kind) (f .0 .0) (kept-loose b c w τ g seen i (f .0 .0) (e .0) (f .0 .1)) (f .0 .1) (omega (arith, k, z)) in
       let r = walk-fit (p .states) (y .states) (n + length (p .fresh)) (marks seen (dests (i .kind))) (late || not (isPhi (i .kind))) is t (e .1) (f .1) q (omega (arith, k, z)) in
-      record { out = each-append (Loose c) (p .out) (rest .out) (y .out) (r .out); terminator = r .terminator; fresh = each-append (FitType c) (p .fresh) (rest .fresh) (y .fresh) (r .fresh) }
+      record { out = both-lists (Loose c) (p .out) (rest .out) (y .out) (r .out); terminator = r .terminator; fresh = both-lists (FitType c) (p .fresh) (rest .fresh) (y .fresh) (r .fresh) }

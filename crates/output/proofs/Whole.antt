@@ -40,11 +40,12 @@ use Rattle.rewriting.proofs.Bound.{bound-blocks, next-bound-by}
 use Rattle.output.specs.Lifted.{lifted}
 use Rattle.output.proofs.Wider.{Wider, kind-wider, end-wider}
 use Rattle.output.proofs.Parts.{no-states}
-use Rattle.output.proofs.Rebuilt.{Typed, each-append}
+use Rattle.output.proofs.Rebuilt.{Typed}
 use Rattle.output.proofs.Steps.{walk-fit}
 use Rattle.output.proofs.Marks.{Split, passes, fails, split, dests-new, Both, news-both, both-kept}
 use Rattle.output.proofs.Blocks.{Fits, fits-lowers}
 use Rattle.output.proofs.Counts.{lists-within, all-most, lowers-count}
+use Rattle.whole.proofs.Whole.{both-lists}
 
 -- ---- blocks
 
@@ -163,7 +164,7 @@ module _ (b c : Bounds) (w : Wider b c) (τ : Types) (g : Typed c τ) (σ : Sett
               },
               x .blocks,
             );
-            fresh = each-append (FitType c) (v .fresh) (rest .fresh) (y .fresh) (x .fresh);
+            fresh = both-lists (FitType c) (v .fresh) (rest .fresh) (y .fresh) (x .fresh);
           }
 
 -- ---- the routine

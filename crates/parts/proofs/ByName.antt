@@ -95,14 +95,14 @@ consed-inv (some x) none {ys} e = absurd (let z : _≡_ {A = ℕ} 0 1 = cc in om
 consed-inv (some x) (some zs) {ys} e = consed x zs refl refl (cc)
 
 -- where the first part is given, there are parts if there are others
-part-given : (o : Option Value) (p : Option (List Value)) → isSome o ≡ true → isSome (consPart o p) ≡ isSome p
+pub part-given : (o : Option Value) (p : Option (List Value)) → isSome o ≡ true → isSome (consPart o p) ≡ isSome p
 unfolding consPart isSome
 part-given none p e = absurd (let z : _≡_ {A = ℕ} 0 1 = cc in omega arith)
 part-given (some x) none e = refl
 part-given (some x) (some zs) e = refl
 
 -- where it is not, there are none
-part-missing : (o : Option Value) (p : Option (List Value)) → isSome o ≡ false → isSome (consPart o p) ≡ false
+pub part-missing : (o : Option Value) (p : Option (List Value)) → isSome o ≡ false → isSome (consPart o p) ≡ false
 unfolding consPart isSome
 part-missing none p e = refl
 part-missing (some x) p e = absurd (let z : _≡_ {A = ℕ} 0 1 = cc in omega arith)

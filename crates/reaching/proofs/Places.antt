@@ -27,7 +27,7 @@ use Rattle.form.proofs.Laws.{head}
 use Rattle.lookup.specs.Fields.{valueSize, projectionEnd, after}
 use Rattle.lookup.proofs.Places as P
 use Rattle.lookup.proofs.Places.{then, last, list}
-use Rattle.lookup.proofs.EachKind.{projection-size}
+use Rattle.lookup.proofs.EachKind.{projection-size, ends}
 use Rattle.routine.specs.Index.{recordedNumber}
 use Rattle.parts.specs.Rows.{ValueAt, stands}
 use Rattle.eligibility.specs.Lookup.{Types, rowOf, recordedType, valueRow, shape, isTuple, isStruct, isArray, isAggregate}
@@ -152,13 +152,6 @@ pub walking-done : {τ : Types} {next : ℕ} {t : List ℕ} {whole : Option Type
 unfolding placeType
 walking-done (walking [] o l m r e) h = r ∙ ap recordedNumber (sym e)
 walking-done (walking (p ∷ ps) o l m r e) h = absurd (omega (arith, m))
-
--- the place behind a projection, counted from its own
-ends : (p v k : ℕ) → p + getD ((1 + v) ∷ 3 ∷ 5 ∷ []) k 5 ≡ getD ((p + 1 + v) ∷ (p + 3) ∷ []) k (p + 5)
-ends p v zero = omega arith
-ends p v (suc zero) = refl
-ends p v (suc (suc zero)) = refl
-ends p v (suc (suc (suc k))) = refl
 
 -- a place, wherever it stands
 module _ (b : Bounds) (t : List ℕ) where

@@ -2,7 +2,7 @@
 use Prim.Native.Nat.{ℕ, zero, suc, _+_, _≤_, _<_}
 use mathlib.Core.Path.{_≡_, refl, ap, _∙_, sym}
 use mathlib.Core.List.{List, [], _∷_}
-use mathlib.Core.Bool.{Bool, true, false, cond, not, _&&_, _||_}
+use mathlib.Core.Bool.{Bool, true, false, cond, not, _&&_, _||_, or-false, or-assoc}
 use native.Mathlib.Omega.{arith}
 use borrow.Author.Tests.{eqb-true, eqb-false, eq-eqb, ne-eqb}
 use lib.ListN.{length, getD, set, replicate, length-set, length-replicate, List·getD-eq-default}
@@ -13,7 +13,7 @@ use Rattle.form.specs.Reads.{reads, counted, terminatorReads}
 use Rattle.eligibility.specs.Lookup.{any}
 use Rattle.eligibility.specs.Family.{Marks, marked, readsOne, readElsewhere}
 use Rattle.family.specs.Copies.{meets}
-use Rattle.family.proofs.Dynamic.{or-false, or-assoc, meets-clear, meets-set}
+use Rattle.family.proofs.Dynamic.{meets-clear, meets-set}
 use Rattle.readers.specs.Readers.{seenBy, noteReader, readVia, readInstruction, readInstructions, readBlock, readBlocks, foreign, foreigners}
 
 -- what a read in block k makes of a number, as block own sees it

@@ -1,6 +1,6 @@
 -- How many values an instruction or a terminator reads at most.
 use Prim.Native.Nat.{ℕ, zero, suc, _+_, _≤_, zero-le}
-use mathlib.Core.Path.{_≡_, ap, _∙_}
+use mathlib.Core.Path.{_≡_}
 use mathlib.Core.List.{List, [], _∷_, map}
 use mathlib.Core.Bool.{Bool, false}
 use native.Mathlib.Omega.{arith}
@@ -13,7 +13,7 @@ use Rattle.wire.specs.Value.{valueOf, valueIdOf}
 use Rattle.wire.specs.declared.Cause.{Cause}
 use Rattle.wire.specs.declared.Value.{Value}
 use Rattle.wire.specs.declared.ValueId.{ValueId}
-use Rattle.wire.proofs.Inv.{no-ok, both, behind, image, later-inv, and-inv, map-inv, checked-inv, tagged-inv}
+use Rattle.wire.proofs.Inv.{no-ok, both, behind, image, later-inv, and-inv, map-inv, checked-inv, tagged-inv, seq-length}
 use Rattle.form.specs.Syntax.{Projection, Index, Field, Tuple, Instruction, InstructionKind, Terminator}
 use Rattle.form.specs.Syntax.{Assign, UnaryOp, BinaryOp, Call, Cast, Load, Store, Debug, Phi}
 use Rattle.form.specs.Syntax.{MakeTuple, ExtractTupleElement, MakeStruct, ExtractStructField, InsertField, InsertTuple, MakeFixedArray, AssertEq, HeapAllocCells}
@@ -47,15 +47,6 @@ last {A} {B} {dec} {Q} {P} g x y =
 -- no field
 alone : {A : Type 0} {a : A} {P : A → Type 0} → P a → All (λ s. ok a 0) P
 alone {A} {a} {P} h = record { each = λ s b n e. let p : b ≡ a = cc in rw p h }
-
--- a sequence has as many as are asked for
-seq-length : {A : Type 0} (dec : List ℕ → Parse A) (k : ℕ) (s : List ℕ) {xs : List A} {n : ℕ} → seqOf dec k s ≡ ok xs n → length xs ≡ k
-unfolding seqOf
-seq-length dec zero s {xs} e = let p : xs ≡ [] = cc in ap length p
-seq-length dec (suc k) s e =
-    elim (and-inv s (dec s) (λ a t. mapParse (λ xs. a ∷ xs) (seqOf dec k t)) e) [
-      | both a m j p q r ↦ elim (map-inv (λ xs. a ∷ xs) (seqOf dec k (drop m s)) q) [ image xs f g ↦ ap length g ∙ ap suc (seq-length dec k (drop m s) f) ]
-    ]
 
 -- a list has no more than its most
 listed : {A : Type 0} (most : ℕ) (dec : List ℕ → Parse A) → All (listOf most dec) (λ xs. length xs ≤ most)

@@ -1,13 +1,14 @@
 -- The rebuild is written as the row of its type says.
-use Prim.Native.Nat.{ℕ, zero, suc, _-_, _<_}
+use Prim.Native.Nat.{ℕ, suc, _-_, _<_}
 use mathlib.Core.Path.{_≡_, refl, ap, _∙_, sym}
-use mathlib.Core.List.{List, [], _∷_, append-nil}
+use mathlib.Core.List.{List, append-nil}
 use mathlib.Core.Bool.{true, false, not}
 use mathlib.Core.Bool as B
 use mathlib.Core.Option.{some}
 use native.Mathlib.Omega.{arith}
-use lib.ListN.{length, getD, drop, getElem?}
+use lib.ListN.{length, getD, drop}
 use lib.Dec.{eqb}
+use Rattle.table.proofs.Elements.{some-at}
 use Rattle.wire.specs.Parse.{ok}
 use Rattle.wire.specs.Number.{at16, at32}
 use Rattle.wire.specs.WellFormed.{Bytes}
@@ -25,12 +26,6 @@ use Rattle.eligibility.specs.Lookup.{Types, rowOf}
 use Rattle.rewriting.specs.Rebuild.{plain, fitted, named, rebuildAt, clashes}
 use Rattle.rebuild.specs.Written.{Writes, NamesIn, Rebuilds}
 use Rattle.rebuild.proofs.Shape.{tuple, struct, array, other, shape-of}
-
--- within a list there is an element
-within : {A : Type 0} (l : List A) (k : ℕ) (a : A) → k < length l → getElem? l k ≡ some (getD l k a)
-within [] k a h = absurd (omega arith)
-within (x ∷ l) zero a h = refl
-within (x ∷ l) (suc k) a h = within l k a (omega arith)
 
 -- the type T was read from `row`
 module _ (most own n : ℕ) (row : List ℕ) (T : MirType) (xs : List Value) (h : Bytes row) (e : typeOf most own row ≡ ok T n) where
@@ -108,7 +103,7 @@ module _ (most : ℕ) (τ : Types) (t : TypeId) (s types row : List ℕ) (place 
 
   row-of : rowOf τ (some t) ≡ some T
   unfolding rowOf
-  row-of = within (τ .rows) (t .0) MirType.Unit l
+  row-of = some-at (τ .rows) (t .0) MirType.Unit l
 
   here : row ≡ drop (getD types (t .0) 0) s
   here = f ∙ ap (λ j. drop j s) e

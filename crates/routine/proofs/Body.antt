@@ -270,11 +270,11 @@ module _ (m : Mosts) (b : Bounds) (entry : BlockId) (s : List ℕ) (at : ℕ) wh
                     });
               }
 
--- a part of marks of which none stands
+-- a front part of clear marks
+pub take-clear : (n k : ℕ) → n ≤ k → take n (replicate k false) ≡ replicate n false
+take-clear zero k h = refl
+take-clear (suc n) zero h = absurd (omega arith)
+take-clear (suc n) (suc k) h = ap (λ x. false ∷ x) (take-clear n k (omega arith))
+
 pub none-marked : (n k : ℕ) → n ≤ k → take (n - 0) (replicate k false) ≡ replicate n false
-none-marked n k h = rw sub-zero (part n k h)
-  where
-    part : (n k : ℕ) → n ≤ k → take n (replicate k false) ≡ replicate n false
-    part zero k h = refl
-    part (suc n) zero h = absurd (omega arith)
-    part (suc n) (suc k) h = ap (λ x. false ∷ x) (part n k (omega arith))
+none-marked n k h = rw sub-zero (take-clear n k h)

@@ -1,5 +1,5 @@
 -- The bytes between a block's places are its bytes.
-use Prim.Native.Nat.{ℕ, suc, _+_, _-_, _≤_, _<_}
+use Prim.Native.Nat.{ℕ, suc, _+_, _-_, _<_}
 use mathlib.Core.Path.{_≡_, sym}
 use mathlib.Core.List.{List}
 use native.Mathlib.Omega.{arith}
@@ -18,10 +18,3 @@ pub block-part : (m : Mosts) (b : Bounds) (s starts : List ℕ) (xs : List Block
 block-part m b s starts xs k h a l e f =
     let z : k + 1 ≡ suc k = omega arith in
     rw (e, f, z) (elim (a .each k l) [ standing total seen p ↦ sym (block-canon m b total seen (drop (getD starts k 0) s) (bytes-drop s (getD starts k 0) h) p .same) ])
-
--- the next place is behind it, and within the bytes
-pub block-rises : (m : Mosts) (b : Bounds) (s starts : List ℕ) (xs : List Block) (k : ℕ) {from to : ℕ} → BlocksAt m b s starts xs → k < length xs → from ≡ getD starts k 0 → to ≡ getD starts (k + 1) 0 → from ≤ to
-block-rises m b s starts xs k a l e f = let z : k + 1 ≡ suc k = omega arith in rw (e, f, z) (a .rises k l)
-
-pub block-within : (m : Mosts) (b : Bounds) (s starts : List ℕ) (xs : List Block) (k : ℕ) {to : ℕ} → BlocksAt m b s starts xs → k < length xs → to ≡ getD starts (k + 1) 0 → to ≤ length s
-block-within m b s starts xs k a l f = let z : k + 1 ≡ suc k = omega arith in rw (f, z) (a .within (suc k) (omega arith))

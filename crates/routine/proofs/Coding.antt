@@ -4,14 +4,13 @@ use mathlib.Core.Path.{_≡_, refl, ap, _∙_, sym}
 use mathlib.Core.List.{List, [], _∷_, _++_, append-assoc, append-nil}
 use mathlib.Core.Bool.{Bool}
 use mathlib.Core.Logic.{⊎-elim}
-use native.Mathlib.Numerals.{add-one}
 use native.Mathlib.Nat.{add-zero, sub-zero, eq-or-lt-of-le}
 use native.Mathlib.Omega.{arith}
 use lib.ListN.{length, getD, take, drop, set, length-append, length-drop, length-set, List·getD-append}
-use lib.Seq.{drop-drop, getD-at, getD-set-same, getD-set-other}
+use lib.Seq.{drop-drop, getD-at, getD-set-same}
 use Rattle.wire.specs.Parse.{ok, bad, later, mapParse}
 use Rattle.wire.specs.declared.Cause.{Cause}
-use Rattle.wire.proofs.Laws.{size, size-map, size-and, told, told-size, map-later, map-map, later-later}
+use Rattle.wire.proofs.Laws.{size, size-map, size-and, told, told-size, map-id, map-later, map-map, later-later}
 use Rattle.wire.proofs.Inv.{both, image, and-inv, map-inv}
 use Rattle.form.specs.Syntax.{Block}
 use Rattle.form.specs.Walk.{unit}
@@ -22,41 +21,28 @@ use Rattle.block.specs.declared.BlockRead.{BlockRead}
 use Rattle.block.proofs.Sizes.{size-block}
 use Rattle.block.proofs.Blocks.{block-count}
 use Rattle.typetable.proofs.Fields.{map-bad}
+use Rattle.typetable.proofs.Table.{stored-end, stored-before, each-more}
 use Rattle.routine.specs.Decode.{blocksOf}
 use Rattle.routine.specs.Index.{noBlock, BlockAt, standing, BlocksAt, BlocksRead}
-use Rattle.routine.proofs.Laws.{map-id, no-value}
+use Rattle.routine.proofs.Laws.{no-value}
 
 -- one more block, whose end is stored behind the last place
 module _ (m : Mosts) (b : Bounds) (s starts : List ℕ) (xs : List Block) (a : BlocksAt m b s starts xs) (k at n total : ℕ) (seen : List Bool) (x : Block) (many : length xs ≡ k) (room : k + 1 < length starts) (here : at ≡ getD starts k 0) (e : blockOf m b total seen (drop at s) ≡ ok x n) (in-s : at + n ≤ length s) where
-  -- the place behind it
-  new-end : getD (set starts (k + 1) (at + n)) (suc k) 0 ≡ at + n
-  new-end = rw (add-one k) (getD-set-same starts (suc k) (at + n) 0 (omega arith))
-
-  -- those before it stay
-  old-place : (j : ℕ) → j ≤ k → getD (set starts (k + 1) (at + n)) j 0 ≡ getD starts j 0
-  old-place j h = getD-set-other starts (k + 1) j (at + n) 0 (λ q. omega arith)
-
-  -- a fact of every block, where it is one of those before and of the new one
-  either : (P : ℕ → Type 0) → ((j : ℕ) → j < k → P j) → P k → (j : ℕ) → j < length (xs ++ (x ∷ [])) → P j
-  either P f g j h =
-      let l : j ≤ k = omega (arith, length-append xs (x ∷ [])) in
-      ⊎-elim (λ q. rw q g) (λ q. f j q) (eq-or-lt-of-le l)
-
   pub code-more : BlocksAt m b s (set starts (k + 1) (at + n)) (xs ++ (x ∷ []))
   code-more =
       let p = set starts (k + 1) (at + n) in
       record {
         each =
-            either (λ j. BlockAt m b s (getD p j 0) (getD p (suc j) 0) (getD (xs ++ (x ∷ [])) j noBlock))
-            (λ j h. let g : j < length xs = omega arith in rw (old-place j (omega arith), old-place (suc j) (omega arith), List·getD-append xs (x ∷ []) noBlock j g) (a .each j g))
-            (let z : at + n - at ≡ n = omega arith in rw (old-place k (omega arith), new-end, ← here, getD-at xs x [] noBlock k many) (standing total seen (rw z e)));
+            each-more xs x k many (λ j. BlockAt m b s (getD p j 0) (getD p (suc j) 0) (getD (xs ++ (x ∷ [])) j noBlock))
+            (λ j h. let g : j < length xs = omega arith in rw (stored-before starts k (at + n) j (omega arith), stored-before starts k (at + n) (suc j) (omega arith), List·getD-append xs (x ∷ []) noBlock j g) (a .each j g))
+            (let z : at + n - at ≡ n = omega arith in rw (stored-before starts k (at + n) k (omega arith), stored-end starts k (at + n) room, ← here, getD-at xs x [] noBlock k many) (standing total seen (rw z e)));
         rises =
-            either (λ j. getD p j 0 ≤ getD p (suc j) 0)
-            (λ j h. let g : j < length xs = omega arith in rw (old-place j (omega arith), old-place (suc j) (omega arith)) (a .rises j g))
-            (omega (arith, old-place k (omega arith), new-end));
+            each-more xs x k many (λ j. getD p j 0 ≤ getD p (suc j) 0)
+            (λ j h. let g : j < length xs = omega arith in rw (stored-before starts k (at + n) j (omega arith), stored-before starts k (at + n) (suc j) (omega arith)) (a .rises j g))
+            (omega (arith, stored-before starts k (at + n) k (omega arith), stored-end starts k (at + n) room));
         within = λ j h.
             let l : j ≤ suc k = omega (arith, length-append xs (x ∷ [])) in
-            ⊎-elim (λ q. omega (arith, ap (λ i. getD p i 0) q, new-end)) (λ q. let g : j ≤ length xs = omega arith in rw (old-place j (omega arith)) (a .within j g)) (eq-or-lt-of-le l);
+            ⊎-elim (λ q. omega (arith, ap (λ i. getD p i 0) q, stored-end starts k (at + n) room)) (λ q. let g : j ≤ length xs = omega arith in rw (stored-before starts k (at + n) j (omega arith)) (a .within j g)) (eq-or-lt-of-le l);
       }
 
 -- no such answer reaches further than the bytes do

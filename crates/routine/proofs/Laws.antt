@@ -1,6 +1,6 @@
 -- What the answers of the parts tell: counted from a place, and one part behind another.
 use Prim.Native.Nat.{ℕ, _+_}
-use mathlib.Core.Path.{_≡_, refl, ap, _∙_, sym}
+use mathlib.Core.Path.{_≡_, ap, _∙_, sym}
 use mathlib.Core.List.{List}
 use lib.ListN.{drop}
 use lib.Seq.{drop-drop}
@@ -9,11 +9,7 @@ use Rattle.wire.specs.declared.Cause.{Cause}
 use Rattle.wire.proofs.Laws.{map-later, later-later}
 use Rattle.wire.proofs.Inv.{no-ok}
 use Rattle.form.specs.Walk.{unit}
-
--- nothing is made of the value
-pub map-id : {A : Type 0} (d : Parse A) → mapParse (λ a. a) d ≡ d
-map-id (ok a n) = refl
-map-id (bad c o) = refl
+use Rattle.form.proofs.Laws.{and-later}
 
 -- a reader's answer over bytes that are those behind a place
 pub answer-of : {R A : Type 0} (view : R → Parse A) (dec : List ℕ → Parse A) {t u : List ℕ} {r r′ : R} → t ≡ u → view r ≡ dec t → r ≡ r′ → dec u ≡ view r′
@@ -31,11 +27,6 @@ refusal m (bad k n) {c} {o} e = let p : k ≡ c = cc in let q : o ≡ m + n = cc
 -- where the answer is a refusal there is no value
 pub no-value : {A : Type 0} (m : ℕ) (d : Parse A) {c : Cause} {o : ℕ} → bad c o ≡ later m (mapParse unit d) → (a : A) (n : ℕ) → d ≡ ok a n → ⊥
 no-value m d e a n f = no-ok (e ∙ ap (λ x. later m (mapParse unit x)) f)
-
--- what is read behind an answer that is counted from n
-pub and-later : {A B : Type 0} (s : List ℕ) (n : ℕ) (d : Parse A) (f : A → List ℕ → Parse B) → andThen s (later n d) f ≡ later n (andThen (drop n s) d f)
-and-later s n (ok a m) f = sym (rw (drop-drop, later-later))
-and-later s n (bad c o) f = refl
 
 -- a part at a place, what follows it, and what follows all of these
 module _ {A B C : Type 0} (s : List ℕ) (at : ℕ) (d : List ℕ → Parse A) (f : A → List ℕ → Parse B) (g : B → List ℕ → Parse C) where

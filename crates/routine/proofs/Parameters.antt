@@ -1,12 +1,11 @@
 -- The parameters: each is marked as defined.
 use Prim.Native.Nat.{ℕ, _≤_}
-use mathlib.Core.Path.{_≡_, refl, ap, _∙_, sym}
-use mathlib.Core.List.{List, [], _∷_}
+use mathlib.Core.Path.{_≡_, ap, _∙_, sym}
+use mathlib.Core.List.{List, []}
 use mathlib.Core.Bool.{Bool, false}
 use lib.ListN.{length}
 use Rattle.wire.specs.Parse.{Parse, ok, bad, andThen, mapParse}
 use Rattle.wire.specs.declared.Cause.{Cause}
-use Rattle.wire.specs.declared.ValueId.{ValueId}
 use Rattle.wire.proofs.Laws.{size, size-map, later-zero, and-nothing, map-map}
 use Rattle.wire.proofs.Inv.{no-ok}
 use Rattle.form.specs.Decode.{definedsOf}
@@ -14,7 +13,7 @@ use Rattle.form.specs.Walk.{Walk, walkOf, defines, fold, simpleWalk, fieldWalk,
 use Rattle.form.specs.declared.Bounds.{Bounds}
 use Rattle.form.proofs.Rows.{defined-list}
 use Rattle.form.proofs.Sizes.{size-row}
-use Rattle.block.specs.Decode.{marks}
+use Rattle.block.proofs.Laws.{defines-seen}
 use Rattle.routine.specs.Index.{ParametersRead}
 
 -- the row of one list of defined values
@@ -28,11 +27,6 @@ size-parameters b seen s =
     let w = walkOf seen [] 0 false in
     let d = definedsOf (b .list) (b .next) seen s in
     rw (size-map unit d) (rw (parameters-row b w s, size-map (fold defines w) d) at (size-row b 0 5 0xc w s))
-
--- definitions mark
-defines-seen : (w : Walk) (ds : List ValueId) → fold defines w ds .seen ≡ marks (w .seen) ds
-defines-seen w [] = refl
-defines-seen w (d ∷ ds) = defines-seen (defines w d) ds
 
 module _ (b : Bounds) (s : List ℕ) (seen : List Bool) (buffer : List ℕ) {r : Parse Walk} (e : r ≡ andThen s (ok (walkOf seen buffer 0 false) 0) (λ w t. rowWalk b 0 5 0xc w t)) where
   -- what the walk answered

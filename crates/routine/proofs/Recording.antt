@@ -14,11 +14,11 @@ use Rattle.wire.specs.Parse.{ok, bad, later, mapParse}
 use Rattle.wire.specs.Number.{u16Of}
 use Rattle.wire.specs.declared.Cause.{Cause}
 use Rattle.wire.specs.declared.TypeId.{TypeId}
-use Rattle.wire.proofs.Laws.{size, size-map, size-later, size-and, size-below, map-later, map-map, later-later}
+use Rattle.wire.proofs.Laws.{size, size-map, size-later, size-and, size-below, map-id, map-later, map-map, later-later}
 use Rattle.wire.proofs.Inv.{behind, image, later-inv, map-inv}
 use Rattle.form.specs.Walk.{unit}
 use Rattle.routine.specs.Decode.{hasRecorded, recordedTypeOf, recordedOf}
-use Rattle.routine.proofs.Laws.{map-id, refused, refusal, no-value}
+use Rattle.routine.proofs.Laws.{refused, refusal, no-value}
 use Rattle.routine.specs.Index.{recordedNumber, recordedFrom, RecordedAt, RecordedOne, RecordedRead}
 
 -- the number of the table tells the type

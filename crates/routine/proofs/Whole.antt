@@ -26,7 +26,7 @@ use Rattle.routine.specs.Decode.{Sizes, sizesOf, boundsOf, bodyOf, routi
 use Rattle.routine.specs.Index.{asSizes, asChecked, BodyRead, RoutineRead, verdict}
 use Rattle.routine.specs.declared.Checked.{Checked}
 use Rattle.routine.specs.declared.SizesRead.{SizesRead}
-use Rattle.routine.proofs.Laws.{and-later}
+use Rattle.form.proofs.Laws.{and-later}
 use Rattle.routine.proofs.Sizes.{size-sizes, sizes-fit}
 
 -- k types are k

@@ -57,17 +57,10 @@ pub const MOSTS: Mosts = Mosts {
 pub fn block_bytes<'a>(s: &'a [u8], blocks: &[usize], k: BlockId) -> &'a [u8]
     ensures { λ r. ⌜ ((m : Mosts) (b : Bounds) (xs : List Block) → Bytes (now (s .entry)) → BlocksAt m b (now (s .entry)) (now (blocks .entry)) xs → k .0 < length xs → now r ≡ blockBytes (getD xs (k .0) noBlock)) ⌝ }
 {
-    let n = s.len();
     let i = k.0 as usize;
     let from = table::place(blocks, i);
     let to = table::place(blocks, i + 1);
-    if n < to {
-        return &s[n..];
-    }
-    if to < from {
-        return &s[n..];
-    }
-    &s[from..to]
+    form::between(s, from, to)
 }
 
 // The recorded type of a value, where it has one.

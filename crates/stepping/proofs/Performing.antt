@@ -17,7 +17,7 @@ use Rattle.form.specs.Syntax.{Instruction, Assign}
 use Rattle.form.specs.Decode.{instructionOf}
 use Rattle.wire.specs.Value.{valueBytes}
 use Rattle.form.specs.Encode.{instructionBytes, fieldBytes, valueIdBytes, typeIdBytes}
-use Rattle.emit.proofs.Sets.{value-short}
+use Rattle.wire.proofs.Canon.{value-short}
 use Rattle.form.specs.declared.Bounds.{Bounds}
 use Rattle.canon.proofs.Instruction.{instruction-canon, instruction-size}
 use Rattle.eligibility.specs.Family.{Marks, mark}

@@ -2,8 +2,8 @@
 // (wire::byte_at reads a table of bytes.)
 ghost use mathlib.Core.Path.{_≡_};
 ghost use mathlib.Core.Bool.{false};
-ghost use Prim.Native.Nat.{ℕ};
 ghost use lib.ListN.{getD, set};
+ghost use Rattle.table.specs.Flags.{anyStands};
 
 // The number at a place.
 pub fn number(l: &[u16], i: usize) -> u16
@@ -64,15 +64,14 @@ pub fn set_byte(l: &mut [u8], i: usize, b: u8)
 
 // Whether a flag stands.
 pub fn any(l: &[bool]) -> bool
-    ensures { λ r. ⌜ (r ≡ false → (v : ℕ) → getD (now (l .entry)) v false ≡ false) ⌝ }
+    ensures { λ r. ⌜ r ≡ anyStands (now (l .entry)) ⌝ }
 {
-    let mut found = false;
     let mut i = 0;
     while i < l.len() {
         if l[i] {
-            found = true;
+            return true;
         }
         i = i + 1;
     }
-    found
+    false
 }

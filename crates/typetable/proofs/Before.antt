@@ -30,13 +30,13 @@ type-part : (most own : ℕ) (s : List ℕ) (at : ℕ) {t : MirType} {n : ℕ} �
 type-part most own s at h e = sym (type-canon most own (drop at s) (bytes-drop s at h) e .same)
 
 -- `here` and `other` are the bytes of the type and of type j
-module _ (s starts here other : List ℕ) (k at end j : ℕ) (u : Before s starts k at end j) (h : j < k) (p : here ≡ take (end - at) (drop at s)) (q : getD starts j 0 ≤ getD starts (j + 1) 0 → getD starts (j + 1) 0 ≤ length s → other ≡ take (getD starts (j + 1) 0 - getD starts j 0) (drop (getD starts j 0) s)) where
+module _ (s starts here other : List ℕ) (k at end j : ℕ) (u : Before s starts k at end j) (h : j < k) (p : here ≡ take (end - at) (drop at s)) (q : other ≡ take (getD starts (j + 1) 0 - getD starts j 0) (drop (getD starts j 0) s)) where
   -- the next of those left
   next : (most own : ℕ) (ts : List MirType) (t : MirType) → Bytes s → length ts ≡ k → TypesAt most s starts ts → typeOf most own (drop at s) ≡ ok t (end - at) → hasType t ts ≡ sameBytes here other || hasType t (drop (j + 1) ts)
   unfolding hasType
   next most own ts t b l a e =
       let g : j < length ts = omega arith in
-      let o = rw add-one at (q (rw add-one (a .rises j g)) (rw add-one (a .within (suc j) (omega arith)))) in
+      let o = rw add-one at q in
       u .left most own ts t b l a e ∙ rw (drop-cons ts j MirType.Unit g, add-one, p, o, type-part most own s at b e, type-part most j s (getD starts j 0) b (a .each j g))
 
   -- it is another type

@@ -15,7 +15,7 @@ use Rattle.wire.specs.Parse.{Parse, ok, bad, later, mapParse}
 use Rattle.wire.specs.Number.{u16Of}
 use Rattle.wire.specs.WellFormed.{Bytes}
 use Rattle.wire.specs.declared.Cause.{Cause}
-use Rattle.wire.proofs.Laws.{size, size-map, map-map, map-later, later-later}
+use Rattle.wire.proofs.Laws.{size, size-map, map-id, map-map, map-later, later-later}
 use Rattle.wire.proofs.Inv.{no-ok, image, map-inv, number-inv}
 use Rattle.form.specs.Walk.{unit}
 use Rattle.typetable.specs.Syntax.{MirType}
@@ -24,43 +24,37 @@ use Rattle.typetable.specs.Index.{TypesAt, TypesRead}
 use Rattle.typetable.proofs.Sizes.{size-type}
 use Rattle.typetable.proofs.Fields.{map-bad}
 
--- nothing is made of the value
-map-id : {A : Type 0} (d : Parse A) → mapParse (λ a. a) d ≡ d
-map-id (ok a n) = refl
-map-id (bad c o) = refl
+-- a place that is stored behind the first k + 1, and those before it
+pub stored-end : (starts : List ℕ) (k p : ℕ) → k + 1 < length starts → getD (set starts (k + 1) p) (suc k) 0 ≡ p
+stored-end starts k p h = rw (add-one k) (getD-set-same starts (suc k) p 0 (omega arith))
+
+pub stored-before : (starts : List ℕ) (k p j : ℕ) → j ≤ k → getD (set starts (k + 1) p) j 0 ≡ getD starts j 0
+stored-before starts k p j h = getD-set-other starts (k + 1) j p 0 (λ q. omega arith)
+
+-- a fact of every thing, where it is one of those before and of the new one
+pub each-more : {A : Type 0} (xs : List A) (x : A) (k : ℕ) → length xs ≡ k → (P : ℕ → Type 0) → ((j : ℕ) → j < k → P j) → P k → (j : ℕ) → j < length (xs ++ (x ∷ [])) → P j
+each-more xs x k m P f g j h =
+    let l : j ≤ k = omega (arith, length-append xs (x ∷ [])) in
+    ⊎-elim (λ q. rw q g) (λ q. f j q) (eq-or-lt-of-le l)
 
 -- one more type, whose end is stored behind the last place
 module _ (most : ℕ) (s starts : List ℕ) (ts : List MirType) (a : TypesAt most s starts ts) (k at n : ℕ) (t : MirType) (m : length ts ≡ k) (room : k + 1 < length starts) (here : at ≡ getD starts k 0) (e : typeOf most k (drop at s) ≡ ok t n) (in-s : at + n ≤ length s) where
-  -- the place behind it
-  new-end : getD (set starts (k + 1) (at + n)) (suc k) 0 ≡ at + n
-  new-end = rw (add-one k) (getD-set-same starts (suc k) (at + n) 0 (omega arith))
-
-  -- the places before
-  old-place : (j : ℕ) → j ≤ k → getD (set starts (k + 1) (at + n)) j 0 ≡ getD starts j 0
-  old-place j h = getD-set-other starts (k + 1) j (at + n) 0 (λ q. omega arith)
-
-  -- a fact of every type, where it is one of those before and of the new one
-  either : (P : ℕ → Type 0) → ((j : ℕ) → j < k → P j) → P k → (j : ℕ) → j < length (ts ++ (t ∷ [])) → P j
-  either P f g j h =
-      let l : j ≤ k = omega (arith, length-append ts (t ∷ [])) in
-      ⊎-elim (λ q. rw q g) (λ q. f j q) (eq-or-lt-of-le l)
-
   -- the table with it
   pub table-more : TypesAt most s (set starts (k + 1) (at + n)) (ts ++ (t ∷ []))
   table-more =
       let p = set starts (k + 1) (at + n) in
       record {
         each =
-            either (λ j. typeOf most j (drop (getD p j 0) s) ≡ ok (getD (ts ++ (t ∷ [])) j MirType.Unit) (getD p (suc j) 0 - getD p j 0))
-            (λ j h. let g : j < length ts = omega arith in rw (old-place j (omega arith), old-place (suc j) (omega arith), List·getD-append ts (t ∷ []) MirType.Unit j g) (a .each j g))
-            (let z : at + n - at ≡ n = omega arith in rw (old-place k (omega arith), new-end, ← here, getD-at ts t [] MirType.Unit k m, z) e);
+            each-more ts t k m (λ j. typeOf most j (drop (getD p j 0) s) ≡ ok (getD (ts ++ (t ∷ [])) j MirType.Unit) (getD p (suc j) 0 - getD p j 0))
+            (λ j h. let g : j < length ts = omega arith in rw (stored-before starts k (at + n) j (omega arith), stored-before starts k (at + n) (suc j) (omega arith), List·getD-append ts (t ∷ []) MirType.Unit j g) (a .each j g))
+            (let z : at + n - at ≡ n = omega arith in rw (stored-before starts k (at + n) k (omega arith), stored-end starts k (at + n) room, ← here, getD-at ts t [] MirType.Unit k m, z) e);
         rises =
-            either (λ j. getD p j 0 ≤ getD p (suc j) 0)
-            (λ j h. let g : j < length ts = omega arith in rw (old-place j (omega arith), old-place (suc j) (omega arith)) (a .rises j g))
-            (omega (arith, old-place k (omega arith), new-end));
+            each-more ts t k m (λ j. getD p j 0 ≤ getD p (suc j) 0)
+            (λ j h. let g : j < length ts = omega arith in rw (stored-before starts k (at + n) j (omega arith), stored-before starts k (at + n) (suc j) (omega arith)) (a .rises j g))
+            (omega (arith, stored-before starts k (at + n) k (omega arith), stored-end starts k (at + n) room));
         within = λ j h.
             let l : j ≤ suc k = omega (arith, length-append ts (t ∷ [])) in
-            ⊎-elim (λ q. omega (arith, ap (λ i. getD p i 0) q, new-end)) (λ q. let g : j ≤ length ts = omega arith in rw (old-place j (omega arith)) (a .within j g)) (eq-or-lt-of-le l);
+            ⊎-elim (λ q. omega (arith, ap (λ i. getD p i 0) q, stored-end starts k (at + n) room)) (λ q. let g : j ≤ length ts = omega arith in rw (stored-before starts k (at + n) j (omega arith)) (a .within j g)) (eq-or-lt-of-le l);
       }
 
 -- of `count` types k are behind, and stand at their places

@@ -8,7 +8,7 @@ ghost use mathlib.Core.Path.{_≡_};
 ghost use mathlib.Core.List.{List, [], _∷_};
 ghost use mathlib.Core.Bool.{Bool};
 ghost use Prim.Native.Nat.{ℕ, _+_, _-_, _*_, _≤_, _<_};
-ghost use lib.ListN.{length, getD, take, drop};
+ghost use lib.ListN.{length, getD, drop};
 ghost use Rattle.wire.specs.Parse.{Parse, ok, andThen, mapParse, later};
 ghost use Rattle.wire.specs.WellFormed.{Bytes};
 ghost use Rattle.form.specs.Decode.{typeIdOf};
@@ -164,30 +164,16 @@ fn same_bytes(a: &[u8], b: &[u8]) -> bool
     true
 }
 
-// The bytes from `a` to `e`; none where these are no place and its end.
-fn between(s: &[u8], a: usize, e: usize) -> &[u8]
-    ensures { λ r. ⌜ (a ≤ e → e ≤ length (now (s .entry)) → now r ≡ take (e - a) (drop a (now (s .entry)))) ⌝ }
-{
-    let n = s.len();
-    if e < a {
-        return &s[n..];
-    }
-    if n < e {
-        return &s[n..];
-    }
-    &s[a..e]
-}
-
 // One of the `k` types before has the bytes from `at` to `end`.
 fn type_before(s: &[u8], starts: &[usize], k: u16, at: usize, end: usize) -> bool
-    requires { ⌜ (k < length (now starts)) × (at ≤ end) × (end ≤ length (now s)) ⌝ }
+    requires { ⌜ k < length (now starts) ⌝ }
     ensures { λ r. ⌜ ((most own : ℕ) (ts : List MirType) (t : MirType) → Bytes (now (s .entry)) → length ts ≡ k → TypesAt most (now (s .entry)) (now (starts .entry)) ts → typeOf most own (drop at (now (s .entry))) ≡ ok t (end - at) → r ≡ hasType t ts) ⌝ }
 {
-    let here = between(s, at, end);
+    let here = form::between(s, at, end);
     let mut j: u16 = 0;
     while j < k {
         let i = j as usize;
-        let other = between(s, starts[i], starts[i + 1]);
+        let other = form::between(s, starts[i], starts[i + 1]);
         if same_bytes(here, other) {
             return true;
         }
@@ -236,6 +222,5 @@ pub fn read_types(s: &[u8], limit: u16, most: u8, starts: &mut [usize]) -> Part
 pub fn type_place(starts: &[usize], t: wire::TypeId) -> usize
     ensures { λ r. ⌜ r ≡ getD (now (starts .entry)) (t .0) 0 ⌝ }
 {
-    let i = t.0 as usize;
-    if i < starts.len() { starts[i] } else { 0 }
+    table::place(starts, t.0 as usize)
 }

@@ -120,8 +120,7 @@ fn row_pointee(t: &[u8]) -> u16
 pub fn recorded_number(recorded: &[u16], v: ValueId) -> u16
     ensures { λ r. ⌜ ((τ : Types) → RecordedAt (now (recorded .entry)) (τ .recorded) → length (τ .recorded) ≤ length (now (recorded .entry)) → v .0 < length (τ .recorded) → r ≡ recordedNumber (recordedType τ v)) ⌝ }
 {
-    let i = v.0 as usize;
-    if i < recorded.len() { recorded[i] } else { 0 }
+    table::number(recorded, v.0 as usize)
 }
 
 // Both are types, and the same one.

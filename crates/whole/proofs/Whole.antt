@@ -43,7 +43,7 @@ singles [] = refl
 singles (x ∷ xs) = ap (λ ys. x ∷ ys) (singles xs)
 
 -- it holds of each thing in two lists
-both-lists : {A : Type 0} (P : A → Type 0) (xs ys : List A) → Each P xs → Each P ys → Each P (xs ++ ys)
+pub both-lists : {A : Type 0} (P : A → Type 0) (xs ys : List A) → Each P xs → Each P ys → Each P (xs ++ ys)
 both-lists P [] ys h g = g
 both-lists P (x ∷ xs) ys h g = (h .0, both-lists P xs ys (h .1) g)
 

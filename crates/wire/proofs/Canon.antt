@@ -14,6 +14,7 @@ use Rattle.wire.specs.Number.{fromBytes, toBytes, numberOf, u8Of, u32Of,
 use Rattle.wire.specs.Value.{integer, boolean, unit, boolByte, boolOf, valueIdOf, valueOf, valueKinds, valueBytes}
 use Rattle.wire.specs.WellFormed.{Bytes, FitValue}
 use Rattle.wire.specs.declared.Cause.{Cause}
+use Rattle.wire.specs.declared.Literal.{Literal}
 use Rattle.wire.specs.declared.Value.{Value}
 use Rattle.wire.proofs.Inv.{no-ok, both, behind, image, later-inv, and-inv, map-inv, checked-inv, number-inv, below-inv, tagged-inv}
 use Rattle.wire.proofs.RoundTrip.{length-toBytes}
@@ -133,6 +134,14 @@ value-canon next s h e = value-both next s h e .0
 -- a value that was read has a byte form
 pub value-fit : (next : ℕ) (s : List ℕ) {v : Value} {n : ℕ} → Bytes s → valueOf next s ≡ ok v n → next ≤ 65536 → FitValue next v
 value-fit next s h e l = value-both next s h e .1 l
+
+-- a value takes 5 bytes at most
+pub value-short : (x : Value) → length (valueBytes x) ≤ 5
+value-short (Value.Literal (Literal.Integer x)) = omega arith
+value-short (Value.Literal (Literal.Boolean b)) = omega arith
+value-short (Value.Literal Literal.Unit) = omega arith
+value-short (Value.Operand v) = omega arith
+value-short Value.Error = omega arith
 
 -- a sequence of things each of which is written as it stood: all of them, as many as asked for
 pub seq-canon : {A : Type 0} (dec : List ℕ → Parse A) (enc : A → List ℕ) → ((t : List ℕ) (a : A) (n : ℕ) → Bytes t → dec t ≡ ok a n → Canon (enc a) t n) → (k : ℕ) (s : List ℕ) {xs : List A} {n : ℕ} → Bytes s → seqOf dec k s ≡ ok xs n → Canon (flatMap enc xs) s n × (length xs ≡ k)

@@ -1,13 +1,13 @@
 -- What a decoder's success says of its parts.
-use Prim.Native.Nat.{ℕ, _+_, _≤_, _<_}
-use mathlib.Core.Path.{_≡_, refl, ap}
-use mathlib.Core.List.{List, map}
+use Prim.Native.Nat.{ℕ, zero, suc, _+_, _≤_, _<_}
+use mathlib.Core.Path.{_≡_, refl, ap, _∙_}
+use mathlib.Core.List.{List, [], _∷_, map}
 use mathlib.Core.Bool.{Bool, true, false, cond}
 use native.Mathlib.Omega.{arith}
 use borrow.Author.Tests.{leb-true, ltb-true}
 use lib.ListN.{length, getD, take, drop}
 use lib.Dec.{leb, ltb}
-use Rattle.wire.specs.Parse.{Parse, ok, bad, later, andThen, mapParse, checked, tagged}
+use Rattle.wire.specs.Parse.{Parse, ok, bad, later, andThen, mapParse, checked, tagged, seqOf}
 use Rattle.wire.specs.Number.{fromBytes, numberOf, u16Of, below}
 use Rattle.wire.specs.declared.Cause.{Cause}
 
@@ -72,3 +72,12 @@ below-inv bound s {x} e = let h = checked-inv Cause.OutOfRange (λ y. ltb y boun
 -- the kind byte is there, and the decoder it chose gave the value
 pub tagged-inv : {A : Type 0} (fs : List (List ℕ → Parse A)) (s : List ℕ) {a : A} {n : ℕ} → tagged fs s ≡ ok a n → (1 ≤ length s) × (getD (map (λ f. later 1 (f (drop 1 s))) fs) (getD s 0 0) (bad Cause.Undefined 0) ≡ ok a n)
 tagged-inv fs s e = let h = cond-inv (leb 1 (length s)) _ Cause.Truncated 0 e in (leb-true _ _ (h .0), h .1)
+
+-- a sequence has as many as are asked for
+pub seq-length : {A : Type 0} (dec : List ℕ → Parse A) (k : ℕ) (s : List ℕ) {xs : List A} {n : ℕ} → seqOf dec k s ≡ ok xs n → length xs ≡ k
+unfolding seqOf
+seq-length dec zero s {xs} e = let p : xs ≡ [] = cc in ap length p
+seq-length dec (suc k) s e =
+    elim (and-inv s (dec s) (λ a t. mapParse (λ xs. a ∷ xs) (seqOf dec k t)) e) [
+      | both a m j p q r ↦ elim (map-inv (λ xs. a ∷ xs) (seqOf dec k (drop m s)) q) [ image xs f g ↦ ap length g ∙ ap suc (seq-length dec k (drop m s) f) ]
+    ]

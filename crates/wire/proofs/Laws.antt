@@ -120,6 +120,11 @@ pub map-later : {A B : Type 0} (f : A → B) (n : ℕ) (d : Parse A) → mapPars
 map-later f n (ok a m) = refl
 map-later f n (bad c o) = refl
 
+-- nothing is made of the value
+pub map-id : {A : Type 0} (d : Parse A) → mapParse (λ a. a) d ≡ d
+map-id (ok a n) = refl
+map-id (bad c o) = refl
+
 -- two things made of the value, one after the other
 pub map-map : {A B C : Type 0} (f : B → C) (g : A → B) (d : Parse A) → mapParse f (mapParse g d) ≡ mapParse (λ a. f (g a)) d
 map-map f g (ok a m) = refl

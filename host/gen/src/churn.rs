@@ -283,8 +283,8 @@ impl Churn<'_> {
     fn operation(&mut self) {
         let (left, right) = (self.value(FELT), self.value(FELT));
         let dest = self.define(FELT);
-        let op = self.draft.rng.below(26) as u8;
-        self.draft.push(Kind::BinaryOp { op, dest, left, right });
+        let kind = self.draft.binary(dest, left, right);
+        self.draft.push(kind);
     }
 
     fn assert_eq(&mut self) {

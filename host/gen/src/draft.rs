@@ -55,6 +55,22 @@ impl<'r> Draft<'r> {
         ValueNo(self.recorded.len() as u16 - 1)
     }
 
+    /// Any operation of a BinaryOp or a BranchCmp.
+    pub fn binary_op(&mut self) -> u8 {
+        self.rng.below(usize::from(kinds::BINARY_OPS)) as u8
+    }
+
+    /// A BinaryOp of any operation.
+    pub fn binary(&mut self, dest: ValueNo, left: Value, right: Value) -> Kind {
+        Kind::BinaryOp { op: self.binary_op(), dest, left, right }
+    }
+
+    /// A UnaryOp of any operation.
+    pub fn unary(&mut self, dest: ValueNo, source: Value) -> Kind {
+        let op = self.rng.below(usize::from(kinds::UNARY_OPS)) as u8;
+        Kind::UnaryOp { op, dest, source }
+    }
+
     /// Adds an instruction; now and then with span, expression id or comment.
     pub fn push(&mut self, kind: Kind) {
         let meta = if self.rng.chance(20) { self.meta() } else { Meta::default() };

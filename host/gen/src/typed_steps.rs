@@ -304,11 +304,10 @@ impl<'r> Typed<'r> {
             return;
         }
         let dest = self.define(to);
-        let rng = &mut *self.draft.rng;
-        let kind = match rng.below(5) {
-            0 => Kind::UnaryOp { op: rng.below(16) as u8, dest, source: left },
+        let kind = match self.draft.rng.below(5) {
+            0 => self.draft.unary(dest, left),
             1 => Kind::Cast { dest, source: left, source_type: from, target_type: to },
-            _ => Kind::BinaryOp { op: rng.below(26) as u8, dest, left, right },
+            _ => self.draft.binary(dest, left, right),
         };
         self.draft.push(kind);
     }

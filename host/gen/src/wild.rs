@@ -108,7 +108,7 @@ impl Wild<'_> {
                 else_target: self.any_block(),
             },
             2 => Terminator::BranchCmp {
-                op: self.draft.rng.below(26) as u8,
+                op: self.draft.binary_op(),
                 left: self.value(),
                 right: self.value(),
                 then_target: self.any_block(),

@@ -368,12 +368,11 @@ impl<'r> Wild<'r> {
         let (source_type, target_type) = (self.any_type(), self.any_type());
         let recorded = self.any_record();
         let dest = self.draft.fresh(recorded);
-        let rng = &mut *self.draft.rng;
-        match rng.below(4) {
-            0 => Kind::UnaryOp { op: rng.below(16) as u8, dest, source: left },
+        match self.draft.rng.below(4) {
+            0 => self.draft.unary(dest, left),
             1 => Kind::Cast { dest, source: left, source_type, target_type },
             2 => Kind::HeapAllocCells { dest, cells: left },
-            _ => Kind::BinaryOp { op: rng.below(26) as u8, dest, left, right },
+            _ => self.draft.binary(dest, left, right),
         }
     }
 }

@@ -1,3 +1,4 @@
+use borrow.Author.Tests.{not-true, not-false}
 use Rattle.agreeing.proofs.block_agrees.Statement.{statement}
 use Rattle.agreeing.proofs.block_agrees.Tie as tie
 use mathlib.Core.Path.{_≡_}
@@ -6,7 +7,7 @@ use native.Mathlib.Omega.{arith}
 use lib.ListN.{length}
 use Rattle.eligibility.specs.Lookup.{Types}
 use Rattle.progress.specs.Ground.{Ground}
-use Rattle.fields.proofs.Lines.{left-fail, left-next, left-done, if-not, unless-not}
+use Rattle.fields.proofs.Lines.{left-fail, left-next, left-done}
 use Rattle.agreeing.proofs.Whole.{OneLeft, block-begin, block-told, block-fail, block-end}
 use Rattle.form.specs.Syntax.{Block}
 use Rattle.places.specs.Places.{BlockPlaces}
@@ -31,7 +32,7 @@ one-agrees-requires : tie.Need-one-agrees-requires Inv-loop μ-loop
 one-agrees-requires c κs = search needs
 
 returns : tie.Need-returns Inv-loop μ-loop
-returns c = λ τ size x g p h. block-fail τ x (left-fail (c .before .before .before .before .before .loop .inv .1 τ size x g p h) (c .before .before .before .before .loop-test .taken) (λ y q. block-told (c .before .before .before .before .before .before .before .before .before .before .args .b) (c .before .before .before .before .before .before .before .before .before .before .args .s .now) (c .before .before .before .before .before .before .before .before .before .before .args .places .now) τ (c .before .before .before .before .before .loop .k) _ _ y (c .before .before .before .place-at .ensures) (c .before .before .tail .ensures) (λ i m h. c .before .one-agrees .ensures τ i m g h) q) (if-not _ (c .if1 .taken)))
+returns c = λ τ size x g p h. block-fail τ x (left-fail (c .before .before .before .before .before .loop .inv .1 τ size x g p h) (c .before .before .before .before .loop-test .taken) (λ y q. block-told (c .before .before .before .before .before .before .before .before .before .before .args .b) (c .before .before .before .before .before .before .before .before .before .before .args .s .now) (c .before .before .before .before .before .before .before .before .before .before .args .places .now) τ (c .before .before .before .before .before .loop .k) _ _ y (c .before .before .before .place-at .ensures) (c .before .before .tail .ensures) (λ i m h. c .before .one-agrees .ensures τ i m g h) q) (not-true _ (c .if1 .taken)))
 
 add-k : tie.Need-add-k Inv-loop μ-loop
 add-k c = search needs
@@ -40,7 +41,7 @@ loop-less : tie.Need-loop-less Inv-loop μ-loop
 loop-less c = search needs
 
 loop-again : tie.Need-loop-again Inv-loop μ-loop
-loop-again c = (search needs, λ τ size x g p h. left-next (c .before .before .before .before .before .loop .inv .1 τ size x g p h) (c .before .before .before .before .loop-test .taken) (λ y q. block-told (c .before .before .before .before .before .before .before .before .before .before .args .b) (c .before .before .before .before .before .before .before .before .before .before .args .s .now) (c .before .before .before .before .before .before .before .before .before .before .args .places .now) τ (c .before .before .before .before .before .loop .k) _ _ y (c .before .before .before .place-at .ensures) (c .before .before .tail .ensures) (λ i m h. c .before .one-agrees .ensures τ i m g h) q) (unless-not _ (c .if1 .left)) (omega arith))
+loop-again c = (search needs, λ τ size x g p h. left-next (c .before .before .before .before .before .loop .inv .1 τ size x g p h) (c .before .before .before .before .loop-test .taken) (λ y q. block-told (c .before .before .before .before .before .before .before .before .before .before .args .b) (c .before .before .before .before .before .before .before .before .before .before .args .s .now) (c .before .before .before .before .before .before .before .before .before .before .args .places .now) τ (c .before .before .before .before .before .loop .k) _ _ y (c .before .before .before .place-at .ensures) (c .before .before .tail .ensures) (λ i m h. c .before .one-agrees .ensures τ i m g h) q) (not-false _ (c .if1 .left)) (omega arith))
 
 place-at-requires-2 : tie.Need-place-at-requires-2 Inv-loop μ-loop
 place-at-requires-2 c κs = search needs

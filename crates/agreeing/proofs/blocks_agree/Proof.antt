@@ -1,3 +1,4 @@
+use borrow.Author.Tests.{not-true, not-false}
 use Rattle.agreeing.proofs.blocks_agree.Statement.{statement}
 use Rattle.agreeing.proofs.blocks_agree.Tie as tie
 use mathlib.Core.Path.{_≡_}
@@ -7,7 +8,7 @@ use native.Mathlib.Omega.{arith}
 use lib.ListN.{length}
 use Rattle.eligibility.specs.Lookup.{Types}
 use Rattle.progress.specs.Ground.{Ground}
-use Rattle.fields.proofs.Lines.{left-fail, left-next, left-done, if-not, unless-not}
+use Rattle.fields.proofs.Lines.{left-fail, left-next, left-done}
 use Rattle.agreeing.proofs.Whole.{BlockLeft, blocks-begin, blocks-told}
 use Rattle.form.specs.Syntax.{Block}
 use Rattle.index.specs.Code.{CodeAt}
@@ -32,7 +33,7 @@ block-agrees-requires : tie.Need-block-agrees-requires Inv-loop μ-loop
 block-agrees-requires c κs = search needs
 
 returns : tie.Need-returns Inv-loop μ-loop
-returns c = λ τ ks g p h. left-fail (c .before .before .before .before .before .loop .inv .1 τ ks g p h) (c .before .before .before .before .loop-test .taken) (λ y q. blocks-told (c .before .before .before .before .before .before .before .before .before .before .before .args .b) (c .before .before .before .before .before .before .before .before .before .before .before .args .s .now) (c .before .before .before .before .before .before .before .before .before .before .before .args .places .now) (c .before .before .before .before .before .before .before .before .before .before .before .args .starts .now) τ (c .before .before .before .before .before .loop .k) _ _ y (c .before .before .before .block-places .ensures) (λ js w l. c .before .before .instruction-count .ensures (c .before .before .before .before .before .before .before .before .before .before .before .args .b) (c .before .before .before .before .before .before .before .before .before .before .before .args .s .now) (c .before .before .before .before .before .before .before .before .before .before .before .args .places .now) js w l) (λ size z v m. c .before .block-agrees .ensures τ size z g v m) q) (if-not _ (c .if1 .taken))
+returns c = λ τ ks g p h. left-fail (c .before .before .before .before .before .loop .inv .1 τ ks g p h) (c .before .before .before .before .loop-test .taken) (λ y q. blocks-told (c .before .before .before .before .before .before .before .before .before .before .before .args .b) (c .before .before .before .before .before .before .before .before .before .before .before .args .s .now) (c .before .before .before .before .before .before .before .before .before .before .before .args .places .now) (c .before .before .before .before .before .before .before .before .before .before .before .args .starts .now) τ (c .before .before .before .before .before .loop .k) _ _ y (c .before .before .before .block-places .ensures) (λ js w l. c .before .before .instruction-count .ensures (c .before .before .before .before .before .before .before .before .before .before .before .args .b) (c .before .before .before .before .before .before .before .before .before .before .before .args .s .now) (c .before .before .before .before .before .before .before .before .before .before .before .args .places .now) js w l) (λ size z v m. c .before .block-agrees .ensures τ size z g v m) q) (not-true _ (c .if1 .taken))
 
 add-k : tie.Need-add-k Inv-loop μ-loop
 add-k c = search needs
@@ -41,7 +42,7 @@ loop-less : tie.Need-loop-less Inv-loop μ-loop
 loop-less c = search needs
 
 loop-again : tie.Need-loop-again Inv-loop μ-loop
-loop-again c = (search needs, λ τ ks g p h. left-next (c .before .before .before .before .before .loop .inv .1 τ ks g p h) (c .before .before .before .before .loop-test .taken) (λ y q. blocks-told (c .before .before .before .before .before .before .before .before .before .before .before .args .b) (c .before .before .before .before .before .before .before .before .before .before .before .args .s .now) (c .before .before .before .before .before .before .before .before .before .before .before .args .places .now) (c .before .before .before .before .before .before .before .before .before .before .before .args .starts .now) τ (c .before .before .before .before .before .loop .k) _ _ y (c .before .before .before .block-places .ensures) (λ js w l. c .before .before .instruction-count .ensures (c .before .before .before .before .before .before .before .before .before .before .before .args .b) (c .before .before .before .before .before .before .before .before .before .before .before .args .s .now) (c .before .before .before .before .before .before .before .before .before .before .before .args .places .now) js w l) (λ size z v m. c .before .block-agrees .ensures τ size z g v m) q) (unless-not _ (c .if1 .left)) (omega arith))
+loop-again c = (search needs, λ τ ks g p h. left-next (c .before .before .before .before .before .loop .inv .1 τ ks g p h) (c .before .before .before .before .loop-test .taken) (λ y q. blocks-told (c .before .before .before .before .before .before .before .before .before .before .before .args .b) (c .before .before .before .before .before .before .before .before .before .before .before .args .s .now) (c .before .before .before .before .before .before .before .before .before .before .before .args .places .now) (c .before .before .before .before .before .before .before .before .before .before .before .args .starts .now) τ (c .before .before .before .before .before .loop .k) _ _ y (c .before .before .before .block-places .ensures) (λ js w l. c .before .before .instruction-count .ensures (c .before .before .before .before .before .before .before .before .before .before .before .args .b) (c .before .before .before .before .before .before .before .before .before .before .before .args .s .now) (c .before .before .before .before .before .before .before .before .before .before .before .args .places .now) js w l) (λ size z v m. c .before .block-agrees .ensures τ size z g v m) q) (not-false _ (c .if1 .left)) (omega arith))
 
 returns-2 : tie.Need-returns-2 Inv-loop μ-loop
 returns-2 c = λ τ ks g p h. left-done (c .before .loop .inv .1 τ ks g p h) (c .loop-test .left)

@@ -6,7 +6,7 @@ use mathlib.Core.List.{List}
 use Prim.Native.Nat.{ℕ}
 use native.Mathlib.Omega.{arith}
 use lib.ListN.{length, replicate, length-replicate}
-use Rattle.choosing.proofs.Folding.{take-clear}
+use Rattle.routine.proofs.Body.{take-clear}
 use Rattle.choosing.proofs.Flags.{flag-none}
 use borrow.Author.Tests.{not-true}
 use borrow.Author.Needs.{needs}

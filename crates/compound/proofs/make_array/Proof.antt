@@ -4,11 +4,10 @@ use mathlib.Core.Path.{ap, _∙_, sym}
 use mathlib.Core.Option.{some}
 use Rattle.eligibility.specs.Lookup.{rowOf, recordedType}
 use Rattle.shelf.specs.Parts.{partType}
-use Rattle.fields.specs.Fields.{valueBehind}
 use Rattle.fields.proofs.Lines.{and-both}
 use Rattle.fields.proofs.Single.{type-moved}
 use Rattle.compound.proofs.Long.{make-array-agrees}
-use Rattle.lookup.specs.Fields.{after}
+use Rattle.lookup.specs.Fields.{after, valueStep}
 use borrow.Author.Needs.{needs}
 
 id-type-requires : tie.Need-id-type-requires
@@ -42,7 +41,7 @@ both-requires-2 : tie.Need-both-requires-2
 both-requires-2 c κs = search needs
 
 returns : tie.Need-returns
-returns c = λ τ seen k i n g e. make-array-agrees (c .before .before .before .before .before .before .before .before .before .before .before .before .before .before .args .b) (c .before .before .before .before .before .before .before .before .before .before .before .before .before .before .args .t .now) seen τ k (λ d xs y u l h v. let o = c .before .before .before .before .before .before .before .before .before .id-type .ensures _ _ τ d g u in let w = c .before .before .before .before .before .before .type-at .ensures y (type-moved (c .before .before .before .before .before .before .before .values-end .ensures .0 ∙ ap (λ m. after (valueBehind (c .before .before .before .before .before .before .before .before .before .before .before .before .before .before .args .t .now) 0) m 3) (c .before .before .before .before .before .before .before .before .byte-at .ensures)) v) in c .both2 .ensures ∙ and-both (c .before .before .before .before .before .has-shape .ensures _ τ (recordedType τ d) g o) (c .before .both .ensures ∙ and-both (c .before .before .before .same-type .ensures (partType (rowOf τ (recordedType τ d)) 0) (some y) (c .before .before .before .before .part-type .ensures τ (recordedType τ d) (g .known .rows) (g .rows) o) w) (c .before .before .parts-fit .ensures τ (recordedType τ d) xs g o l (h ∙ sym (c .before .before .before .before .before .before .before .before .byte-at .ensures))))) .each i n e
+returns c = λ τ seen k i n g e. make-array-agrees (c .before .before .before .before .before .before .before .before .before .before .before .before .before .before .args .b) (c .before .before .before .before .before .before .before .before .before .before .before .before .before .before .args .t .now) seen τ k (λ d xs y u l h v. let o = c .before .before .before .before .before .before .before .before .before .id-type .ensures _ _ τ d g u in let w = c .before .before .before .before .before .before .type-at .ensures y (type-moved (c .before .before .before .before .before .before .before .values-end .ensures .0 ∙ ap (λ m. after (valueStep (c .before .before .before .before .before .before .before .before .before .before .before .before .before .before .args .t .now) 0 0) m 3) (c .before .before .before .before .before .before .before .before .byte-at .ensures)) v) in c .both2 .ensures ∙ and-both (c .before .before .before .before .before .has-shape .ensures _ τ (recordedType τ d) g o) (c .before .both .ensures ∙ and-both (c .before .before .before .same-type .ensures (partType (rowOf τ (recordedType τ d)) 0) (some y) (c .before .before .before .before .part-type .ensures τ (recordedType τ d) (g .known .rows) (g .rows) o) w) (c .before .before .parts-fit .ensures τ (recordedType τ d) xs g o l (h ∙ sym (c .before .before .before .before .before .before .before .before .byte-at .ensures))))) .each i n e
 
 pub make-array-spec : {M : Type 1} → statement M
 make-array-spec =

@@ -1,8 +1,9 @@
+use mathlib.Core.Bool.{true≢false}
 use Rattle.cross.proofs.has_build.Statement.{statement}
 use Rattle.cross.proofs.has_build.Tie as tie
 use borrow.Author.Needs.{needs}
 use Prim.Native.Nat.{_-_}
-use Rattle.cross.proofs.Idle.{Idling, idling-start, idling-again, idling-done, was-found}
+use Rattle.cross.proofs.Idle.{Idling, idling-start, idling-again, idling-done}
 
 abbrev Inv-loop : tie.InvT-loop
 Inv-loop s places count eligible k₀ k = Idling s places count eligible k
@@ -23,7 +24,7 @@ eligible-build-requires : tie.Need-eligible-build-requires Inv-loop μ-loop
 eligible-build-requires c κs = search needs
 
 returns : tie.Need-returns Inv-loop μ-loop
-returns c = was-found
+returns c = λ h. absurd (true≢false h)
 
 add-k : tie.Need-add-k Inv-loop μ-loop
 add-k c = search needs

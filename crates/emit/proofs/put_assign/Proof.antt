@@ -6,7 +6,8 @@ use native.Mathlib.Omega.{arith}
 use lib.ListN.{length-append}
 use Rattle.wire.specs.Value.{valueBytes}
 use Rattle.form.specs.Encode.{instructionBytes, fieldBytes, valueIdBytes, typeIdBytes}
-use Rattle.emit.proofs.Sets.{value-short, sets-assign}
+use Rattle.wire.proofs.Canon.{value-short}
+use Rattle.emit.proofs.Sets.{sets-assign}
 
 put-u8-requires : tie.Need-put-u8-requires
 put-u8-requires c κs = search needs

@@ -4,7 +4,7 @@ use Rattle.family.proofs.both_at.Tie as tie
 use mathlib.Core.Path.{sym}
 use mathlib.Core.Bool.{false}
 use lib.ListN.{List·getD-eq-default}
-use Rattle.family.proofs.Dynamic.{and-false}
+use mathlib.Core.Bool.{and-false}
 use lib.ListN.{getD}
 
 returns : tie.Need-returns

@@ -2,9 +2,9 @@ use borrow.Author.Needs.{needs}
 use Rattle.family.proofs.join.Statement.{statement}
 use Rattle.family.proofs.join.Tie as tie
 use mathlib.Core.Path.{refl, sym, _∙_}
-use mathlib.Core.Bool.{true, false}
+use mathlib.Core.Bool.{true, false, true≢false}
 use native.Mathlib.Omega.{arith}
-use Rattle.family.proofs.Members.{join-unasked, join-outside, join-known, join-new, not-both}
+use Rattle.family.proofs.Members.{join-unasked, join-outside, join-known, join-new}
 
 shape-at-requires : tie.Need-shape-at-requires
 shape-at-requires c κs = search needs
@@ -46,7 +46,7 @@ same-length-3 : tie.Need-same-length-3
 same-length-3 c = search needs
 
 returns-4 : tie.Need-returns-4
-returns-4 c = let a = c .before .before .before .before .before .before .before .before .before .before .before .before .before .before .before .before .before .before .before .args in (join-new (a .shape) (a .marks .now) (a .sources .now) (a .dests .now) (a .asked .now) (a .k) _ _ (c .before .before .before .before .before .before .before .before .before .before .before .before .before .before .shape-at .ensures) (c .before .before .before .before .before .before .before .before .before .before .before .before .before .asks .ensures) _ _ (c .before .before .before .before .before .before .before .before .before .before .number .ensures) (c .before .before .before .before .before .before .before .before .before .is-marked .ensures) (c .before .before .before .before .before .before .before .before .before .before .before .before .if1 .left) _ _ (c .before .before .before .before .before .before .before .number2 .ensures) (c .before .before .before .before .before .is-marked2 .ensures) (c .before .before .before .before .before .before .before .before .if2 .left) (c .before .before .mark .ensures), λ z. not-both z)
+returns-4 c = let a = c .before .before .before .before .before .before .before .before .before .before .before .before .before .before .before .before .before .before .before .args in (join-new (a .shape) (a .marks .now) (a .sources .now) (a .dests .now) (a .asked .now) (a .k) _ _ (c .before .before .before .before .before .before .before .before .before .before .before .before .before .before .shape-at .ensures) (c .before .before .before .before .before .before .before .before .before .before .before .before .before .asks .ensures) _ _ (c .before .before .before .before .before .before .before .before .before .before .number .ensures) (c .before .before .before .before .before .before .before .before .before .is-marked .ensures) (c .before .before .before .before .before .before .before .before .before .before .before .before .if1 .left) _ _ (c .before .before .before .before .before .before .before .number2 .ensures) (c .before .before .before .before .before .is-marked2 .ensures) (c .before .before .before .before .before .before .before .before .if2 .left) (c .before .before .mark .ensures), λ z. absurd (true≢false z))
 
 pub join-spec : {M : Type 1} → statement M
 join-spec =

@@ -1,29 +1,30 @@
+use borrow.Author.Tests.{not-true, not-false}
 use Rattle.fitting.proofs.all_fit.Statement.{statement}
 use Rattle.fitting.proofs.all_fit.Tie as tie
 use mathlib.Core.Path.{_≡_, ap, _∙_, sym}
 use mathlib.Core.List.{List}
 use mathlib.Core.Option.{Option}
 use Prim.Native.Nat.{_+_, _-_, _*_, _≤_}
-use native.Mathlib.Nat.{add-zero, zero-add}
+use native.Mathlib.Nat.{zero-add}
 use native.Mathlib.Omega.{arith}
 use lib.ListN.{length}
 use Rattle.wire.specs.declared.TypeId.{TypeId}
 use Rattle.wire.specs.declared.Value.{Value}
-use Rattle.lookup.specs.Fields.{valueEnd}
+use Rattle.lookup.specs.Fields.{valueStep}
+use Rattle.lookup.proofs.Loops.{plain-step}
 use Rattle.parts.specs.Rows.{ValueAt}
 use Rattle.routine.specs.Index.{recordedNumber}
 use Rattle.eligibility.specs.Lookup.{Types, rowOf}
 use Rattle.progress.specs.Ground.{Ground}
 use Rattle.shelf.specs.Parts.{partType}
 use Rattle.shelf.specs.Fits.{fits, allFit}
-use Rattle.fields.specs.Fields.{valueBehind}
-use Rattle.fields.proofs.Lines.{Left, left-begin, left-fail, left-next, left-done, if-not, unless-not}
+use Rattle.fields.proofs.Lines.{Left, left-begin, left-fail, left-next, left-done}
 use Rattle.fitting.specs.Lists.{ValuesAt}
 use Rattle.fitting.proofs.Tests.{fit-all}
 use borrow.Author.Needs.{needs}
 
 abbrev Inv-loop : tie.InvT-loop
-Inv-loop s b types recorded t at n number here₀ i₀ here i = (here ≤ at + 5 * i) × ((i ≤ n) × ((τ : Types) (o : Option TypeId) (xs : List Value) → Ground b s types recorded τ → number ≡ recordedNumber o → ValuesAt (b .next) t at xs → length xs ≡ n → Left (ValueAt (b .next) t) (valueBehind t 0) (λ k x. fits τ x (partType (rowOf τ o) k)) (allFit τ (partType (rowOf τ o)) xs) n here i))
+Inv-loop s b types recorded t at n number here₀ i₀ here i = (here ≤ at + 5 * i) × ((i ≤ n) × ((τ : Types) (o : Option TypeId) (xs : List Value) → Ground b s types recorded τ → number ≡ recordedNumber o → ValuesAt (b .next) t at xs → length xs ≡ n → Left (ValueAt (b .next) t) (valueStep t 0 0) (λ k x. fits τ x (partType (rowOf τ o) k)) (allFit τ (partType (rowOf τ o)) xs) n here i))
 
 abbrev μ-loop : tie.MeasureT-loop
 μ-loop s b types recorded t at n number here₀ i₀ here i = n - i
@@ -41,7 +42,7 @@ value-fits-requires : tie.Need-value-fits-requires Inv-loop μ-loop
 value-fits-requires c κs = search needs
 
 returns : tie.Need-returns Inv-loop μ-loop
-returns c = λ τ o xs g e l h. left-fail (c .before .before .before .before .loop .inv .1 .1 τ o xs g e l h) (c .before .before .before .loop-test .taken) (λ y q. c .before .value-fits .ensures τ y (partType (rowOf τ o) (c .before .before .before .before .loop .i)) g q (c .before .before .part-type .ensures τ o (g .known .rows) (g .rows) e)) (if-not _ (c .if1 .taken))
+returns c = λ τ o xs g e l h. left-fail (c .before .before .before .before .loop .inv .1 .1 τ o xs g e l h) (c .before .before .before .loop-test .taken) (λ y q. c .before .value-fits .ensures τ y (partType (rowOf τ o) (c .before .before .before .before .loop .i)) g q (c .before .before .part-type .ensures τ o (g .known .rows) (g .rows) e)) (not-true _ (c .if1 .taken))
 
 value-end-requires : tie.Need-value-end-requires Inv-loop μ-loop
 value-end-requires c κs = search needs
@@ -53,7 +54,7 @@ loop-less : tie.Need-loop-less Inv-loop μ-loop
 loop-less c = search needs
 
 loop-again : tie.Need-loop-again Inv-loop μ-loop
-loop-again c = (search needs, (search needs, λ τ o xs g e l h. left-next (c .before .before .before .before .before .loop .inv .1 .1 τ o xs g e l h) (c .before .before .before .before .loop-test .taken) (λ y q. c .before .before .value-fits .ensures τ y (partType (rowOf τ o) (c .before .before .before .before .before .loop .i)) g q (c .before .before .before .part-type .ensures τ o (g .known .rows) (g .rows) e)) (unless-not _ (c .before .if1 .left)) (c .value-end .ensures .0 ∙ ap (valueEnd (c .before .before .before .before .before .before .before .before .before .before .args .t .now)) (sym (add-zero (c .before .before .before .before .before .loop .here))))))
+loop-again c = (search needs, (search needs, λ τ o xs g e l h. left-next (c .before .before .before .before .before .loop .inv .1 .1 τ o xs g e l h) (c .before .before .before .before .loop-test .taken) (λ y q. c .before .before .value-fits .ensures τ y (partType (rowOf τ o) (c .before .before .before .before .before .loop .i)) g q (c .before .before .before .part-type .ensures τ o (g .known .rows) (g .rows) e)) (not-false _ (c .before .if1 .left)) (c .value-end .ensures .0 ∙ plain-step (c .before .before .before .before .before .before .before .before .before .before .args .t .now) (c .before .before .before .before .before .loop .here))))
 
 returns-2 : tie.Need-returns-2 Inv-loop μ-loop
 returns-2 c = λ τ o xs g e l h. left-done (c .before .loop .inv .1 .1 τ o xs g e l h) (c .loop-test .left)

@@ -1,25 +1,25 @@
+use borrow.Author.Tests.{not-true, not-false}
 use Rattle.fitting.proofs.all_known.Statement.{statement}
 use Rattle.fitting.proofs.all_known.Tie as tie
-use mathlib.Core.Path.{_≡_, ap, _∙_, sym}
+use mathlib.Core.Path.{_≡_, _∙_}
 use mathlib.Core.List.{List}
 use Prim.Native.Nat.{ℕ, _+_, _-_, _*_, _≤_}
-use native.Mathlib.Nat.{add-zero}
 use native.Mathlib.Omega.{arith}
 use lib.ListN.{length}
 use Rattle.wire.specs.declared.Value.{Value}
-use Rattle.lookup.specs.Fields.{valueEnd}
+use Rattle.lookup.specs.Fields.{valueStep}
+use Rattle.lookup.proofs.Loops.{plain-step}
 use Rattle.parts.specs.Rows.{ValueAt}
 use Rattle.eligibility.specs.Lookup.{Types}
 use Rattle.progress.specs.Ground.{Ground}
 use Rattle.shelf.specs.Lists.{every}
 use Rattle.shelf.specs.Agrees.{isKnown}
-use Rattle.fields.specs.Fields.{valueBehind}
-use Rattle.fields.proofs.Lines.{Left, left-begin, left-fail, left-next, left-done, if-not, unless-not, every-all}
+use Rattle.fields.proofs.Lines.{Left, left-begin, left-fail, left-next, left-done, every-all}
 use Rattle.fitting.specs.Lists.{ValuesAt}
 use borrow.Author.Needs.{needs}
 
 abbrev Inv-loop : tie.InvT-loop
-Inv-loop b recorded t at n here₀ i₀ here i = (here ≤ at + 5 * i) × ((i ≤ n) × ((s types : List ℕ) (τ : Types) (xs : List Value) → Ground b s types recorded τ → ValuesAt (b .next) t at xs → length xs ≡ n → Left (ValueAt (b .next) t) (valueBehind t 0) (λ k x. isKnown τ x) (every (isKnown τ) xs) n here i))
+Inv-loop b recorded t at n here₀ i₀ here i = (here ≤ at + 5 * i) × ((i ≤ n) × ((s types : List ℕ) (τ : Types) (xs : List Value) → Ground b s types recorded τ → ValuesAt (b .next) t at xs → length xs ≡ n → Left (ValueAt (b .next) t) (valueStep t 0 0) (λ k x. isKnown τ x) (every (isKnown τ) xs) n here i))
 
 abbrev μ-loop : tie.MeasureT-loop
 μ-loop b recorded t at n here₀ i₀ here i = n - i
@@ -31,7 +31,7 @@ value-known-requires : tie.Need-value-known-requires Inv-loop μ-loop
 value-known-requires c κs = search needs
 
 returns : tie.Need-returns Inv-loop μ-loop
-returns c = λ s types τ xs g l h. left-fail (c .before .before .before .loop .inv .1 .1 s types τ xs g l h) (c .before .before .loop-test .taken) (λ y q. c .before .value-known .ensures s types τ y g q) (if-not _ (c .if1 .taken))
+returns c = λ s types τ xs g l h. left-fail (c .before .before .before .loop .inv .1 .1 s types τ xs g l h) (c .before .before .loop-test .taken) (λ y q. c .before .value-known .ensures s types τ y g q) (not-true _ (c .if1 .taken))
 
 value-end-requires : tie.Need-value-end-requires Inv-loop μ-loop
 value-end-requires c κs = search needs
@@ -43,7 +43,7 @@ loop-less : tie.Need-loop-less Inv-loop μ-loop
 loop-less c = search needs
 
 loop-again : tie.Need-loop-again Inv-loop μ-loop
-loop-again c = (search needs, (search needs, λ s types τ xs g l h. left-next (c .before .before .before .before .loop .inv .1 .1 s types τ xs g l h) (c .before .before .before .loop-test .taken) (λ y q. c .before .before .value-known .ensures s types τ y g q) (unless-not _ (c .before .if1 .left)) (c .value-end .ensures .0 ∙ ap (valueEnd (c .before .before .before .before .before .before .before .args .t .now)) (sym (add-zero (c .before .before .before .before .loop .here))))))
+loop-again c = (search needs, (search needs, λ s types τ xs g l h. left-next (c .before .before .before .before .loop .inv .1 .1 s types τ xs g l h) (c .before .before .before .loop-test .taken) (λ y q. c .before .before .value-known .ensures s types τ y g q) (not-false _ (c .before .if1 .left)) (c .value-end .ensures .0 ∙ plain-step (c .before .before .before .before .before .before .before .args .t .now) (c .before .before .before .before .loop .here))))
 
 returns-2 : tie.Need-returns-2 Inv-loop μ-loop
 returns-2 c = λ s types τ xs g l h. left-done (c .before .loop .inv .1 .1 s types τ xs g l h) (c .loop-test .left)

@@ -1,21 +1,22 @@
+use borrow.Author.Tests.{not-true, not-false}
 use Rattle.fitting.proofs.arguments_fit.Statement.{statement}
 use Rattle.fitting.proofs.arguments_fit.Tie as tie
 use mathlib.Core.Path.{_≡_, ap, _∙_, sym}
 use mathlib.Core.List.{List}
 use mathlib.Core.Option.{some}
 use Prim.Native.Nat.{_+_, _-_, _*_, _≤_}
-use native.Mathlib.Nat.{add-zero, zero-add}
+use native.Mathlib.Nat.{zero-add}
 use native.Mathlib.Omega.{arith}
 use lib.ListN.{length, getD}
 use Rattle.wire.specs.declared.TypeId.{TypeId}
 use Rattle.wire.specs.declared.Value.{Value}
-use Rattle.lookup.specs.Fields.{valueEnd}
+use Rattle.lookup.specs.Fields.{valueStep}
+use Rattle.lookup.proofs.Loops.{plain-step}
 use Rattle.parts.specs.Rows.{ValueAt}
 use Rattle.eligibility.specs.Lookup.{Types}
 use Rattle.progress.specs.Ground.{Ground}
 use Rattle.shelf.specs.Fits.{fits, argumentsFit}
-use Rattle.fields.specs.Fields.{valueBehind}
-use Rattle.fields.proofs.Lines.{Left, left-begin, left-fail, left-next, left-done, if-not, unless-not}
+use Rattle.fields.proofs.Lines.{Left, left-begin, left-fail, left-next, left-done}
 use Rattle.fields.proofs.Single.{type-moved}
 use Rattle.fitting.specs.Lists.{ValuesAt, TypesIn}
 use Rattle.fitting.proofs.Standing.{lined-at}
@@ -23,7 +24,7 @@ use Rattle.fitting.proofs.Tests.{arguments-all, noType}
 use borrow.Author.Needs.{needs}
 
 abbrev Inv-loop : tie.InvT-loop
-Inv-loop s b types recorded t at n parameters here₀ there₀ i₀ here there i = (here ≤ at + 5 * i) × ((there ≡ parameters + 2 * i) × ((i ≤ n) × ((τ : Types) (xs : List Value) (ts : List TypeId) → Ground b s types recorded τ → ValuesAt (b .next) t at xs → length xs ≡ n → TypesIn (b .types) t parameters ts → length ts ≡ n → Left (ValueAt (b .next) t) (valueBehind t 0) (λ k x. fits τ x (some (getD ts k noType))) (argumentsFit τ xs ts) n here i)))
+Inv-loop s b types recorded t at n parameters here₀ there₀ i₀ here there i = (here ≤ at + 5 * i) × ((there ≡ parameters + 2 * i) × ((i ≤ n) × ((τ : Types) (xs : List Value) (ts : List TypeId) → Ground b s types recorded τ → ValuesAt (b .next) t at xs → length xs ≡ n → TypesIn (b .types) t parameters ts → length ts ≡ n → Left (ValueAt (b .next) t) (valueStep t 0 0) (λ k x. fits τ x (some (getD ts k noType))) (argumentsFit τ xs ts) n here i)))
 
 abbrev μ-loop : tie.MeasureT-loop
 μ-loop s b types recorded t at n parameters here₀ there₀ i₀ here there i = n - i
@@ -38,7 +39,7 @@ value-fits-requires : tie.Need-value-fits-requires Inv-loop μ-loop
 value-fits-requires c κs = search needs
 
 returns : tie.Need-returns Inv-loop μ-loop
-returns c = λ τ xs ts g l h m k. left-fail (c .before .before .before .before .loop .inv .1 .1 .1 τ xs ts g l h m k) (c .before .before .before .loop-test .taken) (λ y q. c .before .value-fits .ensures τ y (some (getD ts (c .before .before .before .before .loop .i) noType)) g q (c .before .before .type-at .ensures _ (type-moved (c .before .before .before .before .loop .inv .1 .0) (lined-at noType ts _ m (c .before .before .before .before .loop .i) (omega (arith, c .before .before .before .loop-test .taken, k)))))) (if-not _ (c .if1 .taken))
+returns c = λ τ xs ts g l h m k. left-fail (c .before .before .before .before .loop .inv .1 .1 .1 τ xs ts g l h m k) (c .before .before .before .loop-test .taken) (λ y q. c .before .value-fits .ensures τ y (some (getD ts (c .before .before .before .before .loop .i) noType)) g q (c .before .before .type-at .ensures _ (type-moved (c .before .before .before .before .loop .inv .1 .0) (lined-at noType ts _ m (c .before .before .before .before .loop .i) (omega (arith, c .before .before .before .loop-test .taken, k)))))) (not-true _ (c .if1 .taken))
 
 value-end-requires : tie.Need-value-end-requires Inv-loop μ-loop
 value-end-requires c κs = search needs
@@ -53,7 +54,7 @@ loop-less : tie.Need-loop-less Inv-loop μ-loop
 loop-less c = search needs
 
 loop-again : tie.Need-loop-again Inv-loop μ-loop
-loop-again c = (search needs, (search needs, (search needs, λ τ xs ts g l h m k. left-next (c .before .before .before .before .before .loop .inv .1 .1 .1 τ xs ts g l h m k) (c .before .before .before .before .loop-test .taken) (λ y q. c .before .before .value-fits .ensures τ y (some (getD ts (c .before .before .before .before .before .loop .i) noType)) g q (c .before .before .before .type-at .ensures _ (type-moved (c .before .before .before .before .before .loop .inv .1 .0) (lined-at noType ts _ m (c .before .before .before .before .before .loop .i) (omega (arith, c .before .before .before .before .loop-test .taken, k)))))) (unless-not _ (c .before .if1 .left)) (c .value-end .ensures .0 ∙ ap (valueEnd (c .before .before .before .before .before .before .before .before .before .before .args .t .now)) (sym (add-zero (c .before .before .before .before .before .loop .here)))))))
+loop-again c = (search needs, (search needs, (search needs, λ τ xs ts g l h m k. left-next (c .before .before .before .before .before .loop .inv .1 .1 .1 τ xs ts g l h m k) (c .before .before .before .before .loop-test .taken) (λ y q. c .before .before .value-fits .ensures τ y (some (getD ts (c .before .before .before .before .before .loop .i) noType)) g q (c .before .before .before .type-at .ensures _ (type-moved (c .before .before .before .before .before .loop .inv .1 .0) (lined-at noType ts _ m (c .before .before .before .before .before .loop .i) (omega (arith, c .before .before .before .before .loop-test .taken, k)))))) (not-false _ (c .before .if1 .left)) (c .value-end .ensures .0 ∙ plain-step (c .before .before .before .before .before .before .before .before .before .before .args .t .now) (c .before .before .before .before .before .loop .here)))))
 
 returns-2 : tie.Need-returns-2 Inv-loop μ-loop
 returns-2 c = λ τ xs ts g l h m k. left-done (c .before .loop .inv .1 .1 .1 τ xs ts g l h m k) (c .loop-test .left)

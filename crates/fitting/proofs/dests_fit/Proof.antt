@@ -1,3 +1,4 @@
+use borrow.Author.Tests.{not-true, not-false}
 use Rattle.fitting.proofs.dests_fit.Statement.{statement}
 use Rattle.fitting.proofs.dests_fit.Tie as tie
 use mathlib.Core.Path.{_≡_, refl, ap, _∙_, sym}
@@ -14,7 +15,7 @@ use Rattle.progress.specs.Ground.{Ground}
 use Rattle.shelf.specs.Fits.{sameType}
 use Rattle.shelf.specs.Agrees.{destsFit}
 use Rattle.fields.specs.Fields.{IdAt}
-use Rattle.fields.proofs.Lines.{Left, left-begin, left-fail, left-next, left-done, if-not, unless-not}
+use Rattle.fields.proofs.Lines.{Left, left-begin, left-fail, left-next, left-done}
 use Rattle.fields.proofs.Single.{type-moved}
 use Rattle.fitting.specs.Lists.{TypesIn, IdsAt, two}
 use Rattle.fitting.proofs.Standing.{lined-at}
@@ -37,7 +38,7 @@ id-has-requires : tie.Need-id-has-requires Inv-loop μ-loop
 id-has-requires c κs = search needs
 
 returns : tie.Need-returns Inv-loop μ-loop
-returns c = λ s types τ ds ts g l h m k. left-fail (c .before .before .before .before .loop .inv .1 .1 .1 s types τ ds ts g l h m k) (c .before .before .before .loop-test .taken) (λ y q. c .before .id-has .ensures s types τ y (some (getD ts (c .before .before .before .before .loop .i) noType)) g q (c .before .before .type-at .ensures _ (type-moved (c .before .before .before .before .loop .inv .1 .0) (lined-at noType ts _ m (c .before .before .before .before .loop .i) (omega (arith, c .before .before .before .loop-test .taken, k)))))) (if-not _ (c .if1 .taken))
+returns c = λ s types τ ds ts g l h m k. left-fail (c .before .before .before .before .loop .inv .1 .1 .1 s types τ ds ts g l h m k) (c .before .before .before .loop-test .taken) (λ y q. c .before .id-has .ensures s types τ y (some (getD ts (c .before .before .before .before .loop .i) noType)) g q (c .before .before .type-at .ensures _ (type-moved (c .before .before .before .before .loop .inv .1 .0) (lined-at noType ts _ m (c .before .before .before .before .loop .i) (omega (arith, c .before .before .before .loop-test .taken, k)))))) (not-true _ (c .if1 .taken))
 
 add-here : tie.Need-add-here Inv-loop μ-loop
 add-here c = search needs
@@ -52,7 +53,7 @@ loop-less : tie.Need-loop-less Inv-loop μ-loop
 loop-less c = search needs
 
 loop-again : tie.Need-loop-again Inv-loop μ-loop
-loop-again c = (search needs, (search needs, (search needs, λ s types τ ds ts g l h m k. left-next (c .before .before .before .before .loop .inv .1 .1 .1 s types τ ds ts g l h m k) (c .before .before .before .loop-test .taken) (λ y q. c .before .id-has .ensures s types τ y (some (getD ts (c .before .before .before .before .loop .i) noType)) g q (c .before .before .type-at .ensures _ (type-moved (c .before .before .before .before .loop .inv .1 .0) (lined-at noType ts _ m (c .before .before .before .before .loop .i) (omega (arith, c .before .before .before .loop-test .taken, k)))))) (unless-not _ (c .if1 .left)) (refl))))
+loop-again c = (search needs, (search needs, (search needs, λ s types τ ds ts g l h m k. left-next (c .before .before .before .before .loop .inv .1 .1 .1 s types τ ds ts g l h m k) (c .before .before .before .loop-test .taken) (λ y q. c .before .id-has .ensures s types τ y (some (getD ts (c .before .before .before .before .loop .i) noType)) g q (c .before .before .type-at .ensures _ (type-moved (c .before .before .before .before .loop .inv .1 .0) (lined-at noType ts _ m (c .before .before .before .before .loop .i) (omega (arith, c .before .before .before .loop-test .taken, k)))))) (not-false _ (c .if1 .left)) (refl))))
 
 returns-2 : tie.Need-returns-2 Inv-loop μ-loop
 returns-2 c = λ s types τ ds ts g l h m k. left-done (c .before .loop .inv .1 .1 .1 s types τ ds ts g l h m k) (c .loop-test .left)

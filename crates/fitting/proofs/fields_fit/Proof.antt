@@ -1,3 +1,4 @@
+use borrow.Author.Tests.{not-true, not-false}
 use Rattle.fitting.proofs.fields_fit.Statement.{statement}
 use Rattle.fitting.proofs.fields_fit.Tie as tie
 use mathlib.Core.Path.{_≡_, ap, _∙_}
@@ -18,7 +19,7 @@ use Rattle.eligibility.specs.Lookup.{Types, rowOf}
 use Rattle.progress.specs.Ground.{Ground}
 use Rattle.shelf.specs.Parts.{partType}
 use Rattle.shelf.specs.Fits.{givenFits, fieldsFit}
-use Rattle.fields.proofs.Lines.{Left, left-begin, left-fail, left-next, left-done, if-not, unless-not, lined-by}
+use Rattle.fields.proofs.Lines.{Left, left-begin, left-fail, left-next, left-done, lined-by}
 use Rattle.fitting.proofs.Tests.{fields-all, FieldHere}
 use borrow.Author.Needs.{needs}
 
@@ -56,7 +57,7 @@ given-fits-requires : tie.Need-given-fits-requires Inv-loop μ-loop
 given-fits-requires c κs = search needs
 
 returns : tie.Need-returns Inv-loop μ-loop
-returns c = λ τ o fs ss g e l h m k p. left-fail (c .before .before .before .before .before .before .loop .inv .1 τ o fs ss g e l h m k p) (c .before .before .before .before .before .loop-test .taken) (λ y q. let j : _≡_ {A = NameId} (record { 0 = c .before .before .before .before .u16-at .result }) (y .name) = ap (λ z. record { 0 = z }) (c .before .before .before .before .u16-at .ensures ∙ q .named) in let w : InitAt (c .before .before .before .before .before .before .before .before .before .before .before .before .args .b .next) (c .before .before .before .before .before .before .before .before .before .before .before .before .args .t .now) (given (y .name) fs) (c .before .before .before .find-init .result) = rw j at (c .before .before .before .find-init .ensures _ fs l h) in c .before .given-fits .ensures τ (given (y .name) fs) (y .part) g w (c .before .before .part-type .ensures τ o (g .known .rows) (g .rows) e ∙ ap recordedNumber (q .part))) (if-not _ (c .if1 .taken))
+returns c = λ τ o fs ss g e l h m k p. left-fail (c .before .before .before .before .before .before .loop .inv .1 τ o fs ss g e l h m k p) (c .before .before .before .before .before .loop-test .taken) (λ y q. let j : _≡_ {A = NameId} (record { 0 = c .before .before .before .before .u16-at .result }) (y .name) = ap (λ z. record { 0 = z }) (c .before .before .before .before .u16-at .ensures ∙ q .named) in let w : InitAt (c .before .before .before .before .before .before .before .before .before .before .before .before .args .b .next) (c .before .before .before .before .before .before .before .before .before .before .before .before .args .t .now) (given (y .name) fs) (c .before .before .before .find-init .result) = rw j at (c .before .before .before .find-init .ensures _ fs l h) in c .before .given-fits .ensures τ (given (y .name) fs) (y .part) g w (c .before .before .part-type .ensures τ o (g .known .rows) (g .rows) e ∙ ap recordedNumber (q .part))) (not-true _ (c .if1 .taken))
 
 add-i : tie.Need-add-i Inv-loop μ-loop
 add-i c = search needs
@@ -65,7 +66,7 @@ loop-less : tie.Need-loop-less Inv-loop μ-loop
 loop-less c = search needs
 
 loop-again : tie.Need-loop-again Inv-loop μ-loop
-loop-again c = (search needs, λ τ o fs ss g e l h m k p. left-next (c .before .before .before .before .before .before .loop .inv .1 τ o fs ss g e l h m k p) (c .before .before .before .before .before .loop-test .taken) (λ y q. let j : _≡_ {A = NameId} (record { 0 = c .before .before .before .before .u16-at .result }) (y .name) = ap (λ z. record { 0 = z }) (c .before .before .before .before .u16-at .ensures ∙ q .named) in let w : InitAt (c .before .before .before .before .before .before .before .before .before .before .before .before .args .b .next) (c .before .before .before .before .before .before .before .before .before .before .before .before .args .t .now) (given (y .name) fs) (c .before .before .before .find-init .result) = rw j at (c .before .before .before .find-init .ensures _ fs l h) in c .before .given-fits .ensures τ (given (y .name) fs) (y .part) g w (c .before .before .part-type .ensures τ o (g .known .rows) (g .rows) e ∙ ap recordedNumber (q .part))) (unless-not _ (c .if1 .left)) (omega arith))
+loop-again c = (search needs, λ τ o fs ss g e l h m k p. left-next (c .before .before .before .before .before .before .loop .inv .1 τ o fs ss g e l h m k p) (c .before .before .before .before .before .loop-test .taken) (λ y q. let j : _≡_ {A = NameId} (record { 0 = c .before .before .before .before .u16-at .result }) (y .name) = ap (λ z. record { 0 = z }) (c .before .before .before .before .u16-at .ensures ∙ q .named) in let w : InitAt (c .before .before .before .before .before .before .before .before .before .before .before .before .args .b .next) (c .before .before .before .before .before .before .before .before .before .before .before .before .args .t .now) (given (y .name) fs) (c .before .before .before .find-init .result) = rw j at (c .before .before .before .find-init .ensures _ fs l h) in c .before .given-fits .ensures τ (given (y .name) fs) (y .part) g w (c .before .before .part-type .ensures τ o (g .known .rows) (g .rows) e ∙ ap recordedNumber (q .part))) (not-false _ (c .if1 .left)) (omega arith))
 
 returns-2 : tie.Need-returns-2 Inv-loop μ-loop
 returns-2 c = λ τ o fs ss g e l h m k p. left-done (c .before .loop .inv .1 τ o fs ss g e l h m k p) (c .loop-test .left)

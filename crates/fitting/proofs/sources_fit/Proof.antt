@@ -1,25 +1,27 @@
+use borrow.Author.Tests.{not-true, not-false}
 use Rattle.fitting.proofs.sources_fit.Statement.{statement}
 use Rattle.fitting.proofs.sources_fit.Tie as tie
-use mathlib.Core.Path.{_≡_}
+use mathlib.Core.Path.{_≡_, _∙_, sym}
 use mathlib.Core.List.{List}
 use mathlib.Core.Option.{Option}
 use Prim.Native.Nat.{_+_, _-_, _*_, _≤_}
+use native.Mathlib.Nat.{add-zero}
 use native.Mathlib.Omega.{arith}
 use lib.ListN.{length}
 use Rattle.wire.specs.declared.TypeId.{TypeId}
 use Rattle.form.specs.Syntax.{Source}
+use Rattle.lookup.specs.Fields.{valueStep}
 use Rattle.routine.specs.Index.{recordedNumber}
 use Rattle.eligibility.specs.Lookup.{Types}
 use Rattle.progress.specs.Ground.{Ground}
 use Rattle.shelf.specs.Lists.{every}
 use Rattle.shelf.specs.Fits.{fits}
-use Rattle.fields.specs.Fields.{valueBehind}
-use Rattle.fields.proofs.Lines.{Left, left-begin, left-fail, left-next, left-done, if-not, unless-not, every-all}
+use Rattle.fields.proofs.Lines.{Left, left-begin, left-fail, left-next, left-done, every-all}
 use Rattle.fitting.specs.Lists.{SourceAt, SourcesAt}
 use borrow.Author.Needs.{needs}
 
 abbrev Inv-loop : tie.InvT-loop
-Inv-loop s b types recorded t at n number here₀ i₀ here i = (here ≤ at + 7 * i) × ((i ≤ n) × ((τ : Types) (o : Option TypeId) (xs : List Source) → Ground b s types recorded τ → number ≡ recordedNumber o → SourcesAt (b .next) t at xs → length xs ≡ n → Left (SourceAt (b .next) t) (valueBehind t 2) (λ k x. fits τ (x .value) o) (every (λ x. fits τ (x .value) o) xs) n here i))
+Inv-loop s b types recorded t at n number here₀ i₀ here i = (here ≤ at + 7 * i) × ((i ≤ n) × ((τ : Types) (o : Option TypeId) (xs : List Source) → Ground b s types recorded τ → number ≡ recordedNumber o → SourcesAt (b .next) t at xs → length xs ≡ n → Left (SourceAt (b .next) t) (valueStep t 2 0) (λ k x. fits τ (x .value) o) (every (λ x. fits τ (x .value) o) xs) n here i))
 
 abbrev μ-loop : tie.MeasureT-loop
 μ-loop s b types recorded t at n number here₀ i₀ here i = n - i
@@ -34,7 +36,7 @@ value-fits-requires : tie.Need-value-fits-requires Inv-loop μ-loop
 value-fits-requires c κs = search needs
 
 returns : tie.Need-returns Inv-loop μ-loop
-returns c = λ τ o xs g e l h. left-fail (c .before .before .before .loop .inv .1 .1 τ o xs g e l h) (c .before .before .loop-test .taken) (λ y q. c .before .value-fits .ensures τ (y .value) o g (q .value) e) (if-not _ (c .if1 .taken))
+returns c = λ τ o xs g e l h. left-fail (c .before .before .before .loop .inv .1 .1 τ o xs g e l h) (c .before .before .loop-test .taken) (λ y q. c .before .value-fits .ensures τ (y .value) o g (q .value) e) (not-true _ (c .if1 .taken))
 
 add-value-end : tie.Need-add-value-end Inv-loop μ-loop
 add-value-end c = search needs
@@ -49,7 +51,7 @@ loop-less : tie.Need-loop-less Inv-loop μ-loop
 loop-less c = search needs
 
 loop-again : tie.Need-loop-again Inv-loop μ-loop
-loop-again c = (search needs, (search needs, λ τ o xs g e l h. left-next (c .before .before .before .before .loop .inv .1 .1 τ o xs g e l h) (c .before .before .before .loop-test .taken) (λ y q. c .before .before .value-fits .ensures τ (y .value) o g (q .value) e) (unless-not _ (c .before .if1 .left)) (c .value-end .ensures .0)))
+loop-again c = (search needs, (search needs, λ τ o xs g e l h. left-next (c .before .before .before .before .loop .inv .1 .1 τ o xs g e l h) (c .before .before .before .loop-test .taken) (λ y q. c .before .before .value-fits .ensures τ (y .value) o g (q .value) e) (not-false _ (c .before .if1 .left)) (c .value-end .ensures .0 ∙ sym (add-zero _))))
 
 returns-2 : tie.Need-returns-2 Inv-loop μ-loop
 returns-2 c = λ τ o xs g e l h. left-done (c .before .loop .inv .1 .1 τ o xs g e l h) (c .loop-test .left)

@@ -11,11 +11,11 @@ sub-if1 c = search needs
 returns : tie.Need-returns
 returns c = λ seen. let a = c .before .before .before .args in simp (number-none (a .s .now) (a .at) 2 (c .if1 .taken), add-zero)
 
-word-requires : tie.Need-word-requires
-word-requires c κs = search needs
+u16-at-requires : tie.Need-u16-at-requires
+u16-at-requires c κs = search needs
 
 returns-2 : tie.Need-returns-2
-returns-2 c = λ seen. let a = c .before .before .before .before .before .args in simp (word-here (a .s .now) (a .at) (c .before .before .if1 .left) (c .before .word .ensures), le-ltb _ _ (c .if2 .taken), add-zero)
+returns-2 c = λ seen. let a = c .before .before .before .before .before .args in simp (word-here (a .s .now) (a .at) (c .before .before .if1 .left) (c .before .u16-at .ensures), le-ltb _ _ (c .if2 .taken), add-zero)
 
 note-requires : tie.Need-note-requires
 note-requires c κs = search needs
@@ -27,9 +27,9 @@ same-length : tie.Need-same-length
 same-length c = search needs
 
 returns-3 : tie.Need-returns-3
-returns-3 c = λ seen. let a = c .before .before .before .before .before .before .before .before .before .args in simp (word-here (a .s .now) (a .at) (c .before .before .before .before .before .before .if1 .left) (c .before .before .before .before .before .word .ensures), lt-ltb _ _ (c .before .before .before .before .if2 .left), c .before .before .note .ensures .0, c .before .before .note .ensures .1)
+returns-3 c = λ seen. let a = c .before .before .before .before .before .before .before .before .before .args in simp (word-here (a .s .now) (a .at) (c .before .before .before .before .before .before .if1 .left) (c .before .before .before .before .before .u16-at .ensures), lt-ltb _ _ (c .before .before .before .before .if2 .left), c .before .before .note .ensures .0, c .before .before .note .ensures .1)
 
 pub base-at-spec : {M : Type 1} → statement M
 base-at-spec =
     tie.close
-    (tie.spec sub-if1 returns word-requires returns-2 note-requires add-t9 same-length returns-3)
+    (tie.spec sub-if1 returns u16-at-requires returns-2 note-requires add-t9 same-length returns-3)

@@ -4,7 +4,7 @@ use Rattle.index.proofs.block_places.Tie as tie
 use mathlib.Core.Path.{_∙_, sym, ap}
 use lib.ListN.{length, drop, drop-of-length-le}
 use native.Mathlib.Nat.{le-refl}
-use Rattle.index.proofs.Parts.{part-all}
+use Rattle.wire.proofs.Laws.{rest-all}
 
 number-requires : tie.Need-number-requires
 number-requires c κs = search needs
@@ -25,7 +25,7 @@ part-result-end : tie.Need-part-result-end
 part-result-end c = search needs
 
 returns : tie.Need-returns
-returns c = let a = c .before .before .before .before .before .args in part-all (c .before .before .number .result) (a .places .now) ∙ ap (λ y. drop y (a .places .now)) (c .before .before .number .ensures)
+returns c = let a = c .before .before .before .before .before .args in rest-all (c .before .before .number .result) (a .places .now) ∙ ap (λ y. drop y (a .places .now)) (c .before .before .number .ensures)
 
 mul-result-2 : tie.Need-mul-result-2
 mul-result-2 c = search needs
@@ -40,7 +40,7 @@ part-result-end-2 : tie.Need-part-result-end-2
 part-result-end-2 c = search needs
 
 returns-2 : tie.Need-returns-2
-returns-2 c = let p = c .before .before .before .before .before .args .places .now in part-all (length p) p ∙ drop-of-length-le p (le-refl (length p)) ∙ sym (drop-of-length-le p (c .before .if1 .left)) ∙ ap (λ y. drop y p) (c .before .before .number .ensures)
+returns-2 c = let p = c .before .before .before .before .before .args .places .now in rest-all (length p) p ∙ drop-of-length-le p (le-refl (length p)) ∙ sym (drop-of-length-le p (c .before .if1 .left)) ∙ ap (λ y. drop y p) (c .before .before .number .ensures)
 
 pub block-places-spec : {M : Type 1} → statement M
 block-places-spec =

@@ -1,5 +1,6 @@
 use borrow.Author.Needs.{needs}
 use borrow.Author.Tests.{not-true}
+use Rattle.table.proofs.Flags.{none-stands}
 use Rattle.writing.proofs.Untouched.{same-chosen}
 use Rattle.lowering.proofs.lower_chosen.Statement.{statement}
 use Rattle.lowering.proofs.lower_chosen.Tie as tie
@@ -8,7 +9,7 @@ any-requires : tie.Need-any-requires
 any-requires c κs = search needs
 
 lower-same-requires : tie.Need-lower-same-requires
-lower-same-requires c κs = same-chosen (c .before .before .before .before .before .before .before .before .before .before .before .before .pre) (c .before .before .any .ensures (not-true _ (c .before .if1 .taken)))
+lower-same-requires c κs = same-chosen (c .before .before .before .before .before .before .before .before .before .before .before .before .pre) (none-stands _ (c .before .before .any .ensures) (not-true _ (c .before .if1 .taken)))
 
 same-length : tie.Need-same-length
 same-length c = search needs

@@ -1,3 +1,4 @@
+use borrow.Author.Tests.{not-true, not-false}
 use Rattle.reaching.proofs.indexes_fit.Statement.{statement}
 use Rattle.reaching.proofs.indexes_fit.Tie as tie
 use mathlib.Core.Path.{_≡_}
@@ -12,7 +13,7 @@ use Rattle.progress.specs.Ground.{Ground}
 use Rattle.shelf.specs.Lists.{every}
 use Rattle.shelf.specs.Agrees.{indexFits}
 use Rattle.fields.specs.Fields.{StepAt}
-use Rattle.fields.proofs.Lines.{Left, left-begin, left-fail, left-next, left-done, if-not, unless-not, every-all}
+use Rattle.fields.proofs.Lines.{Left, left-begin, left-fail, left-next, left-done, every-all}
 use Rattle.reaching.specs.Places.{StepsIn}
 use borrow.Author.Needs.{needs}
 
@@ -29,7 +30,7 @@ index-fits-requires : tie.Need-index-fits-requires Inv-loop μ-loop
 index-fits-requires c κs = search needs
 
 returns : tie.Need-returns Inv-loop μ-loop
-returns c = λ τ ps g l h. left-fail (c .before .before .before .loop .inv .1 .1 τ ps g l h) (c .before .before .loop-test .taken) (λ y q. c .before .index-fits .ensures τ y g q) (if-not _ (c .if1 .taken))
+returns c = λ τ ps g l h. left-fail (c .before .before .before .loop .inv .1 .1 τ ps g l h) (c .before .before .loop-test .taken) (λ y q. c .before .index-fits .ensures τ y g q) (not-true _ (c .if1 .taken))
 
 projection-end-requires : tie.Need-projection-end-requires Inv-loop μ-loop
 projection-end-requires c κs = search needs
@@ -41,7 +42,7 @@ loop-less : tie.Need-loop-less Inv-loop μ-loop
 loop-less c = search needs
 
 loop-again : tie.Need-loop-again Inv-loop μ-loop
-loop-again c = (search needs, (search needs, λ τ ps g l h. left-next (c .before .before .before .before .loop .inv .1 .1 τ ps g l h) (c .before .before .before .loop-test .taken) (λ y q. c .before .before .index-fits .ensures τ y g q) (unless-not _ (c .before .if1 .left)) (c .projection-end .ensures .0)))
+loop-again c = (search needs, (search needs, λ τ ps g l h. left-next (c .before .before .before .before .loop .inv .1 .1 τ ps g l h) (c .before .before .before .loop-test .taken) (λ y q. c .before .before .index-fits .ensures τ y g q) (not-false _ (c .before .if1 .left)) (c .projection-end .ensures .0)))
 
 returns-2 : tie.Need-returns-2 Inv-loop μ-loop
 returns-2 c = λ τ ps g l h. left-done (c .before .loop .inv .1 .1 τ ps g l h) (c .loop-test .left)

@@ -2,7 +2,7 @@ use borrow.Author.Needs.{needs}
 use Rattle.rebuild.proofs.put_value_at.Statement.{statement}
 use Rattle.rebuild.proofs.put_value_at.Tie as tie
 use native.Mathlib.Omega.{arith}
-use Rattle.emit.proofs.Sets.{value-short}
+use Rattle.wire.proofs.Canon.{value-short}
 
 value-at-requires : tie.Need-value-at-requires
 value-at-requires c κs = search needs

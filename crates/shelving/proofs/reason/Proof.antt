@@ -1,4 +1,5 @@
 use mathlib.Core.Path.{_∙_, sym}
+use Rattle.table.proofs.Flags.{none-stands}
 use Rattle.shelving.proofs.Reasons.{told, of-deep, lists-few, reason-first, reason-undropped, reason-4, reason-5, reason-0}
 use borrow.Author.Tests.{not-true}
 use borrow.Author.Needs.{needs}
@@ -18,7 +19,7 @@ any-requires : tie.Need-any-requires
 any-requires c κs = search needs
 
 returns-2 : tie.Need-returns-2
-returns-2 c = λ x w h. reason-undropped x w 0 (sym (c .before .before .if1 .left) ∙ c .before .before .before .reason-number .ensures ∙ c .before .before .before .before .input-reason .ensures x (h .input)) (λ v. sym (h .marked v) ∙ c .before .any .ensures (not-true _ (c .if2 .taken)) v)
+returns-2 c = λ x w h. reason-undropped x w 0 (sym (c .before .before .if1 .left) ∙ c .before .before .before .reason-number .ensures ∙ c .before .before .before .before .input-reason .ensures x (h .input)) (λ v. sym (h .marked v) ∙ none-stands _ (c .before .any .ensures) (not-true _ (c .if2 .taken)) v)
 
 no-deep-store-requires : tie.Need-no-deep-store-requires
 no-deep-store-requires c κs = search needs

@@ -83,10 +83,7 @@ add-end c =
     omega (arith, told-size asPart (λ t. mapParse unit (typeOf (a .most) (l .k) t)) (l .at) (a .s .now) (size-unit-type (a .most) (l .k)) (l .inv .in-s) (c .before .before .before .read-type .ensures) (c .before .size .given .1))
 
 type-before-requires : tie.Need-type-before-requires Inv-loop μ-loop
-type-before-requires c κs =
-    let a = c .before .before .before .before .before .before .before .before .before .before .before .before .before .before .before .args in
-    let l = c .before .before .before .before .before .before .before .loop in
-    (omega arith, omega arith, told-size asPart (λ t. mapParse unit (typeOf (a .most) (l .k) t)) (l .at) (a .s .now) (size-unit-type (a .most) (l .k)) (l .inv .in-s) (c .before .before .before .before .read-type .ensures) (c .before .before .size .given .1))
+type-before-requires c κs = search needs
 
 same-length-2 : tie.Need-same-length-2 Inv-loop μ-loop
 same-length-2 c = c .before .before .before .before .before .before .before .before .before .loop .inv .long ∙ length-set (c .before .before .before .before .before .before .before .before .before .before .before .before .before .before .before .before .before .args .starts .now) 0 (c .before .before .before .before .before .before .before .before .before .before .before .before .count .given .0 .1 .0)

@@ -46,7 +46,7 @@ same-bytes-requires c κs = search needs
 returns : tie.Need-returns Inv-loop μ-loop
 returns c =
     let a = c .before .before .before .before .before .before .before .before .before .before .args in
-    before-stop (a .s .now) (a .starts .now) (c .before .before .before .before .before .before .before .between .result .now) (c .before .before .between2 .result .now) (a .k) (a .at) (a .end) (c .before .before .before .before .before .before .loop .j) (c .before .before .before .before .before .before .loop .inv) (c .before .before .before .before .before .loop-test .taken) (c .before .before .before .before .before .before .before .between .ensures (c .before .before .before .before .before .before .before .before .before .before .pre .1) (c .before .before .before .before .before .before .before .before .before .before .pre .2)) (c .before .before .between2 .ensures) (sym (c .before .same-bytes .ensures) ∙ c .if1 .taken)
+    before-stop (a .s .now) (a .starts .now) (c .before .before .before .before .before .before .before .between .result .now) (c .before .before .between2 .result .now) (a .k) (a .at) (a .end) (c .before .before .before .before .before .before .loop .j) (c .before .before .before .before .before .before .loop .inv) (c .before .before .before .before .before .loop-test .taken) (c .before .before .before .before .before .before .before .between .ensures) (c .before .before .between2 .ensures) (sym (c .before .same-bytes .ensures) ∙ c .if1 .taken)
 
 add-j : tie.Need-add-j Inv-loop μ-loop
 add-j c = search needs
@@ -57,7 +57,7 @@ loop-less c = search needs
 loop-again : tie.Need-loop-again Inv-loop μ-loop
 loop-again c =
     let a = c .before .before .before .before .before .before .before .before .before .before .args in
-    before-again (a .s .now) (a .starts .now) (c .before .before .before .before .before .before .before .between .result .now) (c .before .before .between2 .result .now) (a .k) (a .at) (a .end) (c .before .before .before .before .before .before .loop .j) (c .before .before .before .before .before .before .loop .inv) (c .before .before .before .before .before .loop-test .taken) (c .before .before .before .before .before .before .before .between .ensures (c .before .before .before .before .before .before .before .before .before .before .pre .1) (c .before .before .before .before .before .before .before .before .before .before .pre .2)) (c .before .before .between2 .ensures) (sym (c .before .same-bytes .ensures) ∙ c .if1 .left)
+    before-again (a .s .now) (a .starts .now) (c .before .before .before .before .before .before .before .between .result .now) (c .before .before .between2 .result .now) (a .k) (a .at) (a .end) (c .before .before .before .before .before .before .loop .j) (c .before .before .before .before .before .before .loop .inv) (c .before .before .before .before .before .loop-test .taken) (c .before .before .before .before .before .before .before .between .ensures) (c .before .before .between2 .ensures) (sym (c .before .same-bytes .ensures) ∙ c .if1 .left)
 
 returns-2 : tie.Need-returns-2 Inv-loop μ-loop
 returns-2 c =

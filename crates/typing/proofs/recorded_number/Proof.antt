@@ -1,24 +1,17 @@
 use borrow.Author.Needs.{needs}
 use Rattle.typing.proofs.recorded_number.Statement.{statement}
 use Rattle.typing.proofs.recorded_number.Tie as tie
+use mathlib.Core.Path.{_∙_}
 use Rattle.typing.proofs.Numbers.{recorded-at}
-use native.Mathlib.Omega.{arith}
 
-cast-i : tie.Need-cast-i
-cast-i c = search needs
+cast-number : tie.Need-cast-number
+cast-number c = search needs
 
-mul-result : tie.Need-mul-result
-mul-result c = search needs
-
-shared-slice-read-result : tie.Need-shared-slice-read-result
-shared-slice-read-result c = search needs
+number-requires : tie.Need-number-requires
+number-requires c κs = search needs
 
 returns : tie.Need-returns
-returns c = λ τ a l h. recorded-at (c .before .before .before .args .recorded .now) τ (c .before .before .before .args .v) a l h
-
-returns-2 : tie.Need-returns-2
-returns-2 c = λ τ a l h. absurd (omega (arith, c .if1 .left))
+returns c = λ τ a l h. c .number .ensures ∙ recorded-at (c .before .before .before .args .recorded .now) τ (c .before .before .before .args .v) a l h
 
 pub recorded-number-spec : {M : Type 1} → statement M
-recorded-number-spec =
-    tie.close (tie.spec cast-i mul-result shared-slice-read-result returns returns-2)
+recorded-number-spec = tie.close (tie.spec cast-number number-requires returns)

@@ -7,7 +7,7 @@ use Prim.Native.Nat.{ℕ}
 use native.Mathlib.Omega.{arith}
 use lib.ListN.{length, replicate, length-replicate}
 use mathlib.Core.List.{List}
-use Rattle.choosing.proofs.Folding.{take-clear}
+use Rattle.routine.proofs.Body.{take-clear}
 
 returns : tie.Need-returns
 returns c = λ k τ is l few cp m s dy. absurd (c .if1 .taken k)

@@ -26,7 +26,7 @@ use Rattle.lookup.specs.declared.Step.{Step}
 use Rattle.eligibility.specs.Climb.{isSome}
 use Rattle.eligibility.specs.Lookup.{Types, valueRow, fieldIndex, asConstInteger}
 use Rattle.rewriting.specs.State.{AggStates, onSome, stepIndex, stepPart}
-use Rattle.parts.specs.Rows.{ValueAt, stands, counted, InitAt}
+use Rattle.parts.specs.Rows.{ValueAt, stands, InitAt}
 use Rattle.parts.specs.declared.Init.{Init}
 use Rattle.chains.specs.Chained.{asPosition, operandIn, LeadsTo, hasPart, partAt}
 use Rattle.chains.specs.declared.Position.{Position}
@@ -56,14 +56,16 @@ module _ {p : Step} {q : Projection} (τ : Types) (v : ValueId) (e : asStep p �
   pub no-step : {A : Type 0} → p ≡ Step.Nothing → A
   no-step h = absurd (let z : none ≡ some q = sym (ap asStep h) ∙ e in let y : _≡_ {A = ℕ} 0 1 = cc in omega arith)
 
--- whether there is a part, by the number that the tables have
-pub part-untracked : (o : Option (List Value)) (k : ℕ) {n : ℕ} → n ≡ counted o → n ≡ 0 → false ≡ hasPart o k
-part-untracked none k e h = refl
-part-untracked (some xs) k e h = absurd (omega arith)
+-- whether there is a part, by what the tables have: a mark, and a number of parts
+pub part-untracked : (o : Option (List Value)) (k : ℕ) → isSome o ≡ false → false ≡ hasPart o k
+unfolding isSome
+part-untracked none k e = refl
+part-untracked (some xs) k e = absurd (let z : _≡_ {A = ℕ} 0 1 = cc in omega arith)
 
-pub part-counted : (o : Option (List Value)) (k : ℕ) {n : ℕ} → n ≡ counted o → (n ≡ 0 → ⊥) → ltb k (n - 1) ≡ hasPart o k
-part-counted none k e h = absurd (h e)
-part-counted (some xs) k {n} e h = let z : n - 1 ≡ length xs = omega arith in rw z
+pub part-tracked : (o : Option (List Value)) (k : ℕ) {n : ℕ} → isSome o ≡ true → ((xs : List Value) → o ≡ some xs → n ≡ length xs) → ltb k n ≡ hasPart o k
+unfolding isSome
+part-tracked none k e f = absurd (let z : _≡_ {A = ℕ} 0 1 = cc in omega arith)
+part-tracked (some xs) k {n} e f = let z : n ≡ length xs = f xs refl in rw z
 
 -- the parts where there is part k
 pub data Has (o : Option (List Value)) (k : ℕ) : Type 0 where

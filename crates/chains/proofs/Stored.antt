@@ -26,6 +26,7 @@ use Rattle.lookup.proofs.Places.{Listed, empty, _&_}
 use Rattle.lookup.proofs.Instruction.{instruction-fields, instruction-stands}
 use Rattle.eligibility.specs.Climb.{isSome}
 use Rattle.eligibility.specs.Lookup.{Types}
+use Rattle.eligibility.specs.Family.{Marks}
 use Rattle.rewriting.specs.State.{AggStates, onSome, insertState, replaced, stepIndex, storePart, storeLast, forwardStore}
 use Rattle.parts.specs.Rows.{ValueAt, stands, Rep}
 use Rattle.parts.proofs.Tables.{replaced-set, replaced-past}
@@ -80,7 +81,7 @@ stored-value b s t u from f many far i n p x y {r} et ef eu em ea g e k =
     ]
 
 -- nothing is forwarded
-pub forwards-none : {next : ℕ} {s counts firsts pool : List ℕ} {used : ℕ} {S : AggStates} {o : Option AggStates} → o ≡ none → Rep next s counts firsts pool used S → Forwards next s S o counts firsts pool (record { forwarded = false; used = used })
+pub forwards-none : {next : ℕ} {s : List ℕ} {tracked : Marks} {firsts pool : List ℕ} {used : ℕ} {S : AggStates} {o : Option AggStates} → o ≡ none → Rep next s tracked firsts pool used S → Forwards next s S o tracked firsts pool (record { forwarded = false; used = used })
 unfolding statesAfter isSome
 forwards-none e r = record { told = rw e; rep = rw e r }
 
@@ -98,7 +99,7 @@ module _ (S : AggStates) (v : ValueId) (k : ℕ) (y : Value) {h : Bool} (e : h �
           rw (g, w)
 
   -- the part
-  pub store-replaced : {next : ℕ} {s counts firsts pool : List ℕ} {more : ℕ} → h ≡ true → ((xs ys : List Value) → S (v .0) ≡ some xs → replaced xs k y ≡ some ys → Rep next s counts firsts pool more (insertState S v ys)) → Forwards next s S (storePart S v k y) counts firsts pool (record { forwarded = true; used = more })
+  pub store-replaced : {next : ℕ} {s : List ℕ} {tracked : Marks} {firsts pool : List ℕ} {more : ℕ} → h ≡ true → ((xs ys : List Value) → S (v .0) ≡ some xs → replaced xs k y ≡ some ys → Rep next s tracked firsts pool more (insertState S v ys)) → Forwards next s S (storePart S v k y) tracked firsts pool (record { forwarded = true; used = more })
   unfolding storePart onSome statesAfter isSome
   store-replaced {next} {s} f w =
       elim (has-part (S (v .0)) k (sym e ∙ f)) [
@@ -136,7 +137,7 @@ module _ {b : Bounds} {t : List ℕ} (τ : Types) (S : AggStates) (p : Place) (y
         ]
 
     -- an operand does
-    pub store-ends : {s counts firsts pool : List ℕ} {o : Forwarded} (v : ValueId) {w : Walked} → LeadsTo (b .next) (held τ S (record { 0 = at }) (p .projections) (many - 1)) w → w ≡ Walked.Operand v → (j : Step) → asStep j ≡ getElem? (p .projections) (many - 1) → ((q : Projection) → v .0 < b .next → asStep j ≡ some q → Forwards (b .next) s S (storeLast τ S (Value.Operand v) q y) counts firsts pool o) → Forwards (b .next) s S (forwardStore τ S p y) counts firsts pool o
+    pub store-ends : {s : List ℕ} {tracked : Marks} {firsts pool : List ℕ} {o : Forwarded} (v : ValueId) {w : Walked} → LeadsTo (b .next) (held τ S (record { 0 = at }) (p .projections) (many - 1)) w → w ≡ Walked.Operand v → (j : Step) → asStep j ≡ getElem? (p .projections) (many - 1) → ((q : Projection) → v .0 < b .next → asStep j ≡ some q → Forwards (b .next) s S (storeLast τ S (Value.Operand v) q y) tracked firsts pool o) → Forwards (b .next) s S (forwardStore τ S p y) tracked firsts pool o
     unfolding onSome
     store-ends v to f j look step =
         let l = last-long (p .projections) (r .long) h in
@@ -149,5 +150,5 @@ module _ {b : Bounds} {t : List ℕ} (τ : Types) (S : AggStates) (p : Place) (y
         ]
 
 -- both facts of a Store's answer
-pub both-facts : {next : ℕ} {s counts firsts pool : List ℕ} {S : AggStates} {o : Option AggStates} {r : Forwarded} → Forwards next s S o counts firsts pool r → (r .forwarded ≡ isSome o) × Rep next s counts firsts pool (r .used) (statesAfter S o)
+pub both-facts : {next : ℕ} {s : List ℕ} {tracked : Marks} {firsts pool : List ℕ} {S : AggStates} {o : Option AggStates} {r : Forwarded} → Forwards next s S o tracked firsts pool r → (r .forwarded ≡ isSome o) × Rep next s tracked firsts pool (r .used) (statesAfter S o)
 both-facts f = (f .told, f .rep)

@@ -16,6 +16,7 @@ use Rattle.form.specs.declared.Bounds.{Bounds}
 use Rattle.lookup.specs.Fields.{placeSteps}
 use Rattle.eligibility.specs.Climb.{isSome}
 use Rattle.eligibility.specs.Lookup.{Types}
+use Rattle.eligibility.specs.Family.{Marks}
 use Rattle.rewriting.specs.State.{AggStates, onSome, chain, firstInteger}
 use Rattle.parts.specs.Rows.{Rep}
 use Rattle.progress.specs.Ground.{Ground}
@@ -53,10 +54,10 @@ hasPart none k = false
 hasPart (some xs) k = ltb k (length xs)
 
 -- what a walk looks at: the bytes, the tables beside them and the tables of tracked values
-pub record Walking (b : Bounds) (s types recorded counts firsts pool : List ℕ) (τ : Types) (S : AggStates) : Type 0 where
+pub record Walking (b : Bounds) (s types recorded : List ℕ) (tracked : Marks) (firsts pool : List ℕ) (τ : Types) (S : AggStates) : Type 0 where
   pub ground : Ground b s types recorded τ
   pub used : ℕ
-  pub rep : Rep (b .next) s counts firsts pool used S
+  pub rep : Rep (b .next) s tracked firsts pool used S
 
 -- an accepted instruction stands at the head of t, and ps are its projections
 pub data StepsAt (b : Bounds) (t : List ℕ) (ps : List Projection) : Type 0 where
@@ -87,6 +88,6 @@ statesAfter S none = S
 statesAfter S (some S′) = S′
 
 -- a Store's answer: whether it is forwarded, and the tables hold the states behind it
-pub record Forwards (next : ℕ) (s : List ℕ) (S : AggStates) (o : Option AggStates) (counts firsts pool : List ℕ) (r : Forwarded) : Type 0 where
+pub record Forwards (next : ℕ) (s : List ℕ) (S : AggStates) (o : Option AggStates) (tracked : Marks) (firsts pool : List ℕ) (r : Forwarded) : Type 0 where
   pub told : r .forwarded ≡ isSome o
-  pub rep : Rep next s counts firsts pool (r .used) (statesAfter S o)
+  pub rep : Rep next s tracked firsts pool (r .used) (statesAfter S o)

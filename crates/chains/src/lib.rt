@@ -109,11 +109,11 @@ pub fn load_part(
     b: Bounds,
     types: &[usize],
     recorded: &[u16],
-    counts: &[u16],
+    tracked: &[bool],
     firsts: &[u16],
     pool: &[usize],
 ) -> Init
-    ensures { λ r. ⌜ ((τ : Types) (S : AggStates) (used : ℕ) (i : Instruction) (n : ℕ) (d : AnyId) (p : Place) (y : AnyType) → Ground b (now (s .entry)) (now (types .entry)) (now (recorded .entry)) τ → Rep (b .next) (now (s .entry)) (now (counts .entry)) (now (firsts .entry)) (now (pool .entry)) used S → instructionOf b [] false (drop at (now (s .entry))) ≡ ok i n → i .kind ≡ InstructionKind.Load d p y → InitAt (b .next) (now (s .entry)) (loadedPart τ S p) r) ⌝ }
+    ensures { λ r. ⌜ ((τ : Types) (S : AggStates) (used : ℕ) (i : Instruction) (n : ℕ) (d : AnyId) (p : Place) (y : AnyType) → Ground b (now (s .entry)) (now (types .entry)) (now (recorded .entry)) τ → Rep (b .next) (now (s .entry)) (now (tracked .entry)) (now (firsts .entry)) (now (pool .entry)) used S → instructionOf b [] false (drop at (now (s .entry))) ≡ ok i n → i .kind ≡ InstructionKind.Load d p y → InitAt (b .next) (now (s .entry)) (loadedPart τ S p) r) ⌝ }
 {
     let t = form::tail(s, at);
     let u = form::tail(t, lookup::fields_place(t));
@@ -125,14 +125,14 @@ pub fn load_part(
         };
     }
     let base = ValueId(wire::u16_at(u, 2));
-    match path::holder(s, t, b, types, recorded, counts, firsts, pool, base, n - 1) {
+    match path::holder(s, t, b, types, recorded, tracked, firsts, pool, base, n - 1) {
         Walked::Nothing => Init {
             given: false,
             place: 0,
         },
         Walked::Operand(v) => {
             let p = lookup::projection(t, b, n - 1);
-            path::step_part(s, b, types, recorded, counts, firsts, pool, v, p)
+            path::step_part(s, b, types, recorded, tracked, firsts, pool, v, p)
         }
     }
 }
@@ -164,7 +164,7 @@ fn stored_place(s: &[u8], at: usize) -> usize
 
 // Part `k` of `v` is the value at a place now, where `v` is tracked and has that part.
 fn store_part(
-    counts: &mut [u16],
+    tracked: &mut [bool],
     firsts: &mut [u16],
     pool: &mut [usize],
     used: usize,
@@ -173,11 +173,11 @@ fn store_part(
     place: usize,
 ) -> Forwarded
     requires { ⌜ used < 60000 ⌝ }
-    ensures { λ r. ⌜ r .used ≤ used + 16 ⌝ }
-    ensures { λ r. ⌜ ((next : ℕ) (s : List ℕ) (S : AggStates) (y : AnyValue) → Rep next s (now (counts .entry)) (now (firsts .entry)) (now (pool .entry)) used S → Room (now (counts .entry)) (now (firsts .entry)) (now (pool .entry)) used (v .0) → ValueAt next s place y → Forwards next s S (storePart S v k y) (now (counts .exit)) (now (firsts .exit)) (now (pool .exit)) r) ⌝ }
+    ensures { λ r. ⌜ r .used ≤ used + 17 ⌝ }
+    ensures { λ r. ⌜ ((next : ℕ) (s : List ℕ) (S : AggStates) (y : AnyValue) → Rep next s (now (tracked .entry)) (now (firsts .entry)) (now (pool .entry)) used S → Room (now (tracked .entry)) (now (firsts .entry)) (now (pool .entry)) used (v .0) → ValueAt next s place y → Forwards next s S (storePart S v k y) (now (tracked .exit)) (now (firsts .exit)) (now (pool .exit)) r) ⌝ }
 {
-    if path::has_part(counts, v, k) {
-        let more = parts::replace(counts, firsts, pool, used, v, v, k, place);
+    if path::has_part(tracked, firsts, pool, v, k) {
+        let more = parts::replace(tracked, firsts, pool, used, v, v, k, place);
         return Forwarded {
             forwarded: true,
             used: more,
@@ -195,7 +195,7 @@ fn store_last(
     b: Bounds,
     types: &[usize],
     recorded: &[u16],
-    counts: &mut [u16],
+    tracked: &mut [bool],
     firsts: &mut [u16],
     pool: &mut [usize],
     used: usize,
@@ -204,11 +204,11 @@ fn store_last(
     place: usize,
 ) -> Forwarded
     requires { ⌜ used < 60000 ⌝ }
-    ensures { λ r. ⌜ r .used ≤ used + 16 ⌝ }
-    ensures { λ r. ⌜ ((τ : Types) (S : AggStates) (q : Projection) (y : AnyValue) → Ground b (now (s .entry)) (now (types .entry)) (now (recorded .entry)) τ → Rep (b .next) (now (s .entry)) (now (counts .entry)) (now (firsts .entry)) (now (pool .entry)) used S → Tables (now (counts .entry)) (now (firsts .entry)) (now (pool .entry)) used → v .0 < b .next → asStep p ≡ some q → ValueAt (b .next) (now (s .entry)) place y → Forwards (b .next) (now (s .entry)) S (storeLast τ S (AnyValue.Operand v) q y) (now (counts .exit)) (now (firsts .exit)) (now (pool .exit)) r) ⌝ }
+    ensures { λ r. ⌜ r .used ≤ used + 17 ⌝ }
+    ensures { λ r. ⌜ ((τ : Types) (S : AggStates) (q : Projection) (y : AnyValue) → Ground b (now (s .entry)) (now (types .entry)) (now (recorded .entry)) τ → Rep (b .next) (now (s .entry)) (now (tracked .entry)) (now (firsts .entry)) (now (pool .entry)) used S → Tables (now (tracked .entry)) (now (firsts .entry)) (now (pool .entry)) used → v .0 < b .next → asStep p ≡ some q → ValueAt (b .next) (now (s .entry)) place y → Forwards (b .next) (now (s .entry)) S (storeLast τ S (AnyValue.Operand v) q y) (now (tracked .exit)) (now (firsts .exit)) (now (pool .exit)) r) ⌝ }
 {
     match path::step_index(s, b, types, recorded, v, p) {
-        Position::At(k) => store_part(counts, firsts, pool, used, v, k, place),
+        Position::At(k) => store_part(tracked, firsts, pool, used, v, k, place),
         Position::Nothing => Forwarded {
             forwarded: false,
             used: used,
@@ -223,14 +223,14 @@ pub fn forward_store(
     b: Bounds,
     types: &[usize],
     recorded: &[u16],
-    counts: &mut [u16],
+    tracked: &mut [bool],
     firsts: &mut [u16],
     pool: &mut [usize],
     used: usize,
 ) -> Forwarded
     requires { ⌜ used < 60000 ⌝ }
-    ensures { λ r. ⌜ r .used ≤ used + 16 ⌝ }
-    ensures { λ r. ⌜ ((τ : Types) (S : AggStates) (i : Instruction) (n : ℕ) (p : Place) (x : AnyValue) (y : AnyType) → Ground b (now (s .entry)) (now (types .entry)) (now (recorded .entry)) τ → Rep (b .next) (now (s .entry)) (now (counts .entry)) (now (firsts .entry)) (now (pool .entry)) used S → Tables (now (counts .entry)) (now (firsts .entry)) (now (pool .entry)) used → instructionOf b [] false (drop at (now (s .entry))) ≡ ok i n → i .kind ≡ InstructionKind.Store p x y → (r .forwarded ≡ isSome (forwardStore τ S p x)) × Rep (b .next) (now (s .entry)) (now (counts .exit)) (now (firsts .exit)) (now (pool .exit)) (r .used) (statesAfter S (forwardStore τ S p x))) ⌝ }
+    ensures { λ r. ⌜ r .used ≤ used + 17 ⌝ }
+    ensures { λ r. ⌜ ((τ : Types) (S : AggStates) (i : Instruction) (n : ℕ) (p : Place) (x : AnyValue) (y : AnyType) → Ground b (now (s .entry)) (now (types .entry)) (now (recorded .entry)) τ → Rep (b .next) (now (s .entry)) (now (tracked .entry)) (now (firsts .entry)) (now (pool .entry)) used S → Tables (now (tracked .entry)) (now (firsts .entry)) (now (pool .entry)) used → instructionOf b [] false (drop at (now (s .entry))) ≡ ok i n → i .kind ≡ InstructionKind.Store p x y → (r .forwarded ≡ isSome (forwardStore τ S p x)) × Rep (b .next) (now (s .entry)) (now (tracked .exit)) (now (firsts .exit)) (now (pool .exit)) (r .used) (statesAfter S (forwardStore τ S p x))) ⌝ }
 {
     let t = form::tail(s, at);
     let u = form::tail(t, lookup::fields_place(t));
@@ -242,7 +242,7 @@ pub fn forward_store(
         };
     }
     let base = ValueId(wire::u16_at(u, 0));
-    match path::holder(s, t, b, types, recorded, counts, firsts, pool, base, n - 1) {
+    match path::holder(s, t, b, types, recorded, tracked, firsts, pool, base, n - 1) {
         Walked::Nothing => Forwarded {
             forwarded: false,
             used: used,
@@ -255,7 +255,7 @@ pub fn forward_store(
                 b,
                 types,
                 recorded,
-                counts,
+                tracked,
                 firsts,
                 pool,
                 used,

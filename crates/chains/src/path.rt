@@ -58,19 +58,18 @@ pub fn step_index(
 }
 
 // A value is tracked and has part `k`.
-pub fn has_part(counts: &[u16], v: ValueId, k: u32) -> bool
-    ensures { λ r. ⌜ ((next : ℕ) (s firsts pool : List ℕ) (used : ℕ) (S : AggStates) → Rep next s (now (counts .entry)) firsts pool used S → r ≡ hasPart (S (v .0)) k) ⌝ }
+pub fn has_part(tracked: &[bool], firsts: &[u16], pool: &[usize], v: ValueId, k: u32) -> bool
+    ensures { λ r. ⌜ ((next : ℕ) (s : List ℕ) (used : ℕ) (S : AggStates) → Rep next s (now (tracked .entry)) (now (firsts .entry)) (now (pool .entry)) used S → r ≡ hasPart (S (v .0)) k) ⌝ }
 {
-    let n = parts::tracked(counts, v);
-    if n == 0 {
+    if !parts::tracked(tracked, v) {
         return false;
     }
-    k < n as u32 - 1
+    k < parts::part_count(firsts, pool, v) as u32
 }
 
 // A value's part at a position, where it is tracked and has that part.
-fn part_at(counts: &[u16], firsts: &[u16], pool: &[usize], v: ValueId, q: Position) -> Init
-    ensures { λ r. ⌜ ((next : ℕ) (s : List ℕ) (used : ℕ) (S : AggStates) → Rep next s (now (counts .entry)) (now (firsts .entry)) (now (pool .entry)) used S → InitAt next s (partAt S v (asPosition q)) r) ⌝ }
+fn part_at(tracked: &[bool], firsts: &[u16], pool: &[usize], v: ValueId, q: Position) -> Init
+    ensures { λ r. ⌜ ((next : ℕ) (s : List ℕ) (used : ℕ) (S : AggStates) → Rep next s (now (tracked .entry)) (now (firsts .entry)) (now (pool .entry)) used S → InitAt next s (partAt S v (asPosition q)) r) ⌝ }
 {
     match q {
         Position::Nothing => Init {
@@ -78,7 +77,7 @@ fn part_at(counts: &[u16], firsts: &[u16], pool: &[usize], v: ValueId, q: Positi
             place: 0,
         },
         Position::At(k) => {
-            if has_part(counts, v, k) {
+            if has_part(tracked, firsts, pool, v, k) {
                 return Init {
                     given: true,
                     place: parts::part_place(firsts, pool, v, k),
@@ -98,16 +97,16 @@ pub fn step_part(
     b: Bounds,
     types: &[usize],
     recorded: &[u16],
-    counts: &[u16],
+    tracked: &[bool],
     firsts: &[u16],
     pool: &[usize],
     v: ValueId,
     p: Step,
 ) -> Init
-    ensures { λ r. ⌜ ((τ : Types) (S : AggStates) (q : Projection) → Walking b (now (s .entry)) (now (types .entry)) (now (recorded .entry)) (now (counts .entry)) (now (firsts .entry)) (now (pool .entry)) τ S → v .0 < b .next → asStep p ≡ some q → InitAt (b .next) (now (s .entry)) (stepPart τ S (AnyValue.Operand v) q) r) ⌝ }
+    ensures { λ r. ⌜ ((τ : Types) (S : AggStates) (q : Projection) → Walking b (now (s .entry)) (now (types .entry)) (now (recorded .entry)) (now (tracked .entry)) (now (firsts .entry)) (now (pool .entry)) τ S → v .0 < b .next → asStep p ≡ some q → InitAt (b .next) (now (s .entry)) (stepPart τ S (AnyValue.Operand v) q) r) ⌝ }
 {
     part_at(
-        counts,
+        tracked,
         firsts,
         pool,
         v,
@@ -135,15 +134,15 @@ fn step_operand(
     b: Bounds,
     types: &[usize],
     recorded: &[u16],
-    counts: &[u16],
+    tracked: &[bool],
     firsts: &[u16],
     pool: &[usize],
     v: ValueId,
     p: Step,
 ) -> Walked
-    ensures { λ r. ⌜ ((τ : Types) (S : AggStates) (q : Projection) → Walking b (now (s .entry)) (now (types .entry)) (now (recorded .entry)) (now (counts .entry)) (now (firsts .entry)) (now (pool .entry)) τ S → v .0 < b .next → asStep p ≡ some q → LeadsTo (b .next) (stepPart τ S (AnyValue.Operand v) q) r) ⌝ }
+    ensures { λ r. ⌜ ((τ : Types) (S : AggStates) (q : Projection) → Walking b (now (s .entry)) (now (types .entry)) (now (recorded .entry)) (now (tracked .entry)) (now (firsts .entry)) (now (pool .entry)) τ S → v .0 < b .next → asStep p ≡ some q → LeadsTo (b .next) (stepPart τ S (AnyValue.Operand v) q) r) ⌝ }
 {
-    let part = step_part(s, b, types, recorded, counts, firsts, pool, v, p);
+    let part = step_part(s, b, types, recorded, tracked, firsts, pool, v, p);
     if !part.given {
         return Walked::Nothing;
     }
@@ -157,19 +156,19 @@ fn walk(
     b: Bounds,
     types: &[usize],
     recorded: &[u16],
-    counts: &[u16],
+    tracked: &[bool],
     firsts: &[u16],
     pool: &[usize],
     base: ValueId,
     k: u8,
 ) -> Walked
-    ensures { λ r. ⌜ ((τ : Types) (S : AggStates) (ps : List Projection) → Walking b (now (s .entry)) (now (types .entry)) (now (recorded .entry)) (now (counts .entry)) (now (firsts .entry)) (now (pool .entry)) τ S → StepsAt b (now (t .entry)) ps → base .0 < b .next → k ≤ length ps → LeadsTo (b .next) (chain τ S (AnyValue.Operand base) (take k ps)) r) ⌝ }
+    ensures { λ r. ⌜ ((τ : Types) (S : AggStates) (ps : List Projection) → Walking b (now (s .entry)) (now (types .entry)) (now (recorded .entry)) (now (tracked .entry)) (now (firsts .entry)) (now (pool .entry)) τ S → StepsAt b (now (t .entry)) ps → base .0 < b .next → k ≤ length ps → LeadsTo (b .next) (chain τ S (AnyValue.Operand base) (take k ps)) r) ⌝ }
 {
     let mut v = base.0;
     let mut i: u8 = 0;
     while i < k {
         let p = lookup::projection(t, b, i);
-        match step_operand(s, b, types, recorded, counts, firsts, pool, ValueId(v), p) {
+        match step_operand(s, b, types, recorded, tracked, firsts, pool, ValueId(v), p) {
             Walked::Nothing => return Walked::Nothing,
             Walked::Operand(w) => {
                 v = w.0;
@@ -207,16 +206,16 @@ pub fn holder(
     b: Bounds,
     types: &[usize],
     recorded: &[u16],
-    counts: &[u16],
+    tracked: &[bool],
     firsts: &[u16],
     pool: &[usize],
     base: ValueId,
     last: u8,
 ) -> Walked
-    ensures { λ r. ⌜ ((τ : Types) (S : AggStates) (ps : List Projection) → Walking b (now (s .entry)) (now (types .entry)) (now (recorded .entry)) (now (counts .entry)) (now (firsts .entry)) (now (pool .entry)) τ S → StepsAt b (now (t .entry)) ps → base .0 < b .next → length ps ≡ last + 1 → LeadsTo (b .next) (held τ S base ps last) r) ⌝ }
+    ensures { λ r. ⌜ ((τ : Types) (S : AggStates) (ps : List Projection) → Walking b (now (s .entry)) (now (types .entry)) (now (recorded .entry)) (now (tracked .entry)) (now (firsts .entry)) (now (pool .entry)) τ S → StepsAt b (now (t .entry)) ps → base .0 < b .next → length ps ≡ last + 1 → LeadsTo (b .next) (held τ S base ps last) r) ⌝ }
 {
     if is_integer(lookup::projection(t, b, 0)) {
-        return walk(s, t, b, types, recorded, counts, firsts, pool, base, last);
+        return walk(s, t, b, types, recorded, tracked, firsts, pool, base, last);
     }
     Walked::Nothing
 }

@@ -12,6 +12,7 @@ use Rattle.wire.specs.declared.ValueId.{ValueId}
 use Rattle.wire.specs.declared.TypeId.{TypeId}
 use Rattle.form.specs.Syntax.{Instruction}
 use Rattle.eligibility.specs.Climb.{isSome}
+use Rattle.eligibility.specs.Family.{Marks}
 use Rattle.rewriting.specs.State.{AggStates, insertState, stateOf, onSome, replaced}
 use Rattle.rewriting.specs.Step.{Piece, kept, left, tracked, assigned, stepBuild, foldedParts, stepInsert, handOn, stepAssign}
 use Rattle.parts.specs.Rows.{ValueAt, Rep, InitAt, givenParts}
@@ -36,74 +37,74 @@ pub has-parts : {S : AggStates} {o : Option (List Value)} {r : Source} {v : Valu
 has-parts {S} {o} {r} {v} (rows w xs f g) e = let z : v ≡ w = cc in rw z (has xs f g)
 has-parts (nothing f) e = absurd (let u : _≡_ {A = ℕ} 0 1 = cc in omega arith)
 
-module _ {next : ℕ} {s counts firsts pool : List ℕ} {S : AggStates} {i : Instruction} where
+module _ {next : ℕ} {s : List ℕ} {marks : Marks} {firsts pool : List ℕ} {S : AggStates} {i : Instruction} where
   -- an instruction that stays
-  pub stays : {used : ℕ} {p : Piece} → p ≡ kept S i → Rep next s counts firsts pool used S → Decided next s counts firsts pool S i p (record { action = Action.Keep; used = used })
+  pub stays : {used : ℕ} {p : Piece} → p ≡ kept S i → Rep next s marks firsts pool used S → Decided next s marks firsts pool S i p (record { action = Action.Keep; used = used })
   unfolding kept
   stays e r = record { rep = rw e r; does = e }
 
   -- one whose dest is tracked
-  pub tracks : {used : ℕ} (c : Counted) (d : ValueId) (xs : List Value) {p : Piece} → p ≡ tracked (countedAs c) S d xs → Rep next s counts firsts pool used (insertState S d xs) → Decided next s counts firsts pool S i p (record { action = Action.Track d c; used = used })
+  pub tracks : {used : ℕ} (c : Counted) (d : ValueId) (xs : List Value) {p : Piece} → p ≡ tracked (countedAs c) S d xs → Rep next s marks firsts pool used (insertState S d xs) → Decided next s marks firsts pool S i p (record { action = Action.Track d c; used = used })
   unfolding tracked left
   tracks c d xs e r = record { rep = rw e r; does = rw e refl }
 
   -- a build
-  pub build-stays : {used : ℕ} (fold : B.Bool) (d : ValueId) (o : Option (List Value)) → fold ≡ false → Rep next s counts firsts pool used S → Decided next s counts firsts pool S i (stepBuild S i d (foldedParts fold o)) (record { action = Action.Keep; used = used })
+  pub build-stays : {used : ℕ} (fold : B.Bool) (d : ValueId) (o : Option (List Value)) → fold ≡ false → Rep next s marks firsts pool used S → Decided next s marks firsts pool S i (stepBuild S i d (foldedParts fold o)) (record { action = Action.Keep; used = used })
   unfolding stepBuild foldedParts
   build-stays fold d o e r = stays (rw e refl) r
 
-  pub build-tracks : {used : ℕ} (fold : B.Bool) (d : ValueId) (xs : List Value) → fold ≡ true → Rep next s counts firsts pool used (insertState S d xs) → Decided next s counts firsts pool S i (stepBuild S i d (foldedParts fold (some xs))) (record { action = Action.Track d Counted.Build; used = used })
+  pub build-tracks : {used : ℕ} (fold : B.Bool) (d : ValueId) (xs : List Value) → fold ≡ true → Rep next s marks firsts pool used (insertState S d xs) → Decided next s marks firsts pool S i (stepBuild S i d (foldedParts fold (some xs))) (record { action = Action.Track d Counted.Build; used = used })
   unfolding stepBuild foldedParts
   build-tracks fold d xs e r = tracks Counted.Build d xs (rw e refl) r
 
-  pub build-none : {used : ℕ} (fold : B.Bool) (d : ValueId) (o : Option (List Value)) → o ≡ none → Rep next s counts firsts pool used S → Decided next s counts firsts pool S i (stepBuild S i d (foldedParts fold o)) (record { action = Action.Keep; used = used })
+  pub build-none : {used : ℕ} (fold : B.Bool) (d : ValueId) (o : Option (List Value)) → o ≡ none → Rep next s marks firsts pool used S → Decided next s marks firsts pool S i (stepBuild S i d (foldedParts fold o)) (record { action = Action.Keep; used = used })
   unfolding stepBuild foldedParts
   build-none true d o e r = stays (rw e refl) r
   build-none false d o e r = stays refl r
 
   -- a struct's build, by whether its parts were found
-  struct-built : {used : ℕ} (d : ValueId) (o : Option (List Value)) (all : B.Bool) → all ≡ isSome o → Rep next s counts firsts pool used (givenParts S d o) → Decided next s counts firsts pool S i (stepBuild S i d o) (record { action = builtAs all d; used = used })
+  struct-built : {used : ℕ} (d : ValueId) (o : Option (List Value)) (all : B.Bool) → all ≡ isSome o → Rep next s marks firsts pool used (givenParts S d o) → Decided next s marks firsts pool S i (stepBuild S i d o) (record { action = builtAs all d; used = used })
   unfolding stepBuild givenParts isSome
   struct-built d none all e r = rw e (stays refl r)
   struct-built d (some xs) all e r = rw e (tracks Counted.Build d xs refl r)
 
-  pub struct-tracks : {used : ℕ} (fold all : B.Bool) {a : Action} (d : ValueId) (o o′ : Option (List Value)) → fold ≡ true → o ≡ o′ → a ≡ builtAs all d → all ≡ isSome o′ → Rep next s counts firsts pool used (givenParts S d o′) → Decided next s counts firsts pool S i (stepBuild S i d (foldedParts fold o)) (record { action = a; used = used })
+  pub struct-tracks : {used : ℕ} (fold all : B.Bool) {a : Action} (d : ValueId) (o o′ : Option (List Value)) → fold ≡ true → o ≡ o′ → a ≡ builtAs all d → all ≡ isSome o′ → Rep next s marks firsts pool used (givenParts S d o′) → Decided next s marks firsts pool S i (stepBuild S i d (foldedParts fold o)) (record { action = a; used = used })
   unfolding foldedParts
   struct-tracks fold all d o o′ e f g h r = rw (e, f, g) (struct-built d o′ all h r)
 
   -- an insert
-  pub insert-stays : {used : ℕ} (k : ℕ) (d : ValueId) (x y : Value) → stateOf S x ≡ none → Rep next s counts firsts pool used S → Decided next s counts firsts pool S i (stepInsert S i d (onSome (stateOf S x) (λ xs. replaced xs k y))) (record { action = Action.Keep; used = used })
+  pub insert-stays : {used : ℕ} (k : ℕ) (d : ValueId) (x y : Value) → stateOf S x ≡ none → Rep next s marks firsts pool used S → Decided next s marks firsts pool S i (stepInsert S i d (onSome (stateOf S x) (λ xs. replaced xs k y))) (record { action = Action.Keep; used = used })
   unfolding stepInsert onSome
   insert-stays k d x y e r = stays (rw e refl) r
 
-  pub insert-past : {used : ℕ} (k : ℕ) (d : ValueId) (x y : Value) (xs : List Value) → stateOf S x ≡ some xs → length xs ≤ k → Rep next s counts firsts pool used S → Decided next s counts firsts pool S i (stepInsert S i d (onSome (stateOf S x) (λ xs. replaced xs k y))) (record { action = Action.Keep; used = used })
+  pub insert-past : {used : ℕ} (k : ℕ) (d : ValueId) (x y : Value) (xs : List Value) → stateOf S x ≡ some xs → length xs ≤ k → Rep next s marks firsts pool used S → Decided next s marks firsts pool S i (stepInsert S i d (onSome (stateOf S x) (λ xs. replaced xs k y))) (record { action = Action.Keep; used = used })
   unfolding stepInsert onSome
   insert-past k d x y xs e h r = stays (rw (e, replaced-past xs k y h) refl) r
 
-  pub insert-tracks : {used : ℕ} (k : ℕ) (d : ValueId) (x y : Value) (xs : List Value) → stateOf S x ≡ some xs → k < length xs → Rep next s counts firsts pool used (insertState S d (set xs k y)) → Decided next s counts firsts pool S i (stepInsert S i d (onSome (stateOf S x) (λ xs. replaced xs k y))) (record { action = Action.Track d Counted.Insert; used = used })
+  pub insert-tracks : {used : ℕ} (k : ℕ) (d : ValueId) (x y : Value) (xs : List Value) → stateOf S x ≡ some xs → k < length xs → Rep next s marks firsts pool used (insertState S d (set xs k y)) → Decided next s marks firsts pool S i (stepInsert S i d (onSome (stateOf S x) (λ xs. replaced xs k y))) (record { action = Action.Track d Counted.Insert; used = used })
   unfolding stepInsert onSome
   insert-tracks k d x y xs e h r = tracks Counted.Insert d (set xs k y) (rw (e, replaced-set xs k y h) refl) r
 
   -- an Assign
-  pub assign-stays : {used : ℕ} (d : ValueId) (o : Option (List Value)) → o ≡ none → Rep next s counts firsts pool used S → Decided next s counts firsts pool S i (stepAssign S i d o) (record { action = Action.Keep; used = used })
+  pub assign-stays : {used : ℕ} (d : ValueId) (o : Option (List Value)) → o ≡ none → Rep next s marks firsts pool used S → Decided next s marks firsts pool S i (stepAssign S i d o) (record { action = Action.Keep; used = used })
   unfolding stepAssign
   assign-stays d o e r = stays (rw e refl) r
 
-  pub assign-tracks : {used : ℕ} (d : ValueId) (o : Option (List Value)) (xs : List Value) → o ≡ some xs → Rep next s counts firsts pool used (insertState S d xs) → Decided next s counts firsts pool S i (stepAssign S i d o) (record { action = Action.Track d Counted.Assign; used = used })
+  pub assign-tracks : {used : ℕ} (d : ValueId) (o : Option (List Value)) (xs : List Value) → o ≡ some xs → Rep next s marks firsts pool used (insertState S d xs) → Decided next s marks firsts pool S i (stepAssign S i d o) (record { action = Action.Track d Counted.Assign; used = used })
   unfolding stepAssign
   assign-tracks d o xs e r = tracks Counted.Assign d xs (rw e refl) r
 
   -- a part that is not there
-  pub take-stays : {used : ℕ} (whole : B.Bool) (d : ValueId) (t : TypeId) (o : Option Value) → o ≡ none → Rep next s counts firsts pool used S → Decided next s counts firsts pool S i (stepTaken whole S i d t o) (record { action = Action.Keep; used = used })
+  pub take-stays : {used : ℕ} (whole : B.Bool) (d : ValueId) (t : TypeId) (o : Option Value) → o ≡ none → Rep next s marks firsts pool used S → Decided next s marks firsts pool S i (stepTaken whole S i d t o) (record { action = Action.Keep; used = used })
   unfolding stepTaken
   take-stays whole d t o e r = stays (rw e refl) r
 
   -- one that is
-  pub take-assigns : {used place : ℕ} (whole : B.Bool) (d : ValueId) (t : TypeId) (o : Option Value) (x : Value) → o ≡ some x → cond whole (stateOf S x) none ≡ none → ValueAt next s place x → Rep next s counts firsts pool used S → Decided next s counts firsts pool S i (stepTaken whole S i d t o) (record { action = Action.Assign d place t; used = used })
+  pub take-assigns : {used place : ℕ} (whole : B.Bool) (d : ValueId) (t : TypeId) (o : Option Value) (x : Value) → o ≡ some x → cond whole (stateOf S x) none ≡ none → ValueAt next s place x → Rep next s marks firsts pool used S → Decided next s marks firsts pool S i (stepTaken whole S i d t o) (record { action = Action.Assign d place t; used = used })
   unfolding stepTaken handOn assigned
   take-assigns whole d t o x e f v r = record { rep = rw (e, f) r; does = assigned-from x v (rw (e, f) refl) }
 
-  pub take-tracks : {used : ℕ} (whole : B.Bool) (d : ValueId) (t : TypeId) (o : Option Value) (x : Value) (xs : List Value) → o ≡ some x → cond whole (stateOf S x) none ≡ some xs → Rep next s counts firsts pool used (insertState S d xs) → Decided next s counts firsts pool S i (stepTaken whole S i d t o) (record { action = Action.Track d Counted.Extract; used = used })
+  pub take-tracks : {used : ℕ} (whole : B.Bool) (d : ValueId) (t : TypeId) (o : Option Value) (x : Value) (xs : List Value) → o ≡ some x → cond whole (stateOf S x) none ≡ some xs → Rep next s marks firsts pool used (insertState S d xs) → Decided next s marks firsts pool S i (stepTaken whole S i d t o) (record { action = Action.Track d Counted.Extract; used = used })
   unfolding stepTaken handOn
   take-tracks whole d t o x xs e f r = tracks Counted.Extract d xs (rw (e, f) refl) r
 

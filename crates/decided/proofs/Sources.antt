@@ -19,9 +19,8 @@ use Rattle.lookup.specs.Fields.{asFound}
 use Rattle.routine.specs.declared.Recorded.{Recorded}
 use Rattle.routine.specs.Index.{recordedNumber, recordedFrom, asRecorded}
 use Rattle.eligibility.specs.Lookup.{Types, rowOf, recordedType, valueRow, shape, isTuple, isStruct, isArray, isAggregate}
-use Rattle.eligibility.specs.Climb.{orElse, structRow}
+use Rattle.eligibility.specs.Climb.{isSome, orElse, structRow}
 use Rattle.rewriting.specs.State.{AggStates, stateOf}
-use Rattle.parts.specs.Rows.{counted}
 use Rattle.progress.specs.Ground.{Ground}
 use Rattle.decided.specs.Decided.{SourceOf, rows, nothing}
 use Rattle.decided.specs.declared.Source.{Source}
@@ -42,22 +41,24 @@ pub error-source : (S : AggStates) {x : Value} → x ≡ Value.Error → SourceO
 unfolding stateOf
 error-source S e = nothing (ap (stateOf S) e)
 
--- an operand has them where its number is not 0
-number-source : (S : AggStates) (v : ValueId) (n : ℕ) (o : Option (List Value)) → S (v .0) ≡ o → n ≡ counted o → (n ≡ 0 → ⊥) → SourceOf S (S (v .0)) (Source.Tracked v)
-number-source S v n none f e h = absurd (h e)
-number-source S v n (some xs) f e h = rows v xs f f
+-- an operand has them where it is marked
+marked-source : (S : AggStates) (v : ValueId) (o : Option (List Value)) → S (v .0) ≡ o → isSome o ≡ B.true → SourceOf S (S (v .0)) (Source.Tracked v)
+unfolding isSome
+marked-source S v none f e = absurd (let z : _≡_ {A = ℕ} 0 1 = cc in omega arith)
+marked-source S v (some xs) f e = rows v xs f f
 
-pub operand-source : (S : AggStates) {x : Value} {v : ValueId} {n : ℕ} → x ≡ Value.Operand v → n ≡ counted (S (v .0)) → (n ≡ 0 → ⊥) → SourceOf S (stateOf S x) (Source.Tracked v)
+pub operand-source : (S : AggStates) {x : Value} {v : ValueId} {m : B.Bool} → x ≡ Value.Operand v → m ≡ isSome (S (v .0)) → m ≡ B.true → SourceOf S (stateOf S x) (Source.Tracked v)
 unfolding stateOf
-operand-source S {x} {v} {n} e f h = rw e (number-source S v n (S (v .0)) refl f h)
+operand-source S {x} {v} {m} e f h = rw e (marked-source S v (S (v .0)) refl (sym f ∙ h))
 
-empty-source : (S : AggStates) (v : ValueId) (o : Option (List Value)) → S (v .0) ≡ o → counted o ≡ 0 → SourceOf S (S (v .0)) Source.Untracked
-empty-source S v none f e = nothing f
-empty-source S v (some xs) f e = absurd (omega arith)
+clear-source : (S : AggStates) (v : ValueId) (o : Option (List Value)) → S (v .0) ≡ o → isSome o ≡ B.false → SourceOf S (S (v .0)) Source.Untracked
+unfolding isSome
+clear-source S v none f e = nothing f
+clear-source S v (some xs) f e = absurd (let z : _≡_ {A = ℕ} 0 1 = cc in omega arith)
 
-pub operand-untracked : (S : AggStates) {x : Value} {v : ValueId} {n : ℕ} → x ≡ Value.Operand v → n ≡ counted (S (v .0)) → n ≡ 0 → SourceOf S (stateOf S x) Source.Untracked
+pub operand-untracked : (S : AggStates) {x : Value} {v : ValueId} {m : B.Bool} → x ≡ Value.Operand v → m ≡ isSome (S (v .0)) → m ≡ B.false → SourceOf S (stateOf S x) Source.Untracked
 unfolding stateOf
-operand-untracked S {x} {v} {n} e f h = rw e (empty-source S v (S (v .0)) refl (sym f ∙ h))
+operand-untracked S {x} {v} {m} e f h = rw e (clear-source S v (S (v .0)) refl (sym f ∙ h))
 
 -- the type of an instruction, and the row of it
 shaped : (o : Option MirType) → not (eqb (shape o) 0) ≡ isAggregate o

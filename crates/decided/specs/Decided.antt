@@ -15,6 +15,7 @@ use Rattle.form.specs.Decode.{instructionOf}
 use Rattle.form.specs.declared.Bounds.{Bounds}
 use Rattle.lookup.specs.Fields.{fieldsPlace}
 use Rattle.eligibility.specs.Lookup.{Types}
+use Rattle.eligibility.specs.Family.{Marks}
 use Rattle.rewriting.specs.declared.Counts.{Counts}
 use Rattle.rewriting.specs.State.{AggStates, stateOf}
 use Rattle.rewriting.specs.Step.{Piece, kept, left, assigned, handOn, oneBuild, oneExtract, oneInsert, oneAssign}
@@ -44,8 +45,8 @@ Does next s S i p (Action.Track d c) = p ≡ left (countedAs c) (d ∷ []) (p .s
 Does next s S i p (Action.Assign d place t) = Assigned next s S p d place t
 
 -- the tables hold the states behind the piece, and the action does it
-pub record Decided (next : ℕ) (s counts firsts pool : List ℕ) (S : AggStates) (i : Instruction) (p : Piece) (r : Decision) : Type 0 where
-  pub rep : Rep next s counts firsts pool (r .used) (p .states)
+pub record Decided (next : ℕ) (s : List ℕ) (tracked : Marks) (firsts pool : List ℕ) (S : AggStates) (i : Instruction) (p : Piece) (r : Decision) : Type 0 where
+  pub rep : Rep next s tracked firsts pool (r .used) (p .states)
   pub does : Does next s S i p (r .action)
 
 -- an instruction's place, its fields', its first field as a value, and its kind
@@ -56,10 +57,10 @@ pub record SpotAt (s : List ℕ) (at : ℕ) (p : Spot) : Type 0 where
   pub kind : p .kind ≡ getD (drop at s) 1 0
 
 -- the instruction there, and the tables before it
-pub record Here (b : Bounds) (s types recorded counts firsts pool : List ℕ) (used : ℕ) (τ : Types) (S : AggStates) (p : Spot) (i : Instruction) (n : ℕ) : Type 0 where
+pub record Here (b : Bounds) (s types recorded : List ℕ) (tracked : Marks) (firsts pool : List ℕ) (used : ℕ) (τ : Types) (S : AggStates) (p : Spot) (i : Instruction) (n : ℕ) : Type 0 where
   pub ground : Ground b s types recorded τ
-  pub rep : Rep (b .next) s counts firsts pool used S
-  pub tables : Tables counts firsts pool used
+  pub rep : Rep (b .next) s tracked firsts pool used S
+  pub tables : Tables tracked firsts pool used
   pub spot : SpotAt s (p .at) p
   pub read : instructionOf b [] false (drop (p .at) s) ≡ ok i n
 

@@ -68,17 +68,17 @@ pub struct Spot {
 }
 
 // Whether a value is tracked.
-pub fn tracked_source(counts: &[u16], x: Value) -> Source
-    ensures { λ r. ⌜ ((next : ℕ) (s firsts pool : List ℕ) (used : ℕ) (S : AggStates) → Rep next s (now (counts .entry)) firsts pool used S → SourceOf S (stateOf S x) r) ⌝ }
+pub fn tracked_source(tracked: &[bool], x: Value) -> Source
+    ensures { λ r. ⌜ ((next : ℕ) (s firsts pool : List ℕ) (used : ℕ) (S : AggStates) → Rep next s (now (tracked .entry)) firsts pool used S → SourceOf S (stateOf S x) r) ⌝ }
 {
     match x {
         Value::Literal(_) => Source::Untracked,
         Value::Error => Source::Untracked,
         Value::Operand(v) => {
-            if parts::tracked(counts, v) == 0 {
-                return Source::Untracked;
+            if parts::tracked(tracked, v) {
+                return Source::Tracked(v);
             }
-            Source::Tracked(v)
+            Source::Untracked
         }
     }
 }
@@ -117,14 +117,14 @@ pub fn build(
     off: usize,
     d: ValueId,
     fold: bool,
-    counts: &mut [u16],
+    tracked: &mut [bool],
     firsts: &mut [u16],
     pool: &mut [usize],
     used: usize,
 ) -> Decision
     requires { ⌜ (used < 60000) × (off < 2199023255552) ⌝ }
-    ensures { λ r. ⌜ r .used ≤ used + 16 ⌝ }
-    ensures { λ r. ⌜ ((next : ℕ) (S : AggStates) (i : Instruction) (xs : List ValueOf) → Rep next (now (s .entry)) (now (counts .entry)) (now (firsts .entry)) (now (pool .entry)) used S → Room (now (counts .entry)) (now (firsts .entry)) (now (pool .entry)) used (d .0) → Values next (now (s .entry)) 0 (off + 3) xs → length xs ≡ getD (now (s .entry)) (off + 2) 0 → length xs ≤ 16 → Decided next (now (s .entry)) (now (counts .exit)) (now (firsts .exit)) (now (pool .exit)) S i (stepBuild S i d (foldedParts fold (some xs))) r) ⌝ }
+    ensures { λ r. ⌜ r .used ≤ used + 17 ⌝ }
+    ensures { λ r. ⌜ ((next : ℕ) (S : AggStates) (i : Instruction) (xs : List ValueOf) → Rep next (now (s .entry)) (now (tracked .entry)) (now (firsts .entry)) (now (pool .entry)) used S → Room (now (tracked .entry)) (now (firsts .entry)) (now (pool .entry)) used (d .0) → Values next (now (s .entry)) 0 (off + 3) xs → length xs ≡ getD (now (s .entry)) (off + 2) 0 → length xs ≤ 16 → Decided next (now (s .entry)) (now (tracked .exit)) (now (firsts .exit)) (now (pool .exit)) S i (stepBuild S i d (foldedParts fold (some xs))) r) ⌝ }
 {
     if !fold {
         return Decision {
@@ -133,7 +133,7 @@ pub fn build(
         };
     }
     let n = wire::byte_at(s, off + 2);
-    let to = parts::track_values(s, counts, firsts, pool, used, d, off + 3, n, 0);
+    let to = parts::track_values(s, tracked, firsts, pool, used, d, off + 3, n, 0);
     Decision {
         action: Action::Track(d, Counted::Build),
         used: to,
@@ -170,14 +170,14 @@ pub fn build_struct(
     types: &[usize],
     recorded: &[u16],
     fold: bool,
-    counts: &mut [u16],
+    tracked: &mut [bool],
     firsts: &mut [u16],
     pool: &mut [usize],
     used: usize,
 ) -> Decision
     requires { ⌜ (used < 60000) × (off < 2199023255552) ⌝ }
-    ensures { λ r. ⌜ r .used ≤ used + 16 ⌝ }
-    ensures { λ r. ⌜ ((τ : Types) (S : AggStates) (i : Instruction) (fs : List FieldInit) → Ground b (now (s .entry)) (now (types .entry)) (now (recorded .entry)) τ → Rep (b .next) (now (s .entry)) (now (counts .entry)) (now (firsts .entry)) (now (pool .entry)) used S → Room (now (counts .entry)) (now (firsts .entry)) (now (pool .entry)) used (d .0) → d .0 < b .next → Inits (b .next) (now (s .entry)) (off + 3) fs → length fs ≡ getD (now (s .entry)) (off + 2) 0 → Decided (b .next) (now (s .entry)) (now (counts .exit)) (now (firsts .exit)) (now (pool .exit)) S i (stepBuild S i d (foldedParts fold (structParts τ d fs named))) r) ⌝ }
+    ensures { λ r. ⌜ r .used ≤ used + 17 ⌝ }
+    ensures { λ r. ⌜ ((τ : Types) (S : AggStates) (i : Instruction) (fs : List FieldInit) → Ground b (now (s .entry)) (now (types .entry)) (now (recorded .entry)) τ → Rep (b .next) (now (s .entry)) (now (tracked .entry)) (now (firsts .entry)) (now (pool .entry)) used S → Room (now (tracked .entry)) (now (firsts .entry)) (now (pool .entry)) used (d .0) → d .0 < b .next → Inits (b .next) (now (s .entry)) (off + 3) fs → length fs ≡ getD (now (s .entry)) (off + 2) 0 → Decided (b .next) (now (s .entry)) (now (tracked .exit)) (now (firsts .exit)) (now (pool .exit)) S i (stepBuild S i d (foldedParts fold (structParts τ d fs named))) r) ⌝ }
 {
     if !fold {
         return Decision {
@@ -195,7 +195,7 @@ pub fn build_struct(
     let row = form::tail(s, typetable::type_place(types, t));
     let n = wire::byte_at(s, off + 2);
     let m = wire::byte_at(row, 3);
-    let r = parts::track_named(s, counts, firsts, pool, used, d, off + 3, n, row, 4, m);
+    let r = parts::track_named(s, tracked, firsts, pool, used, d, off + 3, n, row, 4, m);
     Decision {
         action: built(r.given, d),
         used: r.used,
@@ -208,28 +208,28 @@ pub fn insert(
     x: Value,
     k: u32,
     place: usize,
-    counts: &mut [u16],
+    tracked: &mut [bool],
     firsts: &mut [u16],
     pool: &mut [usize],
     used: usize,
 ) -> Decision
     requires { ⌜ used < 60000 ⌝ }
-    ensures { λ r. ⌜ r .used ≤ used + 16 ⌝ }
-    ensures { λ r. ⌜ ((next : ℕ) (s : List ℕ) (S : AggStates) (i : Instruction) (y : ValueOf) → Rep next s (now (counts .entry)) (now (firsts .entry)) (now (pool .entry)) used S → Room (now (counts .entry)) (now (firsts .entry)) (now (pool .entry)) used (d .0) → ValueAt next s place y → Decided next s (now (counts .exit)) (now (firsts .exit)) (now (pool .exit)) S i (stepInsert S i d (onSome (stateOf S x) (λ xs. replaced xs k y))) r) ⌝ }
+    ensures { λ r. ⌜ r .used ≤ used + 17 ⌝ }
+    ensures { λ r. ⌜ ((next : ℕ) (s : List ℕ) (S : AggStates) (i : Instruction) (y : ValueOf) → Rep next s (now (tracked .entry)) (now (firsts .entry)) (now (pool .entry)) used S → Room (now (tracked .entry)) (now (firsts .entry)) (now (pool .entry)) used (d .0) → ValueAt next s place y → Decided next s (now (tracked .exit)) (now (firsts .exit)) (now (pool .exit)) S i (stepInsert S i d (onSome (stateOf S x) (λ xs. replaced xs k y))) r) ⌝ }
 {
-    match tracked_source(counts, x) {
+    match tracked_source(tracked, x) {
         Source::Untracked => Decision {
             action: Action::Keep,
             used: used,
         },
         Source::Tracked(v) => {
-            if parts::part_count(counts, v) as u32 <= k {
+            if parts::part_count(firsts, pool, v) as u32 <= k {
                 return Decision {
                     action: Action::Keep,
                     used: used,
                 };
             }
-            let to = parts::replace(counts, firsts, pool, used, d, v, k, place);
+            let to = parts::replace(tracked, firsts, pool, used, d, v, k, place);
             Decision {
                 action: Action::Track(d, Counted::Insert),
                 used: to,
@@ -239,16 +239,16 @@ pub fn insert(
 }
 
 // Part `k` of a tracked value.
-pub fn part(counts: &[u16], firsts: &[u16], pool: &[usize], x: Value, k: u32) -> Init
-    ensures { λ r. ⌜ ((next : ℕ) (s : List ℕ) (used : ℕ) (S : AggStates) → Rep next s (now (counts .entry)) (now (firsts .entry)) (now (pool .entry)) used S → InitAt next s (onSome (stateOf S x) (λ xs. getElem? xs k)) r) ⌝ }
+pub fn part(tracked: &[bool], firsts: &[u16], pool: &[usize], x: Value, k: u32) -> Init
+    ensures { λ r. ⌜ ((next : ℕ) (s : List ℕ) (used : ℕ) (S : AggStates) → Rep next s (now (tracked .entry)) (now (firsts .entry)) (now (pool .entry)) used S → InitAt next s (onSome (stateOf S x) (λ xs. getElem? xs k)) r) ⌝ }
 {
-    match tracked_source(counts, x) {
+    match tracked_source(tracked, x) {
         Source::Untracked => Init {
             given: false,
             place: 0,
         },
         Source::Tracked(v) => {
-            if parts::part_count(counts, v) as u32 <= k {
+            if parts::part_count(firsts, pool, v) as u32 <= k {
                 return Init {
                     given: false,
                     place: 0,
@@ -268,13 +268,13 @@ pub fn field_part(
     types: &[usize],
     many: u16,
     recorded: &[u16],
-    counts: &[u16],
+    tracked: &[bool],
     firsts: &[u16],
     pool: &[usize],
     x: Value,
     name: NameId,
 ) -> Init
-    ensures { λ r. ⌜ ((most : ℕ) (τ : Types) (next used : ℕ) (S : AggStates) → Known most (now (s .entry)) (now (types .entry)) (now (recorded .entry)) τ → length (τ .rows) ≡ many → Below (length (τ .recorded)) x → Rep next (now (s .entry)) (now (counts .entry)) (now (firsts .entry)) (now (pool .entry)) used S → InitAt next (now (s .entry)) (onSome (extractIndex τ x name) (λ k. onSome (stateOf S x) (λ xs. getElem? xs k))) r) ⌝ }
+    ensures { λ r. ⌜ ((most : ℕ) (τ : Types) (next used : ℕ) (S : AggStates) → Known most (now (s .entry)) (now (types .entry)) (now (recorded .entry)) τ → length (τ .rows) ≡ many → Below (length (τ .recorded)) x → Rep next (now (s .entry)) (now (tracked .entry)) (now (firsts .entry)) (now (pool .entry)) used S → InitAt next (now (s .entry)) (onSome (extractIndex τ x name) (λ k. onSome (stateOf S x) (λ xs. getElem? xs k))) r) ⌝ }
 {
     match x {
         Value::Literal(_) => Init {
@@ -290,17 +290,17 @@ pub fn field_part(
                 given: false,
                 place: 0,
             },
-            Position::At(k) => part(counts, firsts, pool, x, k),
+            Position::At(k) => part(tracked, firsts, pool, x, k),
         },
     }
 }
 
 // The source whose parts are handed on, where that is asked for.
-pub fn handed(counts: &[u16], x: Value, whole: bool) -> Source
-    ensures { λ r. ⌜ ((next : ℕ) (s firsts pool : List ℕ) (used : ℕ) (S : AggStates) → Rep next s (now (counts .entry)) firsts pool used S → SourceOf S (cond whole (stateOf S x) none) r) ⌝ }
+pub fn handed(tracked: &[bool], x: Value, whole: bool) -> Source
+    ensures { λ r. ⌜ ((next : ℕ) (s firsts pool : List ℕ) (used : ℕ) (S : AggStates) → Rep next s (now (tracked .entry)) firsts pool used S → SourceOf S (cond whole (stateOf S x) none) r) ⌝ }
 {
     if whole {
-        return tracked_source(counts, x);
+        return tracked_source(tracked, x);
     }
     Source::Untracked
 }
@@ -313,12 +313,12 @@ pub fn take(
     d: ValueId,
     t: TypeId,
     whole: bool,
-    counts: &mut [u16],
+    tracked: &mut [bool],
     firsts: &mut [u16],
     used: usize,
 ) -> Decision
     ensures { λ r. ⌜ r .used ≡ used ⌝ }
-    ensures { λ r. ⌜ ((pool : List ℕ) (S : AggStates) (i : Instruction) (o : Option ValueOf) → Rep next (now (s .entry)) (now (counts .entry)) (now (firsts .entry)) pool used S → d .0 < length (now (counts .entry)) → d .0 < length (now (firsts .entry)) → InitAt next (now (s .entry)) o init → Decided next (now (s .entry)) (now (counts .exit)) (now (firsts .exit)) pool S i (stepTaken whole S i d t o) r) ⌝ }
+    ensures { λ r. ⌜ ((pool : List ℕ) (S : AggStates) (i : Instruction) (o : Option ValueOf) → Rep next (now (s .entry)) (now (tracked .entry)) (now (firsts .entry)) pool used S → d .0 < length (now (tracked .entry)) → d .0 < length (now (firsts .entry)) → InitAt next (now (s .entry)) o init → Decided next (now (s .entry)) (now (tracked .exit)) (now (firsts .exit)) pool S i (stepTaken whole S i d t o) r) ⌝ }
 {
     if !init.given {
         return Decision {
@@ -326,13 +326,13 @@ pub fn take(
             used: used,
         };
     }
-    match handed(counts, lookup::value_at(s, init.place, next), whole) {
+    match handed(tracked, lookup::value_at(s, init.place, next), whole) {
         Source::Untracked => Decision {
             action: Action::Assign(d, init.place, t),
             used: used,
         },
         Source::Tracked(v) => {
-            parts::share(counts, firsts, d, v);
+            parts::share(tracked, firsts, d, v);
             Decision {
                 action: Action::Track(d, Counted::Extract),
                 used: used,
@@ -346,20 +346,20 @@ pub fn assign(
     d: ValueId,
     x: Value,
     whole: bool,
-    counts: &mut [u16],
+    tracked: &mut [bool],
     firsts: &mut [u16],
     used: usize,
 ) -> Decision
     ensures { λ r. ⌜ r .used ≡ used ⌝ }
-    ensures { λ r. ⌜ ((next : ℕ) (s pool : List ℕ) (S : AggStates) (i : Instruction) → Rep next s (now (counts .entry)) (now (firsts .entry)) pool used S → d .0 < length (now (counts .entry)) → d .0 < length (now (firsts .entry)) → Decided next s (now (counts .exit)) (now (firsts .exit)) pool S i (stepAssign S i d (cond whole (stateOf S x) none)) r) ⌝ }
+    ensures { λ r. ⌜ ((next : ℕ) (s pool : List ℕ) (S : AggStates) (i : Instruction) → Rep next s (now (tracked .entry)) (now (firsts .entry)) pool used S → d .0 < length (now (tracked .entry)) → d .0 < length (now (firsts .entry)) → Decided next s (now (tracked .exit)) (now (firsts .exit)) pool S i (stepAssign S i d (cond whole (stateOf S x) none)) r) ⌝ }
 {
-    match handed(counts, x, whole) {
+    match handed(tracked, x, whole) {
         Source::Untracked => Decision {
             action: Action::Keep,
             used: used,
         },
         Source::Tracked(v) => {
-            parts::share(counts, firsts, d, v);
+            parts::share(tracked, firsts, d, v);
             Decision {
                 action: Action::Track(d, Counted::Assign),
                 used: used,

@@ -17,6 +17,7 @@ use Rattle.lookup.specs.Fields.{fieldsPlace}
 use Rattle.lookup.proofs.Instruction.{instruction-fields}
 use Rattle.eligibility.specs.declared.Settings.{Settings}
 use Rattle.eligibility.specs.Lookup.{Types}
+use Rattle.eligibility.specs.Family.{Marks}
 use Rattle.rewriting.specs.State.{AggStates}
 use Rattle.rewriting.specs.Step.{kept, step, stepKind}
 use Rattle.parts.specs.Rows.{Rep}
@@ -39,7 +40,7 @@ pub fields-near : (s : List ℕ) → fieldsPlace s ≤ 26
 fields-near s = let bits = getD s 0 0 in omega (arith, small (bit 0 bits) (bit 1 bits) (bit 2 bits))
 
 -- the instruction at a place
-pub here-of : {b : Bounds} {s types recorded counts firsts pool : List ℕ} {used : ℕ} {τ : Types} {S : AggStates} {p : Spot} {i : Instruction} {n at : ℕ} → SpotAt s at p → Ground b s types recorded τ → Rep (b .next) s counts firsts pool used S → Tables counts firsts pool used → instructionOf b [] false (drop at s) ≡ ok i n → Here b s types recorded counts firsts pool used τ S p i n
+pub here-of : {b : Bounds} {s types recorded : List ℕ} {tracked : Marks} {firsts pool : List ℕ} {used : ℕ} {τ : Types} {S : AggStates} {p : Spot} {i : Instruction} {n at : ℕ} → SpotAt s at p → Ground b s types recorded τ → Rep (b .next) s tracked firsts pool used S → Tables tracked firsts pool used → instructionOf b [] false (drop at s) ≡ ok i n → Here b s types recorded tracked firsts pool used τ S p i n
 here-of w g r t e = record { ground = g; rep = r; tables = t; spot = record { place = refl; fields = rw (w .place) (w .fields); dest = w .dest; kind = rw (w .place) (w .kind) }; read = rw (w .place) e }
 
 -- no other kind is rewritten

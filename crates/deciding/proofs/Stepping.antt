@@ -22,7 +22,7 @@ use Rattle.lookup.proofs.Instruction.{chosen, instruction-fields}
 use Rattle.eligibility.specs.declared.Settings.{Settings}
 use Rattle.eligibility.specs.Lookup.{Types, rowOf, fieldIndex, isAggregate}
 use Rattle.eligibility.specs.Climb.{structParts}
-use Rattle.eligibility.specs.Family.{buildDest}
+use Rattle.eligibility.specs.Family.{Marks, buildDest}
 use Rattle.rewriting.specs.State.{AggStates, stateOf, onSome, replaced, firstInteger}
 use Rattle.rewriting.specs.Rebuild.{aggregateType}
 use Rattle.rewriting.specs.Step.{kept, guarded, step, stepKind, stepBuild, foldedParts, stepInsert, stepLoad, stepAssign, extractIndex}
@@ -39,7 +39,7 @@ use Rattle.decided.proofs.Arms.{behind-16, behind-32, behind-value, value-below
 use Rattle.decided.proofs.Own.{Named, Dest, IsAssign, is-assign, assign-stands, IsLoad, is-load, load-stands, IsTuple, is-tuple, tuple-stands, IsArray, is-array, array-stands, IsStruct, is-struct, struct-stands}
 use Rattle.decided.proofs.Own.{IsElement, is-element, element-stands, IsField, is-field, field-stands, IsInsertField, is-insert-field, insert-field-stands, IsInsertElement, is-insert-element, insert-element-stands}
 
-module _ {b : Bounds} {s types recorded counts firsts pool : List ℕ} {used : ℕ} {τ : Types} {S : AggStates} {p : Spot} {i : Instruction} {n : ℕ} (h : Here b s types recorded counts firsts pool used τ S p i n) where
+module _ {b : Bounds} {s types recorded : List ℕ} {tracked : Marks} {firsts pool : List ℕ} {used : ℕ} {τ : Types} {S : AggStates} {p : Spot} {i : Instruction} {n : ℕ} (h : Here b s types recorded tracked firsts pool used τ S p i n) where
   -- the decoder of the kind has read the fields
   record Chosen (k : ℕ) : Type 0 where
     size : ℕ
@@ -68,10 +68,10 @@ module _ {b : Bounds} {s types recorded counts firsts pool : List ℕ} {used : �
   dest-below {d} e = rw (dest-is e) (e .1)
 
   -- so there is room for it
-  dest-room : {d : ValueId} → Dest b (drop (p .off) s) 0 d → Room counts firsts pool used (p .dest .0)
+  dest-room : {d : ValueId} → Dest b (drop (p .off) s) 0 d → Room tracked firsts pool used (p .dest .0)
   dest-room e =
       let l = dest-below e in
-      record { count = omega (arith, h .ground .few, h .tables .count); first = omega (arith, h .ground .few, h .tables .first); places = h .tables .places }
+      record { mark = omega (arith, h .ground .few, h .tables .mark); first = omega (arith, h .ground .few, h .tables .first); places = h .tables .places }
 
   -- what the code has read of it: its first operand, and the type that stands last
   abbrev Operand : Value → Type 0
@@ -159,22 +159,22 @@ module _ {b : Bounds} {s types recorded counts firsts pool : List ℕ} {used : �
         go : (k : InstructionKind) (a : ℕ) → IsInsertField b (drop (p .off) s) k a → stepKind σ τ folds S m i k ≡ kept S i
         go k a (is-insert-field d y j v u dd q w tw) = rw off refl
 
-  module _ (σ : Settings) (folds : ValueId → Bool) (m : ℕ) (counts′ firsts′ pool′ : List ℕ) (r : Decision) where
+  module _ (σ : Settings) (folds : ValueId → Bool) (m : ℕ) (tracked′ : Marks) (firsts′ pool′ : List ℕ) (r : Decision) where
     abbrev Goal : InstructionKind → Type 0
-    Goal k = Decided (b .next) s counts′ firsts′ pool′ S i (stepKind σ τ folds S m i k) r
+    Goal k = Decided (b .next) s tracked′ firsts′ pool′ S i (stepKind σ τ folds S m i k) r
 
     abbrev Done : Type 0
-    Done = Decided (b .next) s counts′ firsts′ pool′ S i (step σ τ folds S m i) r
+    Done = Decided (b .next) s tracked′ firsts′ pool′ S i (step σ τ folds S m i) r
 
     -- the callees' promises, of the tables before them
     abbrev Took : Init → TypeId → Bool → Type 0
-    Took init t whole = (pool : List ℕ) (S : AggStates) (i : Instruction) (o : Option Value) → Rep (b .next) s counts firsts pool used S → p .dest .0 < length counts → p .dest .0 < length firsts → InitAt (b .next) s o init → Decided (b .next) s counts′ firsts′ pool S i (stepTaken whole S i (p .dest) t o) r
+    Took init t whole = (pool : List ℕ) (S : AggStates) (i : Instruction) (o : Option Value) → Rep (b .next) s tracked firsts pool used S → p .dest .0 < length tracked → p .dest .0 < length firsts → InitAt (b .next) s o init → Decided (b .next) s tracked′ firsts′ pool S i (stepTaken whole S i (p .dest) t o) r
 
     abbrev Inserted : Value → ℕ → ℕ → Type 0
-    Inserted x k place = (next : ℕ) (s : List ℕ) (S : AggStates) (i : Instruction) (y : Value) → Rep next s counts firsts pool used S → Room counts firsts pool used (p .dest .0) → ValueAt next s place y → Decided next s counts′ firsts′ pool′ S i (stepInsert S i (p .dest) (onSome (stateOf S x) (λ xs. replaced xs k y))) r
+    Inserted x k place = (next : ℕ) (s : List ℕ) (S : AggStates) (i : Instruction) (y : Value) → Rep next s tracked firsts pool used S → Room tracked firsts pool used (p .dest .0) → ValueAt next s place y → Decided next s tracked′ firsts′ pool′ S i (stepInsert S i (p .dest) (onSome (stateOf S x) (λ xs. replaced xs k y))) r
 
     -- an Assign
-    pub assign-step : p .kind ≡ 0 → (x : Value) (t : TypeId) (whole : Bool) → Operand x → Typed t → whole ≡ isAggregate (rowOf τ (some t)) → ((next : ℕ) (s pool : List ℕ) (S : AggStates) (i : Instruction) → Rep next s counts firsts pool used S → p .dest .0 < length counts → p .dest .0 < length firsts → Decided next s counts′ firsts′ pool S i (stepAssign S i (p .dest) (cond whole (stateOf S x) none)) r) → pool′ ≡ pool → Done
+    pub assign-step : p .kind ≡ 0 → (x : Value) (t : TypeId) (whole : Bool) → Operand x → Typed t → whole ≡ isAggregate (rowOf τ (some t)) → ((next : ℕ) (s pool : List ℕ) (S : AggStates) (i : Instruction) → Rep next s tracked firsts pool used S → p .dest .0 < length tracked → p .dest .0 < length firsts → Decided next s tracked′ firsts′ pool S i (stepAssign S i (p .dest) (cond whole (stateOf S x) none)) r) → pool′ ≡ pool → Done
     unfolding step stepKind
     assign-step e x t whole fx ft fw f g = go (i .kind) (0 + c .size) (assign-stands b (drop (p .off) s) .each (i .kind) (c .size) (c .read)) refl refl
       where
@@ -185,7 +185,7 @@ module _ {b : Bounds} {s types recorded counts firsts pool : List ℕ} {used : �
         go k a (is-assign d y u dd w) q z =
             let room = dest-room dd in
             let o : onSome (aggregateType τ u) (λ v. stateOf S y) ≡ cond whole (stateOf S x) none = rw (← type-is c w z ft, ← operand-is fx q refl) (whole-aggregate τ t whole (stateOf S x) fw) in
-            rw (g, ← dest-is dd, o) (f (b .next) s pool S i (h .rep) (room .count) (room .first))
+            rw (g, ← dest-is dd, o) (f (b .next) s pool S i (h .rep) (room .mark) (room .first))
 
     -- a Load
     pub load-step : p .kind ≡ 5 → σ .tuples ≡ true → (t : TypeId) (whole : Bool) (init : Init) → Typed t → whole ≡ isAggregate (rowOf τ (some t)) → ((d : ValueId) (q : Place) (y : TypeId) → i .kind ≡ InstructionKind.Load d q y → InitAt (b .next) s (loadedPart τ S q) init) → Took init t whole → pool′ ≡ pool → Done
@@ -199,7 +199,7 @@ module _ {b : Bounds} {s types recorded counts firsts pool : List ℕ} {used : �
         go k a (is-load d q u dd w) j z =
             let room = dest-room dd in
             let o : stepLoad τ S i d q u (firstInteger (q .projections)) ≡ stepTaken whole S i (p .dest) t (loadedPart τ S q) = rw (← dest-is dd, ← type-is c w z ft) (load-taken τ S i (p .dest) q t whole fw) in
-            rw (g, on, o) (f pool S i (loadedPart τ S q) (h .rep) (room .count) (room .first) (fi d q u j))
+            rw (g, on, o) (f pool S i (loadedPart τ S q) (h .rep) (room .mark) (room .first) (fi d q u j))
 
     -- an extract of a tuple's element
     pub element-step : p .kind ≡ 11 → σ .tuples ≡ true → (x : Value) (k end : ℕ) (t : TypeId) (init : Init) → Operand x → end ≡ valueEnd s (p .off + 2) → k ≡ at32 s end → Typed t → InitAt (b .next) s (onSome (stateOf S x) (λ xs. getElem? xs k)) init → Took init t true → pool′ ≡ pool → Done
@@ -213,7 +213,7 @@ module _ {b : Bounds} {s types recorded counts firsts pool : List ℕ} {used : �
         go kind a (is-element d y j u dd q w) l z =
             let room = dest-room dd in
             let n : j ≡ k = q ∙ behind-32 (p .off) (valueEnd (drop (p .off) s) 2) s ∙ ap (λ o. at32 s o) (behind-value (p .off) 2 s ∙ sym fe) ∙ sym fk in
-            rw (g, on, ← dest-is dd, ← type-is c w z ft, ← operand-is fx l refl, n, taken-extract S i (p .dest) t (onSome (stateOf S x) (λ xs. getElem? xs k))) (f pool S i (onSome (stateOf S x) (λ xs. getElem? xs k)) (h .rep) (room .count) (room .first) fi)
+            rw (g, on, ← dest-is dd, ← type-is c w z ft, ← operand-is fx l refl, n, taken-extract S i (p .dest) t (onSome (stateOf S x) (λ xs. getElem? xs k))) (f pool S i (onSome (stateOf S x) (λ xs. getElem? xs k)) (h .rep) (room .mark) (room .first) fi)
 
     -- an extract of a struct's field
     pub field-step : p .kind ≡ 13 → σ .structs ≡ true → (x : Value) (name : NameId) (end : ℕ) (t : TypeId) (init : Init) → Operand x → end ≡ valueEnd s (p .off + 2) → name .0 ≡ at16 s end → Typed t → (Below (length (τ .recorded)) x → InitAt (b .next) s (onSome (extractIndex τ x name) (λ k. onSome (stateOf S x) (λ xs. getElem? xs k))) init) → Took init t true → pool′ ≡ pool → Done
@@ -230,7 +230,7 @@ module _ {b : Bounds} {s types recorded counts firsts pool : List ℕ} {used : �
             let n′ : j ≡ name = ap (λ o. record { 0 = o }) n in
             let x′ : x ≡ y = operand-is fx l refl in
             let below : Below (length (τ .recorded)) x = rw (h .ground .values, x′) (value-below b s (p .off) 2 y (h .ground .bytes) (h .ground .few) v) in
-            rw (g, on, ← dest-is dd, ← type-is c w z ft, ← x′, n′, taken-extract S i (p .dest) t (onSome (extractIndex τ x name) (λ k. onSome (stateOf S x) (λ xs. getElem? xs k)))) (f pool S i (onSome (extractIndex τ x name) (λ k. onSome (stateOf S x) (λ xs. getElem? xs k))) (h .rep) (room .count) (room .first) (fi below))
+            rw (g, on, ← dest-is dd, ← type-is c w z ft, ← x′, n′, taken-extract S i (p .dest) t (onSome (extractIndex τ x name) (λ k. onSome (stateOf S x) (λ xs. getElem? xs k)))) (f pool S i (onSome (extractIndex τ x name) (λ k. onSome (stateOf S x) (λ xs. getElem? xs k))) (h .rep) (room .mark) (room .first) (fi below))
 
     -- an insert of a tuple's element
     pub insert-element-step : p .kind ≡ 15 → σ .tuples ≡ true → (x : Value) (k end : ℕ) → Operand x → end ≡ valueEnd s (p .off + 2) → k ≡ at32 s end → Inserted x k (end + 4) → Done
@@ -267,7 +267,7 @@ module _ {b : Bounds} {s types recorded counts firsts pool : List ℕ} {used : �
     -- a build of a tuple or an array
     module _ (fold : Bool) (folded : (d : ValueId) → buildDest (i .kind) ≡ some d → fold ≡ folds d) where
       abbrev Builds : Type 0
-      Builds = (next : ℕ) (S : AggStates) (i : Instruction) (xs : List Value) → Rep next s counts firsts pool used S → Room counts firsts pool used (p .dest .0) → Values next s 0 (p .off + 3) xs → length xs ≡ getD s (p .off + 2) 0 → length xs ≤ 16 → Decided next s counts′ firsts′ pool′ S i (stepBuild S i (p .dest) (foldedParts fold (some xs))) r
+      Builds = (next : ℕ) (S : AggStates) (i : Instruction) (xs : List Value) → Rep next s tracked firsts pool used S → Room tracked firsts pool used (p .dest .0) → Values next s 0 (p .off + 3) xs → length xs ≡ getD s (p .off + 2) 0 → length xs ≤ 16 → Decided next s tracked′ firsts′ pool′ S i (stepBuild S i (p .dest) (foldedParts fold (some xs))) r
 
       tuple-step : p .kind ≡ 10 → Builds → Done
       unfolding step stepKind buildDest
@@ -304,7 +304,7 @@ module _ {b : Bounds} {s types recorded counts firsts pool : List ℕ} {used : �
       build-step k array e f = array-step e f
 
       -- a build of a struct
-      pub struct-step : p .kind ≡ 12 → (t : TypeId) → Typed t → ((fs : List FieldInit) → Room counts firsts pool used (p .dest .0) → p .dest .0 < b .next → Inits (b .next) s (p .off + 3) fs → length fs ≡ getD s (p .off + 2) 0 → Decided (b .next) s counts′ firsts′ pool′ S i (stepBuild S i (p .dest) (foldedParts fold (structParts τ (p .dest) fs t))) r) → Done
+      pub struct-step : p .kind ≡ 12 → (t : TypeId) → Typed t → ((fs : List FieldInit) → Room tracked firsts pool used (p .dest .0) → p .dest .0 < b .next → Inits (b .next) s (p .off + 3) fs → length fs ≡ getD s (p .off + 2) 0 → Decided (b .next) s tracked′ firsts′ pool′ S i (stepBuild S i (p .dest) (foldedParts fold (structParts τ (p .dest) fs t))) r) → Done
       unfolding step stepKind buildDest
       struct-step e t ft f = go (i .kind) (0 + c .size) (struct-stands b (drop (p .off) s) .each (i .kind) (c .size) (c .read)) refl refl
         where

@@ -50,17 +50,17 @@ fn step_assign(
     p: Spot,
     b: Bounds,
     types: &[usize],
-    counts: &mut [u16],
+    tracked: &mut [bool],
     firsts: &mut [u16],
     used: usize,
 ) -> Decision
     ensures { λ r. ⌜ r .used ≡ used ⌝ }
-    ensures { λ r. ⌜ ((recorded pool : List ℕ) (τ : Types) (S : AggStates) (σ : SettingsOf) (folds : IdOf → Bool) (m : ℕ) (i : Instruction) (n : ℕ) → Here b (now (s .entry)) (now (types .entry)) recorded (now (counts .entry)) (now (firsts .entry)) pool used τ S p i n → p .kind ≡ 0 → Decided (b .next) (now (s .entry)) (now (counts .exit)) (now (firsts .exit)) pool S i (step σ τ folds S m i) r) ⌝ }
+    ensures { λ r. ⌜ ((recorded pool : List ℕ) (τ : Types) (S : AggStates) (σ : SettingsOf) (folds : IdOf → Bool) (m : ℕ) (i : Instruction) (n : ℕ) → Here b (now (s .entry)) (now (types .entry)) recorded (now (tracked .entry)) (now (firsts .entry)) pool used τ S p i n → p .kind ≡ 0 → Decided (b .next) (now (s .entry)) (now (tracked .exit)) (now (firsts .exit)) pool S i (step σ τ folds S m i) r) ⌝ }
 {
     let x = decided::first_operand(s, p.at, b);
     let t = decided::last_type(s, p.at, b);
     let whole = decided::is_aggregate(s, types, b.types, t);
-    decided::assign(p.dest, x, whole, counts, firsts, used)
+    decided::assign(p.dest, x, whole, tracked, firsts, used)
 }
 
 // A Load, where tuples are taken apart.
@@ -71,13 +71,13 @@ fn step_load(
     on: bool,
     types: &[usize],
     recorded: &[u16],
-    counts: &mut [u16],
+    tracked: &mut [bool],
     firsts: &mut [u16],
     pool: &[usize],
     used: usize,
 ) -> Decision
     ensures { λ r. ⌜ r .used ≡ used ⌝ }
-    ensures { λ r. ⌜ ((τ : Types) (S : AggStates) (σ : SettingsOf) (folds : IdOf → Bool) (m : ℕ) (i : Instruction) (n : ℕ) → Here b (now (s .entry)) (now (types .entry)) (now (recorded .entry)) (now (counts .entry)) (now (firsts .entry)) (now (pool .entry)) used τ S p i n → p .kind ≡ 5 → σ .tuples ≡ on → Decided (b .next) (now (s .entry)) (now (counts .exit)) (now (firsts .exit)) (now (pool .entry)) S i (step σ τ folds S m i) r) ⌝ }
+    ensures { λ r. ⌜ ((τ : Types) (S : AggStates) (σ : SettingsOf) (folds : IdOf → Bool) (m : ℕ) (i : Instruction) (n : ℕ) → Here b (now (s .entry)) (now (types .entry)) (now (recorded .entry)) (now (tracked .entry)) (now (firsts .entry)) (now (pool .entry)) used τ S p i n → p .kind ≡ 5 → σ .tuples ≡ on → Decided (b .next) (now (s .entry)) (now (tracked .exit)) (now (firsts .exit)) (now (pool .entry)) S i (step σ τ folds S m i) r) ⌝ }
 {
     if !on {
         return Decision {
@@ -85,10 +85,10 @@ fn step_load(
             used: used,
         };
     }
-    let init = chains::load_part(s, p.at, b, types, recorded, counts, firsts, pool);
+    let init = chains::load_part(s, p.at, b, types, recorded, tracked, firsts, pool);
     let t = decided::last_type(s, p.at, b);
     let whole = decided::is_aggregate(s, types, b.types, t);
-    decided::take(s, b.next, init, p.dest, t, whole, counts, firsts, used)
+    decided::take(s, b.next, init, p.dest, t, whole, tracked, firsts, used)
 }
 
 // A build of a tuple or an array.
@@ -97,16 +97,16 @@ fn step_build(
     p: Spot,
     b: Bounds,
     fold: bool,
-    counts: &mut [u16],
+    tracked: &mut [bool],
     firsts: &mut [u16],
     pool: &mut [usize],
     used: usize,
 ) -> Decision
     requires { ⌜ (used < 60000) × (p .off < 2199023255552) ⌝ }
-    ensures { λ r. ⌜ r .used ≤ used + 16 ⌝ }
-    ensures { λ r. ⌜ ((types recorded : List ℕ) (τ : Types) (S : AggStates) (σ : SettingsOf) (folds : IdOf → Bool) (m : ℕ) (i : Instruction) (n : ℕ) → Here b (now (s .entry)) types recorded (now (counts .entry)) (now (firsts .entry)) (now (pool .entry)) used τ S p i n → Built (p .kind) → ((d : IdOf) → buildDest (i .kind) ≡ some d → fold ≡ folds d) → Decided (b .next) (now (s .entry)) (now (counts .exit)) (now (firsts .exit)) (now (pool .exit)) S i (step σ τ folds S m i) r) ⌝ }
+    ensures { λ r. ⌜ r .used ≤ used + 17 ⌝ }
+    ensures { λ r. ⌜ ((types recorded : List ℕ) (τ : Types) (S : AggStates) (σ : SettingsOf) (folds : IdOf → Bool) (m : ℕ) (i : Instruction) (n : ℕ) → Here b (now (s .entry)) types recorded (now (tracked .entry)) (now (firsts .entry)) (now (pool .entry)) used τ S p i n → Built (p .kind) → ((d : IdOf) → buildDest (i .kind) ≡ some d → fold ≡ folds d) → Decided (b .next) (now (s .entry)) (now (tracked .exit)) (now (firsts .exit)) (now (pool .exit)) S i (step σ τ folds S m i) r) ⌝ }
 {
-    decided::build(s, p.off, p.dest, fold, counts, firsts, pool, used)
+    decided::build(s, p.off, p.dest, fold, tracked, firsts, pool, used)
 }
 
 // A build of a struct.
@@ -117,14 +117,14 @@ fn step_struct(
     fold: bool,
     types: &[usize],
     recorded: &[u16],
-    counts: &mut [u16],
+    tracked: &mut [bool],
     firsts: &mut [u16],
     pool: &mut [usize],
     used: usize,
 ) -> Decision
     requires { ⌜ (used < 60000) × (p .off < 2199023255552) ⌝ }
-    ensures { λ r. ⌜ r .used ≤ used + 16 ⌝ }
-    ensures { λ r. ⌜ ((τ : Types) (S : AggStates) (σ : SettingsOf) (folds : IdOf → Bool) (m : ℕ) (i : Instruction) (n : ℕ) → Here b (now (s .entry)) (now (types .entry)) (now (recorded .entry)) (now (counts .entry)) (now (firsts .entry)) (now (pool .entry)) used τ S p i n → p .kind ≡ 12 → ((d : IdOf) → buildDest (i .kind) ≡ some d → fold ≡ folds d) → Decided (b .next) (now (s .entry)) (now (counts .exit)) (now (firsts .exit)) (now (pool .exit)) S i (step σ τ folds S m i) r) ⌝ }
+    ensures { λ r. ⌜ r .used ≤ used + 17 ⌝ }
+    ensures { λ r. ⌜ ((τ : Types) (S : AggStates) (σ : SettingsOf) (folds : IdOf → Bool) (m : ℕ) (i : Instruction) (n : ℕ) → Here b (now (s .entry)) (now (types .entry)) (now (recorded .entry)) (now (tracked .entry)) (now (firsts .entry)) (now (pool .entry)) used τ S p i n → p .kind ≡ 12 → ((d : IdOf) → buildDest (i .kind) ≡ some d → fold ≡ folds d) → Decided (b .next) (now (s .entry)) (now (tracked .exit)) (now (firsts .exit)) (now (pool .exit)) S i (step σ τ folds S m i) r) ⌝ }
 {
     let t = decided::last_type(s, p.at, b);
     decided::build_struct(
@@ -136,7 +136,7 @@ fn step_struct(
         types,
         recorded,
         fold,
-        counts,
+        tracked,
         firsts,
         pool,
         used,
@@ -149,14 +149,14 @@ fn step_element(
     p: Spot,
     b: Bounds,
     on: bool,
-    counts: &mut [u16],
+    tracked: &mut [bool],
     firsts: &mut [u16],
     pool: &[usize],
     used: usize,
 ) -> Decision
     requires { ⌜ p .off < 2199023255552 ⌝ }
     ensures { λ r. ⌜ r .used ≡ used ⌝ }
-    ensures { λ r. ⌜ ((types recorded : List ℕ) (τ : Types) (S : AggStates) (σ : SettingsOf) (folds : IdOf → Bool) (m : ℕ) (i : Instruction) (n : ℕ) → Here b (now (s .entry)) types recorded (now (counts .entry)) (now (firsts .entry)) (now (pool .entry)) used τ S p i n → p .kind ≡ 11 → σ .tuples ≡ on → Decided (b .next) (now (s .entry)) (now (counts .exit)) (now (firsts .exit)) (now (pool .entry)) S i (step σ τ folds S m i) r) ⌝ }
+    ensures { λ r. ⌜ ((types recorded : List ℕ) (τ : Types) (S : AggStates) (σ : SettingsOf) (folds : IdOf → Bool) (m : ℕ) (i : Instruction) (n : ℕ) → Here b (now (s .entry)) types recorded (now (tracked .entry)) (now (firsts .entry)) (now (pool .entry)) used τ S p i n → p .kind ≡ 11 → σ .tuples ≡ on → Decided (b .next) (now (s .entry)) (now (tracked .exit)) (now (firsts .exit)) (now (pool .entry)) S i (step σ τ folds S m i) r) ⌝ }
 {
     if !on {
         return Decision {
@@ -166,9 +166,9 @@ fn step_element(
     }
     let x = decided::first_operand(s, p.at, b);
     let k = wire::u32_at(s, lookup::value_end(s, p.off + 2));
-    let init = decided::part(counts, firsts, pool, x, k);
+    let init = decided::part(tracked, firsts, pool, x, k);
     let t = decided::last_type(s, p.at, b);
-    decided::take(s, b.next, init, p.dest, t, true, counts, firsts, used)
+    decided::take(s, b.next, init, p.dest, t, true, tracked, firsts, used)
 }
 
 // An extract of a struct's field.
@@ -179,14 +179,14 @@ fn step_field(
     on: bool,
     types: &[usize],
     recorded: &[u16],
-    counts: &mut [u16],
+    tracked: &mut [bool],
     firsts: &mut [u16],
     pool: &[usize],
     used: usize,
 ) -> Decision
     requires { ⌜ p .off < 2199023255552 ⌝ }
     ensures { λ r. ⌜ r .used ≡ used ⌝ }
-    ensures { λ r. ⌜ ((τ : Types) (S : AggStates) (σ : SettingsOf) (folds : IdOf → Bool) (m : ℕ) (i : Instruction) (n : ℕ) → Here b (now (s .entry)) (now (types .entry)) (now (recorded .entry)) (now (counts .entry)) (now (firsts .entry)) (now (pool .entry)) used τ S p i n → p .kind ≡ 13 → σ .structs ≡ on → Decided (b .next) (now (s .entry)) (now (counts .exit)) (now (firsts .exit)) (now (pool .entry)) S i (step σ τ folds S m i) r) ⌝ }
+    ensures { λ r. ⌜ ((τ : Types) (S : AggStates) (σ : SettingsOf) (folds : IdOf → Bool) (m : ℕ) (i : Instruction) (n : ℕ) → Here b (now (s .entry)) (now (types .entry)) (now (recorded .entry)) (now (tracked .entry)) (now (firsts .entry)) (now (pool .entry)) used τ S p i n → p .kind ≡ 13 → σ .structs ≡ on → Decided (b .next) (now (s .entry)) (now (tracked .exit)) (now (firsts .exit)) (now (pool .entry)) S i (step σ τ folds S m i) r) ⌝ }
 {
     if !on {
         return Decision {
@@ -196,9 +196,9 @@ fn step_field(
     }
     let x = decided::first_operand(s, p.at, b);
     let name = NameId(wire::u16_at(s, lookup::value_end(s, p.off + 2)));
-    let init = decided::field_part(s, types, b.types, recorded, counts, firsts, pool, x, name);
+    let init = decided::field_part(s, types, b.types, recorded, tracked, firsts, pool, x, name);
     let t = decided::last_type(s, p.at, b);
-    decided::take(s, b.next, init, p.dest, t, true, counts, firsts, used)
+    decided::take(s, b.next, init, p.dest, t, true, tracked, firsts, used)
 }
 
 // An insert of a struct's field.
@@ -208,14 +208,14 @@ fn step_insert_field(
     b: Bounds,
     on: bool,
     types: &[usize],
-    counts: &mut [u16],
+    tracked: &mut [bool],
     firsts: &mut [u16],
     pool: &mut [usize],
     used: usize,
 ) -> Decision
     requires { ⌜ (used < 60000) × (p .off < 2199023255552) ⌝ }
-    ensures { λ r. ⌜ r .used ≤ used + 16 ⌝ }
-    ensures { λ r. ⌜ ((recorded : List ℕ) (τ : Types) (S : AggStates) (σ : SettingsOf) (folds : IdOf → Bool) (m : ℕ) (i : Instruction) (n : ℕ) → Here b (now (s .entry)) (now (types .entry)) recorded (now (counts .entry)) (now (firsts .entry)) (now (pool .entry)) used τ S p i n → p .kind ≡ 14 → σ .structs ≡ on → Decided (b .next) (now (s .entry)) (now (counts .exit)) (now (firsts .exit)) (now (pool .exit)) S i (step σ τ folds S m i) r) ⌝ }
+    ensures { λ r. ⌜ r .used ≤ used + 17 ⌝ }
+    ensures { λ r. ⌜ ((recorded : List ℕ) (τ : Types) (S : AggStates) (σ : SettingsOf) (folds : IdOf → Bool) (m : ℕ) (i : Instruction) (n : ℕ) → Here b (now (s .entry)) (now (types .entry)) recorded (now (tracked .entry)) (now (firsts .entry)) (now (pool .entry)) used τ S p i n → p .kind ≡ 14 → σ .structs ≡ on → Decided (b .next) (now (s .entry)) (now (tracked .exit)) (now (firsts .exit)) (now (pool .exit)) S i (step σ τ folds S m i) r) ⌝ }
 {
     if !on {
         return Decision {
@@ -231,7 +231,7 @@ fn step_insert_field(
             action: Action::Keep,
             used: used,
         },
-        Position::At(k) => decided::insert(p.dest, x, k, end + 2, counts, firsts, pool, used),
+        Position::At(k) => decided::insert(p.dest, x, k, end + 2, tracked, firsts, pool, used),
     }
 }
 
@@ -241,14 +241,14 @@ fn step_insert_element(
     p: Spot,
     b: Bounds,
     on: bool,
-    counts: &mut [u16],
+    tracked: &mut [bool],
     firsts: &mut [u16],
     pool: &mut [usize],
     used: usize,
 ) -> Decision
     requires { ⌜ (used < 60000) × (p .off < 2199023255552) ⌝ }
-    ensures { λ r. ⌜ r .used ≤ used + 16 ⌝ }
-    ensures { λ r. ⌜ ((types recorded : List ℕ) (τ : Types) (S : AggStates) (σ : SettingsOf) (folds : IdOf → Bool) (m : ℕ) (i : Instruction) (n : ℕ) → Here b (now (s .entry)) types recorded (now (counts .entry)) (now (firsts .entry)) (now (pool .entry)) used τ S p i n → p .kind ≡ 15 → σ .tuples ≡ on → Decided (b .next) (now (s .entry)) (now (counts .exit)) (now (firsts .exit)) (now (pool .exit)) S i (step σ τ folds S m i) r) ⌝ }
+    ensures { λ r. ⌜ r .used ≤ used + 17 ⌝ }
+    ensures { λ r. ⌜ ((types recorded : List ℕ) (τ : Types) (S : AggStates) (σ : SettingsOf) (folds : IdOf → Bool) (m : ℕ) (i : Instruction) (n : ℕ) → Here b (now (s .entry)) types recorded (now (tracked .entry)) (now (firsts .entry)) (now (pool .entry)) used τ S p i n → p .kind ≡ 15 → σ .tuples ≡ on → Decided (b .next) (now (s .entry)) (now (tracked .exit)) (now (firsts .exit)) (now (pool .exit)) S i (step σ τ folds S m i) r) ⌝ }
 {
     if !on {
         return Decision {
@@ -259,7 +259,7 @@ fn step_insert_element(
     let x = decided::first_operand(s, p.at, b);
     let end = lookup::value_end(s, p.off + 2);
     let k = wire::u32_at(s, end);
-    decided::insert(p.dest, x, k, end + 4, counts, firsts, pool, used)
+    decided::insert(p.dest, x, k, end + 4, tracked, firsts, pool, used)
 }
 
 // What becomes of the instruction at a place, where it is no Call and no Store. `fold`: it is a build that is taken apart.
@@ -271,29 +271,40 @@ pub fn decide(
     types: &[usize],
     recorded: &[u16],
     fold: bool,
-    counts: &mut [u16],
+    tracked: &mut [bool],
     firsts: &mut [u16],
     pool: &mut [usize],
     used: usize,
 ) -> Decision
     requires { ⌜ (used < 60000) × (at < 1099511627776) ⌝ }
-    ensures { λ r. ⌜ r .used ≤ used + 16 ⌝ }
-    ensures { λ r. ⌜ ((τ : Types) (S : AggStates) (folds : IdOf → Bool) (m : ℕ) (i : Instruction) (n : ℕ) → Ground b (now (s .entry)) (now (types .entry)) (now (recorded .entry)) τ → Rep (b .next) (now (s .entry)) (now (counts .entry)) (now (firsts .entry)) (now (pool .entry)) used S → Tables (now (counts .entry)) (now (firsts .entry)) (now (pool .entry)) used → instructionOf b [] false (drop at (now (s .entry))) ≡ ok i n → (kindNumber (i .kind) ≡ 3 → ⊥) → (kindNumber (i .kind) ≡ 6 → ⊥) → ((d : IdOf) → buildDest (i .kind) ≡ some d → fold ≡ folds d) → Decided (b .next) (now (s .entry)) (now (counts .exit)) (now (firsts .exit)) (now (pool .exit)) S i (step settings τ folds S m i) r) ⌝ }
+    ensures { λ r. ⌜ r .used ≤ used + 17 ⌝ }
+    ensures { λ r. ⌜ ((τ : Types) (S : AggStates) (folds : IdOf → Bool) (m : ℕ) (i : Instruction) (n : ℕ) → Ground b (now (s .entry)) (now (types .entry)) (now (recorded .entry)) τ → Rep (b .next) (now (s .entry)) (now (tracked .entry)) (now (firsts .entry)) (now (pool .entry)) used S → Tables (now (tracked .entry)) (now (firsts .entry)) (now (pool .entry)) used → instructionOf b [] false (drop at (now (s .entry))) ≡ ok i n → (kindNumber (i .kind) ≡ 3 → ⊥) → (kindNumber (i .kind) ≡ 6 → ⊥) → ((d : IdOf) → buildDest (i .kind) ≡ some d → fold ≡ folds d) → Decided (b .next) (now (s .entry)) (now (tracked .exit)) (now (firsts .exit)) (now (pool .exit)) S i (step settings τ folds S m i) r) ⌝ }
 {
     let p = find_spot(s, at);
     let tuples = settings.tuples;
     let named = settings.structs;
     let kind = p.kind;
     match kind {
-        0 => step_assign(s, p, b, types, counts, firsts, used),
-        5 => step_load(s, p, b, tuples, types, recorded, counts, firsts, pool, used),
-        10 => step_build(s, p, b, fold, counts, firsts, pool, used),
-        11 => step_element(s, p, b, tuples, counts, firsts, pool, used),
-        12 => step_struct(s, p, b, fold, types, recorded, counts, firsts, pool, used),
-        13 => step_field(s, p, b, named, types, recorded, counts, firsts, pool, used),
-        14 => step_insert_field(s, p, b, named, types, counts, firsts, pool, used),
-        15 => step_insert_element(s, p, b, tuples, counts, firsts, pool, used),
-        16 => step_build(s, p, b, fold, counts, firsts, pool, used),
+        0 => step_assign(s, p, b, types, tracked, firsts, used),
+        5 => step_load(
+            s,
+            p,
+            b,
+            tuples,
+            types,
+            recorded,
+            tracked,
+            firsts,
+            pool,
+            used,
+        ),
+        10 => step_build(s, p, b, fold, tracked, firsts, pool, used),
+        11 => step_element(s, p, b, tuples, tracked, firsts, pool, used),
+        12 => step_struct(s, p, b, fold, types, recorded, tracked, firsts, pool, used),
+        13 => step_field(s, p, b, named, types, recorded, tracked, firsts, pool, used),
+        14 => step_insert_field(s, p, b, named, types, tracked, firsts, pool, used),
+        15 => step_insert_element(s, p, b, tuples, tracked, firsts, pool, used),
+        16 => step_build(s, p, b, fold, tracked, firsts, pool, used),
         _ => Decision {
             action: Action::Keep,
             used: used,

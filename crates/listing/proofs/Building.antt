@@ -70,8 +70,8 @@ lines-of d xs t (some Error) a b e = line-none a b (omega arith)
 lines-of d xs t (some Unknown) a b e = line-none a b (omega arith)
 
 -- the row of a tracked value
-pub row-from : (next : ℕ) (s counts firsts pool : List ℕ) (used : ℕ) (S : AggStates) (v : ValueId) (from : ℕ) (xs : List Value) → Rep next s counts firsts pool used S → S (v .0) ≡ some xs → from ≡ getD firsts (v .0) 0 → RowAt next s pool from xs
-row-from next s counts firsts pool used S v from xs r e f = rw f (found-row r (v .0) e .parts)
+pub row-from : (next : ℕ) (s : List ℕ) (tracked : Marks) (firsts pool : List ℕ) (used : ℕ) (S : AggStates) (v : ValueId) (from : ℕ) (xs : List Value) → Rep next s tracked firsts pool used S → S (v .0) ≡ some xs → from ≡ getD firsts (v .0) 0 → RowAt next s pool (from + 1) xs
+row-from next s tracked firsts pool used S v from xs r e f = rw f (found-row r (v .0) e .parts)
 
 -- one rebuild, under the number n
 module _ (τ : Types) (n : ℕ) (t : TypeId) (xs : List Value) (out out′ : List ℕ) (p : Progress) (r : Answer) (d : ℕ) (e : d ≡ n) (w : Rebuilds τ (record { 0 = d }) xs t out out′ (p .to) r) where
@@ -172,13 +172,13 @@ module _ (next : ℕ) (t : List ℕ) (asks : Asks) (τ : Types) (S : AggStates) 
         go (x ∷ ys) m k b = absurd (omega arith)
 
 -- the loop over the values
-pub record Building (b : Bounds) (s t types recorded counts firsts pool : List ℕ) (asks : Asks) (first many : ℕ) (out₀ fresh₀ : List ℕ) (p₀ : Progress) (out fresh : List ℕ) (p : Progress) (here i : ℕ) : Type 0 where
+pub record Building (b : Bounds) (s t types recorded : List ℕ) (tracked : Marks) (firsts pool : List ℕ) (asks : Asks) (first many : ℕ) (out₀ fresh₀ : List ℕ) (p₀ : Progress) (out fresh : List ℕ) (p : Progress) (here i : ℕ) : Type 0 where
   pub under : i ≤ many
   pub few : Few p₀ i p
   pub near : here ≤ first + 5 * i
   pub len : length out ≡ length out₀
   pub len-fresh : length fresh ≡ length fresh₀
-  pub left : (τ : Types) (S : AggStates) (xs : List Value) (dropped : Marks) → Setting b s types recorded counts firsts pool asks τ S → Lies (b .next) t first xs → length xs ≡ many → b .next + p₀ .fresh + length (rebuildAll τ S (b .next + p₀ .fresh) (askedList τ t asks 0 xs) .fresh) < 65536
+  pub left : (τ : Types) (S : AggStates) (xs : List Value) (dropped : Marks) → Setting b s types recorded tracked firsts pool asks τ S → Lies (b .next) t first xs → length xs ≡ many → b .next + p₀ .fresh + length (rebuildAll τ S (b .next + p₀ .fresh) (askedList τ t asks 0 xs) .fresh) < 65536
       → Left (b .next) t asks τ S many (outputOf out₀ fresh₀ dropped p₀) (rebuildAll τ S (b .next + p₀ .fresh) (askedList τ t asks 0 xs)) (outputOf out fresh dropped p) here i
 
 -- one more, behind some
@@ -200,22 +200,22 @@ pub few-none : (p : Progress) (k : ℕ) → Few p k p
 few-none p k = record { to = omega arith; lines = omega arith; fresh = omega arith; taken = omega arith; counts = refl }
 
 -- what put_one promises of value i
-abbrev pub OnePut : (b : Bounds) (s t types recorded counts firsts pool : List ℕ) (asks : Asks) (out fresh : List ℕ) (p : Progress) (here i : ℕ) (out′ fresh′ : List ℕ) (r : Put) → Type 0
-OnePut b s t types recorded counts firsts pool asks out fresh p here i out′ fresh′ r =
-    (τ : Types) (S : AggStates) (x : Value) (dropped : Marks) → Setting b s types recorded counts firsts pool asks τ S → ValueAt (b .next) t here x → b .next + p .fresh + length (oneAsked τ S t asks i (b .next + p .fresh) x .fresh) < 65536 → Puts (outputOf out fresh dropped p) (rebuiltEffect (oneAsked τ S t asks i (b .next + p .fresh) x)) (oneAsked τ S t asks i (b .next + p .fresh) x .clash) out′ fresh′ dropped r
+abbrev pub OnePut : (b : Bounds) (s t types recorded : List ℕ) (tracked : Marks) (firsts pool : List ℕ) (asks : Asks) (out fresh : List ℕ) (p : Progress) (here i : ℕ) (out′ fresh′ : List ℕ) (r : Put) → Type 0
+OnePut b s t types recorded tracked firsts pool asks out fresh p here i out′ fresh′ r =
+    (τ : Types) (S : AggStates) (x : Value) (dropped : Marks) → Setting b s types recorded tracked firsts pool asks τ S → ValueAt (b .next) t here x → b .next + p .fresh + length (oneAsked τ S t asks i (b .next + p .fresh) x .fresh) < 65536 → Puts (outputOf out fresh dropped p) (rebuiltEffect (oneAsked τ S t asks i (b .next + p .fresh) x)) (oneAsked τ S t asks i (b .next + p .fresh) x .clash) out′ fresh′ dropped r
 
 -- and put_builds of all of them
-abbrev pub AllPut : (b : Bounds) (s t types recorded counts firsts pool : List ℕ) (asks : Asks) (first many : ℕ) (out fresh : List ℕ) (p : Progress) (out′ fresh′ : List ℕ) (r : Put) → Type 0
-AllPut b s t types recorded counts firsts pool asks first many out fresh p out′ fresh′ r =
-    (τ : Types) (S : AggStates) (xs : List Value) (dropped : Marks) → Setting b s types recorded counts firsts pool asks τ S → Lies (b .next) t first xs → length xs ≡ many → b .next + p .fresh + length (rebuildAll τ S (b .next + p .fresh) (askedList τ t asks 0 xs) .fresh) < 65536 → Puts (outputOf out fresh dropped p) (rebuiltEffect (rebuildAll τ S (b .next + p .fresh) (askedList τ t asks 0 xs))) (rebuildAll τ S (b .next + p .fresh) (askedList τ t asks 0 xs) .clash) out′ fresh′ dropped r
+abbrev pub AllPut : (b : Bounds) (s t types recorded : List ℕ) (tracked : Marks) (firsts pool : List ℕ) (asks : Asks) (first many : ℕ) (out fresh : List ℕ) (p : Progress) (out′ fresh′ : List ℕ) (r : Put) → Type 0
+AllPut b s t types recorded tracked firsts pool asks first many out fresh p out′ fresh′ r =
+    (τ : Types) (S : AggStates) (xs : List Value) (dropped : Marks) → Setting b s types recorded tracked firsts pool asks τ S → Lies (b .next) t first xs → length xs ≡ many → b .next + p .fresh + length (rebuildAll τ S (b .next + p .fresh) (askedList τ t asks 0 xs) .fresh) < 65536 → Puts (outputOf out fresh dropped p) (rebuiltEffect (rebuildAll τ S (b .next + p .fresh) (askedList τ t asks 0 xs))) (rebuildAll τ S (b .next + p .fresh) (askedList τ t asks 0 xs) .clash) out′ fresh′ dropped r
 
-module _ (b : Bounds) (s t types recorded counts firsts pool : List ℕ) (asks : Asks) (first many : ℕ) (out₀ fresh₀ : List ℕ) (p₀ : Progress) where
-  pub building : Building b s t types recorded counts firsts pool asks first many out₀ fresh₀ p₀ out₀ fresh₀ p₀ first 0
+module _ (b : Bounds) (s t types recorded : List ℕ) (tracked : Marks) (firsts pool : List ℕ) (asks : Asks) (first many : ℕ) (out₀ fresh₀ : List ℕ) (p₀ : Progress) where
+  pub building : Building b s t types recorded tracked firsts pool asks first many out₀ fresh₀ p₀ out₀ fresh₀ p₀ first 0
   building = record { under = omega arith; few = few-none p₀ 0; near = omega arith; len = refl; len-fresh = refl; left = λ τ S xs dropped e l m h. left-start (b .next) t asks τ S many (outputOf out₀ fresh₀ dropped p₀) _ first xs l m refl }
 
-  module _ (out fresh : List ℕ) (p : Progress) (here i : ℕ) (c : Building b s t types recorded counts firsts pool asks first many out₀ fresh₀ p₀ out fresh p here i) (out′ fresh′ : List ℕ) (r : Put) (h : i < many) (f : OnePut b s t types recorded counts firsts pool asks out fresh p here i out′ fresh′ r) where
+  module _ (out fresh : List ℕ) (p : Progress) (here i : ℕ) (c : Building b s t types recorded tracked firsts pool asks first many out₀ fresh₀ p₀ out fresh p here i) (out′ fresh′ : List ℕ) (r : Put) (h : i < many) (f : OnePut b s t types recorded tracked firsts pool asks out fresh p here i out′ fresh′ r) where
     pub building-again : (q : Progress) (there : ℕ) → r ≡ Put.Went q → Few p 1 q → length out′ ≡ length out → length fresh′ ≡ length fresh → there ≡ valueEnd t here → there ≤ here + 5
-        → Building b s t types recorded counts firsts pool asks first many out₀ fresh₀ p₀ out′ fresh′ q there (i + 1)
+        → Building b s t types recorded tracked firsts pool asks first many out₀ fresh₀ p₀ out′ fresh′ q there (i + 1)
     building-again q there e few k l v n = record {
       under = omega arith;
       few = few-more p₀ p q i (c .few) few;
@@ -225,14 +225,14 @@ module _ (b : Bounds) (s t types recorded counts firsts pool : List ℕ) (asks :
       left = λ τ S xs dropped g a m small. left-again (b .next) t asks τ S many (outputOf out₀ fresh₀ dropped p₀) _ (outputOf out fresh dropped p) here i (c .left τ S xs dropped g a m small) (outputOf out′ fresh′ dropped q) there h v small (λ x y w. f τ S x dropped g y w .went q e);
     }
 
-    pub building-clash : r ≡ Put.Clash → AllPut b s t types recorded counts firsts pool asks first many out₀ fresh₀ p₀ out′ fresh′ Put.Clash
+    pub building-clash : r ≡ Put.Clash → AllPut b s t types recorded tracked firsts pool asks first many out₀ fresh₀ p₀ out′ fresh′ Put.Clash
     building-clash e = λ τ S xs dropped g a m small.
         record {
           clashed = λ _. left-clash (b .next) t asks τ S many (outputOf out₀ fresh₀ dropped p₀) _ (outputOf out fresh dropped p) here i (c .left τ S xs dropped g a m small) h small (λ x y w. f τ S x dropped g y w .clashed e);
           went = λ q z. absurd (no-went z);
         }
 
-  pub building-done : (out fresh : List ℕ) (p : Progress) (here i : ℕ) (c : Building b s t types recorded counts firsts pool asks first many out₀ fresh₀ p₀ out fresh p here i) → many ≤ i → many < 256 → Few p₀ 255 p × AllPut b s t types recorded counts firsts pool asks first many out₀ fresh₀ p₀ out fresh (Put.Went p)
+  pub building-done : (out fresh : List ℕ) (p : Progress) (here i : ℕ) (c : Building b s t types recorded tracked firsts pool asks first many out₀ fresh₀ p₀ out fresh p here i) → many ≤ i → many < 256 → Few p₀ 255 p × AllPut b s t types recorded tracked firsts pool asks first many out₀ fresh₀ p₀ out fresh (Put.Went p)
   building-done out fresh p here i c h n = (
     few-all p₀ p i 255 (omega (arith, c .under)) (c .few),
     λ τ S xs dropped g a m small.

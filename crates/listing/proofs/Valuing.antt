@@ -17,6 +17,7 @@ use Rattle.form.specs.declared.Bounds.{Bounds}
 use Rattle.lookup.specs.Fields.{valueEnd}
 use Rattle.emit.proofs.Sets.{sets-append}
 use Rattle.eligibility.specs.Lookup.{Types}
+use Rattle.eligibility.specs.Family.{Marks}
 use Rattle.rewriting.specs.State.{AggStates}
 use Rattle.rewriting.specs.Rebuild.{Rebuilt, untouched, rebuildValue, rebuildAll}
 use Rattle.parts.specs.Rows.{ValueAt}
@@ -83,23 +84,23 @@ module _ (next : ℕ) (t : List ℕ) (asks : Asks) (τ : Types) (S : AggStates) 
         go (x ∷ ys) m k b = absurd (omega arith)
 
 -- the loop over the values
-pub record Valuing (b : Bounds) (s t types recorded counts : List ℕ) (asks : Asks) (first many : ℕ) (out₀ : List ℕ) (to₀ taken₀ : ℕ) (out : List ℕ) (to taken here i : ℕ) : Type 0 where
+pub record Valuing (b : Bounds) (s t types recorded : List ℕ) (tracked : Marks) (asks : Asks) (first many : ℕ) (out₀ : List ℕ) (to₀ taken₀ : ℕ) (out : List ℕ) (to taken here i : ℕ) : Type 0 where
   pub under : i ≤ many
   pub bound : to ≤ to₀ + 5 * i
   pub spent : taken ≤ taken₀ + i
   pub near : here ≤ first + 5 * i
   pub len : length out ≡ length out₀
-  pub left : (τ : Types) (S : AggStates) (firsts pool : List ℕ) (xs : List Value) → Setting b s types recorded counts firsts pool asks τ S → Lies (b .next) t first xs → length xs ≡ many → b .next + taken₀ + length (rebuildAll τ S (b .next + taken₀) (askedList τ t asks 0 xs) .fresh) < 65536
+  pub left : (τ : Types) (S : AggStates) (firsts pool : List ℕ) (xs : List Value) → Setting b s types recorded tracked firsts pool asks τ S → Lies (b .next) t first xs → length xs ≡ many → b .next + taken₀ + length (rebuildAll τ S (b .next + taken₀) (askedList τ t asks 0 xs) .fresh) < 65536
       → Unwritten (b .next) t asks τ S many out₀ to₀ taken₀ (rebuildAll τ S (b .next + taken₀) (askedList τ t asks 0 xs)) out to taken here i
 
-module _ (b : Bounds) (s t types recorded counts : List ℕ) (asks : Asks) (first many : ℕ) (out₀ : List ℕ) (to₀ taken₀ : ℕ) where
-  pub valuing : Valuing b s t types recorded counts asks first many out₀ to₀ taken₀ out₀ to₀ taken₀ first 0
+module _ (b : Bounds) (s t types recorded : List ℕ) (tracked : Marks) (asks : Asks) (first many : ℕ) (out₀ : List ℕ) (to₀ taken₀ : ℕ) where
+  pub valuing : Valuing b s t types recorded tracked asks first many out₀ to₀ taken₀ out₀ to₀ taken₀ first 0
   valuing = record { under = zero-le; bound = omega arith; spent = omega arith; near = omega arith; len = refl; left = λ τ S firsts pool xs e l m h. unwritten-start (b .next) t asks τ S many out₀ to₀ taken₀ _ first xs l m refl }
 
-  module _ (out : List ℕ) (to taken here i : ℕ) (c : Valuing b s t types recorded counts asks first many out₀ to₀ taken₀ out to taken here i) where
+  module _ (out : List ℕ) (to taken here i : ℕ) (c : Valuing b s t types recorded tracked asks first many out₀ to₀ taken₀ out to taken here i) where
     pub valuing-again : (out′ : List ℕ) (to′ taken′ there : ℕ) → i < many → length out′ ≡ length out → to′ ≤ to + 5 → taken′ ≤ taken + 1 → there ≡ valueEnd t here → there ≤ here + 5
-        → ((τ : Types) (S : AggStates) (firsts pool : List ℕ) (x : Value) → Setting b s types recorded counts firsts pool asks τ S → ValueAt (b .next) t here x → b .next + taken + length (oneAsked τ S t asks i (b .next + taken) x .fresh) < 65536 → Writes (eachBytes valueBytes (oneAsked τ S t asks i (b .next + taken) x .values)) out out′ to to′ × (taken′ ≡ taken + length (oneAsked τ S t asks i (b .next + taken) x .fresh)))
-        → Valuing b s t types recorded counts asks first many out₀ to₀ taken₀ out′ to′ taken′ there (i + 1)
+        → ((τ : Types) (S : AggStates) (firsts pool : List ℕ) (x : Value) → Setting b s types recorded tracked firsts pool asks τ S → ValueAt (b .next) t here x → b .next + taken + length (oneAsked τ S t asks i (b .next + taken) x .fresh) < 65536 → Writes (eachBytes valueBytes (oneAsked τ S t asks i (b .next + taken) x .values)) out out′ to to′ × (taken′ ≡ taken + length (oneAsked τ S t asks i (b .next + taken) x .fresh)))
+        → Valuing b s t types recorded tracked asks first many out₀ to₀ taken₀ out′ to′ taken′ there (i + 1)
     valuing-again out′ to′ taken′ there h k p q e r f = record {
       under = omega arith;
       bound = omega (arith, c .bound);
@@ -109,7 +110,7 @@ module _ (b : Bounds) (s t types recorded counts : List ℕ) (asks : Asks) (firs
       left = λ τ S firsts pool xs g l m small. unwritten-again (b .next) t asks τ S many out₀ to₀ taken₀ _ out to taken here i (c .left τ S firsts pool xs g l m small) out′ to′ taken′ there h e small (λ x v w. f τ S firsts pool x g v w);
     }
 
-    pub valuing-done : many ≤ i → (τ : Types) (S : AggStates) (firsts pool : List ℕ) (xs : List Value) → Setting b s types recorded counts firsts pool asks τ S → Lies (b .next) t first xs → length xs ≡ many → b .next + taken₀ + length (rebuildAll τ S (b .next + taken₀) (askedList τ t asks 0 xs) .fresh) < 65536
+    pub valuing-done : many ≤ i → (τ : Types) (S : AggStates) (firsts pool : List ℕ) (xs : List Value) → Setting b s types recorded tracked firsts pool asks τ S → Lies (b .next) t first xs → length xs ≡ many → b .next + taken₀ + length (rebuildAll τ S (b .next + taken₀) (askedList τ t asks 0 xs) .fresh) < 65536
         → Writes (eachBytes valueBytes (rebuildAll τ S (b .next + taken₀) (askedList τ t asks 0 xs) .values)) out₀ out to₀ to
     valuing-done h τ S firsts pool xs g l m small = unwritten-done (b .next) t asks τ S many out₀ to₀ taken₀ _ out to taken here i (c .left τ S firsts pool xs g l m small) h
 

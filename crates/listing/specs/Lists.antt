@@ -8,6 +8,7 @@ use Rattle.wire.specs.declared.Value.{Value}
 use Rattle.form.specs.declared.Bounds.{Bounds}
 use Rattle.lookup.specs.Fields.{valueEnd}
 use Rattle.eligibility.specs.Lookup.{Types}
+use Rattle.eligibility.specs.Family.{Marks}
 use Rattle.rewriting.specs.State.{AggStates}
 use Rattle.rewriting.specs.Rebuild.{Rebuilt, rebuildAll}
 use Rattle.parts.specs.Rows.{ValueAt, Rep}
@@ -40,12 +41,12 @@ abbrev pub lineCount : ℕ → ℕ → ℕ
 lineCount from to = cond (eqb from to) 0 1
 
 -- the tables say what is tracked and which types are recorded, where these are asked for
-pub record Setting (b : Bounds) (s types recorded counts firsts pool : List ℕ) (asks : Asks) (τ : Types) (S : AggStates) : Type 0 where
+pub record Setting (b : Bounds) (s types recorded : List ℕ) (tracked : Marks) (firsts pool : List ℕ) (asks : Asks) (τ : Types) (S : AggStates) : Type 0 where
   pub table : List ℕ
   pub used : ℕ
   pub ground : Ground b s types table τ
   pub asked : asks ≡ Asks.Recorded → table ≡ recorded
-  pub rep : Rep (b .next) s counts firsts pool used S
+  pub rep : Rep (b .next) s tracked firsts pool used S
 
 -- the values xs stand one behind another in t
 infixr 67 _&_

@@ -67,7 +67,6 @@ fn put_build(
     s: &[u8],
     b: Bounds,
     types: &[usize],
-    counts: &[u16],
     firsts: &[u16],
     pool: &[usize],
     fresh: &mut [u16],
@@ -76,11 +75,11 @@ fn put_build(
 ) -> Put
     requires { ⌜ Roomy p ⌝ }
     ensures { λ r. ⌜ PutFew p 1 r ⌝ }
-    ensures { λ r. ⌜ ((τ : Types) (S : AggStates) (table : List ℕ) (used : ℕ) (xs : List Value) (dropped : Marks) → Ground b (now (s .entry)) (now (types .entry)) table τ → Rep (b .next) (now (s .entry)) (now (counts .entry)) (now (firsts .entry)) (now (pool .entry)) used S → S (v .0) ≡ some xs → t .0 < length (τ .rows) → b .next + p .fresh < 65536 → Puts (outputOf (now (out .entry)) (now (fresh .entry)) dropped p) (rebuiltEffect (rebuildValue τ (b .next + p .fresh) t xs (untouched []))) (rebuildValue τ (b .next + p .fresh) t xs (untouched []) .clash) (now (out .exit)) (now (fresh .exit)) dropped r) ⌝ }
+    ensures { λ r. ⌜ ((τ : Types) (S : AggStates) (table : List ℕ) (tracked : Marks) (used : ℕ) (xs : List Value) (dropped : Marks) → Ground b (now (s .entry)) (now (types .entry)) table τ → Rep (b .next) (now (s .entry)) tracked (now (firsts .entry)) (now (pool .entry)) used S → S (v .0) ≡ some xs → t .0 < length (τ .rows) → b .next + p .fresh < 65536 → Puts (outputOf (now (out .entry)) (now (fresh .entry)) dropped p) (rebuiltEffect (rebuildValue τ (b .next + p .fresh) t xs (untouched []))) (rebuildValue τ (b .next + p .fresh) t xs (untouched []) .clash) (now (out .exit)) (now (fresh .exit)) dropped r) ⌝ }
 {
     let d = ValueId(fresh_number(b.next, p.fresh));
-    let from = table::number(firsts, v.0 as usize) as usize;
-    let have = parts::part_count(counts, v);
+    let from = table::number(firsts, v.0 as usize) as usize + 1;
+    let have = parts::part_count(firsts, pool, v);
     let r = rebuild::put_rebuild(out, p.to, s, b.next, types, t, d, pool, from, have);
     if r.clash {
         return Put::Clash;
@@ -106,7 +105,7 @@ fn put_one(
     b: Bounds,
     types: &[usize],
     recorded: &[u16],
-    counts: &[u16],
+    tracked: &[bool],
     firsts: &[u16],
     pool: &[usize],
     fresh: &mut [u16],
@@ -114,11 +113,11 @@ fn put_one(
 ) -> Put
     requires { ⌜ Roomy p ⌝ }
     ensures { λ r. ⌜ PutFew p 1 r ⌝ }
-    ensures { λ r. ⌜ ((τ : Types) (S : AggStates) (x : Value) (dropped : Marks) → Setting b (now (s .entry)) (now (types .entry)) (now (recorded .entry)) (now (counts .entry)) (now (firsts .entry)) (now (pool .entry)) asks τ S → ValueAt (b .next) (now (t .entry)) at x → b .next + p .fresh + length (oneAsked τ S (now (t .entry)) asks i (b .next + p .fresh) x .fresh) < 65536 → Puts (outputOf (now (out .entry)) (now (fresh .entry)) dropped p) (rebuiltEffect (oneAsked τ S (now (t .entry)) asks i (b .next + p .fresh) x)) (oneAsked τ S (now (t .entry)) asks i (b .next + p .fresh) x .clash) (now (out .exit)) (now (fresh .exit)) dropped r) ⌝ }
+    ensures { λ r. ⌜ ((τ : Types) (S : AggStates) (x : Value) (dropped : Marks) → Setting b (now (s .entry)) (now (types .entry)) (now (recorded .entry)) (now (tracked .entry)) (now (firsts .entry)) (now (pool .entry)) asks τ S → ValueAt (b .next) (now (t .entry)) at x → b .next + p .fresh + length (oneAsked τ S (now (t .entry)) asks i (b .next + p .fresh) x .fresh) < 65536 → Puts (outputOf (now (out .entry)) (now (fresh .entry)) dropped p) (rebuiltEffect (oneAsked τ S (now (t .entry)) asks i (b .next + p .fresh) x)) (oneAsked τ S (now (t .entry)) asks i (b .next + p .fresh) x .clash) (now (out .exit)) (now (fresh .exit)) dropped r) ⌝ }
 {
-    match wanting::wanted_at(s, b, types, t, at, recorded, counts, asks, i) {
+    match wanting::wanted_at(s, b, types, t, at, recorded, tracked, asks, i) {
         Wants::Nothing => Put::Went(p),
-        Wants::Build(v, u) => put_build(out, p, s, b, types, counts, firsts, pool, fresh, v, u),
+        Wants::Build(v, u) => put_build(out, p, s, b, types, firsts, pool, fresh, v, u),
     }
 }
 
@@ -133,7 +132,7 @@ pub fn put_builds(
     b: Bounds,
     types: &[usize],
     recorded: &[u16],
-    counts: &[u16],
+    tracked: &[bool],
     firsts: &[u16],
     pool: &[usize],
     fresh: &mut [u16],
@@ -141,7 +140,7 @@ pub fn put_builds(
 ) -> Put
     requires { ⌜ Low 8000 p × (first < 1073741824) ⌝ }
     ensures { λ r. ⌜ PutFew p 255 r ⌝ }
-    ensures { λ r. ⌜ ((τ : Types) (S : AggStates) (xs : List Value) (dropped : Marks) → Setting b (now (s .entry)) (now (types .entry)) (now (recorded .entry)) (now (counts .entry)) (now (firsts .entry)) (now (pool .entry)) asks τ S → Lies (b .next) (now (t .entry)) first xs → length xs ≡ many → b .next + p .fresh + length (rebuildAll τ S (b .next + p .fresh) (askedList τ (now (t .entry)) asks 0 xs) .fresh) < 65536 → Puts (outputOf (now (out .entry)) (now (fresh .entry)) dropped p) (rebuiltEffect (rebuildAll τ S (b .next + p .fresh) (askedList τ (now (t .entry)) asks 0 xs))) (rebuildAll τ S (b .next + p .fresh) (askedList τ (now (t .entry)) asks 0 xs) .clash) (now (out .exit)) (now (fresh .exit)) dropped r) ⌝ }
+    ensures { λ r. ⌜ ((τ : Types) (S : AggStates) (xs : List Value) (dropped : Marks) → Setting b (now (s .entry)) (now (types .entry)) (now (recorded .entry)) (now (tracked .entry)) (now (firsts .entry)) (now (pool .entry)) asks τ S → Lies (b .next) (now (t .entry)) first xs → length xs ≡ many → b .next + p .fresh + length (rebuildAll τ S (b .next + p .fresh) (askedList τ (now (t .entry)) asks 0 xs) .fresh) < 65536 → Puts (outputOf (now (out .entry)) (now (fresh .entry)) dropped p) (rebuiltEffect (rebuildAll τ S (b .next + p .fresh) (askedList τ (now (t .entry)) asks 0 xs))) (rebuildAll τ S (b .next + p .fresh) (askedList τ (now (t .entry)) asks 0 xs) .clash) (now (out .exit)) (now (fresh .exit)) dropped r) ⌝ }
 {
     let mut q = p;
     let mut here = first;
@@ -157,7 +156,7 @@ pub fn put_builds(
             b,
             types,
             recorded,
-            counts,
+            tracked,
             firsts,
             pool,
             fresh,
@@ -184,14 +183,14 @@ fn put_one_value(
     b: Bounds,
     types: &[usize],
     recorded: &[u16],
-    counts: &[u16],
+    tracked: &[bool],
     asks: Asks,
 ) -> Written
     requires { ⌜ (to < 549755813888) × (taken < 2147483648) ⌝ }
     ensures { λ r. ⌜ (r .to ≤ to + 5) × (r .fresh ≤ taken + 1) ⌝ }
-    ensures { λ r. ⌜ ((τ : Types) (S : AggStates) (firsts pool : List ℕ) (x : Value) → Setting b (now (s .entry)) (now (types .entry)) (now (recorded .entry)) (now (counts .entry)) firsts pool asks τ S → ValueAt (b .next) (now (t .entry)) at x → b .next + taken + length (oneAsked τ S (now (t .entry)) asks i (b .next + taken) x .fresh) < 65536 → Writes (eachBytes valueBytes (oneAsked τ S (now (t .entry)) asks i (b .next + taken) x .values)) (now (out .entry)) (now (out .exit)) to (r .to) × (r .fresh ≡ taken + length (oneAsked τ S (now (t .entry)) asks i (b .next + taken) x .fresh))) ⌝ }
+    ensures { λ r. ⌜ ((τ : Types) (S : AggStates) (firsts pool : List ℕ) (x : Value) → Setting b (now (s .entry)) (now (types .entry)) (now (recorded .entry)) (now (tracked .entry)) firsts pool asks τ S → ValueAt (b .next) (now (t .entry)) at x → b .next + taken + length (oneAsked τ S (now (t .entry)) asks i (b .next + taken) x .fresh) < 65536 → Writes (eachBytes valueBytes (oneAsked τ S (now (t .entry)) asks i (b .next + taken) x .values)) (now (out .entry)) (now (out .exit)) to (r .to) × (r .fresh ≡ taken + length (oneAsked τ S (now (t .entry)) asks i (b .next + taken) x .fresh))) ⌝ }
 {
-    match wanting::wanted_at(s, b, types, t, at, recorded, counts, asks, i) {
+    match wanting::wanted_at(s, b, types, t, at, recorded, tracked, asks, i) {
         Wants::Nothing => {
             let p = rebuild::put_value_at(out, to, t, at, b.next);
             Written {
@@ -222,12 +221,12 @@ fn put_values(
     b: Bounds,
     types: &[usize],
     recorded: &[u16],
-    counts: &[u16],
+    tracked: &[bool],
     asks: Asks,
 ) -> usize
     requires { ⌜ (to < 274877906944) × ((taken < 1073741824) × (first < 1073741824)) ⌝ }
     ensures { λ r. ⌜ r ≤ to + 5 * many ⌝ }
-    ensures { λ r. ⌜ ((τ : Types) (S : AggStates) (firsts pool : List ℕ) (xs : List Value) → Setting b (now (s .entry)) (now (types .entry)) (now (recorded .entry)) (now (counts .entry)) firsts pool asks τ S → Lies (b .next) (now (t .entry)) first xs → length xs ≡ many → b .next + taken + length (rebuildAll τ S (b .next + taken) (askedList τ (now (t .entry)) asks 0 xs) .fresh) < 65536 → Writes (eachBytes valueBytes (rebuildAll τ S (b .next + taken) (askedList τ (now (t .entry)) asks 0 xs) .values)) (now (out .entry)) (now (out .exit)) to r) ⌝ }
+    ensures { λ r. ⌜ ((τ : Types) (S : AggStates) (firsts pool : List ℕ) (xs : List Value) → Setting b (now (s .entry)) (now (types .entry)) (now (recorded .entry)) (now (tracked .entry)) firsts pool asks τ S → Lies (b .next) (now (t .entry)) first xs → length xs ≡ many → b .next + taken + length (rebuildAll τ S (b .next + taken) (askedList τ (now (t .entry)) asks 0 xs) .fresh) < 65536 → Writes (eachBytes valueBytes (rebuildAll τ S (b .next + taken) (askedList τ (now (t .entry)) asks 0 xs) .values)) (now (out .entry)) (now (out .exit)) to r) ⌝ }
 {
     let mut w = Written {
         to: to,
@@ -247,7 +246,7 @@ fn put_values(
             b,
             types,
             recorded,
-            counts,
+            tracked,
             asks,
         );
         here = lookup::value_end(t, here);
@@ -268,7 +267,7 @@ pub fn put_around(
     b: Bounds,
     types: &[usize],
     recorded: &[u16],
-    counts: &[u16],
+    tracked: &[bool],
     asks: Asks,
     head: &[u8],
     before: usize,
@@ -277,7 +276,7 @@ pub fn put_around(
 ) -> usize
     requires { ⌜ (to < 137438953472) × ((taken < 1073741824) × (first < 1073741824)) ⌝ }
     ensures { λ r. ⌜ r ≤ to + 4096 ⌝ }
-    ensures { λ r. ⌜ ((τ : Types) (S : AggStates) (firsts pool : List ℕ) (xs : List Value) → Setting b (now (s .entry)) (now (types .entry)) (now (recorded .entry)) (now (counts .entry)) firsts pool asks τ S → Lies (b .next) (now (t .entry)) first xs → length xs ≡ many → b .next + taken + length (rebuildAll τ S (b .next + taken) (askedList τ (now (t .entry)) asks 0 xs) .fresh) < 65536 → before ≤ 1024 → before ≤ length (now (head .entry)) → after ≤ 1024 → after ≤ length (now (rest .entry)) → Writes (take before (now (head .entry)) ++ (eachBytes valueBytes (rebuildAll τ S (b .next + taken) (askedList τ (now (t .entry)) asks 0 xs) .values) ++ take after (now (rest .entry)))) (now (out .entry)) (now (out .exit)) to r) ⌝ }
+    ensures { λ r. ⌜ ((τ : Types) (S : AggStates) (firsts pool : List ℕ) (xs : List Value) → Setting b (now (s .entry)) (now (types .entry)) (now (recorded .entry)) (now (tracked .entry)) firsts pool asks τ S → Lies (b .next) (now (t .entry)) first xs → length xs ≡ many → b .next + taken + length (rebuildAll τ S (b .next + taken) (askedList τ (now (t .entry)) asks 0 xs) .fresh) < 65536 → before ≤ 1024 → before ≤ length (now (head .entry)) → after ≤ 1024 → after ≤ length (now (rest .entry)) → Writes (take before (now (head .entry)) ++ (eachBytes valueBytes (rebuildAll τ S (b .next + taken) (askedList τ (now (t .entry)) asks 0 xs) .values) ++ take after (now (rest .entry)))) (now (out .entry)) (now (out .exit)) to r) ⌝ }
 {
     let p = copy_bytes(out, to, head, before);
     let q = put_values(
@@ -291,7 +290,7 @@ pub fn put_around(
         b,
         types,
         recorded,
-        counts,
+        tracked,
         asks,
     );
     copy_bytes(out, q, rest, after)

@@ -50,18 +50,18 @@ front-two out out₁ out₂ out₃ w a b i to e f v =
     (omega (arith, v .0), v .1 ∙ ap (λ l. sets l (i + 2) w) (f ∙ ap (λ l. sets l (i + 1) (b ∷ [])) e) ∙ rw (add-one i, add-two i) refl)
 
 -- what put_call promises
-abbrev pub CallPut : (b : Bounds) (s types counts firsts pool : List ℕ) (at end : ℕ) (out fresh : List ℕ) (p : Progress) (out′ fresh′ : List ℕ) (r : Put) → Type 0
-CallPut b s types counts firsts pool at end out fresh p out′ fresh′ r =
-    (τ : Types) (S : AggStates) (used : ℕ) (recorded : List ℕ) (i : Instruction) (ds : List ValueId) (g : ℕ) (xs : List Value) (ps rs : List TypeId) (dropped : Marks) (q : Piece) → Ground b s types recorded τ → Rep (b .next) s counts firsts pool used S → instructionOf b [] false (drop at s) ≡ ok i (end - at) → i .kind ≡ Call ds g xs ps rs → q ≡ stepCall S i ds g ps rs (rebuildAll τ S (b .next + p .fresh) (wantedArguments τ xs ps)) (rebuildAll τ S (b .next + p .fresh) (wantedArguments τ xs ps) .fresh) → b .next + p .fresh + length (q .fresh) < 65536 → Puts (outputOf out fresh dropped p) (pieceEffect q) (q .clash) out′ fresh′ dropped r
+abbrev pub CallPut : (b : Bounds) (s types : List ℕ) (tracked : Marks) (firsts pool : List ℕ) (at end : ℕ) (out fresh : List ℕ) (p : Progress) (out′ fresh′ : List ℕ) (r : Put) → Type 0
+CallPut b s types tracked firsts pool at end out fresh p out′ fresh′ r =
+    (τ : Types) (S : AggStates) (used : ℕ) (recorded : List ℕ) (i : Instruction) (ds : List ValueId) (g : ℕ) (xs : List Value) (ps rs : List TypeId) (dropped : Marks) (q : Piece) → Ground b s types recorded τ → Rep (b .next) s tracked firsts pool used S → instructionOf b [] false (drop at s) ≡ ok i (end - at) → i .kind ≡ Call ds g xs ps rs → q ≡ stepCall S i ds g ps rs (rebuildAll τ S (b .next + p .fresh) (wantedArguments τ xs ps)) (rebuildAll τ S (b .next + p .fresh) (wantedArguments τ xs ps) .fresh) → b .next + p .fresh + length (q .fresh) < 65536 → Puts (outputOf out fresh dropped p) (pieceEffect q) (q .clash) out′ fresh′ dropped r
 
-module _ (b : Bounds) (s types counts firsts pool : List ℕ) (at end : ℕ) (out fresh : List ℕ) (p : Progress) (nothing t f : List ℕ) (place first many behind np : ℕ)
+module _ (b : Bounds) (s types : List ℕ) (tracked : Marks) (firsts pool : List ℕ) (at end : ℕ) (out fresh : List ℕ) (p : Progress) (nothing t f : List ℕ) (place first many behind np : ℕ)
     (ht : t ≡ drop at s) (hp : place ≡ fieldsPlace t) (hf : f ≡ drop place t) (h1 : first ≡ 4 + 2 * getD f 0 0) (hm : many ≡ getD f (first - 1) 0) (hb : behind ≡ after (valueStep f 0 0) many first) (hn : np ≡ getD f behind 0)
-    (r : Put) (out₁ fresh₁ : List ℕ) (u : AllPut b s f types nothing counts firsts pool (Asks.Types (behind + 1) np) first many out fresh p out₁ fresh₁ r) where
+    (r : Put) (out₁ fresh₁ : List ℕ) (u : AllPut b s f types nothing tracked firsts pool (Asks.Types (behind + 1) np) first many out fresh p out₁ fresh₁ r) where
   abbrev asks : Asks
   asks = Asks.Types (behind + 1) np
 
   -- what is known in each case
-  module _ (τ : Types) (S : AggStates) (used : ℕ) (recorded : List ℕ) (i : Instruction) (ds : List ValueId) (g : ℕ) (xs : List Value) (ps rs : List TypeId) (dropped : Marks) (q : Piece) (ground : Ground b s types recorded τ) (a : Rep (b .next) s counts firsts pool used S) (e : instructionOf b [] false (drop at s) ≡ ok i (end - at)) (k : i .kind ≡ Call ds g xs ps rs)
+  module _ (τ : Types) (S : AggStates) (used : ℕ) (recorded : List ℕ) (i : Instruction) (ds : List ValueId) (g : ℕ) (xs : List Value) (ps rs : List TypeId) (dropped : Marks) (q : Piece) (ground : Ground b s types recorded τ) (a : Rep (b .next) s tracked firsts pool used S) (e : instructionOf b [] false (drop at s) ≡ ok i (end - at)) (k : i .kind ≡ Call ds g xs ps rs)
       (y : q ≡ stepCall S i ds g ps rs (rebuildAll τ S (b .next + p .fresh) (wantedArguments τ xs ps)) (rebuildAll τ S (b .next + p .fresh) (wantedArguments τ xs ps) .fresh)) (h : b .next + p .fresh + length (q .fresh) < 65536) where
     abbrev R : Rebuilt
     R = rebuildAll τ S (b .next + p .fresh) (askedList τ f (Asks.Types (behind + 1) np) 0 xs)
@@ -89,7 +89,7 @@ module _ (b : Bounds) (s types counts firsts pool : List ℕ) (at end : ℕ) (ou
     clash-same : q .clash ≡ R .clash
     clash-same = ap (λ z. z .clash) same ∙ call-clash S i ds g ps rs R calm
 
-    setting : Setting b s types nothing counts firsts pool (Asks.Types (behind + 1) np) τ S
+    setting : Setting b s types nothing tracked firsts pool (Asks.Types (behind + 1) np) τ S
     setting = record { table = recorded; used = used; ground = ground; asked = λ z. absurd (no-recorded (behind + 1) np z); rep = a }
 
     few : b .next + p .fresh + length (R .fresh) < 65536
@@ -110,7 +110,7 @@ module _ (b : Bounds) (s types counts firsts pool : List ℕ) (at end : ℕ) (ou
 
     -- else it is built anew
     anew-case : (q′ s′ : Progress) (out₂ out₃ out₄ rest : List ℕ) (to size behind-size : ℕ) → r ≡ Put.Went q′ → (q′ .fresh ≡ p .fresh → ⊥) → size ≡ end - at → behind-size ≡ size - place - behind → rest ≡ drop behind f → first ≤ 1024 → out₂ ≡ sets out₁ (q′ .to) (0 ∷ []) → out₃ ≡ sets out₂ (q′ .to + 1) (3 ∷ [])
-        → Around b s f types nothing counts (Asks.Types (behind + 1) np) first many (p .fresh) f first rest behind-size out₃ out₄ (q′ .to + 2) to → s′ ≡ onward q′ to 1 (q′ .fresh - p .fresh)
+        → Around b s f types nothing tracked (Asks.Types (behind + 1) np) first many (p .fresh) f first rest behind-size out₃ out₄ (q′ .to + 2) to → s′ ≡ onward q′ to 1 (q′ .fresh - p .fresh)
         → Puts (outputOf out fresh dropped p) (pieceEffect q) (q .clash) out₄ fresh₁ dropped (Put.Went s′)
     anew-case q′ s′ out₂ out₃ out₄ rest to size behind-size z c hs hbs hr hl e0 e3 v o =
         let far : behind-size ≡ end - at - place - behind = hbs ∙ ap (λ m. m - place - behind) hs in
@@ -123,13 +123,13 @@ module _ (b : Bounds) (s types counts firsts pool : List ℕ) (at end : ℕ) (ou
         let many′ : q′ .fresh - p .fresh ≡ length (R .fresh) = omega (arith, made) in
         went-put out fresh dropped p R r out₁ fresh₁ puts q′ (0 ∷ 3 ∷ W) out₄ to 1 (length (R .fresh)) _ _ s′ z w (o ∙ ap (onward q′ to 1) many′) (call-anew S i ds g ps rs R (0 ∷ 3 ∷ W) (λ n. c (omega (arith, made))) b′ ∙ ap pieceEffect (sym same)) clash-same
 
-  pub call-clashed : r ≡ Put.Clash → CallPut b s types counts firsts pool at end out fresh p out₁ fresh₁ Put.Clash
+  pub call-clashed : r ≡ Put.Clash → CallPut b s types tracked firsts pool at end out fresh p out₁ fresh₁ Put.Clash
   call-clashed z = λ τ S used recorded i ds g xs ps rs dropped q n a e k y h. clash-put out fresh dropped p _ r out₁ fresh₁ (puts τ S used recorded i ds g xs ps rs dropped q n a e k y h) _ _ z (clash-same τ S used recorded i ds g xs ps rs dropped q n a e k y h)
 
-  pub call-stayed : (q′ s′ : Progress) (out₂ : List ℕ) (to size : ℕ) → r ≡ Put.Went q′ → q′ .fresh ≡ p .fresh → size ≡ end - at → (size ≤ 1024 → size ≤ length t → Writes (take size t) out₁ out₂ (q′ .to) to) → s′ ≡ onward q′ to 1 0 → CallPut b s types counts firsts pool at end out fresh p out₂ fresh₁ (Put.Went s′)
+  pub call-stayed : (q′ s′ : Progress) (out₂ : List ℕ) (to size : ℕ) → r ≡ Put.Went q′ → q′ .fresh ≡ p .fresh → size ≡ end - at → (size ≤ 1024 → size ≤ length t → Writes (take size t) out₁ out₂ (q′ .to) to) → s′ ≡ onward q′ to 1 0 → CallPut b s types tracked firsts pool at end out fresh p out₂ fresh₁ (Put.Went s′)
   call-stayed q′ s′ out₂ to size z c hs v o = λ τ S used recorded i ds g xs ps rs dropped q n a e k y h. kept-case τ S used recorded i ds g xs ps rs dropped q n a e k y h q′ s′ out₂ to size z c hs v o
 
   pub call-built : (q′ s′ : Progress) (out₂ out₃ out₄ rest : List ℕ) (to size behind-size : ℕ) → r ≡ Put.Went q′ → (q′ .fresh ≡ p .fresh → ⊥) → size ≡ end - at → behind-size ≡ size - place - behind → rest ≡ drop behind f → first ≤ 1024 → out₂ ≡ sets out₁ (q′ .to) (0 ∷ []) → out₃ ≡ sets out₂ (q′ .to + 1) (3 ∷ [])
-      → Around b s f types nothing counts (Asks.Types (behind + 1) np) first many (p .fresh) f first rest behind-size out₃ out₄ (q′ .to + 2) to → s′ ≡ onward q′ to 1 (q′ .fresh - p .fresh)
-      → CallPut b s types counts firsts pool at end out fresh p out₄ fresh₁ (Put.Went s′)
+      → Around b s f types nothing tracked (Asks.Types (behind + 1) np) first many (p .fresh) f first rest behind-size out₃ out₄ (q′ .to + 2) to → s′ ≡ onward q′ to 1 (q′ .fresh - p .fresh)
+      → CallPut b s types tracked firsts pool at end out fresh p out₄ fresh₁ (Put.Went s′)
   call-built q′ s′ out₂ out₃ out₄ rest to size behind-size z c hs hbs hr hl e0 e3 v o = λ τ S used recorded i ds g xs ps rs dropped q n a e k y h. anew-case τ S used recorded i ds g xs ps rs dropped q n a e k y h q′ s′ out₂ out₃ out₄ rest to size behind-size z c hs hbs hr hl e0 e3 v o

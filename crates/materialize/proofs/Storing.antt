@@ -45,15 +45,15 @@ unfolding askedList
 one-listed τ f a x = refl
 
 -- what put_store promises
-abbrev pub StorePut : (b : Bounds) (s types counts firsts pool : List ℕ) (at end : ℕ) (out fresh : List ℕ) (p : Progress) (out′ fresh′ : List ℕ) (r : Put) → Type 0
-StorePut b s types counts firsts pool at end out fresh p out′ fresh′ r =
-    (τ : Types) (S : AggStates) (used : ℕ) (recorded : List ℕ) (i : Instruction) (l : Place) (x : Value) (t : TypeId) (dropped : Marks) (q : Piece) → Ground b s types recorded τ → Rep (b .next) s counts firsts pool used S → instructionOf b [] false (drop at s) ≡ ok i (end - at) → i .kind ≡ Store l x t → q ≡ storeKept τ S (b .next + p .fresh) i l x t (onSome (aggregateType τ t) (λ u. stateOf S x)) → b .next + p .fresh + length (q .fresh) < 65536 → Puts (outputOf out fresh dropped p) (pieceEffect q) (q .clash) out′ fresh′ dropped r
+abbrev pub StorePut : (b : Bounds) (s types : List ℕ) (tracked : Marks) (firsts pool : List ℕ) (at end : ℕ) (out fresh : List ℕ) (p : Progress) (out′ fresh′ : List ℕ) (r : Put) → Type 0
+StorePut b s types tracked firsts pool at end out fresh p out′ fresh′ r =
+    (τ : Types) (S : AggStates) (used : ℕ) (recorded : List ℕ) (i : Instruction) (l : Place) (x : Value) (t : TypeId) (dropped : Marks) (q : Piece) → Ground b s types recorded τ → Rep (b .next) s tracked firsts pool used S → instructionOf b [] false (drop at s) ≡ ok i (end - at) → i .kind ≡ Store l x t → q ≡ storeKept τ S (b .next + p .fresh) i l x t (onSome (aggregateType τ t) (λ u. stateOf S x)) → b .next + p .fresh + length (q .fresh) < 65536 → Puts (outputOf out fresh dropped p) (pieceEffect q) (q .clash) out′ fresh′ dropped r
 
-module _ (b : Bounds) (s types counts firsts pool : List ℕ) (at end : ℕ) (out fresh : List ℕ) (p : Progress) (nothing t f : List ℕ) (place first behind steps : ℕ)
+module _ (b : Bounds) (s types : List ℕ) (tracked : Marks) (firsts pool : List ℕ) (at end : ℕ) (out fresh : List ℕ) (p : Progress) (nothing t f : List ℕ) (place first behind steps : ℕ)
     (ht : t ≡ drop at s) (hp : place ≡ fieldsPlace t) (hf : f ≡ drop place t) (hs : steps ≡ getD f 2 0) (h0 : first ≡ after (projectionEnd f) steps 3) (hb : behind ≡ valueEnd f first)
-    (r : Put) (out₁ fresh₁ : List ℕ) (u : AllPut b s f types nothing counts firsts pool (Asks.Types behind 1) first 1 out fresh p out₁ fresh₁ r) where
+    (r : Put) (out₁ fresh₁ : List ℕ) (u : AllPut b s f types nothing tracked firsts pool (Asks.Types behind 1) first 1 out fresh p out₁ fresh₁ r) where
   -- what is known in each case
-  module _ (τ : Types) (S : AggStates) (used : ℕ) (recorded : List ℕ) (i : Instruction) (l : Place) (x : Value) (ty : TypeId) (dropped : Marks) (q : Piece) (ground : Ground b s types recorded τ) (a : Rep (b .next) s counts firsts pool used S) (e : instructionOf b [] false (drop at s) ≡ ok i (end - at)) (k : i .kind ≡ Store l x ty)
+  module _ (τ : Types) (S : AggStates) (used : ℕ) (recorded : List ℕ) (i : Instruction) (l : Place) (x : Value) (ty : TypeId) (dropped : Marks) (q : Piece) (ground : Ground b s types recorded τ) (a : Rep (b .next) s tracked firsts pool used S) (e : instructionOf b [] false (drop at s) ≡ ok i (end - at)) (k : i .kind ≡ Store l x ty)
       (y : q ≡ storeKept τ S (b .next + p .fresh) i l x ty (onSome (aggregateType τ ty) (λ u. stateOf S x))) (h : b .next + p .fresh + length (q .fresh) < 65536) where
     abbrev R : Rebuilt
     R = rebuildAll τ S (b .next + p .fresh) (askedList τ f (Asks.Types behind 1) 0 (x ∷ []))
@@ -75,7 +75,7 @@ module _ (b : Bounds) (s types counts firsts pool : List ℕ) (at end : ℕ) (ou
     clash-same : q .clash ≡ R .clash
     clash-same = store-clash S i l x ty R q cases
 
-    setting : Setting b s types nothing counts firsts pool (Asks.Types behind 1) τ S
+    setting : Setting b s types nothing tracked firsts pool (Asks.Types behind 1) τ S
     setting = record { table = recorded; used = used; ground = ground; asked = λ z. absurd (no-recorded behind 1 z); rep = a }
 
     few : b .next + p .fresh + length (R .fresh) < 65536
@@ -96,7 +96,7 @@ module _ (b : Bounds) (s types counts firsts pool : List ℕ) (at end : ℕ) (ou
 
     -- else its value is a fresh number
     anew-case : (q′ s′ : Progress) (out₂ rest : List ℕ) (to : ℕ) → r ≡ Put.Went q′ → (q′ .fresh ≡ p .fresh → ⊥) → rest ≡ drop behind f
-        → Around b s f types nothing counts (Asks.Types behind 1) first 1 (p .fresh) t (place + first) rest 2 out₁ out₂ (q′ .to) to → s′ ≡ onward q′ to 1 0
+        → Around b s f types nothing tracked (Asks.Types behind 1) first 1 (p .fresh) t (place + first) rest 2 out₁ out₂ (q′ .to) to → s′ ≡ onward q′ to 1 0
         → Puts (outputOf out fresh dropped p) (pieceEffect q) (q .clash) out₂ fresh₁ dropped (Put.Went s′)
     anew-case q′ s′ out₂ rest to z c hr v o =
         let hl : place + first ≤ 1024 = omega (arith, known .near, whole-canon b t i (end - at) bs te .size, short) in
@@ -106,13 +106,13 @@ module _ (b : Bounds) (s types counts firsts pool : List ℕ) (at end : ℕ) (ou
         went-put out fresh dropped p R r out₁ fresh₁ puts q′ W out₂ to 1 0 _ _ s′ z w o
         (store-built S i l x ty R q cases W (take (place + first) t) (take 2 rest) (λ n. c (omega (arith, made))) refl (λ v. ap (λ m. take (place + first) t ++ (eachBytes valueBytes (v ∷ []) ++ take 2 m)) hr ∙ known .bytes v)) clash-same
 
-  pub store-clashed : r ≡ Put.Clash → StorePut b s types counts firsts pool at end out fresh p out₁ fresh₁ Put.Clash
+  pub store-clashed : r ≡ Put.Clash → StorePut b s types tracked firsts pool at end out fresh p out₁ fresh₁ Put.Clash
   store-clashed z = λ τ S used recorded i l x ty dropped q n a e k y h. clash-put out fresh dropped p _ r out₁ fresh₁ (puts τ S used recorded i l x ty dropped q n a e k y h) _ _ z (clash-same τ S used recorded i l x ty dropped q n a e k y h)
 
-  pub store-stayed : (q′ s′ : Progress) (out₂ : List ℕ) (to size : ℕ) → r ≡ Put.Went q′ → q′ .fresh ≡ p .fresh → size ≡ end - at → (size ≤ 1024 → size ≤ length t → Writes (take size t) out₁ out₂ (q′ .to) to) → s′ ≡ onward q′ to 1 0 → StorePut b s types counts firsts pool at end out fresh p out₂ fresh₁ (Put.Went s′)
+  pub store-stayed : (q′ s′ : Progress) (out₂ : List ℕ) (to size : ℕ) → r ≡ Put.Went q′ → q′ .fresh ≡ p .fresh → size ≡ end - at → (size ≤ 1024 → size ≤ length t → Writes (take size t) out₁ out₂ (q′ .to) to) → s′ ≡ onward q′ to 1 0 → StorePut b s types tracked firsts pool at end out fresh p out₂ fresh₁ (Put.Went s′)
   store-stayed q′ s′ out₂ to size z c hs v o = λ τ S used recorded i l x ty dropped q n a e k y h. kept-case τ S used recorded i l x ty dropped q n a e k y h q′ s′ out₂ to size z c hs v o
 
   pub store-made : (q′ s′ : Progress) (out₂ rest : List ℕ) (to : ℕ) → r ≡ Put.Went q′ → (q′ .fresh ≡ p .fresh → ⊥) → rest ≡ drop behind f
-      → Around b s f types nothing counts (Asks.Types behind 1) first 1 (p .fresh) t (place + first) rest 2 out₁ out₂ (q′ .to) to → s′ ≡ onward q′ to 1 0
-      → StorePut b s types counts firsts pool at end out fresh p out₂ fresh₁ (Put.Went s′)
+      → Around b s f types nothing tracked (Asks.Types behind 1) first 1 (p .fresh) t (place + first) rest 2 out₁ out₂ (q′ .to) to → s′ ≡ onward q′ to 1 0
+      → StorePut b s types tracked firsts pool at end out fresh p out₂ fresh₁ (Put.Went s′)
   store-made q′ s′ out₂ rest to z c hr v o = λ τ S used recorded i l x ty dropped q n a e k y h. anew-case τ S used recorded i l x ty dropped q n a e k y h q′ s′ out₂ rest to z c hr v o

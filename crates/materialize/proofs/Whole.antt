@@ -34,18 +34,18 @@ use Rattle.materialize.proofs.Returning.{asked-returns, return-many, re
 use Rattle.materialize.proofs.Effects.{clash-put, went-put, spent, as-many, return-effect}
 
 -- what put_around promises
-abbrev pub Around : (b : Bounds) (s t types recorded counts : List ℕ) (asks : Asks) (first many taken : ℕ) (head : List ℕ) (before : ℕ) (rest : List ℕ) (after : ℕ) (out out′ : List ℕ) (to r : ℕ) → Type 0
-Around b s t types recorded counts asks first many taken head before rest after out out′ to r =
-    (τ : Types) (S : AggStates) (firsts pool : List ℕ) (xs : List Value) → Setting b s types recorded counts firsts pool asks τ S → Lies (b .next) t first xs → length xs ≡ many → b .next + taken + length (rebuildAll τ S (b .next + taken) (askedList τ t asks 0 xs) .fresh) < 65536 → before ≤ 1024 → before ≤ length head → after ≤ 1024 → after ≤ length rest → Writes (take before head ++ (eachBytes valueBytes (rebuildAll τ S (b .next + taken) (askedList τ t asks 0 xs) .values) ++ take after rest)) out out′ to r
+abbrev pub Around : (b : Bounds) (s t types recorded : List ℕ) (tracked : Marks) (asks : Asks) (first many taken : ℕ) (head : List ℕ) (before : ℕ) (rest : List ℕ) (after : ℕ) (out out′ : List ℕ) (to r : ℕ) → Type 0
+Around b s t types recorded tracked asks first many taken head before rest after out out′ to r =
+    (τ : Types) (S : AggStates) (firsts pool : List ℕ) (xs : List Value) → Setting b s types recorded tracked firsts pool asks τ S → Lies (b .next) t first xs → length xs ≡ many → b .next + taken + length (rebuildAll τ S (b .next + taken) (askedList τ t asks 0 xs) .fresh) < 65536 → before ≤ 1024 → before ≤ length head → after ≤ 1024 → after ≤ length rest → Writes (take before head ++ (eachBytes valueBytes (rebuildAll τ S (b .next + taken) (askedList τ t asks 0 xs) .values) ++ take after rest)) out out′ to r
 
 -- what put_return promises
-abbrev pub ReturnPut : (b : Bounds) (s types recorded counts firsts pool : List ℕ) (at : ℕ) (out fresh : List ℕ) (p : Progress) (out′ fresh′ : List ℕ) (r : Put) → Type 0
-ReturnPut b s types recorded counts firsts pool at out fresh p out′ fresh′ r =
-    (τ : Types) (S : AggStates) (used : ℕ) (xs : List Value) (n : ℕ) (dropped : Marks) (w : Walked) → Ground b s types recorded τ → Rep (b .next) s counts firsts pool used S → terminatorOf b (drop at s) ≡ ok (Return xs) n → w ≡ finish τ S (b .next + p .fresh) (Return xs) → b .next + p .fresh + length (w .fresh) < 65536 → Puts (outputOf out fresh dropped p) (walkedEffect w) (w .clash) out′ fresh′ dropped r
+abbrev pub ReturnPut : (b : Bounds) (s types recorded : List ℕ) (tracked : Marks) (firsts pool : List ℕ) (at : ℕ) (out fresh : List ℕ) (p : Progress) (out′ fresh′ : List ℕ) (r : Put) → Type 0
+ReturnPut b s types recorded tracked firsts pool at out fresh p out′ fresh′ r =
+    (τ : Types) (S : AggStates) (used : ℕ) (xs : List Value) (n : ℕ) (dropped : Marks) (w : Walked) → Ground b s types recorded τ → Rep (b .next) s tracked firsts pool used S → terminatorOf b (drop at s) ≡ ok (Return xs) n → w ≡ finish τ S (b .next + p .fresh) (Return xs) → b .next + p .fresh + length (w .fresh) < 65536 → Puts (outputOf out fresh dropped p) (walkedEffect w) (w .clash) out′ fresh′ dropped r
 
-module _ (b : Bounds) (s types recorded counts firsts pool : List ℕ) (at : ℕ) (out fresh : List ℕ) (p : Progress) (t : List ℕ) (many : ℕ) (ht : t ≡ drop at s) (hm : many ≡ getD t 1 0) (r : Put) (out₁ fresh₁ : List ℕ) (u : AllPut b s t types recorded counts firsts pool Asks.Recorded 2 many out fresh p out₁ fresh₁ r) where
+module _ (b : Bounds) (s types recorded : List ℕ) (tracked : Marks) (firsts pool : List ℕ) (at : ℕ) (out fresh : List ℕ) (p : Progress) (t : List ℕ) (many : ℕ) (ht : t ≡ drop at s) (hm : many ≡ getD t 1 0) (r : Put) (out₁ fresh₁ : List ℕ) (u : AllPut b s t types recorded tracked firsts pool Asks.Recorded 2 many out fresh p out₁ fresh₁ r) where
   -- what is known in each case
-  module _ (τ : Types) (S : AggStates) (used : ℕ) (xs : List Value) (n : ℕ) (dropped : Marks) (w : Walked) (g : Ground b s types recorded τ) (a : Rep (b .next) s counts firsts pool used S) (e : terminatorOf b (drop at s) ≡ ok (Return xs) n) (k : w ≡ finish τ S (b .next + p .fresh) (Return xs)) (h : b .next + p .fresh + length (w .fresh) < 65536) where
+  module _ (τ : Types) (S : AggStates) (used : ℕ) (xs : List Value) (n : ℕ) (dropped : Marks) (w : Walked) (g : Ground b s types recorded τ) (a : Rep (b .next) s tracked firsts pool used S) (e : terminatorOf b (drop at s) ≡ ok (Return xs) n) (k : w ≡ finish τ S (b .next + p .fresh) (Return xs)) (h : b .next + p .fresh + length (w .fresh) < 65536) where
     abbrev R : Rebuilt
     R = rebuildAll τ S (b .next + p .fresh) (askedList τ t Asks.Recorded 0 xs)
 
@@ -67,7 +67,7 @@ module _ (b : Bounds) (s types recorded counts firsts pool : List ℕ) (at : ℕ
     te : terminatorOf b t ≡ ok (Return xs) n
     te = ap (terminatorOf b) ht ∙ e
 
-    setting : Setting b s types recorded counts firsts pool Asks.Recorded τ S
+    setting : Setting b s types recorded tracked firsts pool Asks.Recorded τ S
     setting = record { table = recorded; used = used; ground = g; asked = λ z. refl; rep = a }
 
     lie : Lies (b .next) t 2 xs
@@ -82,10 +82,10 @@ module _ (b : Bounds) (s types recorded counts firsts pool : List ℕ) (at : ℕ
     puts : Puts (outputOf out fresh dropped p) (rebuiltEffect R) (R .clash) out₁ fresh₁ dropped r
     puts = u τ S xs dropped setting lie long few
 
-  pub return-clash : r ≡ Put.Clash → ReturnPut b s types recorded counts firsts pool at out fresh p out₁ fresh₁ Put.Clash
+  pub return-clash : r ≡ Put.Clash → ReturnPut b s types recorded tracked firsts pool at out fresh p out₁ fresh₁ Put.Clash
   return-clash z = λ τ S used xs n dropped w g a e k h. clash-put out fresh dropped p _ r out₁ fresh₁ (puts τ S used xs n dropped w g a e k h) _ _ z (clash-same τ S used xs n dropped w g a e k h)
 
-  pub return-went : (q s′ : Progress) (out₂ : List ℕ) (to : ℕ) → r ≡ Put.Went q → Around b s t types recorded counts Asks.Recorded 2 many (p .fresh) t 2 t 0 out₁ out₂ (q .to) to → s′ ≡ onward q to 0 (q .fresh - p .fresh) → ReturnPut b s types recorded counts firsts pool at out fresh p out₂ fresh₁ (Put.Went s′)
+  pub return-went : (q s′ : Progress) (out₂ : List ℕ) (to : ℕ) → r ≡ Put.Went q → Around b s t types recorded tracked Asks.Recorded 2 many (p .fresh) t 2 t 0 out₁ out₂ (q .to) to → s′ ≡ onward q to 0 (q .fresh - p .fresh) → ReturnPut b s types recorded tracked firsts pool at out fresh p out₂ fresh₁ (Put.Went s′)
   return-went q s′ out₂ to z v o = λ τ S used xs n dropped w g a e k h.
       let R0 = R τ S used xs n dropped w g a e k h in
       let m = puts τ S used xs n dropped w g a e k h in

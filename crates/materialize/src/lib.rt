@@ -64,14 +64,14 @@ pub fn put_call(
     end: usize,
     b: Bounds,
     types: &[usize],
-    counts: &[u16],
+    tracked: &[bool],
     firsts: &[u16],
     pool: &[usize],
     fresh: &mut [u16],
 ) -> Put
     requires { ⌜ Low 8000 p ⌝ }
     ensures { λ r. ⌜ ((k : ℕ) → Low k p → PutLow (k + 1) r) ⌝ }
-    ensures { λ r. ⌜ ((τ : Types) (S : AggStates) (used : ℕ) (recorded : List ℕ) (i : Instruction) (ds : List ValueId) (g : ℕ) (xs : List Value) (ps rs : List TypeId) (dropped : Marks) (q : Piece) → Ground b (now (s .entry)) (now (types .entry)) recorded τ → Rep (b .next) (now (s .entry)) (now (counts .entry)) (now (firsts .entry)) (now (pool .entry)) used S → instructionOf b [] false (drop at (now (s .entry))) ≡ ok i (end - at) → i .kind ≡ Call ds g xs ps rs → q ≡ stepCall S i ds g ps rs (rebuildAll τ S (b .next + p .fresh) (wantedArguments τ xs ps)) (rebuildAll τ S (b .next + p .fresh) (wantedArguments τ xs ps) .fresh) → b .next + p .fresh + length (q .fresh) < 65536 → Puts (outputOf (now (out .entry)) (now (fresh .entry)) dropped p) (pieceEffect q) (q .clash) (now (out .exit)) (now (fresh .exit)) dropped r) ⌝ }
+    ensures { λ r. ⌜ ((τ : Types) (S : AggStates) (used : ℕ) (recorded : List ℕ) (i : Instruction) (ds : List ValueId) (g : ℕ) (xs : List Value) (ps rs : List TypeId) (dropped : Marks) (q : Piece) → Ground b (now (s .entry)) (now (types .entry)) recorded τ → Rep (b .next) (now (s .entry)) (now (tracked .entry)) (now (firsts .entry)) (now (pool .entry)) used S → instructionOf b [] false (drop at (now (s .entry))) ≡ ok i (end - at) → i .kind ≡ Call ds g xs ps rs → q ≡ stepCall S i ds g ps rs (rebuildAll τ S (b .next + p .fresh) (wantedArguments τ xs ps)) (rebuildAll τ S (b .next + p .fresh) (wantedArguments τ xs ps) .fresh) → b .next + p .fresh + length (q .fresh) < 65536 → Puts (outputOf (now (out .entry)) (now (fresh .entry)) dropped p) (pieceEffect q) (q .clash) (now (out .exit)) (now (fresh .exit)) dropped r) ⌝ }
 {
     let t = form::tail(s, at);
     let place = lookup::fields_place(t);
@@ -91,7 +91,7 @@ pub fn put_call(
         b,
         types,
         &none,
-        counts,
+        tracked,
         firsts,
         pool,
         fresh,
@@ -119,7 +119,7 @@ pub fn put_call(
         b,
         types,
         &none,
-        counts,
+        tracked,
         asks,
         f,
         first,
@@ -138,14 +138,14 @@ pub fn put_store(
     end: usize,
     b: Bounds,
     types: &[usize],
-    counts: &[u16],
+    tracked: &[bool],
     firsts: &[u16],
     pool: &[usize],
     fresh: &mut [u16],
 ) -> Put
     requires { ⌜ Low 8000 p ⌝ }
     ensures { λ r. ⌜ ((k : ℕ) → Low k p → PutLow (k + 1) r) ⌝ }
-    ensures { λ r. ⌜ ((τ : Types) (S : AggStates) (used : ℕ) (recorded : List ℕ) (i : Instruction) (l : Place) (x : Value) (t : TypeId) (dropped : Marks) (q : Piece) → Ground b (now (s .entry)) (now (types .entry)) recorded τ → Rep (b .next) (now (s .entry)) (now (counts .entry)) (now (firsts .entry)) (now (pool .entry)) used S → instructionOf b [] false (drop at (now (s .entry))) ≡ ok i (end - at) → i .kind ≡ Store l x t → q ≡ storeKept τ S (b .next + p .fresh) i l x t (onSome (aggregateType τ t) (λ u. stateOf S x)) → b .next + p .fresh + length (q .fresh) < 65536 → Puts (outputOf (now (out .entry)) (now (fresh .entry)) dropped p) (pieceEffect q) (q .clash) (now (out .exit)) (now (fresh .exit)) dropped r) ⌝ }
+    ensures { λ r. ⌜ ((τ : Types) (S : AggStates) (used : ℕ) (recorded : List ℕ) (i : Instruction) (l : Place) (x : Value) (t : TypeId) (dropped : Marks) (q : Piece) → Ground b (now (s .entry)) (now (types .entry)) recorded τ → Rep (b .next) (now (s .entry)) (now (tracked .entry)) (now (firsts .entry)) (now (pool .entry)) used S → instructionOf b [] false (drop at (now (s .entry))) ≡ ok i (end - at) → i .kind ≡ Store l x t → q ≡ storeKept τ S (b .next + p .fresh) i l x t (onSome (aggregateType τ t) (λ u. stateOf S x)) → b .next + p .fresh + length (q .fresh) < 65536 → Puts (outputOf (now (out .entry)) (now (fresh .entry)) dropped p) (pieceEffect q) (q .clash) (now (out .exit)) (now (fresh .exit)) dropped r) ⌝ }
 {
     let t = form::tail(s, at);
     let place = lookup::fields_place(t);
@@ -164,7 +164,7 @@ pub fn put_store(
         b,
         types,
         &none,
-        counts,
+        tracked,
         firsts,
         pool,
         fresh,
@@ -189,7 +189,7 @@ pub fn put_store(
         b,
         types,
         &none,
-        counts,
+        tracked,
         asks,
         t,
         place + first,
@@ -208,14 +208,14 @@ pub fn put_return(
     b: Bounds,
     types: &[usize],
     recorded: &[u16],
-    counts: &[u16],
+    tracked: &[bool],
     firsts: &[u16],
     pool: &[usize],
     fresh: &mut [u16],
 ) -> Put
     requires { ⌜ Low 8000 p ⌝ }
     ensures { λ r. ⌜ ((k : ℕ) → Low k p → PutLow (k + 1) r) ⌝ }
-    ensures { λ r. ⌜ ((τ : Types) (S : AggStates) (used : ℕ) (xs : List Value) (n : ℕ) (dropped : Marks) (w : Walked) → Ground b (now (s .entry)) (now (types .entry)) (now (recorded .entry)) τ → Rep (b .next) (now (s .entry)) (now (counts .entry)) (now (firsts .entry)) (now (pool .entry)) used S → terminatorOf b (drop at (now (s .entry))) ≡ ok (Return xs) n → w ≡ finish τ S (b .next + p .fresh) (Return xs) → b .next + p .fresh + length (w .fresh) < 65536 → Puts (outputOf (now (out .entry)) (now (fresh .entry)) dropped p) (walkedEffect w) (w .clash) (now (out .exit)) (now (fresh .exit)) dropped r) ⌝ }
+    ensures { λ r. ⌜ ((τ : Types) (S : AggStates) (used : ℕ) (xs : List Value) (n : ℕ) (dropped : Marks) (w : Walked) → Ground b (now (s .entry)) (now (types .entry)) (now (recorded .entry)) τ → Rep (b .next) (now (s .entry)) (now (tracked .entry)) (now (firsts .entry)) (now (pool .entry)) used S → terminatorOf b (drop at (now (s .entry))) ≡ ok (Return xs) n → w ≡ finish τ S (b .next + p .fresh) (Return xs) → b .next + p .fresh + length (w .fresh) < 65536 → Puts (outputOf (now (out .entry)) (now (fresh .entry)) dropped p) (walkedEffect w) (w .clash) (now (out .exit)) (now (fresh .exit)) dropped r) ⌝ }
 {
     let t = form::tail(s, at);
     let many = wire::byte_at(t, 1);
@@ -230,7 +230,7 @@ pub fn put_return(
         b,
         types,
         recorded,
-        counts,
+        tracked,
         firsts,
         pool,
         fresh,
@@ -250,7 +250,7 @@ pub fn put_return(
         b,
         types,
         recorded,
-        counts,
+        tracked,
         asks,
         t,
         2,

@@ -18,6 +18,7 @@ use Rattle.typetable.specs.Syntax.{StructField}
 use Rattle.form.specs.Syntax.{FieldInit}
 use Rattle.lookup.specs.Fields.{after, valueEnd}
 use Rattle.eligibility.specs.Climb.{given, consPart, fromStructFields, isSome}
+use Rattle.eligibility.specs.Family.{Marks}
 use Rattle.rewriting.specs.State.{AggStates}
 use Rattle.parts.specs.Rows.{Rep, Room, placeOf, Inits, Names, InitAt, noInit, noField, givenParts}
 use Rattle.parts.specs.Filled.{Grown, Filled, NamedRow}
@@ -195,18 +196,18 @@ named-length fs (t ∷ ts) xs e =
     elim (consed-inv (given (t .name) fs) (fromStructFields fs ts) e) [ consed x zs a b c ↦ rw c (ap suc (named-length fs ts zs b)) ]
 
 -- d has a new row where all fields are given, else nothing changes
-pub rep-named : {next : ℕ} {s counts firsts pool pool′ : List ℕ} {used : ℕ} {S : AggStates} (fs : List FieldInit) (ts : List StructField) (m : ℕ) (d : ValueId)
-    → Rep next s counts firsts pool used S → Room counts firsts pool used (d .0) → Grown pool used pool′ → length ts ≡ m → m ≤ 16 → {all : Bool} → all ≡ true → NamedRow next s pool′ used m (fromStructFields fs ts) all
-    → (true ≡ isSome (fromStructFields fs ts)) × Rep next s (set counts (d .0) (m + 1)) (set firsts (d .0) used) pool′ (used + m) (givenParts S d (fromStructFields fs ts))
+pub rep-named : {next : ℕ} {s : List ℕ} {tracked : Marks} {firsts pool pool′ : List ℕ} {used : ℕ} {S : AggStates} (fs : List FieldInit) (ts : List StructField) (m : ℕ) (d : ValueId)
+    → Rep next s tracked firsts pool used S → Room tracked firsts pool used (d .0) → Grown pool used pool′ → length ts ≡ m → m ≤ 16 → getD pool′ used 0 ≡ m → {all : Bool} → all ≡ true → NamedRow next s pool′ (used + 1) m (fromStructFields fs ts) all
+    → (true ≡ isSome (fromStructFields fs ts)) × Rep next s (set tracked (d .0) true) (set firsts (d .0) used) pool′ (used + 1 + m) (givenParts S d (fromStructFields fs ts))
 unfolding givenParts isSome
-rep-named {next} {s} {counts} {firsts} {pool} {pool′} {used} {S} fs ts m d r q g l h {all} y w = (sym y ∙ w .told, go (fromStructFields fs ts) refl)
+rep-named {next} {s} {tracked} {firsts} {pool} {pool′} {used} {S} fs ts m d r q g l h c {all} y w = (sym y ∙ w .told, go (fromStructFields fs ts) refl)
   where
-    go : (p : Option (List Value)) → fromStructFields fs ts ≡ p → Rep next s (set counts (d .0) (m + 1)) (set firsts (d .0) used) pool′ (used + m) (givenParts S d p)
+    go : (p : Option (List Value)) → fromStructFields fs ts ≡ p → Rep next s (set tracked (d .0) true) (set firsts (d .0) used) pool′ (used + 1 + m) (givenParts S d p)
     go none e = absurd (let z : true ≡ false = sym y ∙ w .told ∙ ap isSome e in let u : _≡_ {A = ℕ} 0 1 = cc in omega arith)
-    go (some xs) e = rep-track xs m d r q g (named-length fs ts xs e ∙ l) h (w .row xs e)
+    go (some xs) e = rep-track xs m d r q g (named-length fs ts xs e ∙ l) h c (w .row xs e)
 
 -- some field is missing
-pub rep-missing : {next : ℕ} {s counts firsts pool pool′ : List ℕ} {used : ℕ} {S : AggStates} (o : Option (List Value)) (d : ValueId) → Rep next s counts firsts pool used S → Grown pool used pool′ → false ≡ isSome o → (false ≡ isSome o) × Rep next s counts firsts pool′ used (givenParts S d o)
+pub rep-missing : {next : ℕ} {s : List ℕ} {tracked : Marks} {firsts pool pool′ : List ℕ} {used : ℕ} {S : AggStates} (o : Option (List Value)) (d : ValueId) → Rep next s tracked firsts pool used S → Grown pool used pool′ → false ≡ isSome o → (false ≡ isSome o) × Rep next s tracked firsts pool′ used (givenParts S d o)
 unfolding givenParts isSome
 rep-missing none d r g e = (e, rep-old r g)
 rep-missing (some xs) d r g e = absurd (let z : _≡_ {A = ℕ} 0 1 = cc in omega arith)

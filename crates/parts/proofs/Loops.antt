@@ -1,11 +1,11 @@
--- The loops that clear the numbers and write rows.
+-- The loops that clear the marks and write rows.
 use Prim.Native.Nat.{ℕ, zero, suc, _+_, _*_, _≤_, _<_, zero-le}
 use mathlib.Core.Path.{_≡_, refl, ap, _∙_, sym}
 use mathlib.Core.Logic.{⊎-elim}
 use mathlib.Core.Bool.{Bool, true, false}
 use mathlib.Core.List.{List}
 use mathlib.Core.Option.{some}
-use native.Mathlib.Nat.{eq-or-lt-of-le}
+use native.Mathlib.Nat.{add-zero, add-assoc, eq-or-lt-of-le}
 use native.Mathlib.Omega.{arith}
 use borrow.Author.Tests.{eqb-true, eqb-false, ltb-true, ltb-false}
 use lib.ListN.{length, getD, set, length-set, List·getD-eq-default}
@@ -14,42 +14,43 @@ use lib.Dec.{eqb, ltb}
 use Rattle.wire.specs.declared.Value.{Value}
 use Rattle.wire.specs.declared.ValueId.{ValueId}
 use Rattle.lookup.specs.Fields.{after, valueEnd, valueStep}
+use Rattle.eligibility.specs.Family.{Marks}
 use Rattle.rewriting.specs.State.{AggStates, insertState, replaced}
 use Rattle.parts.specs.Rows.{ValueAt, Rep, Room, placeOf, Values}
 use Rattle.parts.specs.Filled.{Grown, Filled}
-use Rattle.parts.proofs.Tables.{found-row, rep-track, replaced-set}
+use Rattle.parts.proofs.Tables.{Held, found-row, rep-track, replaced-set}
 
 -- what holds below i and of i, holds below i + 1
 pub one-more : (P : ℕ → Type 0) (i : ℕ) → ((j : ℕ) → j < i → P j) → P i → (j : ℕ) → j < i + 1 → P j
 one-more P i f p j h = let l : j ≤ i = omega arith in ⊎-elim (λ e. rw e p) (λ q. f j q) (eq-or-lt-of-le l)
 
--- the first i numbers are 0
-pub record Cleared (counts₀ counts : List ℕ) (i : ℕ) : Type 0 where
-  pub size : length counts ≡ length counts₀
-  pub done : (j : ℕ) → j < i → getD counts j 0 ≡ 0
+-- the first i marks are clear
+pub record Cleared (tracked₀ tracked : Marks) (i : ℕ) : Type 0 where
+  pub size : length tracked ≡ length tracked₀
+  pub done : (j : ℕ) → j < i → getD tracked j false ≡ false
 
 -- none yet
-pub clearing : (counts : List ℕ) → Cleared counts counts 0
-clearing counts = record { size = refl; done = λ j h. absurd (omega arith) }
+pub clearing : (tracked : Marks) → Cleared tracked tracked 0
+clearing tracked = record { size = refl; done = λ j h. absurd (omega arith) }
 
 -- one more
-pub cleared-more : {counts₀ counts : List ℕ} {i : ℕ} → Cleared counts₀ counts i → i < length counts → Cleared counts₀ (set counts i 0) (i + 1)
-cleared-more {counts₀} {counts} {i} c h =
+pub cleared-more : {tracked₀ tracked : Marks} {i : ℕ} → Cleared tracked₀ tracked i → i < length tracked → Cleared tracked₀ (set tracked i false) (i + 1)
+cleared-more {tracked₀} {tracked} {i} c h =
     record {
-      size = length-set counts i 0 ∙ c .size;
+      size = length-set tracked i false ∙ c .size;
       done =
-          one-more (λ j. getD (set counts i 0) j 0 ≡ 0) i
-          (λ j l. getD-set-other counts i j 0 0 (λ e. omega arith) ∙ c .done j l)
-          (getD-set-same counts i 0 0 h);
+          one-more (λ j. getD (set tracked i false) j false ≡ false) i
+          (λ j l. getD-set-other tracked i j false false (λ e. omega arith) ∙ c .done j l)
+          (getD-set-same tracked i false false h);
     }
 
 -- all are
-pub cleared-all : {counts₀ counts : List ℕ} {i : ℕ} → Cleared counts₀ counts i → length counts ≤ i → (v : ℕ) → getD counts v 0 ≡ 0
-cleared-all {counts₀} {counts} {i} c h v = go (ltb v (length counts)) refl
+pub cleared-all : {tracked₀ tracked : Marks} {i : ℕ} → Cleared tracked₀ tracked i → length tracked ≤ i → (v : ℕ) → getD tracked v false ≡ false
+cleared-all {tracked₀} {tracked} {i} c h v = go (ltb v (length tracked)) refl
   where
-    go : (b : Bool) → ltb v (length counts) ≡ b → getD counts v 0 ≡ 0
-    go true e = let l : v < length counts = ltb-true v (length counts) e in c .done v (omega arith)
-    go false e = List·getD-eq-default counts 0 {n = v} (ltb-false v (length counts) e)
+    go : (b : Bool) → ltb v (length tracked) ≡ b → getD tracked v false ≡ false
+    go true e = let l : v < length tracked = ltb-true v (length tracked) e in c .done v (omega arith)
+    go false e = List·getD-eq-default tracked false {n = v} (ltb-false v (length tracked) e)
 
 -- a pool that nothing was written to
 pub grown-none : (pool : List ℕ) (to : ℕ) → Grown pool to pool
@@ -62,6 +63,18 @@ grown-more {pool} {pool′} {to} i place g h =
       size = length-set pool′ i place ∙ g .size;
       old = λ j l. getD-set-other pool′ i j place 0 (λ e. omega arith) ∙ g .old j l;
     }
+
+-- a row's number is written, and behind it its places: nothing moves below the row
+pub grown-row : (pool : List ℕ) {pool₁ pool′ : List ℕ} (to n : ℕ) → pool₁ ≡ set pool to n → Grown pool₁ (to + 1) pool′ → Grown pool to pool′
+grown-row pool {pool₁} {pool′} to n e g =
+    record {
+      size = g .size ∙ ap length e ∙ length-set pool to n;
+      old = λ j l. g .old j (omega arith) ∙ ap (λ p. getD p j 0) e ∙ getD-set-other pool to j n 0 (λ z. omega arith);
+    }
+
+-- and the number stays
+pub row-number : (pool : List ℕ) {pool₁ pool′ : List ℕ} (to n : ℕ) → to < length pool → pool₁ ≡ set pool to n → Grown pool₁ (to + 1) pool′ → getD pool′ to 0 ≡ n
+row-number pool {pool₁} {pool′} to n h e g = g .old to (omega arith) ∙ ap (λ p. getD p to 0) e ∙ getD-set-same pool to n 0 h
 
 -- the place of one more value
 pub filled-more : {next : ℕ} {s pool : List ℕ} {to : ℕ} {xs : List Value} {i : ℕ} (place : ℕ) → Filled next s pool to xs i → to + i < length pool → ValueAt next s place (getD xs i Value.Error) → Filled next s (set pool (to + i) place) to xs (i + 1)
@@ -140,22 +153,30 @@ copied-more {pool₀} {from} {to} {n} {pool} {i} {pool′} {place} o h f e =
     }
 
 -- d has a copy of the row of v, with part k at another place
-pub rep-replace : {next : ℕ} {s counts firsts pool pool′ : List ℕ} {used : ℕ} {S : AggStates} {xs ys : List Value} {y : Value} (d v : ValueId) (k n place : ℕ)
-    → Rep next s counts firsts pool used S → Room counts firsts pool used (d .0) → S (v .0) ≡ some xs → replaced xs k y ≡ some ys → ValueAt next s place y → length xs ≡ n
-    → Grown pool used pool′ → ((j : ℕ) → j < n → getD pool′ (used + j) 0 ≡ getD pool (getD firsts (v .0) 0 + j) 0)
-    → k < n → Rep next s (set counts (d .0) (n + 1)) (set firsts (d .0) used) (set pool′ (used + k) place) (used + n) (insertState S d ys)
-rep-replace {next} {s} {counts} {firsts} {pool} {pool′} {used} {S} {xs} {ys} {y} d v k n place r q e f w l g c h =
-    let held = found-row r (v .0) e in
+pub rep-replace : {next : ℕ} {s : List ℕ} {tracked : Marks} {firsts pool pool′ : List ℕ} {used : ℕ} {S : AggStates} {xs ys : List Value} {y : Value} (d v : ValueId) (k n place : ℕ)
+    → Rep next s tracked firsts pool used S → Room tracked firsts pool used (d .0) → S (v .0) ≡ some xs → replaced xs k y ≡ some ys → ValueAt next s place y → length xs ≡ n
+    → Grown pool used pool′ → ((j : ℕ) → j < n + 1 → getD pool′ (used + j) 0 ≡ getD pool (getD firsts (v .0) 0 + j) 0)
+    → k < n → Rep next s (set tracked (d .0) true) (set firsts (d .0) used) (set pool′ (used + 1 + k) place) (used + 1 + n) (insertState S d ys)
+rep-replace {next} {s} {tracked} {firsts} {pool} {pool′} {used} {S} {xs} {ys} {y} d v k n place r q e f w l g c h =
     let lk : k < length xs = omega arith in
     let ey : ys ≡ set xs k y = (let z : some ys ≡ some (set xs k y) = sym f ∙ replaced-set xs k y lk in cc) in
     let ly : length ys ≡ n = ap length ey ∙ length-set xs k y ∙ l in
-    rep-track ys n d r q (grown-more (used + k) place g (omega arith)) ly (omega (arith, held .most))
+    rep-track ys n d r q (grown-more (used + 1 + k) place g (omega arith)) ly (omega (arith, held .most)) number
     (record { each = λ j m. rw ey (part j m (eqb j k) refl) })
   where
-    part : (j : ℕ) → j < n → (b : Bool) → eqb j k ≡ b → ValueAt next s (getD (set pool′ (used + k) place) (used + j) 0) (getD (set xs k y) j Value.Error)
+    held : Held next s pool (getD firsts (v .0) 0) used xs
+    held = found-row r (v .0) e
+
+    number : getD (set pool′ (used + 1 + k) place) used 0 ≡ n
+    number = getD-set-other pool′ (used + 1 + k) used place 0 (λ o. omega arith) ∙ rw (add-zero used, add-zero (getD firsts (v .0) 0)) at (c 0 (omega arith)) ∙ held .many ∙ l
+
+    copied : (j : ℕ) → j < n → getD pool′ (used + 1 + j) 0 ≡ getD pool (getD firsts (v .0) 0 + 1 + j) 0
+    copied j m = rw (add-assoc used 1 j, add-assoc (getD firsts (v .0) 0) 1 j) (c (1 + j) (omega arith))
+
+    part : (j : ℕ) → j < n → (b : Bool) → eqb j k ≡ b → ValueAt next s (getD (set pool′ (used + 1 + k) place) (used + 1 + j) 0) (getD (set xs k y) j Value.Error)
     part j m true z =
         let p : j ≡ k = eqb-true j k z in
-        rw (p, getD-set-same pool′ (used + k) place 0 (omega (arith, q .places, found-row r (v .0) e .most, g .size)), getD-set-same xs k y Value.Error (omega arith)) w
+        rw (p, getD-set-same pool′ (used + 1 + k) place 0 (omega (arith, q .places, held .most, g .size)), getD-set-same xs k y Value.Error (omega arith)) w
     part j m false z =
         let p : (j ≡ k → ⊥) = eqb-false j k z in
-        rw (getD-set-other pool′ (used + k) (used + j) place 0 (λ o. p (omega arith)), c j m, getD-set-other xs k j y Value.Error p) (found-row r (v .0) e .parts .each j (omega arith))
+        rw (getD-set-other pool′ (used + 1 + k) (used + 1 + j) place 0 (λ o. p (omega arith)), copied j m, getD-set-other xs k j y Value.Error p) (held .parts .each j (omega arith))

@@ -1,7 +1,8 @@
 -- How the code keeps the parts of tracked values: the places of values in the input, in rows of a pool that only grows.
-use Prim.Native.Nat.{ℕ, suc, _+_, _*_, _≤_, _<_}
+use Prim.Native.Nat.{ℕ, _+_, _*_, _≤_, _<_}
 use mathlib.Core.Path.{_≡_}
 use mathlib.Core.List.{List}
+use mathlib.Core.Bool.{Bool, true, false}
 use mathlib.Core.Option.{Option, none, some}
 use lib.ListN.{length, getD}
 use Rattle.wire.specs.Number.{at16}
@@ -12,6 +13,7 @@ use Rattle.form.specs.Syntax.{FieldInit}
 use Rattle.lookup.specs.Fields.{after, valueStep}
 pub use Rattle.lookup.specs.Fields.{ValueAt, stands}
 use Rattle.eligibility.specs.Climb.{isSome}
+use Rattle.eligibility.specs.Family.{Marks}
 use Rattle.rewriting.specs.State.{AggStates, insertState}
 use Rattle.parts.specs.declared.Init.{Init}
 
@@ -19,26 +21,22 @@ use Rattle.parts.specs.declared.Init.{Init}
 pub record RowAt (next : ℕ) (s pool : List ℕ) (from : ℕ) (xs : List Value) : Type 0 where
   pub each : (k : ℕ) → k < length xs → ValueAt next s (getD pool (from + k) 0) (getD xs k Value.Error)
 
--- what the tables say of one value: 0 where it is not tracked, else one more than the number of its parts
-pub data Entry (next : ℕ) (s pool : List ℕ) (from used : ℕ) : ℕ → Option (List Value) → Type 0 where
-  untracked : Entry next s pool from used 0 none
-  row : (xs : List Value) → RowAt next s pool from xs → from + length xs ≤ used → length xs ≤ 16 → Entry next s pool from used (suc (length xs)) (some xs)
+-- what the tables say of one value: no mark where it is not tracked, else a mark and its row, which has the number of
+-- its parts at `from` and their places behind it
+pub data Entry (next : ℕ) (s pool : List ℕ) (from used : ℕ) : Bool → Option (List Value) → Type 0 where
+  untracked : Entry next s pool from used false none
+  row : (xs : List Value) → getD pool from 0 ≡ length xs → RowAt next s pool (from + 1) xs → from + 1 + length xs ≤ used → length xs ≤ 16 → Entry next s pool from used true (some xs)
 
 -- the tables hold the states; the pool is used up to `used`
-pub record Rep (next : ℕ) (s counts firsts pool : List ℕ) (used : ℕ) (S : AggStates) : Type 0 where
-  pub entries : (v : ℕ) → Entry next s pool (getD firsts v 0) used (getD counts v 0) (S v)
+pub record Rep (next : ℕ) (s : List ℕ) (tracked : Marks) (firsts pool : List ℕ) (used : ℕ) (S : AggStates) : Type 0 where
+  pub entries : (v : ℕ) → Entry next s pool (getD firsts v 0) used (getD tracked v false) (S v)
   pub room : used ≤ length pool
 
--- the number that the tables have for a state
-abbrev pub counted : Option (List Value) → ℕ
-counted none = 0
-counted (some xs) = suc (length xs)
-
--- d is a number of the tables, and the pool has room for one more row
-pub record Room (counts firsts pool : List ℕ) (used d : ℕ) : Type 0 where
-  pub count : d < length counts
+-- d is a number of the tables, and the pool has room for one more row: at most 17 numbers
+pub record Room (tracked : Marks) (firsts pool : List ℕ) (used d : ℕ) : Type 0 where
+  pub mark : d < length tracked
   pub first : d < length firsts
-  pub places : used + 16 ≤ length pool
+  pub places : used + 17 ≤ length pool
 
 -- the place of thing k of those that stand one behind another from `at` on, each a value with `before` bytes before it
 abbrev pub placeOf : List ℕ → ℕ → ℕ → ℕ → ℕ

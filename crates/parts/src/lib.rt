@@ -1,6 +1,6 @@
-// The parts of tracked values: rows of places of the input, in tables that the caller lends. `counts` has 0 for a value
-// that is not tracked, else one more than the number of its parts; `firsts` says where its row begins in the pool.
-// No row changes: a changed value gets a new one.
+// The parts of tracked values: rows of places of the input, in tables that the caller lends. `tracked` has a mark for
+// each value that is tracked; `firsts` says where its row begins in the pool: the number of its parts, then the place of
+// each. No row changes: a changed value gets a new one.
 use wire::NameId;
 use wire::ValueId;
 ghost use mathlib.Core.Path.{_≡_};
@@ -12,8 +12,9 @@ ghost use Rattle.wire.specs.declared.Value.{Value};
 ghost use Rattle.typetable.specs.Syntax.{StructField};
 ghost use Rattle.form.specs.Syntax.{FieldInit};
 ghost use Rattle.eligibility.specs.Climb.{given, fromStructFields, isSome};
+ghost use Rattle.eligibility.specs.Family.{Marks};
 ghost use Rattle.rewriting.specs.State.{AggStates, noStates, insertState, replaced};
-ghost use Rattle.parts.specs.Rows.{ValueAt, Rep, counted, Room, Values, Inits, Names, InitAt, givenParts};
+ghost use Rattle.parts.specs.Rows.{ValueAt, Rep, Room, Values, Inits, Names, InitAt, givenParts};
 ghost use Rattle.parts.specs.Filled.{Grown, Filled, NamedRow};
 
 // Whether a name is given in a struct build, and the place of its value.
@@ -28,56 +29,52 @@ pub struct Named {
     pub used: usize,
 }
 
-// 0 where a value is not tracked, else one more than the number of its parts.
-pub fn tracked(counts: &[u16], v: ValueId) -> u16
-    ensures { λ r. ⌜ ((next : ℕ) (s firsts pool : List ℕ) (used : ℕ) (S : AggStates) → Rep next s (now (counts .entry)) firsts pool used S → r ≡ counted (S (v .0))) ⌝ }
+// Whether a value is tracked.
+pub fn tracked(tracked: &[bool], v: ValueId) -> bool
+    ensures { λ r. ⌜ ((next : ℕ) (s firsts pool : List ℕ) (used : ℕ) (S : AggStates) → Rep next s (now (tracked .entry)) firsts pool used S → r ≡ isSome (S (v .0))) ⌝ }
 {
-    table::number(counts, v.0 as usize)
+    table::flag(tracked, v.0 as usize)
 }
 
 // The number of parts of a tracked value: at most 16.
-pub fn part_count(counts: &[u16], v: ValueId) -> u16
+pub fn part_count(firsts: &[u16], pool: &[usize], v: ValueId) -> u16
     ensures { λ r. ⌜ r ≤ 16 ⌝ }
-    ensures { λ r. ⌜ ((next : ℕ) (s firsts pool : List ℕ) (used : ℕ) (S : AggStates) (xs : List Value) → Rep next s (now (counts .entry)) firsts pool used S → S (v .0) ≡ some xs → r ≡ length xs) ⌝ }
+    ensures { λ r. ⌜ ((next : ℕ) (s : List ℕ) (tracked : Marks) (used : ℕ) (S : AggStates) (xs : List Value) → Rep next s tracked (now (firsts .entry)) (now (pool .entry)) used S → S (v .0) ≡ some xs → r ≡ length xs) ⌝ }
 {
-    let n = table::number(counts, v.0 as usize);
-    if n == 0 {
+    let n = table::place(pool, table::number(firsts, v.0 as usize) as usize);
+    if 16 < n {
         return 0;
     }
-    if 17 < n {
-        return 0;
-    }
-    n - 1
+    n as u16
 }
 
 // The place of part `k` of a tracked value.
 pub fn part_place(firsts: &[u16], pool: &[usize], v: ValueId, k: u32) -> usize
-    ensures { λ r. ⌜ ((next : ℕ) (s counts : List ℕ) (used : ℕ) (S : AggStates) (xs : List Value) → Rep next s counts (now (firsts .entry)) (now (pool .entry)) used S → S (v .0) ≡ some xs → k < length xs → ValueAt next s r (getD xs k Value.Error)) ⌝ }
+    ensures { λ r. ⌜ ((next : ℕ) (s : List ℕ) (tracked : Marks) (used : ℕ) (S : AggStates) (xs : List Value) → Rep next s tracked (now (firsts .entry)) (now (pool .entry)) used S → S (v .0) ≡ some xs → k < length xs → ValueAt next s r (getD xs k Value.Error)) ⌝ }
 {
     table::place(
         pool,
-        table::number(firsts, v.0 as usize) as usize + k as usize,
+        table::number(firsts, v.0 as usize) as usize + 1 + k as usize,
     )
 }
 
 // Nothing is tracked.
-pub fn clear(counts: &mut [u16])
-    ensures { λ _. ⌜ ((next : ℕ) (s firsts pool : List ℕ) (used : ℕ) → used ≤ length pool → Rep next s (now (counts .exit)) firsts pool used noStates) ⌝ }
+pub fn clear(tracked: &mut [bool])
+    ensures { λ _. ⌜ ((next : ℕ) (s firsts pool : List ℕ) (used : ℕ) → used ≤ length pool → Rep next s (now (tracked .exit)) firsts pool used noStates) ⌝ }
 {
     let mut i = 0;
-    while i < counts.len() {
-        counts[i] = 0;
+    while i < tracked.len() {
+        tracked[i] = false;
         i = i + 1;
     }
 }
 
 // The dest has the parts of another value: its row.
-pub fn share(counts: &mut [u16], firsts: &mut [u16], d: ValueId, v: ValueId)
-    ensures { λ _. ⌜ ((next : ℕ) (s pool : List ℕ) (used : ℕ) (S : AggStates) (xs : List Value) → Rep next s (now (counts .entry)) (now (firsts .entry)) pool used S → S (v .0) ≡ some xs → d .0 < length (now (counts .entry)) → d .0 < length (now (firsts .entry)) → Rep next s (now (counts .exit)) (now (firsts .exit)) pool used (insertState S d xs)) ⌝ }
+pub fn share(tracked: &mut [bool], firsts: &mut [u16], d: ValueId, v: ValueId)
+    ensures { λ _. ⌜ ((next : ℕ) (s pool : List ℕ) (used : ℕ) (S : AggStates) (xs : List Value) → Rep next s (now (tracked .entry)) (now (firsts .entry)) pool used S → S (v .0) ≡ some xs → d .0 < length (now (tracked .entry)) → d .0 < length (now (firsts .entry)) → Rep next s (now (tracked .exit)) (now (firsts .exit)) pool used (insertState S d xs)) ⌝ }
 {
-    let n = table::number(counts, v.0 as usize);
     let first = table::number(firsts, v.0 as usize);
-    table::set_number(counts, d.0 as usize, n);
+    table::set_flag(tracked, d.0 as usize, true);
     table::set_number(firsts, d.0 as usize, first);
 }
 
@@ -100,7 +97,7 @@ fn put_places(s: &[u8], pool: &mut [usize], to: usize, at: usize, n: u8, before:
 // The dest has a new row: `n` values that stand one behind another from `at` on, `before` bytes before each.
 pub fn track_values(
     s: &[u8],
-    counts: &mut [u16],
+    tracked: &mut [bool],
     firsts: &mut [u16],
     pool: &mut [usize],
     used: usize,
@@ -110,16 +107,17 @@ pub fn track_values(
     before: u8,
 ) -> usize
     requires { ⌜ (used < 60000) × (at < 4611686018427387904) ⌝ }
-    ensures { λ r. ⌜ r ≤ used + 16 ⌝ }
-    ensures { λ r. ⌜ ((next : ℕ) (S : AggStates) (xs : List Value) → Rep next (now (s .entry)) (now (counts .entry)) (now (firsts .entry)) (now (pool .entry)) used S → Room (now (counts .entry)) (now (firsts .entry)) (now (pool .entry)) used (d .0) → Values next (now (s .entry)) before at xs → length xs ≡ n → n ≤ 16 → Rep next (now (s .entry)) (now (counts .exit)) (now (firsts .exit)) (now (pool .exit)) r (insertState S d xs)) ⌝ }
+    ensures { λ r. ⌜ r ≤ used + 17 ⌝ }
+    ensures { λ r. ⌜ ((next : ℕ) (S : AggStates) (xs : List Value) → Rep next (now (s .entry)) (now (tracked .entry)) (now (firsts .entry)) (now (pool .entry)) used S → Room (now (tracked .entry)) (now (firsts .entry)) (now (pool .entry)) used (d .0) → Values next (now (s .entry)) before at xs → length xs ≡ n → n ≤ 16 → Rep next (now (s .entry)) (now (tracked .exit)) (now (firsts .exit)) (now (pool .exit)) r (insertState S d xs)) ⌝ }
 {
     if 16 < n {
         return used;
     }
-    put_places(s, pool, used, at, n, before);
-    table::set_number(counts, d.0 as usize, n as u16 + 1);
+    table::set_place(pool, used, n as usize);
+    put_places(s, pool, used + 1, at, n, before);
+    table::set_flag(tracked, d.0 as usize, true);
     table::set_number(firsts, d.0 as usize, used as u16);
-    used + n as usize
+    used + 1 + n as usize
 }
 
 // Copies `n` places within the pool.
@@ -138,7 +136,7 @@ fn copy_row(pool: &mut [usize], from: usize, to: usize, n: u16)
 
 // The dest has a new row: another value's, with part `k` at another place.
 pub fn replace(
-    counts: &mut [u16],
+    tracked: &mut [bool],
     firsts: &mut [u16],
     pool: &mut [usize],
     used: usize,
@@ -148,18 +146,23 @@ pub fn replace(
     place: usize,
 ) -> usize
     requires { ⌜ used < 60000 ⌝ }
-    ensures { λ r. ⌜ r ≤ used + 16 ⌝ }
-    ensures { λ r. ⌜ ((next : ℕ) (s : List ℕ) (S : AggStates) (xs ys : List Value) (y : Value) → Rep next s (now (counts .entry)) (now (firsts .entry)) (now (pool .entry)) used S → Room (now (counts .entry)) (now (firsts .entry)) (now (pool .entry)) used (d .0) → S (v .0) ≡ some xs → replaced xs k y ≡ some ys → ValueAt next s place y → Rep next s (now (counts .exit)) (now (firsts .exit)) (now (pool .exit)) r (insertState S d ys)) ⌝ }
+    ensures { λ r. ⌜ r ≤ used + 17 ⌝ }
+    ensures { λ r. ⌜ ((next : ℕ) (s : List ℕ) (S : AggStates) (xs ys : List Value) (y : Value) → Rep next s (now (tracked .entry)) (now (firsts .entry)) (now (pool .entry)) used S → Room (now (tracked .entry)) (now (firsts .entry)) (now (pool .entry)) used (d .0) → S (v .0) ≡ some xs → replaced xs k y ≡ some ys → ValueAt next s place y → Rep next s (now (tracked .exit)) (now (firsts .exit)) (now (pool .exit)) r (insertState S d ys)) ⌝ }
 {
-    let n = part_count(counts, v);
+    let n = part_count(firsts, pool, v);
     if n as u32 <= k {
         return used;
     }
-    copy_row(pool, table::number(firsts, v.0 as usize) as usize, used, n);
-    table::set_place(pool, used + k as usize, place);
-    table::set_number(counts, d.0 as usize, n + 1);
+    copy_row(
+        pool,
+        table::number(firsts, v.0 as usize) as usize,
+        used,
+        n + 1,
+    );
+    table::set_place(pool, used + 1 + k as usize, place);
+    table::set_flag(tracked, d.0 as usize, true);
     table::set_number(firsts, d.0 as usize, used as u16);
-    used + n as usize
+    used + 1 + n as usize
 }
 
 // The first init of a name, among the `n` that stand one behind another from `at` on.
@@ -218,7 +221,7 @@ fn put_named(
 // given; else nothing is tracked.
 pub fn track_named(
     s: &[u8],
-    counts: &mut [u16],
+    tracked: &mut [bool],
     firsts: &mut [u16],
     pool: &mut [usize],
     used: usize,
@@ -230,8 +233,8 @@ pub fn track_named(
     m: u8,
 ) -> Named
     requires { ⌜ (used < 60000) × ((at < 4611686018427387904) × (names < 4611686018427387904)) ⌝ }
-    ensures { λ r. ⌜ r .used ≤ used + 16 ⌝ }
-    ensures { λ r. ⌜ ((next : ℕ) (S : AggStates) (fs : List FieldInit) (ts : List StructField) → Rep next (now (s .entry)) (now (counts .entry)) (now (firsts .entry)) (now (pool .entry)) used S → Room (now (counts .entry)) (now (firsts .entry)) (now (pool .entry)) used (d .0) → Inits next (now (s .entry)) at fs → length fs ≡ n → Names (now (types .entry)) names ts → length ts ≡ m → m ≤ 16 → (r .given ≡ isSome (fromStructFields fs ts)) × Rep next (now (s .entry)) (now (counts .exit)) (now (firsts .exit)) (now (pool .exit)) (r .used) (givenParts S d (fromStructFields fs ts))) ⌝ }
+    ensures { λ r. ⌜ r .used ≤ used + 17 ⌝ }
+    ensures { λ r. ⌜ ((next : ℕ) (S : AggStates) (fs : List FieldInit) (ts : List StructField) → Rep next (now (s .entry)) (now (tracked .entry)) (now (firsts .entry)) (now (pool .entry)) used S → Room (now (tracked .entry)) (now (firsts .entry)) (now (pool .entry)) used (d .0) → Inits next (now (s .entry)) at fs → length fs ≡ n → Names (now (types .entry)) names ts → length ts ≡ m → m ≤ 16 → (r .given ≡ isSome (fromStructFields fs ts)) × Rep next (now (s .entry)) (now (tracked .exit)) (now (firsts .exit)) (now (pool .exit)) (r .used) (givenParts S d (fromStructFields fs ts))) ⌝ }
 {
     if 16 < m {
         return Named {
@@ -239,17 +242,18 @@ pub fn track_named(
             used: used,
         };
     }
-    let all = put_named(s, at, n, types, names, m, pool, used);
+    table::set_place(pool, used, m as usize);
+    let all = put_named(s, at, n, types, names, m, pool, used + 1);
     if !all {
         return Named {
             given: false,
             used: used,
         };
     }
-    table::set_number(counts, d.0 as usize, m as u16 + 1);
+    table::set_flag(tracked, d.0 as usize, true);
     table::set_number(firsts, d.0 as usize, used as u16);
     Named {
         given: true,
-        used: used + m as usize,
+        used: used + 1 + m as usize,
     }
 }

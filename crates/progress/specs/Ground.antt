@@ -9,6 +9,7 @@ use Rattle.wire.specs.declared.TypeId.{TypeId}
 use Rattle.form.specs.declared.Bounds.{Bounds}
 use Rattle.eligibility.specs.Lookup.{Types}
 use Rattle.eligibility.specs.Tables.{Known}
+use Rattle.eligibility.specs.Family.{Marks}
 
 pub record Ground (b : Bounds) (s types recorded : List ℕ) (τ : Types) : Type 0 where
   pub bytes : Bytes s
@@ -21,7 +22,7 @@ pub record Ground (b : Bounds) (s types recorded : List ℕ) (τ : Types) : Type
   pub projected : b .projections ≤ 8
 
 -- the tables of tracked values have a place for each value, and the pool has room for one more row
-pub record Tables (counts firsts pool : List ℕ) (used : ℕ) : Type 0 where
-  pub count : 256 ≤ length counts
+pub record Tables (tracked : Marks) (firsts pool : List ℕ) (used : ℕ) : Type 0 where
+  pub mark : 256 ≤ length tracked
   pub first : 256 ≤ length firsts
-  pub places : used + 16 ≤ length pool
+  pub places : used + 17 ≤ length pool

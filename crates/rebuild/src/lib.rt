@@ -39,7 +39,7 @@ pub fn put_value_at(out: &mut [u8], to: usize, s: &[u8], at: usize, next: u16) -
     emit::put_value(out, to, lookup::value_at(s, at, next))
 }
 
-// Part k of the `have` parts whose row begins at `from`; past them Unit.
+// Part k of the `have` parts whose places stand in the pool from `from` on; past them Unit.
 fn put_part(
     out: &mut [u8],
     to: usize,
@@ -232,7 +232,7 @@ fn put_make(
     to
 }
 
-// Writes the rebuild of d at type t from `have` parts whose row in the pool begins at `from`. A type that is no
+// Writes the rebuild of d at type t from `have` parts whose places stand in the pool from `from` on. A type that is no
 // aggregate has none; an array of another count clashes. `types` has the types' places.
 pub fn put_rebuild(
     out: &mut [u8],

@@ -108,25 +108,25 @@ no-clash {w} e = let z : _≡_ {A = ℕ} 0 1 = cc in omega arith
 pub no-went : {w : Reached} → Stepped.Clash ≡ Stepped.Went w → ⊥
 no-went {w} e = let z : _≡_ {A = ℕ} 0 1 = cc in omega arith
 
-module _ (next : ℕ) (s : List ℕ) (o : Output) (q : Piece) (counts firsts pool buffer types : List ℕ) (dropped : Marks) where
+module _ (next : ℕ) (s : List ℕ) (o : Output) (q : Piece) (tracked : Marks) (firsts pool buffer types : List ℕ) (dropped : Marks) where
   -- a step that went
-  pub steps-went : (w : Reached) → Gone next s o q counts firsts pool buffer types dropped w → Steps next s o q counts firsts pool buffer types dropped (Stepped.Went w)
+  pub steps-went : (w : Reached) → Gone next s o q tracked firsts pool buffer types dropped w → Steps next s o q tracked firsts pool buffer types dropped (Stepped.Went w)
   steps-went w g = record { clashed = λ e. absurd (no-clash e); went = λ v e. let z : v ≡ w = cc in rw z g }
 
   -- a writer's answer is a step's
-  pub steps-put : (r : Put) (t : Stepped) (used : ℕ) → t ≡ withUsed r used → Rep next s counts firsts pool used (q .states) → Puts o (pieceEffect q) (q .clash) buffer types dropped r → Steps next s o q counts firsts pool buffer types dropped t
+  pub steps-put : (r : Put) (t : Stepped) (used : ℕ) → t ≡ withUsed r used → Rep next s tracked firsts pool used (q .states) → Puts o (pieceEffect q) (q .clash) buffer types dropped r → Steps next s o q tracked firsts pool buffer types dropped t
   steps-put Put.Clash t used e h p = rw e (record { clashed = λ z. p .clashed refl; went = λ w z. absurd (no-went z) })
   steps-put (Put.Went w) t used e h p =
       let z = p .went w refl in
       rw e (steps-went (record { progress = w; used = used }) (record { safe = z .0; out = z .1; rep = h }))
 
   -- an instruction that is kept
-  pub steps-kept : (S : AggStates) (i : Instruction) (p : Progress) (used : ℕ) → q ≡ kept S i → outputOf buffer types dropped p ≡ behind o (pieceEffect (kept S i)) → Rep next s counts firsts pool used S → Steps next s o q counts firsts pool buffer types dropped (Stepped.Went (record { progress = p; used = used }))
+  pub steps-kept : (S : AggStates) (i : Instruction) (p : Progress) (used : ℕ) → q ≡ kept S i → outputOf buffer types dropped p ≡ behind o (pieceEffect (kept S i)) → Rep next s tracked firsts pool used S → Steps next s o q tracked firsts pool buffer types dropped (Stepped.Went (record { progress = p; used = used }))
   unfolding kept
   steps-kept S i p used e f h = steps-went (record { progress = p; used = used }) (record { safe = ap (λ x. x .clash) e; out = f ∙ sym (ap (λ x. behind o (pieceEffect x)) e); rep = rw (ap (λ x. x .states) e) h })
 
   -- a Store that is forwarded
-  pub steps-left : (S : AggStates) (p : Progress) (used : ℕ) → q ≡ left oneInsert [] S → outputOf buffer types dropped p ≡ behind o (pieceEffect (left oneInsert [] S)) → Rep next s counts firsts pool used S → Steps next s o q counts firsts pool buffer types dropped (Stepped.Went (record { progress = p; used = used }))
+  pub steps-left : (S : AggStates) (p : Progress) (used : ℕ) → q ≡ left oneInsert [] S → outputOf buffer types dropped p ≡ behind o (pieceEffect (left oneInsert [] S)) → Rep next s tracked firsts pool used S → Steps next s o q tracked firsts pool buffer types dropped (Stepped.Went (record { progress = p; used = used }))
   unfolding left
   steps-left S p used e f h = steps-went (record { progress = p; used = used }) (record { safe = ap (λ x. x .clash) e; out = f ∙ sym (ap (λ x. behind o (pieceEffect x)) e); rep = rw (ap (λ x. x .states) e) h })
 
@@ -136,13 +136,13 @@ module _ (σ : Settings) (τ : Types) (folds : ValueId → Bool) (S : AggStates)
   call-step ds f xs ps rs e = ap (stepKind σ τ folds S n i) e
 
   -- a Call
-  pub call-turn : (next : ℕ) (s : List ℕ) (o : Output) (counts firsts pool buffer types : List ℕ) (dropped : Marks) (used : ℕ) (r : Put) (t : Stepped) → kindNumber (i .kind) ≡ 3 → t ≡ withUsed r used → Rep next s counts firsts pool used S → ((ds : List ValueId) (f : ℕ) (xs : List Value) (ps rs : List TypeId) → i .kind ≡ Call ds f xs ps rs → step σ τ folds S n i ≡ stepCall S i ds f ps rs (rebuildAll τ S n (wantedArguments τ xs ps)) ((rebuildAll τ S n (wantedArguments τ xs ps)) .fresh) → Puts o (pieceEffect (step σ τ folds S n i)) ((step σ τ folds S n i) .clash) buffer types dropped r) → Steps next s o (step σ τ folds S n i) counts firsts pool buffer types dropped t
-  call-turn next s o counts firsts pool buffer types dropped used r t h e rep p =
+  pub call-turn : (next : ℕ) (s : List ℕ) (o : Output) (tracked : Marks) (firsts pool buffer types : List ℕ) (dropped : Marks) (used : ℕ) (r : Put) (t : Stepped) → kindNumber (i .kind) ≡ 3 → t ≡ withUsed r used → Rep next s tracked firsts pool used S → ((ds : List ValueId) (f : ℕ) (xs : List Value) (ps rs : List TypeId) → i .kind ≡ Call ds f xs ps rs → step σ τ folds S n i ≡ stepCall S i ds f ps rs (rebuildAll τ S n (wantedArguments τ xs ps)) ((rebuildAll τ S n (wantedArguments τ xs ps)) .fresh) → Puts o (pieceEffect (step σ τ folds S n i)) ((step σ τ folds S n i) .clash) buffer types dropped r) → Steps next s o (step σ τ folds S n i) tracked firsts pool buffer types dropped t
+  call-turn next s o tracked firsts pool buffer types dropped used r t h e rep p =
       elim (call-kind (i .kind) h) [
         | is-call ds f xs ps rs z ↦
             let q = call-step ds f xs ps rs z in
             let w : (step σ τ folds S n i) .states ≡ S = ap (λ x. x .states) q ∙ call-states S i ds f ps rs _ _ in
-            steps-put next s o (step σ τ folds S n i) counts firsts pool buffer types dropped r t used e (rw w rep) (p ds f xs ps rs z q)
+            steps-put next s o (step σ τ folds S n i) tracked firsts pool buffer types dropped r t used e (rw w rep) (p ds f xs ps rs z q)
       ]
 
   store-step : (p : Place) (x : Value) (t : TypeId) → i .kind ≡ Store p x t → step σ τ folds S n i ≡ guarded (σ .tuples) S i (stepStore τ S n i p x t (forwardStore τ S p x))
@@ -175,25 +175,25 @@ module _ (σ : Settings) (τ : Types) (folds : ValueId → Bool) (S : AggStates)
       ]
 
   -- a Store that is forwarded
-  pub store-went : (next : ℕ) (s : List ℕ) (o : Output) (counts firsts pool buffer types : List ℕ) (dropped : Marks) (used : ℕ) (p : Progress) → kindNumber (i .kind) ≡ 6 → σ .tuples ≡ true → (forwarded : Bool) → forwarded ≡ true → ((pl : Place) (x : Value) (t : TypeId) → i .kind ≡ Store pl x t → (forwarded ≡ isSome (forwardStore τ S pl x)) × Rep next s counts firsts pool used (statesAfter S (forwardStore τ S pl x))) → ((S′ : AggStates) → outputOf buffer types dropped p ≡ behind o (pieceEffect (left oneInsert [] S′))) → Steps next s o (step σ τ folds S n i) counts firsts pool buffer types dropped (Stepped.Went (record { progress = p; used = used }))
-  store-went next s o counts firsts pool buffer types dropped used p h on forwarded e f g =
+  pub store-went : (next : ℕ) (s : List ℕ) (o : Output) (tracked : Marks) (firsts pool buffer types : List ℕ) (dropped : Marks) (used : ℕ) (p : Progress) → kindNumber (i .kind) ≡ 6 → σ .tuples ≡ true → (forwarded : Bool) → forwarded ≡ true → ((pl : Place) (x : Value) (t : TypeId) → i .kind ≡ Store pl x t → (forwarded ≡ isSome (forwardStore τ S pl x)) × Rep next s tracked firsts pool used (statesAfter S (forwardStore τ S pl x))) → ((S′ : AggStates) → outputOf buffer types dropped p ≡ behind o (pieceEffect (left oneInsert [] S′))) → Steps next s o (step σ τ folds S n i) tracked firsts pool buffer types dropped (Stepped.Went (record { progress = p; used = used }))
+  store-went next s o tracked firsts pool buffer types dropped used p h on forwarded e f g =
       elim (store-kind (i .kind) h) [
         | is-store pl x t z ↦
             let w = f pl x t z in
             let S′ = statesAfter S (forwardStore τ S pl x) in
             let q : step σ τ folds S n i ≡ left oneInsert [] S′ = store-step pl x t z ∙ stored-open (σ .tuples) _ on ∙ stored-went pl x t (forwardStore τ S pl x) (sym (w .0) ∙ e) in
-            steps-left next s o (step σ τ folds S n i) counts firsts pool buffer types dropped S′ p used q (g S′) (w .1)
+            steps-left next s o (step σ τ folds S n i) tracked firsts pool buffer types dropped S′ p used q (g S′) (w .1)
       ]
 
   -- a Store that is written
-  pub store-turn : (next : ℕ) (s : List ℕ) (o : Output) (counts firsts pool buffer types : List ℕ) (dropped : Marks) (used : ℕ) (r : Put) (v : Stepped) → kindNumber (i .kind) ≡ 6 → σ .tuples ≡ true → (forwarded : Bool) → forwarded ≡ false → v ≡ withUsed r used → ((pl : Place) (x : Value) (t : TypeId) → i .kind ≡ Store pl x t → (forwarded ≡ isSome (forwardStore τ S pl x)) × Rep next s counts firsts pool used (statesAfter S (forwardStore τ S pl x))) → ((pl : Place) (x : Value) (t : TypeId) → i .kind ≡ Store pl x t → Rep next s counts firsts pool used S → step σ τ folds S n i ≡ storeKept τ S n i pl x t (onSome (aggregateType τ t) (λ u. stateOf S x)) → Puts o (pieceEffect (step σ τ folds S n i)) ((step σ τ folds S n i) .clash) buffer types dropped r) → Steps next s o (step σ τ folds S n i) counts firsts pool buffer types dropped v
-  store-turn next s o counts firsts pool buffer types dropped used r v h on forwarded e m f g =
+  pub store-turn : (next : ℕ) (s : List ℕ) (o : Output) (tracked : Marks) (firsts pool buffer types : List ℕ) (dropped : Marks) (used : ℕ) (r : Put) (v : Stepped) → kindNumber (i .kind) ≡ 6 → σ .tuples ≡ true → (forwarded : Bool) → forwarded ≡ false → v ≡ withUsed r used → ((pl : Place) (x : Value) (t : TypeId) → i .kind ≡ Store pl x t → (forwarded ≡ isSome (forwardStore τ S pl x)) × Rep next s tracked firsts pool used (statesAfter S (forwardStore τ S pl x))) → ((pl : Place) (x : Value) (t : TypeId) → i .kind ≡ Store pl x t → Rep next s tracked firsts pool used S → step σ τ folds S n i ≡ storeKept τ S n i pl x t (onSome (aggregateType τ t) (λ u. stateOf S x)) → Puts o (pieceEffect (step σ τ folds S n i)) ((step σ τ folds S n i) .clash) buffer types dropped r) → Steps next s o (step σ τ folds S n i) tracked firsts pool buffer types dropped v
+  store-turn next s o tracked firsts pool buffer types dropped used r v h on forwarded e m f g =
       elim (store-kind (i .kind) h) [
         | is-store pl x t z ↦
             let w = f pl x t z in
             let y = stored-stays pl x t (forwardStore τ S pl x) (sym (w .0) ∙ e) in
             let q : step σ τ folds S n i ≡ storeKept τ S n i pl x t (onSome (aggregateType τ t) (λ u. stateOf S x)) = store-step pl x t z ∙ stored-open (σ .tuples) _ on ∙ y .0 in
-            let rep : Rep next s counts firsts pool used S = rw (y .1) at w .1 in
+            let rep : Rep next s tracked firsts pool used S = rw (y .1) at w .1 in
             let st : (step σ τ folds S n i) .states ≡ S = ap (λ u. u .states) q ∙ store-states τ S n i pl x t _ in
-            steps-put next s o (step σ τ folds S n i) counts firsts pool buffer types dropped r v used m (rw st rep) (g pl x t z rep q)
+            steps-put next s o (step σ τ folds S n i) tracked firsts pool buffer types dropped r v used m (rw st rep) (g pl x t z rep q)
       ]

@@ -43,21 +43,21 @@ SteppedLow k used Stepped.Clash = Unit {0}
 SteppedLow k used (Stepped.Went w) = Low k (w .progress) × (w .used ≤ used)
 
 -- a piece is put out, and the tables hold its states
-pub record Gone (next : ℕ) (s : List ℕ) (o : Output) (q : Piece) (counts firsts pool buffer types : List ℕ) (dropped : Marks) (w : Reached) : Type 0 where
+pub record Gone (next : ℕ) (s : List ℕ) (o : Output) (q : Piece) (tracked : Marks) (firsts pool buffer types : List ℕ) (dropped : Marks) (w : Reached) : Type 0 where
   pub safe : q .clash ≡ false
   pub out : outputOf buffer types dropped (w .progress) ≡ behind o (pieceEffect q)
-  pub rep : Rep next s counts firsts pool (w .used) (q .states)
+  pub rep : Rep next s tracked firsts pool (w .used) (q .states)
 
 -- what a step answers
-pub record Steps (next : ℕ) (s : List ℕ) (o : Output) (q : Piece) (counts firsts pool buffer types : List ℕ) (dropped : Marks) (r : Stepped) : Type 0 where
+pub record Steps (next : ℕ) (s : List ℕ) (o : Output) (q : Piece) (tracked : Marks) (firsts pool buffer types : List ℕ) (dropped : Marks) (r : Stepped) : Type 0 where
   pub clashed : r ≡ Stepped.Clash → q .clash ≡ true
-  pub went : (w : Reached) → r ≡ Stepped.Went w → Gone next s o q counts firsts pool buffer types dropped w
+  pub went : (w : Reached) → r ≡ Stepped.Went w → Gone next s o q tracked firsts pool buffer types dropped w
 
 -- Of a block whose walk is `whole` from the output o on, the instructions `rest` and the terminator t are left at the
 -- output `now`: what they give from the states that the tables hold is what the whole walk gives.
-pub record Left (σ : Settings) (τ : Types) (folds : ValueId → Bool) (b : Bounds) (s : List ℕ) (t : Terminator) (o : Output) (whole : Walked) (rest : List Instruction) (counts firsts pool : List ℕ) (used : ℕ) (now : Output) : Type 0 where
+pub record Left (σ : Settings) (τ : Types) (folds : ValueId → Bool) (b : Bounds) (s : List ℕ) (t : Terminator) (o : Output) (whole : Walked) (rest : List Instruction) (tracked : Marks) (firsts pool : List ℕ) (used : ℕ) (now : Output) : Type 0 where
   pub states : AggStates
-  pub rep : Rep (b .next) s counts firsts pool used states
+  pub rep : Rep (b .next) s tracked firsts pool used states
   pub same : behind now (walkedEffect (walk σ τ folds states (b .next + now .progress .fresh) rest t)) ≡ behind o (walkedEffect whole)
   pub clash : (walk σ τ folds states (b .next + now .progress .fresh) rest t) .clash ≡ whole .clash
   pub bound : b .next + now .progress .fresh + length ((walk σ τ folds states (b .next + now .progress .fresh) rest t) .fresh) < 65536
@@ -72,12 +72,12 @@ pub record InBlock (b : Bounds) (s types recorded places : List ℕ) (count : �
   pub flags : (j : ℕ) (d : ValueId) → j < length (x .instructions) → buildDest (getD (x .instructions) j noInstruction .kind) ≡ some d → getD folded (first + j) false ≡ folds d
 
 -- what the loop over a block's instructions answers
-pub record Arrives (σ : Settings) (τ : Types) (folds : ValueId → Bool) (b : Bounds) (s : List ℕ) (t : Terminator) (o : Output) (whole : Walked) (rest : List Instruction) (counts firsts pool buffer types : List ℕ) (dropped : Marks) (r : Stepped) : Type 0 where
+pub record Arrives (σ : Settings) (τ : Types) (folds : ValueId → Bool) (b : Bounds) (s : List ℕ) (t : Terminator) (o : Output) (whole : Walked) (rest : List Instruction) (tracked : Marks) (firsts pool buffer types : List ℕ) (dropped : Marks) (r : Stepped) : Type 0 where
   pub clashed : r ≡ Stepped.Clash → whole .clash ≡ true
-  pub went : (w : Reached) → r ≡ Stepped.Went w → Left σ τ folds b s t o whole rest counts firsts pool (w .used) (outputOf buffer types dropped (w .progress))
+  pub went : (w : Reached) → r ≡ Stepped.Went w → Left σ τ folds b s t o whole rest tracked firsts pool (w .used) (outputOf buffer types dropped (w .progress))
 
 -- the tables have a place for each value, and the pool has a row for each instruction of a block
-pub record Tabled (counts firsts pool : List ℕ) : Type 0 where
-  pub count : 256 ≤ length counts
+pub record Tabled (tracked : Marks) (firsts pool : List ℕ) : Type 0 where
+  pub mark : 256 ≤ length tracked
   pub first : 256 ≤ length firsts
-  pub places : 2048 ≤ length pool
+  pub places : 2176 ≤ length pool

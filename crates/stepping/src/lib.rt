@@ -60,7 +60,7 @@ fn step_store(
     settings: Settings,
     types: &[usize],
     recorded: &[u16],
-    counts: &mut [u16],
+    tracked: &mut [bool],
     firsts: &mut [u16],
     pool: &mut [usize],
     used: usize,
@@ -69,8 +69,8 @@ fn step_store(
     fresh: &mut [u16],
 ) -> Stepped
     requires { ⌜ Low 8000 p × (used < 60000) ⌝ }
-    ensures { λ r. ⌜ ((k : ℕ) → Low k p → SteppedLow (k + 1) (used + 16) r) ⌝ }
-    ensures { λ r. ⌜ ((τ : Types) (S : AggStates) (folds : ValueId → Bool) (i : Instruction) (dropped : List Bool) → Ground b (now (s .entry)) (now (types .entry)) (now (recorded .entry)) τ → Rep (b .next) (now (s .entry)) (now (counts .entry)) (now (firsts .entry)) (now (pool .entry)) used S → Tables (now (counts .entry)) (now (firsts .entry)) (now (pool .entry)) used → at ≤ end → end ≤ length (now (s .entry)) → instructionOf b [] false (drop at (now (s .entry))) ≡ ok i (end - at) → kindNumber (i .kind) ≡ 6 → b .next + p .fresh + length ((stepOf settings τ folds S (b .next + p .fresh) i) .fresh) < 65536 → Steps (b .next) (now (s .entry)) (outputOf (now (out .entry)) (now (fresh .entry)) dropped p) (stepOf settings τ folds S (b .next + p .fresh) i) (now (counts .exit)) (now (firsts .exit)) (now (pool .exit)) (now (out .exit)) (now (fresh .exit)) dropped r) ⌝ }
+    ensures { λ r. ⌜ ((k : ℕ) → Low k p → SteppedLow (k + 1) (used + 17) r) ⌝ }
+    ensures { λ r. ⌜ ((τ : Types) (S : AggStates) (folds : ValueId → Bool) (i : Instruction) (dropped : List Bool) → Ground b (now (s .entry)) (now (types .entry)) (now (recorded .entry)) τ → Rep (b .next) (now (s .entry)) (now (tracked .entry)) (now (firsts .entry)) (now (pool .entry)) used S → Tables (now (tracked .entry)) (now (firsts .entry)) (now (pool .entry)) used → at ≤ end → end ≤ length (now (s .entry)) → instructionOf b [] false (drop at (now (s .entry))) ≡ ok i (end - at) → kindNumber (i .kind) ≡ 6 → b .next + p .fresh + length ((stepOf settings τ folds S (b .next + p .fresh) i) .fresh) < 65536 → Steps (b .next) (now (s .entry)) (outputOf (now (out .entry)) (now (fresh .entry)) dropped p) (stepOf settings τ folds S (b .next + p .fresh) i) (now (tracked .exit)) (now (firsts .exit)) (now (pool .exit)) (now (out .exit)) (now (fresh .exit)) dropped r) ⌝ }
 {
     if !settings.tuples {
         let q = actions::keep_line(out, p, s, at, end);
@@ -79,7 +79,7 @@ fn step_store(
             used: used,
         });
     }
-    let f = chains::forward_store(s, at, b, types, recorded, counts, firsts, pool, used);
+    let f = chains::forward_store(s, at, b, types, recorded, tracked, firsts, pool, used);
     if f.forwarded {
         let q = actions::left_out(p, Counted::Insert);
         return Stepped::Went(Reached {
@@ -88,7 +88,7 @@ fn step_store(
         });
     }
     with_used(
-        materialize::put_store(out, p, s, at, end, b, types, counts, firsts, pool, fresh),
+        materialize::put_store(out, p, s, at, end, b, types, tracked, firsts, pool, fresh),
         f.used,
     )
 }
@@ -103,7 +103,7 @@ fn step_other(
     types: &[usize],
     recorded: &[u16],
     fold: bool,
-    counts: &mut [u16],
+    tracked: &mut [bool],
     firsts: &mut [u16],
     pool: &mut [usize],
     used: usize,
@@ -112,8 +112,8 @@ fn step_other(
     dropped: &mut [bool],
 ) -> Stepped
     requires { ⌜ Low 8000 p × ((used < 60000) × (length (now s) < 1099511627776)) ⌝ }
-    ensures { λ r. ⌜ ((k : ℕ) → Low k p → SteppedLow (k + 1) (used + 16) r) ⌝ }
-    ensures { λ r. ⌜ ((τ : Types) (S : AggStates) (folds : ValueId → Bool) (m : ℕ) (i : Instruction) (fresh : List ℕ) → Ground b (now (s .entry)) (now (types .entry)) (now (recorded .entry)) τ → Rep (b .next) (now (s .entry)) (now (counts .entry)) (now (firsts .entry)) (now (pool .entry)) used S → Tables (now (counts .entry)) (now (firsts .entry)) (now (pool .entry)) used → at ≤ end → end ≤ length (now (s .entry)) → instructionOf b [] false (drop at (now (s .entry))) ≡ ok i (end - at) → (kindNumber (i .kind) ≡ 3 → ⊥) → (kindNumber (i .kind) ≡ 6 → ⊥) → ((d : ValueId) → buildDest (i .kind) ≡ some d → fold ≡ folds d) → Steps (b .next) (now (s .entry)) (outputOf (now (out .entry)) fresh (now (dropped .entry)) p) (stepOf settings τ folds S m i) (now (counts .exit)) (now (firsts .exit)) (now (pool .exit)) (now (out .exit)) fresh (now (dropped .exit)) r) ⌝ }
+    ensures { λ r. ⌜ ((k : ℕ) → Low k p → SteppedLow (k + 1) (used + 17) r) ⌝ }
+    ensures { λ r. ⌜ ((τ : Types) (S : AggStates) (folds : ValueId → Bool) (m : ℕ) (i : Instruction) (fresh : List ℕ) → Ground b (now (s .entry)) (now (types .entry)) (now (recorded .entry)) τ → Rep (b .next) (now (s .entry)) (now (tracked .entry)) (now (firsts .entry)) (now (pool .entry)) used S → Tables (now (tracked .entry)) (now (firsts .entry)) (now (pool .entry)) used → at ≤ end → end ≤ length (now (s .entry)) → instructionOf b [] false (drop at (now (s .entry))) ≡ ok i (end - at) → (kindNumber (i .kind) ≡ 3 → ⊥) → (kindNumber (i .kind) ≡ 6 → ⊥) → ((d : ValueId) → buildDest (i .kind) ≡ some d → fold ≡ folds d) → Steps (b .next) (now (s .entry)) (outputOf (now (out .entry)) fresh (now (dropped .entry)) p) (stepOf settings τ folds S m i) (now (tracked .exit)) (now (firsts .exit)) (now (pool .exit)) (now (out .exit)) fresh (now (dropped .exit)) r) ⌝ }
 {
     if s.len() < at {
         return Stepped::Clash;
@@ -126,7 +126,7 @@ fn step_other(
         types,
         recorded,
         fold,
-        counts,
+        tracked,
         firsts,
         pool,
         used,
@@ -150,7 +150,7 @@ pub fn step(
     types: &[usize],
     recorded: &[u16],
     fold: bool,
-    counts: &mut [u16],
+    tracked: &mut [bool],
     firsts: &mut [u16],
     pool: &mut [usize],
     used: usize,
@@ -160,12 +160,12 @@ pub fn step(
     dropped: &mut [bool],
 ) -> Stepped
     requires { ⌜ Low 8000 p × ((used < 60000) × (length (now s) < 1099511627776)) ⌝ }
-    ensures { λ r. ⌜ ((k : ℕ) → Low k p → SteppedLow (k + 1) (used + 16) r) ⌝ }
-    ensures { λ r. ⌜ ((τ : Types) (S : AggStates) (folds : ValueId → Bool) (i : Instruction) → Ground b (now (s .entry)) (now (types .entry)) (now (recorded .entry)) τ → Rep (b .next) (now (s .entry)) (now (counts .entry)) (now (firsts .entry)) (now (pool .entry)) used S → Tables (now (counts .entry)) (now (firsts .entry)) (now (pool .entry)) used → at ≤ end → end ≤ length (now (s .entry)) → instructionOf b [] false (drop at (now (s .entry))) ≡ ok i (end - at) → ((d : ValueId) → buildDest (i .kind) ≡ some d → fold ≡ folds d) → b .next + p .fresh + length ((stepOf settings τ folds S (b .next + p .fresh) i) .fresh) < 65536 → Steps (b .next) (now (s .entry)) (outputOf (now (out .entry)) (now (fresh .entry)) (now (dropped .entry)) p) (stepOf settings τ folds S (b .next + p .fresh) i) (now (counts .exit)) (now (firsts .exit)) (now (pool .exit)) (now (out .exit)) (now (fresh .exit)) (now (dropped .exit)) r) ⌝ }
+    ensures { λ r. ⌜ ((k : ℕ) → Low k p → SteppedLow (k + 1) (used + 17) r) ⌝ }
+    ensures { λ r. ⌜ ((τ : Types) (S : AggStates) (folds : ValueId → Bool) (i : Instruction) → Ground b (now (s .entry)) (now (types .entry)) (now (recorded .entry)) τ → Rep (b .next) (now (s .entry)) (now (tracked .entry)) (now (firsts .entry)) (now (pool .entry)) used S → Tables (now (tracked .entry)) (now (firsts .entry)) (now (pool .entry)) used → at ≤ end → end ≤ length (now (s .entry)) → instructionOf b [] false (drop at (now (s .entry))) ≡ ok i (end - at) → ((d : ValueId) → buildDest (i .kind) ≡ some d → fold ≡ folds d) → b .next + p .fresh + length ((stepOf settings τ folds S (b .next + p .fresh) i) .fresh) < 65536 → Steps (b .next) (now (s .entry)) (outputOf (now (out .entry)) (now (fresh .entry)) (now (dropped .entry)) p) (stepOf settings τ folds S (b .next + p .fresh) i) (now (tracked .exit)) (now (firsts .exit)) (now (pool .exit)) (now (out .exit)) (now (fresh .exit)) (now (dropped .exit)) r) ⌝ }
 {
     match wire::byte_at(form::tail(s, at), 1) {
         3 => with_used(
-            materialize::put_call(out, p, s, at, end, b, types, counts, firsts, pool, fresh),
+            materialize::put_call(out, p, s, at, end, b, types, tracked, firsts, pool, fresh),
             used,
         ),
         6 => step_store(
@@ -176,7 +176,7 @@ pub fn step(
             settings,
             types,
             recorded,
-            counts,
+            tracked,
             firsts,
             pool,
             used,
@@ -193,7 +193,7 @@ pub fn step(
             types,
             recorded,
             fold,
-            counts,
+            tracked,
             firsts,
             pool,
             used,

@@ -112,9 +112,9 @@ other-puts τ S m b s u part at end t n k to out out′ types dropped p r h bl e
     rw z (puts-went _ _ _ out′ types dropped r refl (rw (y, d .0, d .1, own) (simp (add-zero))))
 
 -- what is behind the last instruction is the end of the whole
-pub body-puts : (σ : Settings) (τ : Types) (folds : ValueId → Bool) (b : Bounds) (s : List ℕ) (t : Terminator) (o : Output) (whole : Walked) (counts firsts pool : List ℕ) (used : ℕ) (now : Output) (l : Left σ τ folds b s t o whole [] counts firsts pool used now) (buffer types : List ℕ) (dropped : Marks) (r : Put) → Puts now (walkedEffect (finish τ (l .states) (b .next + now .progress .fresh) t)) ((finish τ (l .states) (b .next + now .progress .fresh) t) .clash) buffer types dropped r → Puts o (walkedEffect whole) (whole .clash) buffer types dropped r
+pub body-puts : (σ : Settings) (τ : Types) (folds : ValueId → Bool) (b : Bounds) (s : List ℕ) (t : Terminator) (o : Output) (whole : Walked) (tracked : Marks) (firsts pool : List ℕ) (used : ℕ) (now : Output) (l : Left σ τ folds b s t o whole [] tracked firsts pool used now) (buffer types : List ℕ) (dropped : Marks) (r : Put) → Puts now (walkedEffect (finish τ (l .states) (b .next + now .progress .fresh) t)) ((finish τ (l .states) (b .next + now .progress .fresh) t) .clash) buffer types dropped r → Puts o (walkedEffect whole) (whole .clash) buffer types dropped r
 unfolding walk
-body-puts σ τ folds b s t o whole counts firsts pool used now l buffer types dropped r p =
+body-puts σ τ folds b s t o whole tracked firsts pool used now l buffer types dropped r p =
     record {
       clashed = λ e. sym (l .clash) ∙ p .clashed e;
       went = λ q e. let w = p .went q e in (sym (l .clash) ∙ w .0, w .1 ∙ l .same);
@@ -130,6 +130,6 @@ end-at b s types recorded places count folded first τ folds x g at e =
     let z : at ≡ getD places (length (x .instructions)) 0 = e ∙ ap (λ n. getD places n 0) (sym (g .many)) in
     ap (λ n. terminatorOf b (drop n s)) z ∙ g .standing .terminator
 
-pub body-bound : (σ : Settings) (τ : Types) (folds : ValueId → Bool) (b : Bounds) (s : List ℕ) (t : Terminator) (o : Output) (whole : Walked) (counts firsts pool : List ℕ) (used : ℕ) (now : Output) (l : Left σ τ folds b s t o whole [] counts firsts pool used now) → b .next + now .progress .fresh + length ((finish τ (l .states) (b .next + now .progress .fresh) t) .fresh) < 65536
+pub body-bound : (σ : Settings) (τ : Types) (folds : ValueId → Bool) (b : Bounds) (s : List ℕ) (t : Terminator) (o : Output) (whole : Walked) (tracked : Marks) (firsts pool : List ℕ) (used : ℕ) (now : Output) (l : Left σ τ folds b s t o whole [] tracked firsts pool used now) → b .next + now .progress .fresh + length ((finish τ (l .states) (b .next + now .progress .fresh) t) .fresh) < 65536
 unfolding walk
-body-bound σ τ folds b s t o whole counts firsts pool used now l = l .bound
+body-bound σ τ folds b s t o whole tracked firsts pool used now l = l .bound

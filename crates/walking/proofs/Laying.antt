@@ -36,9 +36,9 @@ use Rattle.walking.proofs.Whole.{block-out, skip-effect, walk-effect}
 transfer : (P : ℕ → Type 0) (m n : ℕ) → m ≡ n → P m → P n
 transfer P m n e h = rw e at h
 
--- the table of counts is as long as it was
-pub tabled-on : (counts counts′ firsts pool : List ℕ) → length counts′ ≡ length counts → Tabled counts firsts pool → Tabled counts′ firsts pool
-tabled-on counts counts′ firsts pool e t = record { count = omega (arith, t .count, e); first = t .first; places = t .places }
+-- the table of marks is as long as it was
+pub tabled-on : (tracked tracked′ : Marks) (firsts pool : List ℕ) → length tracked′ ≡ length tracked → Tabled tracked firsts pool → Tabled tracked′ firsts pool
+tabled-on tracked tracked′ firsts pool e t = record { mark = omega (arith, t .mark, e); first = t .first; places = t .places }
 
 -- at the same place with no instruction
 pub low-reset : (k : ℕ) (q r : Progress) → r ≡ movedTo q (q .to) 0 → Low k q → Low k r

@@ -77,10 +77,10 @@ module _ (σ : Settings) (τ : Types) (c : Choice) (b : Bounds) (o : Output) (wh
   pub blocks-cons : (ks : List Block) (k : ℕ) (now : Output) → k < length ks → BlocksLeft σ τ c b o whole clash (drop k ks) now → BlocksLeft σ τ c b o whole clash (getD ks k noBlock ∷ drop (suc k) ks) now
   blocks-cons ks k now h l = rw (← drop-cons ks k noBlock h) l
 
-pub record Laying (σ : Settings) (b : Bounds) (s types recorded blocks places starts : List ℕ) (many : ℕ) (folded skips : List Bool) (counts₀ firsts₀ pool₀ out₀ fresh₀ : List ℕ) (dropped₀ : Marks) (q₀ : Progress) (counts firsts pool out fresh : List ℕ) (dropped : Marks) (q : Progress) (k : ℕ) : Type 0 where
+pub record Laying (σ : Settings) (b : Bounds) (s types recorded blocks places starts : List ℕ) (many : ℕ) (folded skips : List Bool) (tracked₀ : Marks) (firsts₀ pool₀ out₀ fresh₀ : List ℕ) (dropped₀ : Marks) (q₀ : Progress) (tracked : Marks) (firsts pool out fresh : List ℕ) (dropped : Marks) (q : Progress) (k : ℕ) : Type 0 where
   pub few : k ≤ many
   pub low : (n : ℕ) → Low n q₀ → Low (n + 130 * k) q
-  pub count-size : length counts ≡ length counts₀
+  pub mark-size : length tracked ≡ length tracked₀
   pub first-size : length firsts ≡ length firsts₀
   pub pool-size : length pool ≡ length pool₀
   pub out-size : length out ≡ length out₀
@@ -88,13 +88,13 @@ pub record Laying (σ : Settings) (b : Bounds) (s types recorded blocks places s
   pub dropped-size : length dropped ≡ length dropped₀
   pub left : (τ : Types) (c : Choice) (m : Mosts) (ks : List Block) → InCode m b s types recorded blocks places starts folded skips τ c ks → length ks ≡ many → q₀ .lines ≡ 0 → b .next + q₀ .fresh + length ((allBlocks σ τ c (b .next + q₀ .fresh) ks) .fresh) < 65536 → BlocksLeft σ τ c b (outputOf out₀ fresh₀ dropped₀ q₀) (rewrittenEffect (allBlocks σ τ c (b .next + q₀ .fresh) ks)) ((allBlocks σ τ c (b .next + q₀ .fresh) ks) .clash) (drop k ks) (outputOf out fresh dropped q)
 
-module _ (σ : Settings) (b : Bounds) (s types recorded blocks places starts : List ℕ) (many : ℕ) (folded skips : List Bool) (counts₀ firsts₀ pool₀ out₀ fresh₀ : List ℕ) (dropped₀ : Marks) (q₀ : Progress) where
-  pub laying-start : Laying σ b s types recorded blocks places starts many folded skips counts₀ firsts₀ pool₀ out₀ fresh₀ dropped₀ q₀ counts₀ firsts₀ pool₀ out₀ fresh₀ dropped₀ q₀ 0
+module _ (σ : Settings) (b : Bounds) (s types recorded blocks places starts : List ℕ) (many : ℕ) (folded skips : List Bool) (tracked₀ : Marks) (firsts₀ pool₀ out₀ fresh₀ : List ℕ) (dropped₀ : Marks) (q₀ : Progress) where
+  pub laying-start : Laying σ b s types recorded blocks places starts many folded skips tracked₀ firsts₀ pool₀ out₀ fresh₀ dropped₀ q₀ tracked₀ firsts₀ pool₀ out₀ fresh₀ dropped₀ q₀ 0
   laying-start =
       record {
         few = omega arith;
         low = λ n l. low-mono n (n + 130 * 0) q₀ (omega arith) l;
-        count-size = refl;
+        mark-size = refl;
         first-size = refl;
         pool-size = refl;
         out-size = refl;
@@ -103,9 +103,9 @@ module _ (σ : Settings) (b : Bounds) (s types recorded blocks places starts : L
         left = λ τ c m ks g e z bd. record { same = refl; safe = refl; bound = bd; first = z };
       }
 
-  module _ (counts firsts pool out fresh : List ℕ) (dropped : Marks) (q : Progress) (k : ℕ) (inv : Laying σ b s types recorded blocks places starts many folded skips counts₀ firsts₀ pool₀ out₀ fresh₀ dropped₀ q₀ counts firsts pool out fresh dropped q k) where
-    pub laying-ready : Tabled counts₀ firsts₀ pool₀ → Tabled counts firsts pool
-    laying-ready t = record { count = omega (arith, t .count, inv .count-size); first = omega (arith, t .first, inv .first-size); places = omega (arith, t .places, inv .pool-size) }
+  module _ (tracked : Marks) (firsts pool out fresh : List ℕ) (dropped : Marks) (q : Progress) (k : ℕ) (inv : Laying σ b s types recorded blocks places starts many folded skips tracked₀ firsts₀ pool₀ out₀ fresh₀ dropped₀ q₀ tracked firsts pool out fresh dropped q k) where
+    pub laying-ready : Tabled tracked₀ firsts₀ pool₀ → Tabled tracked firsts pool
+    laying-ready t = record { mark = omega (arith, t .mark, inv .mark-size); first = omega (arith, t .first, inv .first-size); places = omega (arith, t .places, inv .pool-size) }
 
     module _ (τ : Types) (c : Choice) (m : Mosts) (ks : List Block) (g : InCode m b s types recorded blocks places starts folded skips τ c ks) (e : length ks ≡ many) (z : q₀ .lines ≡ 0) (bd : b .next + q₀ .fresh + length ((allBlocks σ τ c (b .next + q₀ .fresh) ks) .fresh) < 65536) where
       abbrev whole : Rewritten
@@ -155,12 +155,12 @@ module _ (σ : Settings) (b : Bounds) (s types recorded blocks places starts : L
             blocks-again σ τ c b start (rewrittenEffect all) (all .clash) this rest now next-left (outputOf out′ fresh′ dropped′ w) (y .0) (y .1)
 
       -- one more is behind
-      pub laying-again : (counts′ firsts′ pool′ : List ℕ) (w : Progress) → r ≡ Put.Went w → ((n : ℕ) → Low n q → PutLow (n + 130) r) → length counts′ ≡ length counts → length firsts′ ≡ length firsts → length pool′ ≡ length pool → length out′ ≡ length out → length fresh′ ≡ length fresh → length dropped′ ≡ length dropped → Laying σ b s types recorded blocks places starts many folded skips counts₀ firsts₀ pool₀ out₀ fresh₀ dropped₀ q₀ counts′ firsts′ pool′ out′ fresh′ dropped′ w (k + 1)
-      laying-again counts′ firsts′ pool′ w v lo lc lf lp lu ly ld =
+      pub laying-again : (tracked′ : Marks) (firsts′ pool′ : List ℕ) (w : Progress) → r ≡ Put.Went w → ((n : ℕ) → Low n q → PutLow (n + 130) r) → length tracked′ ≡ length tracked → length firsts′ ≡ length firsts → length pool′ ≡ length pool → length out′ ≡ length out → length fresh′ ≡ length fresh → length dropped′ ≡ length dropped → Laying σ b s types recorded blocks places starts many folded skips tracked₀ firsts₀ pool₀ out₀ fresh₀ dropped₀ q₀ tracked′ firsts′ pool′ out′ fresh′ dropped′ w (k + 1)
+      laying-again tracked′ firsts′ pool′ w v lo lc lf lp lu ly ld =
           record {
             few = omega arith;
             low = λ n l. low-mono (n + 130 * k + 130) (n + 130 * (k + 1)) w (omega arith) (low-told (n + 130 * k + 130) r w v (lo (n + 130 * k) (inv .low n l)));
-            count-size = lc ∙ inv .count-size;
+            mark-size = lc ∙ inv .mark-size;
             first-size = lf ∙ inv .first-size;
             pool-size = lp ∙ inv .pool-size;
             out-size = lu ∙ inv .out-size;

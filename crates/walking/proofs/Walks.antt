@@ -31,7 +31,7 @@ use Rattle.stepping.proofs.Lows.{low-mono}
 use Rattle.stepping.proofs.Turns.{no-clash, no-went}
 
 module _ (σ : Settings) (τ : Types) (folds : ValueId → Bool) (b : Bounds) (s : List ℕ) (t : Terminator) (o : Output) (whole : Walked) where
-  module _ (i : Instruction) (rest : List Instruction) (counts firsts pool : List ℕ) (used : ℕ) (now : Output) (l : Left σ τ folds b s t o whole (i ∷ rest) counts firsts pool used now) where
+  module _ (i : Instruction) (rest : List Instruction) (tracked : Marks) (firsts pool : List ℕ) (used : ℕ) (now : Output) (l : Left σ τ folds b s t o whole (i ∷ rest) tracked firsts pool used now) where
     -- the next piece, and what comes behind it
     abbrev piece : Piece
     piece = step σ τ folds (l .states) (b .next + now .progress .fresh) i
@@ -51,7 +51,7 @@ module _ (σ : Settings) (τ : Types) (folds : ValueId → Bool) (b : Bounds) (s
     unfolding glue
     left-clash h = sym (l .clash) ∙ ap (λ w. w .clash) glued ∙ ap (λ x. x || behindIt .clash) h
 
-    module _ (counts′ firsts′ pool′ buffer types : List ℕ) (dropped : Marks) (w : Reached) (g : Gone (b .next) s now piece counts′ firsts′ pool′ buffer types dropped w) where
+    module _ (tracked′ : Marks) (firsts′ pool′ buffer types : List ℕ) (dropped : Marks) (w : Reached) (g : Gone (b .next) s now piece tracked′ firsts′ pool′ buffer types dropped w) where
       -- as many fresh numbers as the piece took are taken
       further-on : b .next + w .progress .fresh ≡ b .next + now .progress .fresh + length (piece .fresh)
       unfolding behind further pieceEffect
@@ -65,7 +65,7 @@ module _ (σ : Settings) (τ : Types) (folds : ValueId → Bool) (b : Bounds) (s
       moved : walk σ τ folds (piece .states) (b .next + here .progress .fresh) rest t ≡ behindIt
       moved = ap (λ n. walk σ τ folds (piece .states) n rest t) further-on
 
-      pub left-again : Left σ τ folds b s t o whole rest counts′ firsts′ pool′ (w .used) here
+      pub left-again : Left σ τ folds b s t o whole rest tracked′ firsts′ pool′ (w .used) here
       unfolding glue
       left-again =
           record {
@@ -77,30 +77,30 @@ module _ (σ : Settings) (τ : Types) (folds : ValueId → Bool) (b : Bounds) (s
           }
 
   -- instruction j is the first that is left
-  pub left-cons : (is : List Instruction) (j : ℕ) (counts firsts pool : List ℕ) (used : ℕ) (now : Output) → j < length is → Left σ τ folds b s t o whole (drop j is) counts firsts pool used now → Left σ τ folds b s t o whole (getD is j noInstruction ∷ drop (suc j) is) counts firsts pool used now
-  left-cons is j counts firsts pool used now h l = rw (← drop-cons is j noInstruction h) l
+  pub left-cons : (is : List Instruction) (j : ℕ) (tracked : Marks) (firsts pool : List ℕ) (used : ℕ) (now : Output) → j < length is → Left σ τ folds b s t o whole (drop j is) tracked firsts pool used now → Left σ τ folds b s t o whole (getD is j noInstruction ∷ drop (suc j) is) tracked firsts pool used now
+  left-cons is j tracked firsts pool used now h l = rw (← drop-cons is j noInstruction h) l
 
 -- the loop over a block's instructions
-pub record Walking (σ : Settings) (b : Bounds) (s types recorded places : List ℕ) (count : ℕ) (folded : List Bool) (first : ℕ) (counts₀ firsts₀ pool₀ out₀ fresh₀ : List ℕ) (dropped₀ : Marks) (w₀ : Reached) (counts firsts pool out fresh : List ℕ) (dropped : Marks) (w : Reached) (j : ℕ) : Type 0 where
+pub record Walking (σ : Settings) (b : Bounds) (s types recorded places : List ℕ) (count : ℕ) (folded : List Bool) (first : ℕ) (tracked₀ : Marks) (firsts₀ pool₀ out₀ fresh₀ : List ℕ) (dropped₀ : Marks) (w₀ : Reached) (tracked : Marks) (firsts pool out fresh : List ℕ) (dropped : Marks) (w : Reached) (j : ℕ) : Type 0 where
   pub few : j ≤ count
   pub low : (k : ℕ) → Low k (w₀ .progress) → Low (k + j) (w .progress)
-  pub used : w .used ≤ 16 * j
-  pub count-size : length counts ≡ length counts₀
+  pub used : w .used ≤ 17 * j
+  pub mark-size : length tracked ≡ length tracked₀
   pub first-size : length firsts ≡ length firsts₀
   pub pool-size : length pool ≡ length pool₀
   pub out-size : length out ≡ length out₀
   pub fresh-size : length fresh ≡ length fresh₀
   pub dropped-size : length dropped ≡ length dropped₀
-  pub left : (τ : Types) (folds : ValueId → Bool) (x : Block) → InBlock b s types recorded places count folded first τ folds x → Rep (b .next) s counts₀ firsts₀ pool₀ 0 noStates → b .next + w₀ .progress .fresh + length ((walk σ τ folds noStates (b .next + w₀ .progress .fresh) (x .instructions) (x .terminator)) .fresh) < 65536 → Left σ τ folds b s (x .terminator) (outputOf out₀ fresh₀ dropped₀ (w₀ .progress)) (walk σ τ folds noStates (b .next + w₀ .progress .fresh) (x .instructions) (x .terminator)) (drop j (x .instructions)) counts firsts pool (w .used) (outputOf out fresh dropped (w .progress))
+  pub left : (τ : Types) (folds : ValueId → Bool) (x : Block) → InBlock b s types recorded places count folded first τ folds x → Rep (b .next) s tracked₀ firsts₀ pool₀ 0 noStates → b .next + w₀ .progress .fresh + length ((walk σ τ folds noStates (b .next + w₀ .progress .fresh) (x .instructions) (x .terminator)) .fresh) < 65536 → Left σ τ folds b s (x .terminator) (outputOf out₀ fresh₀ dropped₀ (w₀ .progress)) (walk σ τ folds noStates (b .next + w₀ .progress .fresh) (x .instructions) (x .terminator)) (drop j (x .instructions)) tracked firsts pool (w .used) (outputOf out fresh dropped (w .progress))
 
-module _ (σ : Settings) (b : Bounds) (s types recorded places : List ℕ) (count : ℕ) (folded : List Bool) (first : ℕ) (counts₀ firsts₀ pool₀ out₀ fresh₀ : List ℕ) (dropped₀ : Marks) (w₀ : Reached) where
-  pub walking-start : w₀ .used ≡ 0 → Walking σ b s types recorded places count folded first counts₀ firsts₀ pool₀ out₀ fresh₀ dropped₀ w₀ counts₀ firsts₀ pool₀ out₀ fresh₀ dropped₀ w₀ 0
+module _ (σ : Settings) (b : Bounds) (s types recorded places : List ℕ) (count : ℕ) (folded : List Bool) (first : ℕ) (tracked₀ : Marks) (firsts₀ pool₀ out₀ fresh₀ : List ℕ) (dropped₀ : Marks) (w₀ : Reached) where
+  pub walking-start : w₀ .used ≡ 0 → Walking σ b s types recorded places count folded first tracked₀ firsts₀ pool₀ out₀ fresh₀ dropped₀ w₀ tracked₀ firsts₀ pool₀ out₀ fresh₀ dropped₀ w₀ 0
   walking-start e =
       record {
         few = omega arith;
         low = λ k l. low-mono k (k + 0) (w₀ .progress) (omega arith) l;
         used = omega (arith, e);
-        count-size = refl;
+        mark-size = refl;
         first-size = refl;
         pool-size = refl;
         out-size = refl;
@@ -109,27 +109,27 @@ module _ (σ : Settings) (b : Bounds) (s types recorded places : List ℕ) (coun
         left = λ τ folds x a rep bd. record { states = noStates; rep = rw e rep; same = refl; clash = refl; bound = bd };
       }
 
-  module _ (counts firsts pool out fresh : List ℕ) (dropped : Marks) (w : Reached) (j : ℕ) (inv : Walking σ b s types recorded places count folded first counts₀ firsts₀ pool₀ out₀ fresh₀ dropped₀ w₀ counts firsts pool out fresh dropped w j) where
+  module _ (tracked : Marks) (firsts pool out fresh : List ℕ) (dropped : Marks) (w : Reached) (j : ℕ) (inv : Walking σ b s types recorded places count folded first tracked₀ firsts₀ pool₀ out₀ fresh₀ dropped₀ w₀ tracked firsts pool out fresh dropped w j) where
     -- all instructions are behind
-    pub walking-done : count ≤ j → (τ : Types) (folds : ValueId → Bool) (x : Block) → InBlock b s types recorded places count folded first τ folds x → Rep (b .next) s counts₀ firsts₀ pool₀ 0 noStates → b .next + w₀ .progress .fresh + length ((walk σ τ folds noStates (b .next + w₀ .progress .fresh) (x .instructions) (x .terminator)) .fresh) < 65536 → Arrives σ τ folds b s (x .terminator) (outputOf out₀ fresh₀ dropped₀ (w₀ .progress)) (walk σ τ folds noStates (b .next + w₀ .progress .fresh) (x .instructions) (x .terminator)) [] counts firsts pool out fresh dropped (Stepped.Went w)
+    pub walking-done : count ≤ j → (τ : Types) (folds : ValueId → Bool) (x : Block) → InBlock b s types recorded places count folded first τ folds x → Rep (b .next) s tracked₀ firsts₀ pool₀ 0 noStates → b .next + w₀ .progress .fresh + length ((walk σ τ folds noStates (b .next + w₀ .progress .fresh) (x .instructions) (x .terminator)) .fresh) < 65536 → Arrives σ τ folds b s (x .terminator) (outputOf out₀ fresh₀ dropped₀ (w₀ .progress)) (walk σ τ folds noStates (b .next + w₀ .progress .fresh) (x .instructions) (x .terminator)) [] tracked firsts pool out fresh dropped (Stepped.Went w)
     walking-done h τ folds x a rep bd =
         let z : j ≡ length (x .instructions) = omega (arith, inv .few, a .many) in
         let q : drop j (x .instructions) ≡ [] = ap (λ n. drop n (x .instructions)) z ∙ drop-length (x .instructions) in
         let l = inv .left τ folds x a rep bd in
         record { clashed = λ e. absurd (no-clash e); went = λ v e. let y : v ≡ w = cc in rw y (rw q at l) }
 
-    module _ (h : j < count) (most : count ≤ 128) (tabled : Tabled counts₀ firsts₀ pool₀) where
+    module _ (h : j < count) (most : count ≤ 128) (tabled : Tabled tracked₀ firsts₀ pool₀) where
       -- the tables are ready for one more row
-      pub ready : Tables counts firsts pool (w .used)
+      pub ready : Tables tracked firsts pool (w .used)
       ready =
           record {
-            count = omega (arith, tabled .count, inv .count-size);
+            mark = omega (arith, tabled .mark, inv .mark-size);
             first = omega (arith, tabled .first, inv .first-size);
             places = omega (arith, tabled .places, inv .pool-size, inv .used);
           }
 
-      module _ (at end : ℕ) (ea : at ≡ getD places j 0) (ee : end ≡ getD places (j + 1) 0) (fold : Bool) (ef : fold ≡ getD folded (first + j) false) (counts′ firsts′ pool′ out′ fresh′ : List ℕ) (dropped′ : Marks) (r : Stepped) (st : (τ : Types) (S : AggStates) (folds : ValueId → Bool) (i : Instruction) → Ground b s types recorded τ → Rep (b .next) s counts firsts pool (w .used) S → Tables counts firsts pool (w .used) → at ≤ end → end ≤ length s → instructionOf b [] false (drop at s) ≡ ok i (end - at) → ((d : ValueId) → buildDest (i .kind) ≡ some d → fold ≡ folds d) → b .next + w .progress .fresh + length ((step σ τ folds S (b .next + w .progress .fresh) i) .fresh) < 65536 → Steps (b .next) s (outputOf out fresh dropped (w .progress)) (step σ τ folds S (b .next + w .progress .fresh) i) counts′ firsts′ pool′ out′ fresh′ dropped′ r) where
-        module _ (τ : Types) (folds : ValueId → Bool) (x : Block) (a : InBlock b s types recorded places count folded first τ folds x) (rep : Rep (b .next) s counts₀ firsts₀ pool₀ 0 noStates) (bd : b .next + w₀ .progress .fresh + length ((walk σ τ folds noStates (b .next + w₀ .progress .fresh) (x .instructions) (x .terminator)) .fresh) < 65536) where
+      module _ (at end : ℕ) (ea : at ≡ getD places j 0) (ee : end ≡ getD places (j + 1) 0) (fold : Bool) (ef : fold ≡ getD folded (first + j) false) (tracked′ : Marks) (firsts′ pool′ out′ fresh′ : List ℕ) (dropped′ : Marks) (r : Stepped) (st : (τ : Types) (S : AggStates) (folds : ValueId → Bool) (i : Instruction) → Ground b s types recorded τ → Rep (b .next) s tracked firsts pool (w .used) S → Tables tracked firsts pool (w .used) → at ≤ end → end ≤ length s → instructionOf b [] false (drop at s) ≡ ok i (end - at) → ((d : ValueId) → buildDest (i .kind) ≡ some d → fold ≡ folds d) → b .next + w .progress .fresh + length ((step σ τ folds S (b .next + w .progress .fresh) i) .fresh) < 65536 → Steps (b .next) s (outputOf out fresh dropped (w .progress)) (step σ τ folds S (b .next + w .progress .fresh) i) tracked′ firsts′ pool′ out′ fresh′ dropped′ r) where
+        module _ (τ : Types) (folds : ValueId → Bool) (x : Block) (a : InBlock b s types recorded places count folded first τ folds x) (rep : Rep (b .next) s tracked₀ firsts₀ pool₀ 0 noStates) (bd : b .next + w₀ .progress .fresh + length ((walk σ τ folds noStates (b .next + w₀ .progress .fresh) (x .instructions) (x .terminator)) .fresh) < 65536) where
           abbrev whole : Walked
           whole = walk σ τ folds noStates (b .next + w₀ .progress .fresh) (x .instructions) (x .terminator)
 
@@ -148,10 +148,10 @@ module _ (σ : Settings) (b : Bounds) (s types recorded places : List ℕ) (coun
           abbrev now : Output
           now = outputOf out fresh dropped (w .progress)
 
-          next-left : Left σ τ folds b s (x .terminator) start whole (this ∷ rest) counts firsts pool (w .used) now
-          next-left = left-cons σ τ folds b s (x .terminator) start whole (x .instructions) j counts firsts pool (w .used) now below (inv .left τ folds x a rep bd)
+          next-left : Left σ τ folds b s (x .terminator) start whole (this ∷ rest) tracked firsts pool (w .used) now
+          next-left = left-cons σ τ folds b s (x .terminator) start whole (x .instructions) j tracked firsts pool (w .used) now below (inv .left τ folds x a rep bd)
 
-          turned : Steps (b .next) s now (step σ τ folds (next-left .states) (b .next + now .progress .fresh) this) counts′ firsts′ pool′ out′ fresh′ dropped′ r
+          turned : Steps (b .next) s now (step σ τ folds (next-left .states) (b .next + now .progress .fresh) this) tracked′ firsts′ pool′ out′ fresh′ dropped′ r
           turned =
               let is = a .standing .instructions in
               let z : end ≡ getD places (suc j) 0 = ee ∙ ap (λ n. getD places n 0) (add-one j) in
@@ -160,27 +160,27 @@ module _ (σ : Settings) (b : Bounds) (s types recorded places : List ℕ) (coun
               (rw z (is .within (suc j) (omega (arith, below))))
               (rw (ea, z) (is .each j below))
               (λ d e. ef ∙ a .flags j d below e)
-              (left-bound σ τ folds b s (x .terminator) start whole this rest counts firsts pool (w .used) now next-left)
+              (left-bound σ τ folds b s (x .terminator) start whole this rest tracked firsts pool (w .used) now next-left)
 
           clash-turn : r ≡ Stepped.Clash → whole .clash ≡ true
-          clash-turn e = left-clash σ τ folds b s (x .terminator) start whole this rest counts firsts pool (w .used) now next-left (turned .clashed e)
+          clash-turn e = left-clash σ τ folds b s (x .terminator) start whole this rest tracked firsts pool (w .used) now next-left (turned .clashed e)
 
-          went-turn : (v : Reached) → r ≡ Stepped.Went v → Left σ τ folds b s (x .terminator) start whole rest counts′ firsts′ pool′ (v .used) (outputOf out′ fresh′ dropped′ (v .progress))
-          went-turn v e = left-again σ τ folds b s (x .terminator) start whole this rest counts firsts pool (w .used) now next-left counts′ firsts′ pool′ out′ fresh′ dropped′ v (turned .went v e)
+          went-turn : (v : Reached) → r ≡ Stepped.Went v → Left σ τ folds b s (x .terminator) start whole rest tracked′ firsts′ pool′ (v .used) (outputOf out′ fresh′ dropped′ (v .progress))
+          went-turn v e = left-again σ τ folds b s (x .terminator) start whole this rest tracked firsts pool (w .used) now next-left tracked′ firsts′ pool′ out′ fresh′ dropped′ v (turned .went v e)
 
         -- an array rebuild met another count
-        pub walking-clash : r ≡ Stepped.Clash → (τ : Types) (folds : ValueId → Bool) (x : Block) → InBlock b s types recorded places count folded first τ folds x → Rep (b .next) s counts₀ firsts₀ pool₀ 0 noStates → b .next + w₀ .progress .fresh + length ((walk σ τ folds noStates (b .next + w₀ .progress .fresh) (x .instructions) (x .terminator)) .fresh) < 65536 → Arrives σ τ folds b s (x .terminator) (outputOf out₀ fresh₀ dropped₀ (w₀ .progress)) (walk σ τ folds noStates (b .next + w₀ .progress .fresh) (x .instructions) (x .terminator)) [] counts′ firsts′ pool′ out′ fresh′ dropped′ Stepped.Clash
+        pub walking-clash : r ≡ Stepped.Clash → (τ : Types) (folds : ValueId → Bool) (x : Block) → InBlock b s types recorded places count folded first τ folds x → Rep (b .next) s tracked₀ firsts₀ pool₀ 0 noStates → b .next + w₀ .progress .fresh + length ((walk σ τ folds noStates (b .next + w₀ .progress .fresh) (x .instructions) (x .terminator)) .fresh) < 65536 → Arrives σ τ folds b s (x .terminator) (outputOf out₀ fresh₀ dropped₀ (w₀ .progress)) (walk σ τ folds noStates (b .next + w₀ .progress .fresh) (x .instructions) (x .terminator)) [] tracked′ firsts′ pool′ out′ fresh′ dropped′ Stepped.Clash
         walking-clash e τ folds x a rep bd = record { clashed = λ z. clash-turn τ folds x a rep bd e; went = λ v z. absurd (no-went z) }
 
         -- one more is behind
-        pub walking-again : (v : Reached) → r ≡ Stepped.Went v → ((k : ℕ) → Low k (w .progress) → SteppedLow (k + 1) (w .used + 16) r) → length counts′ ≡ length counts → length firsts′ ≡ length firsts → length pool′ ≡ length pool → length out′ ≡ length out → length fresh′ ≡ length fresh → length dropped′ ≡ length dropped → Low 5000 (w₀ .progress) → Walking σ b s types recorded places count folded first counts₀ firsts₀ pool₀ out₀ fresh₀ dropped₀ w₀ counts′ firsts′ pool′ out′ fresh′ dropped′ v (j + 1)
+        pub walking-again : (v : Reached) → r ≡ Stepped.Went v → ((k : ℕ) → Low k (w .progress) → SteppedLow (k + 1) (w .used + 17) r) → length tracked′ ≡ length tracked → length firsts′ ≡ length firsts → length pool′ ≡ length pool → length out′ ≡ length out → length fresh′ ≡ length fresh → length dropped′ ≡ length dropped → Low 5000 (w₀ .progress) → Walking σ b s types recorded places count folded first tracked₀ firsts₀ pool₀ out₀ fresh₀ dropped₀ w₀ tracked′ firsts′ pool′ out′ fresh′ dropped′ v (j + 1)
         walking-again v e lo c f p u y d five =
-            let lows : (k : ℕ) → Low k (w .progress) → Low (k + 1) (v .progress) × (v .used ≤ w .used + 16) = λ k l. rw e at (lo k l) in
+            let lows : (k : ℕ) → Low k (w .progress) → Low (k + 1) (v .progress) × (v .used ≤ w .used + 17) = λ k l. rw e at (lo k l) in
             record {
               few = omega arith;
               low = λ k l. low-mono (k + j + 1) (k + (j + 1)) (v .progress) (omega arith) (lows (k + j) (inv .low k l) .0);
               used = omega (arith, lows (5000 + j) (inv .low 5000 five) .1, inv .used);
-              count-size = c ∙ inv .count-size;
+              mark-size = c ∙ inv .mark-size;
               first-size = f ∙ inv .first-size;
               pool-size = p ∙ inv .pool-size;
               out-size = u ∙ inv .out-size;

@@ -37,7 +37,7 @@ fn put_instructions(
     count: u16,
     folded: &[bool],
     first: u16,
-    counts: &mut [u16],
+    tracked: &mut [bool],
     firsts: &mut [u16],
     pool: &mut [usize],
     out: &mut [u8],
@@ -45,9 +45,9 @@ fn put_instructions(
     fresh: &mut [u16],
     dropped: &mut [bool],
 ) -> Stepped
-    requires { ⌜ Low 5000 p × ((count ≤ 128) × (Tabled (now counts) (now firsts) (now pool) × (length (now s) < 1099511627776))) ⌝ }
-    ensures { λ r. ⌜ ((k : ℕ) → Low k p → SteppedLow (k + 128) 2048 r) ⌝ }
-    ensures { λ r. ⌜ ((τ : Types) (folds : ValueId → Bool) (x : Block) → InBlock b (now (s .entry)) (now (types .entry)) (now (recorded .entry)) (now (places .entry)) count (now (folded .entry)) first τ folds x → Rep (b .next) (now (s .entry)) (now (counts .entry)) (now (firsts .entry)) (now (pool .entry)) 0 noStates → b .next + p .fresh + length ((walk settings τ folds noStates (b .next + p .fresh) (x .instructions) (x .terminator)) .fresh) < 65536 → Arrives settings τ folds b (now (s .entry)) (x .terminator) (outputOf (now (out .entry)) (now (fresh .entry)) (now (dropped .entry)) p) (walk settings τ folds noStates (b .next + p .fresh) (x .instructions) (x .terminator)) [] (now (counts .exit)) (now (firsts .exit)) (now (pool .exit)) (now (out .exit)) (now (fresh .exit)) (now (dropped .exit)) r) ⌝ }
+    requires { ⌜ Low 5000 p × ((count ≤ 128) × (Tabled (now tracked) (now firsts) (now pool) × (length (now s) < 1099511627776))) ⌝ }
+    ensures { λ r. ⌜ ((k : ℕ) → Low k p → SteppedLow (k + 128) 2176 r) ⌝ }
+    ensures { λ r. ⌜ ((τ : Types) (folds : ValueId → Bool) (x : Block) → InBlock b (now (s .entry)) (now (types .entry)) (now (recorded .entry)) (now (places .entry)) count (now (folded .entry)) first τ folds x → Rep (b .next) (now (s .entry)) (now (tracked .entry)) (now (firsts .entry)) (now (pool .entry)) 0 noStates → b .next + p .fresh + length ((walk settings τ folds noStates (b .next + p .fresh) (x .instructions) (x .terminator)) .fresh) < 65536 → Arrives settings τ folds b (now (s .entry)) (x .terminator) (outputOf (now (out .entry)) (now (fresh .entry)) (now (dropped .entry)) p) (walk settings τ folds noStates (b .next + p .fresh) (x .instructions) (x .terminator)) [] (now (tracked .exit)) (now (firsts .exit)) (now (pool .exit)) (now (out .exit)) (now (fresh .exit)) (now (dropped .exit)) r) ⌝ }
 {
     let mut w = Reached {
         progress: p,
@@ -68,7 +68,7 @@ fn put_instructions(
             types,
             recorded,
             fold,
-            counts,
+            tracked,
             firsts,
             pool,
             w.used,
@@ -110,14 +110,14 @@ fn put_end(
     b: Bounds,
     types: &[usize],
     recorded: &[u16],
-    counts: &[u16],
+    tracked: &[bool],
     firsts: &[u16],
     pool: &[usize],
     fresh: &mut [u16],
 ) -> Put
     requires { ⌜ Low 8000 p ⌝ }
     ensures { λ r. ⌜ ((k : ℕ) → Low k p → PutLow (k + 1) r) ⌝ }
-    ensures { λ r. ⌜ ((τ : Types) (S : AggStates) (used : ℕ) (t : Terminator) (n : ℕ) (dropped : Marks) → Ground b (now (s .entry)) (now (types .entry)) (now (recorded .entry)) τ → Rep (b .next) (now (s .entry)) (now (counts .entry)) (now (firsts .entry)) (now (pool .entry)) used S → terminatorOf b (drop at (now (s .entry))) ≡ ok t n → b .next + p .fresh + length ((finish τ S (b .next + p .fresh) t) .fresh) < 65536 → Puts (outputOf (now (out .entry)) (now (fresh .entry)) dropped p) (walkedEffect (finish τ S (b .next + p .fresh) t)) ((finish τ S (b .next + p .fresh) t) .clash) (now (out .exit)) (now (fresh .exit)) dropped r) ⌝ }
+    ensures { λ r. ⌜ ((τ : Types) (S : AggStates) (used : ℕ) (t : Terminator) (n : ℕ) (dropped : Marks) → Ground b (now (s .entry)) (now (types .entry)) (now (recorded .entry)) τ → Rep (b .next) (now (s .entry)) (now (tracked .entry)) (now (firsts .entry)) (now (pool .entry)) used S → terminatorOf b (drop at (now (s .entry))) ≡ ok t n → b .next + p .fresh + length ((finish τ S (b .next + p .fresh) t) .fresh) < 65536 → Puts (outputOf (now (out .entry)) (now (fresh .entry)) dropped p) (walkedEffect (finish τ S (b .next + p .fresh) t)) ((finish τ S (b .next + p .fresh) t) .clash) (now (out .exit)) (now (fresh .exit)) dropped r) ⌝ }
 {
     if wire::byte_at(form::tail(s, at), 0) == 3 {
         return materialize::put_return(
@@ -128,7 +128,7 @@ fn put_end(
             b,
             types,
             recorded,
-            counts,
+            tracked,
             firsts,
             pool,
             fresh,
@@ -150,7 +150,7 @@ fn put_body(
     count: u16,
     folded: &[bool],
     first: u16,
-    counts: &mut [u16],
+    tracked: &mut [bool],
     firsts: &mut [u16],
     pool: &mut [usize],
     out: &mut [u8],
@@ -158,9 +158,9 @@ fn put_body(
     fresh: &mut [u16],
     dropped: &mut [bool],
 ) -> Put
-    requires { ⌜ Low 5000 p × ((count ≤ 128) × (Tabled (now counts) (now firsts) (now pool) × (length (now s) < 1099511627776))) ⌝ }
+    requires { ⌜ Low 5000 p × ((count ≤ 128) × (Tabled (now tracked) (now firsts) (now pool) × (length (now s) < 1099511627776))) ⌝ }
     ensures { λ r. ⌜ ((k : ℕ) → Low k p → PutLow (k + 129) r) ⌝ }
-    ensures { λ r. ⌜ ((τ : Types) (folds : ValueId → Bool) (x : Block) → InBlock b (now (s .entry)) (now (types .entry)) (now (recorded .entry)) (now (places .entry)) count (now (folded .entry)) first τ folds x → Rep (b .next) (now (s .entry)) (now (counts .entry)) (now (firsts .entry)) (now (pool .entry)) 0 noStates → b .next + p .fresh + length ((walk settings τ folds noStates (b .next + p .fresh) (x .instructions) (x .terminator)) .fresh) < 65536 → Puts (outputOf (now (out .entry)) (now (fresh .entry)) (now (dropped .entry)) p) (walkedEffect (walk settings τ folds noStates (b .next + p .fresh) (x .instructions) (x .terminator))) ((walk settings τ folds noStates (b .next + p .fresh) (x .instructions) (x .terminator)) .clash) (now (out .exit)) (now (fresh .exit)) (now (dropped .exit)) r) ⌝ }
+    ensures { λ r. ⌜ ((τ : Types) (folds : ValueId → Bool) (x : Block) → InBlock b (now (s .entry)) (now (types .entry)) (now (recorded .entry)) (now (places .entry)) count (now (folded .entry)) first τ folds x → Rep (b .next) (now (s .entry)) (now (tracked .entry)) (now (firsts .entry)) (now (pool .entry)) 0 noStates → b .next + p .fresh + length ((walk settings τ folds noStates (b .next + p .fresh) (x .instructions) (x .terminator)) .fresh) < 65536 → Puts (outputOf (now (out .entry)) (now (fresh .entry)) (now (dropped .entry)) p) (walkedEffect (walk settings τ folds noStates (b .next + p .fresh) (x .instructions) (x .terminator))) ((walk settings τ folds noStates (b .next + p .fresh) (x .instructions) (x .terminator)) .clash) (now (out .exit)) (now (fresh .exit)) (now (dropped .exit)) r) ⌝ }
 {
     match put_instructions(
         s,
@@ -172,7 +172,7 @@ fn put_body(
         count,
         folded,
         first,
-        counts,
+        tracked,
         firsts,
         pool,
         out,
@@ -192,7 +192,7 @@ fn put_body(
                 b,
                 types,
                 recorded,
-                counts,
+                tracked,
                 firsts,
                 pool,
                 fresh,
@@ -212,7 +212,7 @@ pub fn put_block(
     count: u16,
     folded: &[bool],
     first: u16,
-    counts: &mut [u16],
+    tracked: &mut [bool],
     firsts: &mut [u16],
     pool: &mut [usize],
     out: &mut [u8],
@@ -220,11 +220,11 @@ pub fn put_block(
     fresh: &mut [u16],
     dropped: &mut [bool],
 ) -> Put
-    requires { ⌜ Low 4800 p × ((count ≤ 128) × (Tabled (now counts) (now firsts) (now pool) × (length (now s) < 1099511627776))) ⌝ }
+    requires { ⌜ Low 4800 p × ((count ≤ 128) × (Tabled (now tracked) (now firsts) (now pool) × (length (now s) < 1099511627776))) ⌝ }
     ensures { λ r. ⌜ ((k : ℕ) → Low k p → PutLow (k + 130) r) ⌝ }
     ensures { λ r. ⌜ ((τ : Types) (folds : ValueId → Bool) (x : Block) → InBlock b (now (s .entry)) (now (types .entry)) (now (recorded .entry)) (now (places .entry)) count (now (folded .entry)) first τ folds x → p .lines ≡ 0 → b .next + p .fresh + length ((walk settings τ folds noStates (b .next + p .fresh) (x .instructions) (x .terminator)) .fresh) < 65536 → Puts (outputOf (now (out .entry)) (now (fresh .entry)) (now (dropped .entry)) p) (blockEffect (walk settings τ folds noStates (b .next + p .fresh) (x .instructions) (x .terminator))) ((walk settings τ folds noStates (b .next + p .fresh) (x .instructions) (x .terminator)) .clash) (now (out .exit)) (now (fresh .exit)) (now (dropped .exit)) r) ⌝ }
 {
-    parts::clear(counts);
+    parts::clear(tracked);
     let body = actions::moved(p, p.to + 2, 0);
     match put_body(
         s,
@@ -236,7 +236,7 @@ pub fn put_block(
         count,
         folded,
         first,
-        counts,
+        tracked,
         firsts,
         pool,
         out,

@@ -42,7 +42,7 @@ fn one_block(
     k: u16,
     folded: &[bool],
     skips: &[bool],
-    counts: &mut [u16],
+    tracked: &mut [bool],
     firsts: &mut [u16],
     pool: &mut [usize],
     out: &mut [u8],
@@ -50,7 +50,7 @@ fn one_block(
     fresh: &mut [u16],
     dropped: &mut [bool],
 ) -> Put
-    requires { ⌜ Low 4800 p × (Tabled (now counts) (now firsts) (now pool) × (length (now s) < 1099511627776)) ⌝ }
+    requires { ⌜ Low 4800 p × (Tabled (now tracked) (now firsts) (now pool) × (length (now s) < 1099511627776)) ⌝ }
     ensures { λ r. ⌜ ((n : ℕ) → Low n p → PutLow (n + 130) r) ⌝ }
     ensures { λ r. ⌜ ((τ : Types) (c : Choice) (m : Mosts) (ks : List Block) → InCode m b (now (s .entry)) (now (types .entry)) (now (recorded .entry)) (now (blocks .entry)) (now (places .entry)) (now (starts .entry)) (now (folded .entry)) (now (skips .entry)) τ c ks → k < length ks → p .lines ≡ 0 → b .next + p .fresh + length ((allBlocks settings τ c (b .next + p .fresh) (getD ks k noBlock ∷ [])) .fresh) < 65536 → Puts (outputOf (now (out .entry)) (now (fresh .entry)) (now (dropped .entry)) p) (rewrittenEffect (allBlocks settings τ c (b .next + p .fresh) (getD ks k noBlock ∷ []))) ((allBlocks settings τ c (b .next + p .fresh) (getD ks k noBlock ∷ [])) .clash) (now (out .exit)) (now (fresh .exit)) (now (dropped .exit)) r) ⌝ }
 {
@@ -75,7 +75,7 @@ fn one_block(
         count,
         folded,
         first,
-        counts,
+        tracked,
         firsts,
         pool,
         out,
@@ -86,7 +86,7 @@ fn one_block(
 }
 
 // All blocks. `blocks` has their places, `places` those of their instructions, `starts` where each block's begin in it;
-// `folded` has a flag for each place, `skips` one for each block. `counts`, `firsts` and `pool` are for the parts of
+// `folded` has a flag for each place, `skips` one for each block. `tracked`, `firsts` and `pool` are for the parts of
 // tracked values, `fresh` gets the types of the fresh numbers, `dropped` the marks of the values that are left out.
 pub fn put_blocks(
     s: &[u8],
@@ -100,7 +100,7 @@ pub fn put_blocks(
     many: u16,
     folded: &[bool],
     skips: &[bool],
-    counts: &mut [u16],
+    tracked: &mut [bool],
     firsts: &mut [u16],
     pool: &mut [usize],
     out: &mut [u8],
@@ -108,7 +108,7 @@ pub fn put_blocks(
     fresh: &mut [u16],
     dropped: &mut [bool],
 ) -> Put
-    requires { ⌜ Low 64 p × ((many ≤ 32) × ((256 ≤ length (now counts)) × ((256 ≤ length (now firsts)) × ((2048 ≤ length (now pool)) × (length (now s) < 1099511627776))))) ⌝ }
+    requires { ⌜ Low 64 p × ((many ≤ 32) × ((256 ≤ length (now tracked)) × ((256 ≤ length (now firsts)) × ((2176 ≤ length (now pool)) × (length (now s) < 1099511627776))))) ⌝ }
     ensures { λ r. ⌜ PutLow 4300 r ⌝ }
     ensures { λ r. ⌜ ((τ : Types) (c : Choice) (m : Mosts) (ks : List Block) → Ground b (now (s .entry)) (now (types .entry)) (now (recorded .entry)) τ → BlocksAt m b (now (s .entry)) (now (blocks .entry)) ks → CodeAt b (now (s .entry)) (now (places .entry)) (now (starts .entry)) ks → Follows c (now (starts .entry)) (now (folded .entry)) (now (skips .entry)) ks → length ks ≡ many → ((k : ℕ) → k < length ks → length (getD ks k noBlock .instructions) ≤ 128) → p .lines ≡ 0 → b .next + p .fresh + length ((allBlocks settings τ c (b .next + p .fresh) ks) .fresh) < 65536 → Puts (outputOf (now (out .entry)) (now (fresh .entry)) (now (dropped .entry)) p) (rewrittenEffect (allBlocks settings τ c (b .next + p .fresh) ks)) ((allBlocks settings τ c (b .next + p .fresh) ks) .clash) (now (out .exit)) (now (fresh .exit)) (now (dropped .exit)) r) ⌝ }
 {
@@ -127,7 +127,7 @@ pub fn put_blocks(
             k,
             folded,
             skips,
-            counts,
+            tracked,
             firsts,
             pool,
             out,

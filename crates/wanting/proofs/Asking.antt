@@ -18,13 +18,14 @@ use Rattle.form.specs.declared.Bounds.{Bounds}
 use Rattle.typetable.specs.Syntax.{MirType, Felt, Bool, U32, Tuple, Struct, FixedArray, Pointer, Function, Unit, Error, Unknown}
 use Rattle.routine.specs.declared.Recorded.{Recorded}
 use Rattle.routine.specs.Index.{recordedNumber, recordedFrom, asRecorded}
+use Rattle.eligibility.specs.Climb.{isSome}
 use Rattle.eligibility.specs.Lookup.{Types, rowOf, recordedType, shape, isTuple, isStruct, isArray, isAggregate}
 use Rattle.eligibility.specs.Tables.{Known}
 use Rattle.rewriting.specs.State.{AggStates, stateOf}
 use Rattle.rewriting.specs.Rebuild.{oneValue, aggregateType, returnType}
 use Rattle.wire.specs.WellFormed.{Bytes}
 use Rattle.wire.proofs.Canon.{value-fit, bytes-drop}
-use Rattle.parts.specs.Rows.{ValueAt, stands, counted}
+use Rattle.parts.specs.Rows.{ValueAt, stands}
 use Rattle.progress.specs.Ground.{Ground}
 use Rattle.wanting.specs.declared.Asks.{Asks}
 use Rattle.wanting.specs.declared.Wants.{Wants}
@@ -126,14 +127,14 @@ module _ (τ : Types) (S : AggStates) where
   error-stays (some t) = stays (λ n rest. refl)
 
   -- so does one that is not tracked
-  pub untracked-stays : (v : ValueId) (o : Option TypeId) → counted (S (v .0)) ≡ 0 → Told τ S (Value.Operand v) o Wants.Nothing
-  unfolding oneValue stateOf
+  pub untracked-stays : (v : ValueId) (o : Option TypeId) → isSome (S (v .0)) ≡ false → Told τ S (Value.Operand v) o Wants.Nothing
+  unfolding oneValue stateOf isSome
   untracked-stays v o e = go (S (v .0)) refl e o
     where
-      go : (z : Option (List Value)) → S (v .0) ≡ z → counted z ≡ 0 → (o : Option TypeId) → Told τ S (Value.Operand v) o Wants.Nothing
+      go : (z : Option (List Value)) → S (v .0) ≡ z → isSome z ≡ false → (o : Option TypeId) → Told τ S (Value.Operand v) o Wants.Nothing
       go none f h none = stays (λ n rest. refl)
       go none f h (some t) = stays (λ n rest. rw f refl)
-      go (some xs) f h o = absurd (omega arith)
+      go (some xs) f h o = absurd (let u : _≡_ {A = ℕ} 0 1 = cc in omega arith)
 
   -- and one of which no type is asked
   pub unasked-stays : (v : ValueId) (o : Option TypeId) → none ≡ o → Told τ S (Value.Operand v) o Wants.Nothing
@@ -141,11 +142,12 @@ module _ (τ : Types) (S : AggStates) where
   unasked-stays v o e = rw (← e) (stays (λ n rest. refl))
 
   -- any other is rebuilt
-  pub tracked-build : (v : ValueId) (u : TypeId) (o : Option TypeId) → (counted (S (v .0)) ≡ 0 → ⊥) → some u ≡ o → (o ≡ some u → u .0 < length (τ .rows)) → Told τ S (Value.Operand v) o (Wants.Build v u)
+  pub tracked-build : (v : ValueId) (u : TypeId) (o : Option TypeId) → isSome (S (v .0)) ≡ true → some u ≡ o → (o ≡ some u → u .0 < length (τ .rows)) → Told τ S (Value.Operand v) o (Wants.Build v u)
+  unfolding isSome
   tracked-build v u o h e l = go (S (v .0)) refl h
     where
-      go : (z : Option (List Value)) → S (v .0) ≡ z → (counted z ≡ 0 → ⊥) → Told τ S (Value.Operand v) o (Wants.Build v u)
-      go none f k = absurd (k refl)
+      go : (z : Option (List Value)) → S (v .0) ≡ z → isSome z ≡ true → Told τ S (Value.Operand v) o (Wants.Build v u)
+      go none f k = absurd (let w : _≡_ {A = ℕ} 0 1 = cc in omega arith)
       go (some xs) f k = build v u xs refl (sym e) f (l (sym e))
 
 -- an operand that was read is one of the values there are

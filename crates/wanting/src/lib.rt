@@ -75,14 +75,14 @@ fn wants_operand(
     types: &[usize],
     t: &[u8],
     recorded: &[u16],
-    counts: &[u16],
+    tracked: &[bool],
     asks: Asks,
     v: ValueId,
     i: u8,
 ) -> Wants
-    ensures { λ r. ⌜ ((τ : Types) (S : AggStates) (table firsts pool : List ℕ) (used : ℕ) → Ground b (now (s .entry)) (now (types .entry)) table τ → (asks ≡ Asks.Recorded → table ≡ now (recorded .entry)) → Rep (b .next) (now (s .entry)) (now (counts .entry)) firsts pool used S → v .0 < b .next → Told τ S (Value.Operand v) (askedAt τ (now (t .entry)) asks i (Value.Operand v)) r) ⌝ }
+    ensures { λ r. ⌜ ((τ : Types) (S : AggStates) (table firsts pool : List ℕ) (used : ℕ) → Ground b (now (s .entry)) (now (types .entry)) table τ → (asks ≡ Asks.Recorded → table ≡ now (recorded .entry)) → Rep (b .next) (now (s .entry)) (now (tracked .entry)) firsts pool used S → v .0 < b .next → Told τ S (Value.Operand v) (askedAt τ (now (t .entry)) asks i (Value.Operand v)) r) ⌝ }
 {
-    if parts::tracked(counts, v) == 0 {
+    if !parts::tracked(tracked, v) {
         return Wants::Nothing;
     }
     match asked_type(s, types, b.types, t, recorded, asks, v, i) {
@@ -99,15 +99,15 @@ pub fn wanted_at(
     t: &[u8],
     at: usize,
     recorded: &[u16],
-    counts: &[u16],
+    tracked: &[bool],
     asks: Asks,
     i: u8,
 ) -> Wants
-    ensures { λ r. ⌜ ((τ : Types) (S : AggStates) (table firsts pool : List ℕ) (used : ℕ) (x : Value) → Ground b (now (s .entry)) (now (types .entry)) table τ → (asks ≡ Asks.Recorded → table ≡ now (recorded .entry)) → Rep (b .next) (now (s .entry)) (now (counts .entry)) firsts pool used S → ValueAt (b .next) (now (t .entry)) at x → Told τ S x (askedAt τ (now (t .entry)) asks i x) r) ⌝ }
+    ensures { λ r. ⌜ ((τ : Types) (S : AggStates) (table firsts pool : List ℕ) (used : ℕ) (x : Value) → Ground b (now (s .entry)) (now (types .entry)) table τ → (asks ≡ Asks.Recorded → table ≡ now (recorded .entry)) → Rep (b .next) (now (s .entry)) (now (tracked .entry)) firsts pool used S → ValueAt (b .next) (now (t .entry)) at x → Told τ S x (askedAt τ (now (t .entry)) asks i x) r) ⌝ }
 {
     match lookup::value_at(t, at, b.next) {
         Value::Literal(_) => Wants::Nothing,
-        Value::Operand(v) => wants_operand(s, b, types, t, recorded, counts, asks, v, i),
+        Value::Operand(v) => wants_operand(s, b, types, t, recorded, tracked, asks, v, i),
         Value::Error => Wants::Nothing,
     }
 }

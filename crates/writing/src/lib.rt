@@ -91,9 +91,9 @@ fn run_blocks(
     ensures { λ r. ⌜ PutLow 4300 r ⌝ }
     ensures { λ r. ⌜ ((h : Chosen settings (now (s .entry)) (now (types .entry)) (now (recorded .entry)) (now (blocks .entry)) b (now (places .entry)) (now (starts .entry)) (now (folded .entry)) (now (skips .entry))) → Runs (rewrittenBlocks settings (h .accepted .routine)) to (now (out .entry)) (now (fresh .entry)) (now (dropped .entry)) (now (out .exit)) (now (fresh .exit)) (now (dropped .exit)) r) ⌝ }
 {
-    let mut counts: [u16; 256] = [0; 256];
+    let mut tracked: [bool; 256] = [false; 256];
     let mut firsts: [u16; 256] = [0; 256];
-    let mut pool: [usize; 2048] = [0; 2048];
+    let mut pool: [usize; 2176] = [0; 2176];
     walking::put_blocks(
         s,
         b,
@@ -106,7 +106,7 @@ fn run_blocks(
         b.blocks,
         folded,
         skips,
-        &mut counts,
+        &mut tracked,
         &mut firsts,
         &mut pool,
         out,

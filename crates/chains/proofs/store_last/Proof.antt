@@ -26,7 +26,7 @@ same-length-3 : tie.Need-same-length-3
 same-length-3 c = search needs
 
 returns : tie.Need-returns
-returns c = (c .before .before .before .before .before .before .store-part .ensures .0, λ τ S q y g r tb h e a. rw (last-some τ S _ q y _ (c .before .before .before .before .before .before .before .before .before .before .before .before .before .step-index .ensures τ q g h e) (c .before .before .before .before .before .before .before .before .before .before .before .k .given .1)) (c .before .before .before .before .before .before .store-part .ensures .1 _ _ S y r (record { count = omega (arith, tb .count, g .few, h); first = omega (arith, tb .first, g .few, h); places = tb .places }) a))
+returns c = (c .before .before .before .before .before .before .store-part .ensures .0, λ τ S q y g r tb h e a. rw (last-some τ S _ q y _ (c .before .before .before .before .before .before .before .before .before .before .before .before .before .step-index .ensures τ q g h e) (c .before .before .before .before .before .before .before .before .before .before .before .k .given .1)) (c .before .before .before .before .before .before .store-part .ensures .1 _ _ S y r (record { mark = omega (arith, tb .mark, g .few, h); first = omega (arith, tb .first, g .few, h); places = tb .places }) a))
 
 returns-2 : tie.Need-returns-2
 returns-2 c = (omega arith, λ τ S q y g r tb h e a. forwards-none (last-none τ S _ q y (c .before .before .step-index .ensures τ q g h e) (c .enum-told .given .1)) r)

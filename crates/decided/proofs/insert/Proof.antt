@@ -25,29 +25,35 @@ cast-if1 c = search needs
 same-length : tie.Need-same-length
 same-length c = search needs
 
-returns : tie.Need-returns
-returns c = (omega arith, λ next s S i y r q v. elim (has-parts (c .before .before .before .before .before .before .tracked-source .ensures next s _ _ _ S r) (c .before .before .before .before .v .given .1)) [ has xs e f ↦ insert-past _ _ _ y xs e (omega (arith, c .if1 .taken, c .before .part-count .ensures .1 next s _ _ _ S xs r f)) r ])
-
-replace-requires : tie.Need-replace-requires
-replace-requires c κs = search needs
-
 same-length-2 : tie.Need-same-length-2
 same-length-2 c = search needs
-
-returns-2 : tie.Need-returns-2
-returns-2 c = (omega arith, λ next s S i y r q v. insert-stays _ _ _ y (no-parts (c .before .before .tracked-source .ensures next s _ _ _ S r) (c .enum-told .given .1)) r)
 
 same-length-3 : tie.Need-same-length-3
 same-length-3 c = search needs
 
+returns : tie.Need-returns
+returns c = (omega arith, λ next s S i y r q v. elim (has-parts (c .before .before .before .before .before .before .before .tracked-source .ensures next s _ _ _ S r) (c .before .before .before .before .before .v .given .1)) [ has xs e f ↦ insert-past _ _ _ y xs e (omega (arith, c .if1 .taken, c .before .part-count .ensures .1 next s _ _ S xs r f)) r ])
+
+replace-requires : tie.Need-replace-requires
+replace-requires c κs = search needs
+
 same-length-4 : tie.Need-same-length-4
 same-length-4 c = search needs
+
+returns-2 : tie.Need-returns-2
+returns-2 c = (omega arith, λ next s S i y r q v. insert-stays _ _ _ y (no-parts (c .before .before .tracked-source .ensures next s _ _ _ S r) (c .enum-told .given .1)) r)
 
 same-length-5 : tie.Need-same-length-5
 same-length-5 c = search needs
 
+same-length-6 : tie.Need-same-length-6
+same-length-6 c = search needs
+
+same-length-7 : tie.Need-same-length-7
+same-length-7 c = search needs
+
 returns-3 : tie.Need-returns-3
-returns-3 c = (c .before .before .before .before .before .before .replace .ensures .0, λ next s S i y r q v. elim (has-parts (c .before .before .before .before .before .before .before .before .before .before .before .before .before .before .before .before .tracked-source .ensures next s _ _ _ S r) (c .before .before .before .before .before .before .before .before .before .before .before .before .before .before .v .given .1)) [ has xs e f ↦ let k : c .before .before .before .before .before .before .before .before .before .before .before .before .before .before .before .before .before .before .before .before .before .args .k < length xs = omega (arith, c .before .before .before .before .before .before .before .before .before .before .if1 .left, c .before .before .before .before .before .before .before .before .before .before .before .part-count .ensures .1 next s _ _ _ S xs r f) in insert-tracks _ _ _ y xs e k (c .before .before .before .before .before .before .replace .ensures .1 next s S xs _ y r q f (replaced-set xs _ y k) v) ])
+returns-3 c = (c .before .before .before .before .before .before .replace .ensures .0, λ next s S i y r q v. elim (has-parts (c .before .before .before .before .before .before .before .before .before .before .before .before .before .before .before .before .before .tracked-source .ensures next s _ _ _ S r) (c .before .before .before .before .before .before .before .before .before .before .before .before .before .before .before .v .given .1)) [ has xs e f ↦ let k : c .before .before .before .before .before .before .before .before .before .before .before .before .before .before .before .before .before .before .before .before .before .before .args .k < length xs = omega (arith, c .before .before .before .before .before .before .before .before .before .before .if1 .left, c .before .before .before .before .before .before .before .before .before .before .before .part-count .ensures .1 next s _ _ S xs r f) in insert-tracks _ _ _ y xs e k (c .before .before .before .before .before .before .replace .ensures .1 next s S xs _ y r q f (replaced-set xs _ y k) v) ])
 
 pub insert-spec : {M : Type 1} → statement M
 insert-spec =
@@ -59,11 +65,13 @@ insert-spec =
     part-count-requires
     cast-if1
     same-length
+    same-length-2
+    same-length-3
     returns
     replace-requires
-    same-length-2
-    returns-2
-    same-length-3
     same-length-4
+    returns-2
     same-length-5
+    same-length-6
+    same-length-7
     returns-3)

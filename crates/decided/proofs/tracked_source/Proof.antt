@@ -16,7 +16,7 @@ tracked-requires : tie.Need-tracked-requires
 tracked-requires c κs = search needs
 
 returns : tie.Need-returns
-returns c = λ next s firsts pool used S r. operand-untracked S (c .before .before .before .x .given .1) (c .before .tracked .ensures next s firsts pool used S r) (c .if1 .taken)
+returns c = λ next s firsts pool used S r. operand-source S (c .before .before .before .x .given .1) (c .before .tracked .ensures next s firsts pool used S r) (c .if1 .taken)
 
 returns-2 : tie.Need-returns-2
 returns-2 c = λ next s firsts pool used S r. literal-source S (c .enum-told .given .1)
@@ -25,7 +25,7 @@ returns-3 : tie.Need-returns-3
 returns-3 c = λ next s firsts pool used S r. error-source S (c .enum-told2 .given .1)
 
 returns-4 : tie.Need-returns-4
-returns-4 c = λ next s firsts pool used S r. operand-source S (c .before .before .before .x .given .1) (c .before .tracked .ensures next s firsts pool used S r) (c .if1 .left)
+returns-4 c = λ next s firsts pool used S r. operand-untracked S (c .before .before .before .x .given .1) (c .before .tracked .ensures next s firsts pool used S r) (c .if1 .left)
 
 pub tracked-source-spec : {M : Type 1} → statement M
 tracked-source-spec =

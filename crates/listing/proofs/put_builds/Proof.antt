@@ -8,10 +8,10 @@ use Rattle.listing.proofs.Building.{Building, building, building-again,
 use Prim.Native.Nat.{_<_}
 
 abbrev Inv-loop : tie.InvT-loop
-Inv-loop out₀ s t first many b types recorded counts firsts pool fresh₀ asks q₀ here₀ i₀ out fresh q here i = Building b s t types recorded counts firsts pool asks first many out₀ fresh₀ q₀ out fresh q here i
+Inv-loop out₀ s t first many b types recorded tracked firsts pool fresh₀ asks q₀ here₀ i₀ out fresh q here i = Building b s t types recorded tracked firsts pool asks first many out₀ fresh₀ q₀ out fresh q here i
 
 abbrev μ-loop : tie.MeasureT-loop
-μ-loop out₀ s t first many b types recorded counts firsts pool fresh₀ asks q₀ here₀ i₀ out fresh q here i = many - i
+μ-loop out₀ s t first many b types recorded tracked firsts pool fresh₀ asks q₀ here₀ i₀ out fresh q here i = many - i
 
 -- src/lib.rt:166:5
 loop-holds : tie.Need-loop-holds Inv-loop μ-loop

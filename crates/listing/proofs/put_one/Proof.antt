@@ -34,7 +34,7 @@ same-length-2 c = search needs
 
 -- src/lib.rt:116:1
 returns-2 : tie.Need-returns-2
-returns-2 c = (c .before .before .before .before .put-build .ensures .0, λ τ S x dropped e v h. let a = c .before .before .before .before .before .before .before .before .before .before .before .before .before .before .before .before .before .before .before .before .args in one-put _ τ S (a .t .now) (a .asks) (a .i) x _ _ _ _ _ _ dropped _ _ (c .before .before .before .before .before .before .before .before .before .before .wanted-at .result) (c .before .before .before .before .before .before .before .before .before .before .wanted-at .ensures τ S (e .table) _ _ (e .used) x (e .ground) (e .asked) (e .rep) v) (c .before .before .before .before .before .before .before .before .v .given .1) h (λ xs i l n. c .before .before .before .before .put-build .ensures .1 τ S (e .table) (e .used) xs dropped (e .ground) (e .rep) i l n))
+returns-2 c = (c .before .before .before .before .put-build .ensures .0, λ τ S x dropped e v h. let a = c .before .before .before .before .before .before .before .before .before .before .before .before .before .before .before .before .before .before .before .before .args in one-put _ τ S (a .t .now) (a .asks) (a .i) x _ _ _ _ _ _ dropped _ _ (c .before .before .before .before .before .before .before .before .before .before .wanted-at .result) (c .before .before .before .before .before .before .before .before .before .before .wanted-at .ensures τ S (e .table) _ _ (e .used) x (e .ground) (e .asked) (e .rep) v) (c .before .before .before .before .before .before .before .before .v .given .1) h (λ xs i l n. c .before .before .before .before .put-build .ensures .1 τ S (e .table) _ (e .used) xs dropped (e .ground) (e .rep) i l n))
 
 pub put-one-spec : {M : Type 1} → statement M
 put-one-spec =

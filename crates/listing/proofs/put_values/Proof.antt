@@ -6,10 +6,10 @@ use native.Mathlib.Omega.{arith}
 use Rattle.listing.proofs.Valuing.{Valuing, valuing, valuing-again, valuing-done}
 
 abbrev Inv-loop : tie.InvT-loop
-Inv-loop out₀ to taken s t first many b types recorded counts asks w₀ here₀ i₀ out w here i = Valuing b s t types recorded counts asks first many out₀ (w₀ .to) (w₀ .fresh) out (w .to) (w .fresh) here i
+Inv-loop out₀ to taken s t first many b types recorded tracked asks w₀ here₀ i₀ out w here i = Valuing b s t types recorded tracked asks first many out₀ (w₀ .to) (w₀ .fresh) out (w .to) (w .fresh) here i
 
 abbrev μ-loop : tie.MeasureT-loop
-μ-loop out₀ to taken s t first many b types recorded counts asks w₀ here₀ i₀ out w here i = many - i
+μ-loop out₀ to taken s t first many b types recorded tracked asks w₀ here₀ i₀ out w here i = many - i
 
 -- src/lib.rt:242:5
 loop-holds : tie.Need-loop-holds Inv-loop μ-loop

@@ -7,19 +7,16 @@ use Rattle.parts.proofs.Tables.{rep-clear}
 use Rattle.parts.proofs.Loops.{Cleared, clearing, cleared-more, cleared-all}
 
 abbrev Inv-loop : tie.InvT-loop
-Inv-loop counts₀ i₀ counts i = Cleared counts₀ counts i
+Inv-loop tracked₀ i₀ tracked i = Cleared tracked₀ tracked i
 
 abbrev μ-loop : tie.MeasureT-loop
-μ-loop counts₀ i₀ counts i = length counts₀ - i
+μ-loop tracked₀ i₀ tracked i = length tracked₀ - i
 
 loop-holds : tie.Need-loop-holds Inv-loop μ-loop
 loop-holds c = clearing _
 
-mul-counts : tie.Need-mul-counts Inv-loop μ-loop
-mul-counts c = search needs
-
-slice-write-counts : tie.Need-slice-write-counts Inv-loop μ-loop
-slice-write-counts c = search needs
+slice-write-tracked : tie.Need-slice-write-tracked Inv-loop μ-loop
+slice-write-tracked c = search needs
 
 add-i : tie.Need-add-i Inv-loop μ-loop
 add-i c = search needs
@@ -43,8 +40,7 @@ clear-spec =
     Inv-loop
     μ-loop
     loop-holds
-    mul-counts
-    slice-write-counts
+    slice-write-tracked
     add-i
     loop-less
     loop-again

@@ -1,8 +1,14 @@
 use borrow.Author.Needs.{needs}
 use Rattle.parts.proofs.part_count.Statement.{statement}
 use Rattle.parts.proofs.part_count.Tie as tie
+use Rattle.parts.proofs.part_count.Reads as reads
+use Rattle.parts.proofs.part_count.Lts as lts
+use Rattle.table.proofs.number.Reads as number-reads
+use Rattle.table.proofs.place.Reads as place-reads
 use native.Mathlib.Omega.{arith}
-use Rattle.parts.proofs.Tables.{part-many}
+use mathlib.Core.Path.{_∙_, ap}
+use lib.ListN.{getD}
+use Rattle.parts.proofs.Tables.{found-row}
 
 cast-number : tie.Need-cast-number
 cast-number c = search needs
@@ -10,25 +16,22 @@ cast-number c = search needs
 number-requires : tie.Need-number-requires
 number-requires c κs = search needs
 
+cast-place : tie.Need-cast-place
+cast-place c = search needs
+
+place-requires : tie.Need-place-requires
+place-requires c κs = search needs
+
 returns : tie.Need-returns
-returns c = (omega arith, λ next s firsts pool used S xs r e. omega (arith, c .if1 .taken, c .before .number .ensures, part-many r _ e .0))
+returns c = let a = c .before .before .before .before .before .before .args in (omega arith, λ next s tracked used S xs r e. let h = found-row r (a .v .0) e in absurd (omega (arith, c .if1 .taken, h .most, c .before .place .ensures ∙ ap (λ i. getD (a .pool .now) i 0) (c .before .before .number .ensures) ∙ h .many)))
+
+cast-result : tie.Need-cast-result
+cast-result c = search needs
 
 returns-2 : tie.Need-returns-2
-returns-2 c = (omega arith, λ next s firsts pool used S xs r e. omega (arith, c .if2 .taken, c .before .before .number .ensures, part-many r _ e .1))
-
-sub-result : tie.Need-sub-result
-sub-result c = search needs
-
-returns-3 : tie.Need-returns-3
-returns-3 c = (omega arith, λ next s firsts pool used S xs r e. omega (arith, c .before .before .number .ensures, part-many r _ e .0))
+returns-2 c = let a = c .before .before .before .before .before .before .args in (omega (arith, c .if1 .left), λ next s tracked used S xs r e. c .before .place .ensures ∙ ap (λ i. getD (a .pool .now) i 0) (c .before .before .number .ensures) ∙ found-row r (a .v .0) e .many)
 
 pub part-count-spec : {M : Type 1} → statement M
 part-count-spec =
     tie.close
-    (tie.spec
-    cast-number
-    number-requires
-    returns
-    returns-2
-    sub-result
-    returns-3)
+    (tie.spec cast-number number-requires cast-place place-requires returns cast-result returns-2)

@@ -1,6 +1,10 @@
 use borrow.Author.Needs.{needs}
 use Rattle.parts.proofs.part_place.Statement.{statement}
 use Rattle.parts.proofs.part_place.Tie as tie
+use Rattle.parts.proofs.part_place.Reads as reads
+use Rattle.parts.proofs.part_place.Lts as lts
+use Rattle.table.proofs.number.Reads as number-reads
+use Rattle.table.proofs.place.Reads as place-reads
 use Rattle.parts.proofs.Tables.{found-row}
 
 cast-number : tie.Need-cast-number
@@ -15,19 +19,16 @@ cast-place c = search needs
 add-place : tie.Need-add-place
 add-place c = search needs
 
+add-place-2 : tie.Need-add-place-2
+add-place-2 c = search needs
+
 place-requires : tie.Need-place-requires
 place-requires c κs = search needs
 
 returns : tie.Need-returns
-returns c = λ next s counts used S xs r e h. simp (c .place .ensures, c .before .number .ensures) (found-row r _ e .parts .each _ h)
+returns c = λ next s tracked used S xs r e h. simp (c .place .ensures, c .before .number .ensures) (found-row r _ e .parts .each _ h)
 
 pub part-place-spec : {M : Type 1} → statement M
 part-place-spec =
     tie.close
-    (tie.spec
-    cast-number
-    number-requires
-    cast-place
-    add-place
-    place-requires
-    returns)
+    (tie.spec cast-number number-requires cast-place add-place add-place-2 place-requires returns)

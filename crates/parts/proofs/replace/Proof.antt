@@ -1,6 +1,14 @@
 use borrow.Author.Needs.{needs}
 use Rattle.parts.proofs.replace.Statement.{statement}
 use Rattle.parts.proofs.replace.Tie as tie
+use Rattle.parts.proofs.replace.Reads as reads
+use Rattle.parts.proofs.replace.Lts as lts
+use Rattle.parts.proofs.copy_row.Reads as copy-row-reads
+use Rattle.parts.proofs.part_count.Reads as part-count-reads
+use Rattle.table.proofs.number.Reads as number-reads
+use Rattle.table.proofs.set_flag.Reads as set-flag-reads
+use Rattle.table.proofs.set_number.Reads as set-number-reads
+use Rattle.table.proofs.set_place.Reads as set-place-reads
 use native.Mathlib.Omega.{arith}
 use mathlib.Core.Path.{_∙_, ap, sym}
 use Prim.Native.Nat.{_+_}
@@ -17,8 +25,11 @@ cast-if1 c = search needs
 same-length : tie.Need-same-length
 same-length c = search needs
 
+same-length-2 : tie.Need-same-length-2
+same-length-2 c = search needs
+
 returns : tie.Need-returns
-returns c = (omega arith, λ next s S xs ys y r q e f w. absurd (omega (arith, c .if1 .taken, c .before .part-count .ensures .1 next s _ _ _ S xs r e, replaced-below xs _ y f)))
+returns c = (omega arith, λ next s S xs ys y r q e f w. absurd (omega (arith, c .if1 .taken, c .before .part-count .ensures .1 next s _ _ S xs r e, replaced-below xs _ y f)))
 
 cast-number : tie.Need-cast-number
 cast-number c = search needs
@@ -29,41 +40,44 @@ number-requires c κs = search needs
 cast-copy-row : tie.Need-cast-copy-row
 cast-copy-row c = search needs
 
+add-copy-row : tie.Need-add-copy-row
+add-copy-row c = search needs
+
 copy-row-requires : tie.Need-copy-row-requires
 copy-row-requires c κs = search needs
 
 add-set-place : tie.Need-add-set-place
 add-set-place c = search needs
 
+add-set-place-2 : tie.Need-add-set-place-2
+add-set-place-2 c = search needs
+
 set-place-requires : tie.Need-set-place-requires
 set-place-requires c κs = search needs
+
+cast-set-flag : tie.Need-cast-set-flag
+cast-set-flag c = search needs
+
+set-flag-requires : tie.Need-set-flag-requires
+set-flag-requires c κs = search needs
 
 cast-set-number : tie.Need-cast-set-number
 cast-set-number c = search needs
 
-add-set-number : tie.Need-add-set-number
-add-set-number c = search needs
+cast-set-number-2 : tie.Need-cast-set-number-2
+cast-set-number-2 c = search needs
 
 set-number-requires : tie.Need-set-number-requires
 set-number-requires c κs = search needs
 
-cast-set-number-2 : tie.Need-cast-set-number-2
-cast-set-number-2 c = search needs
-
-cast-set-number-3 : tie.Need-cast-set-number-3
-cast-set-number-3 c = search needs
-
-set-number-requires-2 : tie.Need-set-number-requires-2
-set-number-requires-2 c κs = search needs
+add-result : tie.Need-add-result
+add-result c = search needs
 
 cast-result : tie.Need-cast-result
 cast-result c = search needs
 
-add-result : tie.Need-add-result
-add-result c = search needs
-
-same-length-2 : tie.Need-same-length-2
-same-length-2 c = search needs
+add-result-2 : tie.Need-add-result-2
+add-result-2 c = search needs
 
 same-length-3 : tie.Need-same-length-3
 same-length-3 c = search needs
@@ -71,19 +85,21 @@ same-length-3 c = search needs
 same-length-4 : tie.Need-same-length-4
 same-length-4 c = search needs
 
+same-length-5 : tie.Need-same-length-5
+same-length-5 c = search needs
+
 returns-2 : tie.Need-returns-2
 returns-2 c =
-    let n = c .before .before .before .before .before .before .before .before .before .before .before .before .before .before .before .before .before .before .before .before .before .before .part-count .result in
-    let from = c .before .before .before .before .before .before .before .before .before .before .before .before .before .before .before .before .before .number .result in
-    let many = c .before .before .before .before .before .before .before .before .before .before .before .before .before .before .before .before .before .before .before .before .before .before .part-count .ensures in (
+    let a = c .before .before .before .before .before .before .before .before .before .before .before .before .before .before .before .before .before .before .before .before .before .before .before .before .before .before .before .before .args in
+    let many = c .before .before .before .before .before .before .before .before .before .before .before .before .before .before .before .before .before .before .before .before .before .before .part-count .ensures in
+    let from = c .before .before .before .before .before .before .before .before .before .before .before .before .before .before .before .before .before .number .ensures in (
       omega (arith, many .0),
       λ next s S xs ys y r q e f w.
-          let a = c .before .before .before .before .before .before .before .before .before .before .before .before .before .before .before .before .before .before .before .before .before .before .before .before .before .before .before .args in
-          let l = many .1 next s _ _ _ S xs r e in
+          let l = many .1 next s _ _ S xs r e in
           let held = found-row r (a .v .0) e in
-          let row = c .before .before .before .before .before .before .before .before .before .before .before .before .before .before .before .before .copy-row .ensures .1 (omega (arith, held .below, c .before .before .before .before .before .before .before .before .before .before .before .before .before .before .before .before .before .number .ensures)) (omega (arith, held .most, q .places)) in
-          simp (c .before .before .set-number2 .ensures, c .before .before .before .before .before .before .before .set-number .ensures, c .before .before .before .before .before .before .before .before .before .before .before .before .set-place .ensures)
-          (rep-replace (a .d) (a .v) (a .k) n (a .place) r q e f w (sym l) (c .before .before .before .before .before .before .before .before .before .before .before .before .before .before .before .before .copy-row .ensures .0) (λ j h. row j h ∙ ap (λ m. getD (a .pool .now) (m + j) 0) (c .before .before .before .before .before .before .before .before .before .before .before .before .before .before .before .before .before .number .ensures)) (omega (arith, c .before .before .before .before .before .before .before .before .before .before .before .before .before .before .before .before .before .before .before .before .before .if1 .left))),
+          let row = c .before .before .before .before .before .before .before .before .before .before .before .before .before .before .before .before .copy-row .ensures .1 (omega (arith, held .below, from)) (omega (arith, held .most, q .places)) in
+          simp (c .before .before .set-number .ensures, c .before .before .before .before .before .before .before .set-flag .ensures, c .before .before .before .before .before .before .before .before .before .before .before .before .set-place .ensures)
+          (rep-replace (a .d) (a .v) (a .k) _ (a .place) r q e f w (sym l) (c .before .before .before .before .before .before .before .before .before .before .before .before .before .before .before .before .copy-row .ensures .0) (λ j h. row j h ∙ ap (λ m. getD (a .pool .now) (m + j) 0) from) (omega (arith, c .before .before .before .before .before .before .before .before .before .before .before .before .before .before .before .before .before .before .before .before .before .if1 .left))),
     )
 
 pub replace-spec : {M : Type 1} → statement M
@@ -93,22 +109,25 @@ replace-spec =
     part-count-requires
     cast-if1
     same-length
+    same-length-2
     returns
     cast-number
     number-requires
     cast-copy-row
+    add-copy-row
     copy-row-requires
     add-set-place
+    add-set-place-2
     set-place-requires
+    cast-set-flag
+    set-flag-requires
     cast-set-number
-    add-set-number
-    set-number-requires
     cast-set-number-2
-    cast-set-number-3
-    set-number-requires-2
-    cast-result
+    set-number-requires
     add-result
-    same-length-2
+    cast-result
+    add-result-2
     same-length-3
     same-length-4
+    same-length-5
     returns-2)

@@ -41,7 +41,7 @@ same-length-5 : tie.Need-same-length-5
 same-length-5 c = search needs
 
 returns : tie.Need-returns
-returns c = let a = c .before .before .before .before .before .before .before .before .before .before .before .before .before .before .before .before .before .before .before .before .before .before .before .args in (λ k l. low-used (k + 1) (a .used) (a .used + 16) (c .before .before .before .before .before .put-call .result) (c .with-used .result) (c .with-used .ensures) (omega arith) (c .before .before .before .before .before .put-call .ensures .0 k l), λ τ S folds i g rep tb le en e fl bd. call-turn (a .settings) τ folds S (a .b .next + a .p .fresh) i (a .b .next) (a .s .now) _ _ _ _ _ _ (a .dropped .now) _ _ _ (kind-is (a .b) (a .s .now) _ (a .at) i _ _ e (c .before .before .before .before .before .before .before .before .before .before .before .before .before .tail .ensures) (c .before .before .before .before .before .before .before .before .before .before .before .before .byte-at .ensures) ∙ c .before .before .before .before .before .before .before .before .before .before .before .match .keys1) (c .with-used .ensures) rep (λ ds f xs ps rs z q. c .before .before .before .before .before .put-call .ensures .1 τ S _ (a .recorded .now) i ds f xs ps rs (a .dropped .now) _ g rep e z q bd))
+returns c = let a = c .before .before .before .before .before .before .before .before .before .before .before .before .before .before .before .before .before .before .before .before .before .before .before .args in (λ k l. low-used (k + 1) (a .used) (a .used + 17) (c .before .before .before .before .before .put-call .result) (c .with-used .result) (c .with-used .ensures) (omega arith) (c .before .before .before .before .before .put-call .ensures .0 k l), λ τ S folds i g rep tb le en e fl bd. call-turn (a .settings) τ folds S (a .b .next + a .p .fresh) i (a .b .next) (a .s .now) _ _ _ _ _ _ (a .dropped .now) _ _ _ (kind-is (a .b) (a .s .now) _ (a .at) i _ _ e (c .before .before .before .before .before .before .before .before .before .before .before .before .before .tail .ensures) (c .before .before .before .before .before .before .before .before .before .before .before .before .byte-at .ensures) ∙ c .before .before .before .before .before .before .before .before .before .before .before .match .keys1) (c .with-used .ensures) rep (λ ds f xs ps rs z q. c .before .before .before .before .before .put-call .ensures .1 τ S _ (a .recorded .now) i ds f xs ps rs (a .dropped .now) _ g rep e z q bd))
 
 same-length-6 : tie.Need-same-length-6
 same-length-6 c = search needs

@@ -15,7 +15,7 @@ same-length : tie.Need-same-length
 same-length c = search needs
 
 returns : tie.Need-returns
-returns c = let a = c .before .before .before .before .before .before .before .before .before .before .before .before .before .before .args in (λ k l. (c .before .before .keep-line .ensures .0 k l, omega arith), λ τ S folds i dropped g rep tb le en e h bd. steps-kept (a .b .next) (a .s .now) _ _ (a .counts .now) (a .firsts .now) (a .pool .now) _ _ dropped S i _ _ (store-off (a .settings) τ folds S (a .b .next + a .p .fresh) i h (not-true _ (c .before .before .before .before .if1 .taken))) (c .before .before .keep-line .ensures .1 (a .b) S i (a .fresh .now) dropped (g .bytes) (g .listed) (g .projected) le en e) rep)
+returns c = let a = c .before .before .before .before .before .before .before .before .before .before .before .before .before .before .args in (λ k l. (c .before .before .keep-line .ensures .0 k l, omega arith), λ τ S folds i dropped g rep tb le en e h bd. steps-kept (a .b .next) (a .s .now) _ _ (a .tracked .now) (a .firsts .now) (a .pool .now) _ _ dropped S i _ _ (store-off (a .settings) τ folds S (a .b .next + a .p .fresh) i h (not-true _ (c .before .before .before .before .if1 .taken))) (c .before .before .keep-line .ensures .1 (a .b) S i (a .fresh .now) dropped (g .bytes) (g .listed) (g .projected) le en e) rep)
 
 forward-store-requires : tie.Need-forward-store-requires
 forward-store-requires c κs = search needs
@@ -57,7 +57,7 @@ same-length-9 : tie.Need-same-length-9
 same-length-9 c = search needs
 
 returns-3 : tie.Need-returns-3
-returns-3 c = let a = c .before .before .before .before .before .before .before .before .before .before .before .before .before .before .before .before .before .before .before .before .before .before .before .before .before .before .before .before .before .before .before .before .args in (λ k l. low-used (k + 1) (c .before .before .before .before .before .before .before .before .before .before .before .before .before .before .before .before .before .before .forward-store .result .used) (a .used + 16) (c .before .before .before .before .before .put-store .result) (c .with-used .result) (c .with-used .ensures) (c .before .before .before .before .before .before .before .before .before .before .before .before .before .before .before .before .before .before .forward-store .ensures .0) (c .before .before .before .before .before .put-store .ensures .0 k l), λ τ S folds i dropped g rep tb le en e h bd. store-turn (a .settings) τ folds S (a .b .next + a .p .fresh) i (a .b .next) (a .s .now) _ _ _ _ _ _ dropped _ _ _ h (not-false _ (c .before .before .before .before .before .before .before .before .before .before .before .before .before .before .before .before .before .before .before .before .before .before .if1 .left)) _ (c .before .before .before .before .before .before .before .before .before .before .before .if2 .left) (c .with-used .ensures) (λ pl x t z. c .before .before .before .before .before .before .before .before .before .before .before .before .before .before .before .before .before .before .forward-store .ensures .1 τ S i _ pl x t g rep tb e z) (λ pl x t z rep′ q. c .before .before .before .before .before .put-store .ensures .1 τ S _ (a .recorded .now) i pl x t dropped _ g rep′ e z q bd))
+returns-3 c = let a = c .before .before .before .before .before .before .before .before .before .before .before .before .before .before .before .before .before .before .before .before .before .before .before .before .before .before .before .before .before .before .before .before .args in (λ k l. low-used (k + 1) (c .before .before .before .before .before .before .before .before .before .before .before .before .before .before .before .before .before .before .forward-store .result .used) (a .used + 17) (c .before .before .before .before .before .put-store .result) (c .with-used .result) (c .with-used .ensures) (c .before .before .before .before .before .before .before .before .before .before .before .before .before .before .before .before .before .before .forward-store .ensures .0) (c .before .before .before .before .before .put-store .ensures .0 k l), λ τ S folds i dropped g rep tb le en e h bd. store-turn (a .settings) τ folds S (a .b .next + a .p .fresh) i (a .b .next) (a .s .now) _ _ _ _ _ _ dropped _ _ _ h (not-false _ (c .before .before .before .before .before .before .before .before .before .before .before .before .before .before .before .before .before .before .before .before .before .before .if1 .left)) _ (c .before .before .before .before .before .before .before .before .before .before .before .if2 .left) (c .with-used .ensures) (λ pl x t z. c .before .before .before .before .before .before .before .before .before .before .before .before .before .before .before .before .before .before .forward-store .ensures .1 τ S i _ pl x t g rep tb e z) (λ pl x t z rep′ q. c .before .before .before .before .before .put-store .ensures .1 τ S _ (a .recorded .now) i pl x t dropped _ g rep′ e z q bd))
 
 pub step-store-spec : {M : Type 1} → statement M
 step-store-spec =

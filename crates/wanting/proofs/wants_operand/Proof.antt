@@ -3,6 +3,7 @@ use Rattle.wanting.proofs.wants_operand.Statement.{statement}
 use Rattle.wanting.proofs.wants_operand.Tie as tie
 use mathlib.Core.Path.{_∙_, sym, ap}
 use native.Mathlib.Omega.{arith}
+use borrow.Author.Tests.{not-true, not-false}
 use Rattle.routine.specs.Index.{asRecorded}
 use Rattle.wanting.proofs.Asking.{untracked-stays, unasked-stays, tracked-build, asked-within}
 
@@ -12,7 +13,7 @@ tracked-requires c κs = search needs
 
 -- src/lib.rt:152:9
 returns : tie.Need-returns
-returns c = λ τ S table firsts pool used g f r l. untracked-stays τ S _ _ (sym (c .before .tracked .ensures _ _ _ _ _ S r) ∙ c .if1 .taken)
+returns c = λ τ S table firsts pool used g f r l. untracked-stays τ S _ _ (sym (c .before .tracked .ensures _ _ _ _ _ S r) ∙ not-true _ (c .if1 .taken))
 
 -- src/lib.rt:154:11
 asked-type-requires : tie.Need-asked-type-requires
@@ -28,7 +29,7 @@ enum-told c = search needs
 
 -- src/lib.rt:138:1
 returns-2 : tie.Need-returns-2
-returns-2 c = λ τ S table firsts pool used g f r l. let a = c .before .before .before .before .before .before .before .before .before .before .before .args in tracked-build τ S _ _ _ (λ z. c .before .before .before .before .if1 .left (c .before .before .before .before .before .tracked .ensures _ _ _ _ _ S r ∙ z)) (sym (ap asRecorded (c .before .u .given .1)) ∙ c .before .before .before .asked-type .ensures _ τ table (g .known) (g .rows) f (omega (arith, g .values))) (λ z. asked-within _ _ _ table τ g (a .t .now) (a .asks) (a .i) (a .v) _ z)
+returns-2 c = λ τ S table firsts pool used g f r l. let a = c .before .before .before .before .before .before .before .before .before .before .before .args in tracked-build τ S _ _ _ (sym (c .before .before .before .before .before .tracked .ensures _ _ _ _ _ S r) ∙ not-false _ (c .before .before .before .before .if1 .left)) (sym (ap asRecorded (c .before .u .given .1)) ∙ c .before .before .before .asked-type .ensures _ τ table (g .known) (g .rows) f (omega (arith, g .values))) (λ z. asked-within _ _ _ table τ g (a .t .now) (a .asks) (a .i) (a .v) _ z)
 
 -- src/lib.rt:138:1
 returns-3 : tie.Need-returns-3

@@ -1,5 +1,6 @@
 use Prim.Native.Nat.{ℕ}
 use mathlib.Core.Path.{ap, sym}
+use mathlib.Core.Bool.{Bool, false}
 use native.Mathlib.Omega.{arith}
 use lib.ListN.{length-replicate}
 use Rattle.routine.specs.Decode.{mosts}
@@ -24,7 +25,7 @@ start-at-requires : tie.Need-start-at-requires
 start-at-requires c κs = search needs
 
 put-blocks-requires : tie.Need-put-blocks-requires
-put-blocks-requires c κs = (low-start _ _ (c .before .before .start-at .ensures) (c .before .before .before .before .before .before .before .before .before .before .before .before .before .before .before .before .before .before .pre .0), (c .before .before .before .before .before .before .before .before .before .before .before .before .before .before .before .before .before .before .pre .1 .0, (omega (arith, length-replicate {A = ℕ} 256 0), (omega (arith, length-replicate {A = ℕ} 256 0), (omega (arith, length-replicate {A = ℕ} 2048 0), c .before .before .before .before .before .before .before .before .before .before .before .before .before .before .before .before .before .before .pre .1 .1)))))
+put-blocks-requires c κs = (low-start _ _ (c .before .before .start-at .ensures) (c .before .before .before .before .before .before .before .before .before .before .before .before .before .before .before .before .before .before .pre .0), (c .before .before .before .before .before .before .before .before .before .before .before .before .before .before .before .before .before .before .pre .1 .0, (omega (arith, length-replicate {A = Bool} 256 false), (omega (arith, length-replicate {A = ℕ} 256 0), (omega (arith, length-replicate {A = ℕ} 2176 0), c .before .before .before .before .before .before .before .before .before .before .before .before .before .before .before .before .before .before .pre .1 .1)))))
 
 same-length : tie.Need-same-length
 same-length c = search needs

@@ -1,22 +1,29 @@
 use borrow.Author.Needs.{needs}
 use Rattle.chains.proofs.path.has_part.Statement.{statement}
 use Rattle.chains.proofs.path.has_part.Tie as tie
-use Rattle.chains.proofs.Steps.{part-untracked, part-counted}
+use Rattle.chains.proofs.path.has_part.Reads as reads
+use Rattle.chains.proofs.path.has_part.Lts as lts
+use Rattle.parts.proofs.part_count.Reads as part-count-reads
+use Rattle.parts.proofs.tracked.Reads as tracked-reads
+use mathlib.Core.Path.{_∙_, sym}
+use borrow.Author.Tests.{not-true, not-false}
+use Rattle.chains.proofs.Steps.{part-untracked, part-tracked}
 
 tracked-requires : tie.Need-tracked-requires
 tracked-requires c κs = search needs
 
 returns : tie.Need-returns
-returns c = λ next s firsts pool used S r. part-untracked (S _) _ (c .before .tracked .ensures next s firsts pool used S r) (c .if1 .taken)
+returns c = λ next s used S r. part-untracked (S _) _ (sym (c .before .tracked .ensures next s _ _ used S r) ∙ not-true _ (c .if1 .taken))
+
+part-count-requires : tie.Need-part-count-requires
+part-count-requires c κs = search needs
 
 cast-result : tie.Need-cast-result
 cast-result c = search needs
 
-sub-result : tie.Need-sub-result
-sub-result c = search needs
-
 returns-2 : tie.Need-returns-2
-returns-2 c = λ next s firsts pool used S r. part-counted (S _) _ (c .before .tracked .ensures next s firsts pool used S r) (c .if1 .left)
+returns-2 c = λ next s used S r. part-tracked (S _) _ (sym (c .before .before .tracked .ensures next s _ _ used S r) ∙ not-false _ (c .before .if1 .left)) (λ xs e. c .part-count .ensures .1 next s _ used S xs r e)
 
 pub has-part-spec : {M : Type 1} → statement M
-has-part-spec = tie.close (tie.spec tracked-requires returns cast-result sub-result returns-2)
+has-part-spec =
+    tie.close (tie.spec tracked-requires returns part-count-requires cast-result returns-2)

@@ -16,13 +16,13 @@ part-place-requires : tie.Need-part-place-requires
 part-place-requires c κs = search needs
 
 returns : tie.Need-returns
-returns c = λ next s used S r. part-stands S _ _ (c .before .before .before .before .q .given .1) _ (c .before .before .has-part .ensures next s _ _ used S r) (c .before .if1 .taken) (λ xs e l. c .part-place .ensures next s _ used S xs r e l)
+returns c = λ next s used S r. part-stands S _ _ (c .before .before .before .before .q .given .1) _ (c .before .before .has-part .ensures next s used S r) (c .before .if1 .taken) (λ xs e l. c .part-place .ensures next s _ used S xs r e l)
 
 returns-2 : tie.Need-returns-2
 returns-2 c = λ next s used S r. part-nowhere S _ (c .enum-told .given .1)
 
 returns-3 : tie.Need-returns-3
-returns-3 c = λ next s used S r. part-missing S _ _ (c .before .before .before .q .given .1) (c .before .has-part .ensures next s _ _ used S r) (c .if1 .left)
+returns-3 c = λ next s used S r. part-missing S _ _ (c .before .before .before .q .given .1) (c .before .has-part .ensures next s used S r) (c .if1 .left)
 
 pub part-at-spec : {M : Type 1} → statement M
 part-at-spec =

@@ -17,7 +17,7 @@ moved-requires : tie.Need-moved-requires
 moved-requires c κs = search needs
 
 put-body-requires : tie.Need-put-body-requires
-put-body-requires c κs = let a = c .before .before .before .before .before .before .before .before .before .before .before .before .before .before .before .before .before .before .before .before .before .before .before .args in let q = c .before .before .before .before .before .before .before .before .before .before .before .before .before .before .before .before .before .before .before .before .before .before .before .pre in (low-mono 4801 5000 _ (omega arith) (low-moved 4800 (a .p) _ _ _ (c .before .before .before .before .before .before .moved .ensures) (q .0) (omega arith) (omega arith)), (q .1 .0, (tabled-on (a .counts .now) _ (a .firsts .now) (a .pool .now) (c .before .before .before .before .before .before .before .before .before .before .clear .kept .0) (q .1 .1 .0), q .1 .1 .1)))
+put-body-requires c κs = let a = c .before .before .before .before .before .before .before .before .before .before .before .before .before .before .before .before .before .before .before .before .before .before .before .args in let q = c .before .before .before .before .before .before .before .before .before .before .before .before .before .before .before .before .before .before .before .before .before .before .before .pre in (low-mono 4801 5000 _ (omega arith) (low-moved 4800 (a .p) _ _ _ (c .before .before .before .before .before .before .moved .ensures) (q .0) (omega arith) (omega arith)), (q .1 .0, (tabled-on (a .tracked .now) _ (a .firsts .now) (a .pool .now) (c .before .before .before .before .before .before .before .before .before .before .clear .kept .0) (q .1 .1 .0), q .1 .1 .1)))
 
 enum-told : tie.Need-enum-told
 enum-told c = search needs

@@ -19,7 +19,7 @@ place-at-requires : tie.Need-place-at-requires
 place-at-requires c κs = search needs
 
 put-end-requires : tie.Need-put-end-requires
-put-end-requires c κs = low-mono 5128 8000 _ (omega arith) (low-arrived 5128 2048 _ _ (c .before .before .before .before .before .before .before .before .w .given .1) (c .before .before .before .before .before .before .before .before .before .before .before .before .before .before .before .before .before .before .before .before .before .before .put-instructions .ensures .0 5000 (c .before .before .before .before .before .before .before .before .before .before .before .before .before .before .before .before .before .before .before .before .before .before .before .before .before .before .before .before .before .before .before .before .before .before .before .before .before .before .before .before .pre .0)))
+put-end-requires c κs = low-mono 5128 8000 _ (omega arith) (low-arrived 5128 2176 _ _ (c .before .before .before .before .before .before .before .before .w .given .1) (c .before .before .before .before .before .before .before .before .before .before .before .before .before .before .before .before .before .before .before .before .before .before .put-instructions .ensures .0 5000 (c .before .before .before .before .before .before .before .before .before .before .before .before .before .before .before .before .before .before .before .before .before .before .before .before .before .before .before .before .before .before .before .before .before .before .before .before .before .before .before .before .pre .0)))
 
 same-length : tie.Need-same-length
 same-length c = search needs
@@ -61,7 +61,7 @@ same-length-12 : tie.Need-same-length-12
 same-length-12 c = search needs
 
 returns-2 : tie.Need-returns-2
-returns-2 c = let a = c .before .before .before .before .before .before .before .before .before .before .before .before .before .before .before .before .before .before .before .before .before .before .before .before .before .before .before .before .before .before .before .before .before .before .before .before .before .before .before .before .before .before .before .before .before .args in (λ k l. low-end k (c .before .before .before .before .put-end .result) (c .before .before .before .before .put-end .ensures .0 (k + 128) (low-arrived (k + 128) 2048 _ _ (c .before .before .before .before .before .before .before .before .before .before .before .before .before .w .given .1) (c .before .before .before .before .before .before .before .before .before .before .before .before .before .before .before .before .before .before .before .before .before .before .before .before .before .before .before .put-instructions .ensures .0 k l))), λ τ folds x g rep bd. let e = c .before .before .before .before .before .before .before .before .before .before .before .before .before .before .before .before .before .before .before .before .before .before .before .before .before .before .before .put-instructions .ensures .1 τ folds x g rep bd .went _ (c .before .before .before .before .before .before .before .before .before .before .before .before .before .w .given .1) in body-puts (a .settings) τ folds (a .b) (a .s .now) (x .terminator) _ _ _ _ _ _ _ e _ _ _ _ (c .before .before .before .before .put-end .ensures .1 τ (e .states) _ (x .terminator) _ _ (g .ground) (e .rep) (end-at (a .b) (a .s .now) (a .types .now) (a .recorded .now) (a .places .now) (a .count) (a .folded .now) (a .first) τ folds x g _ (c .before .before .before .before .before .before .before .before .before .before .before .place-at .ensures)) (body-bound (a .settings) τ folds (a .b) (a .s .now) (x .terminator) _ _ _ _ _ _ _ e)))
+returns-2 c = let a = c .before .before .before .before .before .before .before .before .before .before .before .before .before .before .before .before .before .before .before .before .before .before .before .before .before .before .before .before .before .before .before .before .before .before .before .before .before .before .before .before .before .before .before .before .before .args in (λ k l. low-end k (c .before .before .before .before .put-end .result) (c .before .before .before .before .put-end .ensures .0 (k + 128) (low-arrived (k + 128) 2176 _ _ (c .before .before .before .before .before .before .before .before .before .before .before .before .before .w .given .1) (c .before .before .before .before .before .before .before .before .before .before .before .before .before .before .before .before .before .before .before .before .before .before .before .before .before .before .before .put-instructions .ensures .0 k l))), λ τ folds x g rep bd. let e = c .before .before .before .before .before .before .before .before .before .before .before .before .before .before .before .before .before .before .before .before .before .before .before .before .before .before .before .put-instructions .ensures .1 τ folds x g rep bd .went _ (c .before .before .before .before .before .before .before .before .before .before .before .before .before .w .given .1) in body-puts (a .settings) τ folds (a .b) (a .s .now) (x .terminator) _ _ _ _ _ _ _ e _ _ _ _ (c .before .before .before .before .put-end .ensures .1 τ (e .states) _ (x .terminator) _ _ (g .ground) (e .rep) (end-at (a .b) (a .s .now) (a .types .now) (a .recorded .now) (a .places .now) (a .count) (a .folded .now) (a .first) τ folds x g _ (c .before .before .before .before .before .before .before .before .before .before .before .place-at .ensures)) (body-bound (a .settings) τ folds (a .b) (a .s .now) (x .terminator) _ _ _ _ _ _ _ e)))
 
 pub put-body-spec : {M : Type 1} → statement M
 put-body-spec =

@@ -8,10 +8,10 @@ use Rattle.walking.proofs.Walks.{Walking, walking-start, walking-done, 
 use mathlib.Core.Path.{refl}
 
 abbrev Inv-loop : tie.InvT-loop
-Inv-loop s b settings types recorded places count folded first counts₀ firsts₀ pool₀ out₀ fresh₀ dropped₀ w₀ j₀ counts firsts pool out fresh dropped w j = Walking settings b s types recorded places count folded first counts₀ firsts₀ pool₀ out₀ fresh₀ dropped₀ w₀ counts firsts pool out fresh dropped w j
+Inv-loop s b settings types recorded places count folded first tracked₀ firsts₀ pool₀ out₀ fresh₀ dropped₀ w₀ j₀ tracked firsts pool out fresh dropped w j = Walking settings b s types recorded places count folded first tracked₀ firsts₀ pool₀ out₀ fresh₀ dropped₀ w₀ tracked firsts pool out fresh dropped w j
 
 abbrev μ-loop : tie.MeasureT-loop
-μ-loop s b settings types recorded places count folded first counts₀ firsts₀ pool₀ out₀ fresh₀ dropped₀ w₀ j₀ counts firsts pool out fresh dropped w j = count - j
+μ-loop s b settings types recorded places count folded first tracked₀ firsts₀ pool₀ out₀ fresh₀ dropped₀ w₀ j₀ tracked firsts pool out fresh dropped w j = count - j
 
 loop-holds : tie.Need-loop-holds Inv-loop μ-loop
 loop-holds c = walking-start _ _ _ _ _ _ _ _ _ _ _ _ _ _ _ _ refl
@@ -59,7 +59,7 @@ same-length-6 : tie.Need-same-length-6 Inv-loop μ-loop
 same-length-6 c = search needs
 
 returns : tie.Need-returns Inv-loop μ-loop
-returns c = let a = c .before .before .before .before .before .before .before .before .before .before .before .before .before .before .before .before .before .before .before .before .before .before .before .before .before .before .before .before .before .before .before .before .before .before .before .before .before .before .args in let l = c .before .before .before .before .before .before .before .before .before .before .before .before .before .before .before .before .before .before .before .before .before .before .before .before .before .before .loop in let q = c .before .before .before .before .before .before .before .before .before .before .before .before .before .before .before .before .before .before .before .before .before .before .before .before .before .before .before .before .before .before .before .before .before .before .before .before .before .before .pre in (λ k z. tt, walking-clash (a .settings) (a .b) (a .s .now) (a .types .now) (a .recorded .now) (a .places .now) (a .count) (a .folded .now) (a .first) (a .counts .now) (a .firsts .now) (a .pool .now) (a .out .now) (a .fresh .now) (a .dropped .now) _ (l .counts) (l .firsts) (l .pool) (l .out) (l .fresh) (l .dropped) (l .w) (l .j) (l .inv) (c .before .before .before .before .before .before .before .before .before .before .before .before .before .before .before .before .before .before .before .before .before .before .before .before .before .loop-test .taken) (q .1 .0) (q .1 .1 .0) _ _ (c .before .before .before .before .before .before .before .before .before .before .before .before .before .before .before .before .before .before .before .before .before .before .before .before .place-at .ensures) (c .before .before .before .before .before .before .before .before .before .before .before .before .before .before .before .before .before .before .before .before .before .before .before .place-at2 .ensures) _ (c .before .before .before .before .before .before .before .before .before .before .before .before .before .before .before .before .before .before .before .before .before .before .flag .ensures) _ _ _ _ _ _ _ (c .before .before .before .before .before .before .before .before .before .before .before .before .before .before .step .ensures .1) (c .enum-told .given .1))
+returns c = let a = c .before .before .before .before .before .before .before .before .before .before .before .before .before .before .before .before .before .before .before .before .before .before .before .before .before .before .before .before .before .before .before .before .before .before .before .before .before .before .args in let l = c .before .before .before .before .before .before .before .before .before .before .before .before .before .before .before .before .before .before .before .before .before .before .before .before .before .before .loop in let q = c .before .before .before .before .before .before .before .before .before .before .before .before .before .before .before .before .before .before .before .before .before .before .before .before .before .before .before .before .before .before .before .before .before .before .before .before .before .before .pre in (λ k z. tt, walking-clash (a .settings) (a .b) (a .s .now) (a .types .now) (a .recorded .now) (a .places .now) (a .count) (a .folded .now) (a .first) (a .tracked .now) (a .firsts .now) (a .pool .now) (a .out .now) (a .fresh .now) (a .dropped .now) _ (l .tracked) (l .firsts) (l .pool) (l .out) (l .fresh) (l .dropped) (l .w) (l .j) (l .inv) (c .before .before .before .before .before .before .before .before .before .before .before .before .before .before .before .before .before .before .before .before .before .before .before .before .before .loop-test .taken) (q .1 .0) (q .1 .1 .0) _ _ (c .before .before .before .before .before .before .before .before .before .before .before .before .before .before .before .before .before .before .before .before .before .before .before .before .place-at .ensures) (c .before .before .before .before .before .before .before .before .before .before .before .before .before .before .before .before .before .before .before .before .before .before .before .place-at2 .ensures) _ (c .before .before .before .before .before .before .before .before .before .before .before .before .before .before .before .before .before .before .before .before .before .before .flag .ensures) _ _ _ _ _ _ _ (c .before .before .before .before .before .before .before .before .before .before .before .before .before .before .step .ensures .1) (c .enum-told .given .1))
 
 enum-known-q : tie.Need-enum-known-q Inv-loop μ-loop
 enum-known-q c = search needs
@@ -71,7 +71,7 @@ loop-less : tie.Need-loop-less Inv-loop μ-loop
 loop-less c = omega (arith, c .before .before .before .before .before .before .before .before .before .before .before .before .before .before .before .before .before .before .before .before .before .before .before .before .before .before .loop-test .taken)
 
 loop-again : tie.Need-loop-again Inv-loop μ-loop
-loop-again c = let a = c .before .before .before .before .before .before .before .before .before .before .before .before .before .before .before .before .before .before .before .before .before .before .before .before .before .before .before .before .before .before .before .before .before .before .before .before .before .before .before .args in let l = c .before .before .before .before .before .before .before .before .before .before .before .before .before .before .before .before .before .before .before .before .before .before .before .before .before .before .before .loop in let q = c .before .before .before .before .before .before .before .before .before .before .before .before .before .before .before .before .before .before .before .before .before .before .before .before .before .before .before .before .before .before .before .before .before .before .before .before .before .before .before .pre in walking-again (a .settings) (a .b) (a .s .now) (a .types .now) (a .recorded .now) (a .places .now) (a .count) (a .folded .now) (a .first) (a .counts .now) (a .firsts .now) (a .pool .now) (a .out .now) (a .fresh .now) (a .dropped .now) _ (l .counts) (l .firsts) (l .pool) (l .out) (l .fresh) (l .dropped) (l .w) (l .j) (l .inv) (c .before .before .before .before .before .before .before .before .before .before .before .before .before .before .before .before .before .before .before .before .before .before .before .before .before .before .loop-test .taken) (q .1 .0) (q .1 .1 .0) _ _ (c .before .before .before .before .before .before .before .before .before .before .before .before .before .before .before .before .before .before .before .before .before .before .before .before .before .place-at .ensures) (c .before .before .before .before .before .before .before .before .before .before .before .before .before .before .before .before .before .before .before .before .before .before .before .before .place-at2 .ensures) _ (c .before .before .before .before .before .before .before .before .before .before .before .before .before .before .before .before .before .before .before .before .before .before .before .flag .ensures) _ _ _ _ _ _ _ (c .before .before .before .before .before .before .before .before .before .before .before .before .before .before .before .step .ensures .1) _ (c .before .q .given .1) (c .before .before .before .before .before .before .before .before .before .before .before .before .before .before .before .step .ensures .0) (c .before .before .before .before .before .before .before .before .before .before .before .before .before .before .before .step .kept .1 .1 .1 .1 .1 .1 .1 .1 .0) (c .before .before .before .before .before .before .before .before .before .before .before .before .before .before .before .step .kept .1 .1 .1 .1 .1 .1 .1 .1 .1 .0) (c .before .before .before .before .before .before .before .before .before .before .before .before .before .before .before .step .kept .1 .1 .1 .1 .1 .1 .1 .1 .1 .1 .0) (c .before .before .before .before .before .before .before .before .before .before .before .before .before .before .before .step .kept .1 .1 .1 .1 .1 .1 .1 .1 .1 .1 .1 .1 .0) (c .before .before .before .before .before .before .before .before .before .before .before .before .before .before .before .step .kept .1 .1 .1 .1 .1 .1 .1 .1 .1 .1 .1 .1 .1 .1 .0) (c .before .before .before .before .before .before .before .before .before .before .before .before .before .before .before .step .kept .1 .1 .1 .1 .1 .1 .1 .1 .1 .1 .1 .1 .1 .1 .1 .0) (q .0)
+loop-again c = let a = c .before .before .before .before .before .before .before .before .before .before .before .before .before .before .before .before .before .before .before .before .before .before .before .before .before .before .before .before .before .before .before .before .before .before .before .before .before .before .before .args in let l = c .before .before .before .before .before .before .before .before .before .before .before .before .before .before .before .before .before .before .before .before .before .before .before .before .before .before .before .loop in let q = c .before .before .before .before .before .before .before .before .before .before .before .before .before .before .before .before .before .before .before .before .before .before .before .before .before .before .before .before .before .before .before .before .before .before .before .before .before .before .before .pre in walking-again (a .settings) (a .b) (a .s .now) (a .types .now) (a .recorded .now) (a .places .now) (a .count) (a .folded .now) (a .first) (a .tracked .now) (a .firsts .now) (a .pool .now) (a .out .now) (a .fresh .now) (a .dropped .now) _ (l .tracked) (l .firsts) (l .pool) (l .out) (l .fresh) (l .dropped) (l .w) (l .j) (l .inv) (c .before .before .before .before .before .before .before .before .before .before .before .before .before .before .before .before .before .before .before .before .before .before .before .before .before .before .loop-test .taken) (q .1 .0) (q .1 .1 .0) _ _ (c .before .before .before .before .before .before .before .before .before .before .before .before .before .before .before .before .before .before .before .before .before .before .before .before .before .place-at .ensures) (c .before .before .before .before .before .before .before .before .before .before .before .before .before .before .before .before .before .before .before .before .before .before .before .before .place-at2 .ensures) _ (c .before .before .before .before .before .before .before .before .before .before .before .before .before .before .before .before .before .before .before .before .before .before .before .flag .ensures) _ _ _ _ _ _ _ (c .before .before .before .before .before .before .before .before .before .before .before .before .before .before .before .step .ensures .1) _ (c .before .q .given .1) (c .before .before .before .before .before .before .before .before .before .before .before .before .before .before .before .step .ensures .0) (c .before .before .before .before .before .before .before .before .before .before .before .before .before .before .before .step .kept .1 .1 .1 .1 .1 .1 .1 .1 .0) (c .before .before .before .before .before .before .before .before .before .before .before .before .before .before .before .step .kept .1 .1 .1 .1 .1 .1 .1 .1 .1 .0) (c .before .before .before .before .before .before .before .before .before .before .before .before .before .before .before .step .kept .1 .1 .1 .1 .1 .1 .1 .1 .1 .1 .0) (c .before .before .before .before .before .before .before .before .before .before .before .before .before .before .before .step .kept .1 .1 .1 .1 .1 .1 .1 .1 .1 .1 .1 .1 .0) (c .before .before .before .before .before .before .before .before .before .before .before .before .before .before .before .step .kept .1 .1 .1 .1 .1 .1 .1 .1 .1 .1 .1 .1 .1 .1 .0) (c .before .before .before .before .before .before .before .before .before .before .before .before .before .before .before .step .kept .1 .1 .1 .1 .1 .1 .1 .1 .1 .1 .1 .1 .1 .1 .1 .0) (q .0)
 
 same-length-7 : tie.Need-same-length-7 Inv-loop μ-loop
 same-length-7 c = search needs
@@ -92,7 +92,7 @@ same-length-12 : tie.Need-same-length-12 Inv-loop μ-loop
 same-length-12 c = search needs
 
 returns-2 : tie.Need-returns-2 Inv-loop μ-loop
-returns-2 c = let a = c .before .before .before .before .before .before .before .before .before .before .before .before .before .args in let l = c .before .loop in let q = c .before .before .before .before .before .before .before .before .before .before .before .before .before .pre in (λ k z. (low-mono (k + l .j) (k + 128) _ (omega (arith, l .inv .few, q .1 .0)) (l .inv .low k z), omega (arith, l .inv .used, l .inv .few, q .1 .0)), walking-done (a .settings) (a .b) (a .s .now) (a .types .now) (a .recorded .now) (a .places .now) (a .count) (a .folded .now) (a .first) (a .counts .now) (a .firsts .now) (a .pool .now) (a .out .now) (a .fresh .now) (a .dropped .now) _ (l .counts) (l .firsts) (l .pool) (l .out) (l .fresh) (l .dropped) (l .w) (l .j) (l .inv) (c .loop-test .left))
+returns-2 c = let a = c .before .before .before .before .before .before .before .before .before .before .before .before .before .args in let l = c .before .loop in let q = c .before .before .before .before .before .before .before .before .before .before .before .before .before .pre in (λ k z. (low-mono (k + l .j) (k + 128) _ (omega (arith, l .inv .few, q .1 .0)) (l .inv .low k z), omega (arith, l .inv .used, l .inv .few, q .1 .0)), walking-done (a .settings) (a .b) (a .s .now) (a .types .now) (a .recorded .now) (a .places .now) (a .count) (a .folded .now) (a .first) (a .tracked .now) (a .firsts .now) (a .pool .now) (a .out .now) (a .fresh .now) (a .dropped .now) _ (l .tracked) (l .firsts) (l .pool) (l .out) (l .fresh) (l .dropped) (l .w) (l .j) (l .inv) (c .loop-test .left))
 
 pub put-instructions-spec : {M : Type 1} → statement M
 put-instructions-spec =

@@ -36,7 +36,7 @@ pub fn input_reason(
     places: &[usize],
     starts: &[u16],
 ) -> u8
-    ensures { λ r. ⌜ ((x : Routine) → Input (now (s .entry)) b (now (types .entry)) (now (recorded .entry)) parameters (now (places .entry)) (now (starts .entry)) x → r ≡ inputReason x) ⌝ }
+    ensures { λ r. ⌜ ((x : Routine) → Input (now (s .entry)) b (now (types .entry)) (now (recorded .entry)) parameters (now (places .entry)) (now (starts .entry)) x → r ≡ inputReason false x) ⌝ }
 {
     if !agreeing::types_agree(s, b, types, recorded, parameters, places, starts, b.blocks) {
         return 1;

@@ -16,12 +16,12 @@ ghost use Rattle.eligibility.specs.Lookup.{Types};
 ghost use Rattle.progress.specs.Ground.{Ground};
 ghost use Rattle.rewriting.specs.Run.{typesIn};
 ghost use Rattle.shelf.specs.Lists.{every};
-ghost use Rattle.shelf.specs.Agrees.{agrees as agreesWith, endAgrees, blockAgrees};
+ghost use Rattle.shelf.specs.Agrees.{endAgrees, countedAgrees, blockAgrees};
 ghost use Rattle.shelf.specs.Reason.{typesAgree};
 
-// An instruction of a kind, by its own fields.
+// An instruction of a kind, by its own fields. Debug is left aside.
 fn agrees(s: &[u8], b: Bounds, types: &[usize], recorded: &[u16], t: &[u8], kind: u8) -> bool
-    ensures { λ r. ⌜ ((τ : Types) (seen : List Bool) (c : Bool) (i : InstructionKind) (n : ℕ) → Ground b (now (s .entry)) (now (types .entry)) (now (recorded .entry)) τ → getD (map (λ f. f (now (t .entry))) (kinds b seen c)) kind (bad Cause.Undefined 0) ≡ ok i n → r ≡ agreesWith τ i) ⌝ }
+    ensures { λ r. ⌜ ((τ : Types) (seen : List Bool) (c : Bool) (i : InstructionKind) (n : ℕ) → Ground b (now (s .entry)) (now (types .entry)) (now (recorded .entry)) τ → getD (map (λ f. f (now (t .entry))) (kinds b seen c)) kind (bad Cause.Undefined 0) ≡ ok i n → r ≡ countedAgrees false τ i) ⌝ }
 {
     match kind {
         0 => plain::assign(s, b, types, recorded, t),
@@ -47,7 +47,7 @@ fn agrees(s: &[u8], b: Bounds, types: &[usize], recorded: &[u16], t: &[u8], kind
 
 // The instruction at the head of `u`.
 fn one_agrees(s: &[u8], b: Bounds, types: &[usize], recorded: &[u16], u: &[u8]) -> bool
-    ensures { λ r. ⌜ ((τ : Types) (i : Instruction) (n : ℕ) → Ground b (now (s .entry)) (now (types .entry)) (now (recorded .entry)) τ → instructionOf b [] false (now (u .entry)) ≡ ok i n → r ≡ agreesWith τ (i .kind)) ⌝ }
+    ensures { λ r. ⌜ ((τ : Types) (i : Instruction) (n : ℕ) → Ground b (now (s .entry)) (now (types .entry)) (now (recorded .entry)) τ → instructionOf b [] false (now (u .entry)) ≡ ok i n → r ≡ countedAgrees false τ (i .kind)) ⌝ }
 {
     let t = form::tail(u, lookup::fields_place(u));
     agrees(s, b, types, recorded, t, wire::byte_at(u, 1))
@@ -96,7 +96,7 @@ fn block_agrees(
     places: &[usize],
     count: u16,
 ) -> bool
-    ensures { λ r. ⌜ ((τ : Types) (size : ℕ) (x : Block) → Ground b (now (s .entry)) (now (types .entry)) (now (recorded .entry)) τ → BlockPlaces b (now (s .entry)) (now (places .entry)) size x → length (x .instructions) ≡ count → r ≡ blockAgrees τ x) ⌝ }
+    ensures { λ r. ⌜ ((τ : Types) (size : ℕ) (x : Block) → Ground b (now (s .entry)) (now (types .entry)) (now (recorded .entry)) τ → BlockPlaces b (now (s .entry)) (now (places .entry)) size x → length (x .instructions) ≡ count → r ≡ blockAgrees false τ x) ⌝ }
 {
     let mut k: u16 = 0;
     while k < count {
@@ -125,7 +125,7 @@ fn blocks_agree(
     starts: &[u16],
     many: u16,
 ) -> bool
-    ensures { λ r. ⌜ ((τ : Types) (ks : List Block) → Ground b (now (s .entry)) (now (types .entry)) (now (recorded .entry)) τ → CodeAt b (now (s .entry)) (now (places .entry)) (now (starts .entry)) ks → length ks ≡ many → r ≡ every (blockAgrees τ) ks) ⌝ }
+    ensures { λ r. ⌜ ((τ : Types) (ks : List Block) → Ground b (now (s .entry)) (now (types .entry)) (now (recorded .entry)) τ → CodeAt b (now (s .entry)) (now (places .entry)) (now (starts .entry)) ks → length ks ≡ many → r ≡ every (blockAgrees false τ) ks) ⌝ }
 {
     let mut k: u16 = 0;
     while k < many {
@@ -150,7 +150,7 @@ pub fn types_agree(
     starts: &[u16],
     many: u16,
 ) -> bool
-    ensures { λ r. ⌜ ((τ : Types) (x : Routine) (n : ℕ) → Ground b (now (s .entry)) (now (types .entry)) (now (recorded .entry)) τ → τ ≡ typesIn x → CodeAt b (now (s .entry)) (now (places .entry)) (now (starts .entry)) (x .blocks) → length (x .blocks) ≡ many → definedsOf (b .list) (b .next) (replicate (b .next) false) (drop parameters (now (s .entry))) ≡ ok (x .parameters) n → r ≡ typesAgree x) ⌝ }
+    ensures { λ r. ⌜ ((τ : Types) (x : Routine) (n : ℕ) → Ground b (now (s .entry)) (now (types .entry)) (now (recorded .entry)) τ → τ ≡ typesIn x → CodeAt b (now (s .entry)) (now (places .entry)) (now (starts .entry)) (x .blocks) → length (x .blocks) ≡ many → definedsOf (b .list) (b .next) (replicate (b .next) false) (drop parameters (now (s .entry))) ≡ ok (x .parameters) n → r ≡ typesAgree false x) ⌝ }
 {
     let t = form::tail(s, parameters);
     let known = fitting::all_typed(b, recorded, t, 1, wire::byte_at(t, 0));

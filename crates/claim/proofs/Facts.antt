@@ -19,15 +19,15 @@ use Rattle.eligibility.specs.declared.Settings.{Settings}
 use Rattle.eligibility.specs.Lookup.{Types, recordedType}
 use Rattle.eligibility.specs.Climb.{isSome}
 use Rattle.eligibility.specs.Fold.{behindPhis}
-use Rattle.rewriting.specs.Run.{Choice, typesIn}
+use Rattle.rewriting.specs.Run.{Choice, typesIn, rewrittenBy}
 use Rattle.shelf.specs.Lists.{every, among}
 use Rattle.shelf.specs.Reads.{clean, cleanTerminator}
-use Rattle.shelf.specs.Agrees.{agrees, endAgrees, blockAgrees}
+use Rattle.shelf.specs.Agrees.{endAgrees, countedAgrees, blockAgrees}
 use Rattle.shelf.specs.Reason.{typesAgree, inOrder, keptApart, noDeepStore, readsNoDropped, shelfReason}
 use Rattle.simulation.specs.Typing.{typed}
-use Rattle.simulation.specs.Static.{below, once, noPhi, rewriting, Static}
+use Rattle.simulation.specs.Static.{below, once, noPhi, Static}
 use Rattle.simulation.proofs.Tools.{and-l, and-r, and-i, split, passes, fails, cond-yes, cond-no}
-use Rattle.claim.proofs.Typed.{agrees-typed}
+use Rattle.claim.proofs.Typed.{counted-typed}
 use Rattle.claim.proofs.Accepted.{instructions-below, end-below, news-low}
 use Rattle.claim.proofs.Defined.{types-once, behind-once, phis-first}
 
@@ -74,40 +74,43 @@ all-passed false b c d e h = absurd (ne h)
     ne e = omega (arith, e)
 
 -- types agree behind the phis too
-typed-behind : (τ : Types) (is : List Instruction) → T (every (λ i. agrees τ (i .kind)) is) → T (every (λ i. typed τ (i .kind)) (behindPhis is))
-unfolding behindPhis
-typed-behind τ [] h = tt
-typed-behind τ (i ∷ is) h =
-    elim (split (isPhi (i .kind))) [
-      | passes y ↦ rw (cond-yes (isPhi (i .kind)) (behindPhis is) (i ∷ is) y) (typed-behind τ is (and-r (agrees τ (i .kind)) (every (λ i. agrees τ (i .kind)) is) h))
-      | fails y ↦ rw (cond-no (isPhi (i .kind)) (behindPhis is) (i ∷ is) y) (typed-all (i ∷ is) h)
-    ]
-  where
-    typed-all : (is : List Instruction) → T (every (λ i. agrees τ (i .kind)) is) → T (every (λ i. typed τ (i .kind)) is)
-    typed-all [] h = tt
-    typed-all (i ∷ is) h =
-        and-i (typed τ (i .kind)) _ (agrees-typed τ (i .kind) (and-l (agrees τ (i .kind)) (every (λ i. agrees τ (i .kind)) is) h))
-        (typed-all is (and-r (agrees τ (i .kind)) (every (λ i. agrees τ (i .kind)) is) h))
+module _ (debug : Bool) (τ : Types) where
+  abbrev agree : Instruction → Bool
+  agree i = countedAgrees debug τ (i .kind)
 
-typed-blocks : (τ : Types) (ks : List Block) → T (every (blockAgrees τ) ks) → T (every (λ k. every (λ i. typed τ (i .kind)) (behindPhis (k .instructions))) ks)
-unfolding blockAgrees
-typed-blocks τ [] h = tt
-typed-blocks τ (k ∷ ks) h =
-    and-i (every (λ i. typed τ (i .kind)) (behindPhis (k .instructions))) _
-    (typed-behind τ (k .instructions) (and-l (every (λ i. agrees τ (i .kind)) (k .instructions)) (endAgrees τ (k .terminator)) (and-l (blockAgrees τ k) (every (blockAgrees τ) ks) h)))
-    (typed-blocks τ ks (and-r (blockAgrees τ k) (every (blockAgrees τ) ks) h))
+  typed-behind : (is : List Instruction) → T (every agree is) → T (every (λ i. typed τ (i .kind)) (behindPhis is))
+  unfolding behindPhis
+  typed-behind [] h = tt
+  typed-behind (i ∷ is) h =
+      elim (split (isPhi (i .kind))) [
+        | passes y ↦ rw (cond-yes (isPhi (i .kind)) (behindPhis is) (i ∷ is) y) (typed-behind is (and-r (agree i) (every agree is) h))
+        | fails y ↦ rw (cond-no (isPhi (i .kind)) (behindPhis is) (i ∷ is) y) (typed-all (i ∷ is) h)
+      ]
+    where
+      typed-all : (is : List Instruction) → T (every agree is) → T (every (λ i. typed τ (i .kind)) is)
+      typed-all [] h = tt
+      typed-all (i ∷ is) h =
+          and-i (typed τ (i .kind)) _ (counted-typed debug τ (i .kind) (and-l (agree i) (every agree is) h)) (typed-all is (and-r (agree i) (every agree is) h))
 
--- ---- all of them
+  typed-blocks : (ks : List Block) → T (every (blockAgrees debug τ) ks) → T (every (λ k. every (λ i. typed τ (i .kind)) (behindPhis (k .instructions))) ks)
+  unfolding blockAgrees
+  typed-blocks [] h = tt
+  typed-blocks (k ∷ ks) h =
+      and-i (every (λ i. typed τ (i .kind)) (behindPhis (k .instructions))) _
+      (typed-behind (k .instructions) (and-l (every agree (k .instructions)) (endAgrees τ (k .terminator)) (and-l (blockAgrees debug τ k) (every (blockAgrees debug τ) ks) h)))
+      (typed-blocks ks (and-r (blockAgrees debug τ k) (every (blockAgrees debug τ) ks) h))
 
-pub static : (m : Mosts) (debug : Bool) (σ : Settings) (c : Choice) (r : Routine) → WellFormed m r → shelfReason debug r (rewriting σ c r) ≡ 0 → Static debug σ c r
+-- ---- all of them, for both flags
+
+pub static : (m : Mosts) (debug : Bool) (σ : Settings) (c : Choice) (r : Routine) → WellFormed m r → shelfReason debug r (rewrittenBy σ c r) ≡ 0 → Static debug σ c r
 unfolding shelfReason typesAgree inOrder keptApart noDeepStore readsNoDropped
 static m debug σ c r w h =
     let b = bounds m r in
     let seen = marks (unmarked r) (r .parameters) in
     let l : r .next ≤ length seen = rw (marks-length (unmarked r) (r .parameters), length-replicate {A = Bool} (r .next) false) (omega arith) in
-    let z = all-passed (typesAgree r) (inOrder r) (keptApart r) (noDeepStore ((rewriting σ c r) .dropped) r) (readsNoDropped debug ((rewriting σ c r) .dropped) ((rewriting σ c r) .blocks)) h in
-    let reads = every (λ k. clean debug (λ x. among x ((rewriting σ c r) .dropped)) (k .instructions)) ((rewriting σ c r) .blocks) in
-    let ends = every (λ k. cleanTerminator (λ x. among x ((rewriting σ c r) .dropped)) (k .terminator)) ((rewriting σ c r) .blocks) in
+    let z = all-passed (typesAgree debug r) (inOrder debug r) (keptApart r) (noDeepStore ((rewrittenBy σ c r) .dropped) r) (readsNoDropped debug ((rewrittenBy σ c r) .dropped) ((rewrittenBy σ c r) .blocks)) h in
+    let reads = every (λ k. clean debug (λ x. among x ((rewrittenBy σ c r) .dropped)) (k .instructions)) ((rewrittenBy σ c r) .blocks) in
+    let ends = every (λ k. cleanTerminator (λ x. among x ((rewrittenBy σ c r) .dropped)) (k .terminator)) ((rewrittenBy σ c r) .blocks) in
     record {
       recorded = w .many-recorded;
       parameters = news-low b (unmarked r) (r .parameters) (w .parameters);
@@ -116,7 +119,7 @@ static m debug σ c r w h =
       fields = types-once (m .list) [] (r .types) (w .types);
       once = each-block m b 0 seen (r .blocks) (λ k. once (behindPhis (k .instructions))) l (λ total seen k l f. behind-once b seen false (k .instructions) l (f .instructions)) (w .blocks);
       phisFirst = each-block m b 0 seen (r .blocks) (λ k. noPhi (behindPhis (k .instructions))) l (λ total seen k l f. phis-first b seen false (k .instructions) (f .instructions)) (w .blocks);
-      typed = typed-blocks (typesIn r) (r .blocks) (and-r (every (λ v. isSome (recordedType (typesIn r) v)) (r .parameters)) (every (blockAgrees (typesIn r)) (r .blocks)) (z .types));
+      typed = typed-blocks debug (typesIn r) (r .blocks) (and-r (every (λ v. isSome (recordedType (typesIn r) v)) (r .parameters)) (every (blockAgrees debug (typesIn r)) (r .blocks)) (z .types));
       ordered = z .order;
       apart = z .apart;
       shallow = z .deep;

@@ -17,8 +17,7 @@ use Rattle.whole.proofs.Whole.{whole-canon, whole-fit}
 use Rattle.whole.proofs.Example.{mosts-wide}
 use Rattle.eligibility.specs.declared.Settings.{Settings}
 use Rattle.rewriting.specs.declared.Counts.{Counts}
-use Rattle.rewriting.specs.Run.{Rewritten, choice, rewrittenBlocks, rewriteWith, rewrite}
-use Rattle.rewriting.specs.Sum.{rewrittenBy}
+use Rattle.rewriting.specs.Run.{Rewritten, choice, rewrittenBy, rewrittenBlocks, rewriteWith, rewrite}
 use Rattle.rewriting.specs.Outcome.{Outcome, fittedIn, rewritten, ofInput, outcome}
 use Rattle.output.specs.Lifted.{lifted}
 use Rattle.output.proofs.Whole.{output-decodes}
@@ -28,7 +27,6 @@ use Rattle.machine.specs.Values.{Val}
 use Rattle.machine.specs.Meaning.{Meaning}
 use Rattle.machine.specs.Document.{Operations, document01}
 use Rattle.machine.specs.Run.{run}
-use Rattle.simulation.specs.Static.{rewriting, Static}
 use Rattle.simulation.specs.Statement.{Fine, RunsAlike}
 use Rattle.simulation.proofs.Theorem.{pass-simulates}
 use Rattle.claim.specs.Claim.{Indistinguishable}
@@ -75,11 +73,12 @@ with-room σ room s w c k bytes h = elim (of-answer σ room s w c k bytes h) [ f
 
 -- ---- the theorem
 
-alike : {A : Type 0} (M : Meaning A) (σ : Settings) (r : Routine) → WellFormed mosts r → shelfReason (M .debug) r (rewrittenBlocks σ r) ≡ 0 → RunsAlike M r (rewrite σ r)
-unfolding rewrittenBlocks rewriting
-alike M σ r h e = pass-simulates M σ r (static mosts (M .debug) σ (choice σ r) r h e)
+-- for every meaning, Debug recorded or not: whoever runs a routine whose reason, judged with the meaning's own flag, is 0 cannot tell
+pub shelved-alike : {A : Type 0} (M : Meaning A) (σ : Settings) (r : Routine) → WellFormed mosts r → shelfReason (M .debug) r (rewrittenBlocks σ r) ≡ 0 → RunsAlike M r (rewrite σ r)
+unfolding rewrittenBlocks
+shelved-alike M σ r h e = pass-simulates M σ r (static mosts (M .debug) σ (choice σ r) r h e)
 
--- for every meaning that does not record Debug, settings, room and bytes
+-- of bytes, whose reason leaves Debug aside: for every meaning that does not record Debug, settings, room and bytes
 pub indistinguishable : {A : Type 0} (M : Meaning A) → M .debug ≡ false → (σ : Settings) (room : ℕ) (s : List ℕ) (w : Bool) (c : Counts) (bytes : List ℕ) → Bytes s → answer σ room s ≡ Answer.lowered w c 0 bytes → Indistinguishable M s bytes
 unfolding RunsAlike rewrite rewrittenBy rewrittenBlocks
 indistinguishable M d σ room s w c bytes b h =
@@ -88,7 +87,7 @@ indistinguishable M d σ room s w c bytes b h =
           let z : n ≡ length s = whole-canon mosts s b e .1 in
           let ok-all : wholeOf mosts s ≡ ok r (length s) = e ∙ ap (λ q. ok r q) z in
           let fit = whole-fit mosts s mosts-wide b e in
-          let runs = alike M σ r fit (ap (λ q. shelfReason q r (rewrittenBlocks σ r)) d ∙ sym g) in
+          let runs = shelved-alike M σ r fit (ap (λ q. shelfReason q r (rewrittenBlocks σ r)) d ∙ sym g) in
           record {
             original = r;
             rewritten = rewrite σ r;

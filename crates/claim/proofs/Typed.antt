@@ -16,7 +16,8 @@ use Rattle.eligibility.specs.Lookup.{Types, rowOf, recordedType, valueRow, isTu
 use Rattle.shelf.specs.Lists.{every}
 use Rattle.shelf.specs.Parts.{partType, isPointer, onto}
 use Rattle.shelf.specs.Fits.{sameType, fits, fieldTypeOf, stepType, placeType, argumentsFit}
-use Rattle.shelf.specs.Agrees.{indexFits, pointee, pointed, reached, placeFits, destsFit, agrees}
+use Rattle.shelf.specs.Agrees.{indexFits, pointee, pointed, reached, placeFits, destsFit, agrees, countedAgrees}
+use Rattle.shelf.proofs.Flag.{agrees-aside}
 use Rattle.simulation.specs.Typing.{typed}
 use Rattle.simulation.proofs.Tools.{and-l, and-r, and-i, or-l, or-r, split, passes, fails, cond-yes, cond-no}
 
@@ -84,8 +85,8 @@ or-weaken : (a b c d : B.Bool) → T (a || (b && c)) → T d → T (a || (d && c
 or-weaken true b c d h k = tt
 or-weaken false b c d h k = and-i d c k (and-r b c h)
 
-pub agrees-typed : (τ : Types) (i : InstructionKind) → T (agrees τ i) → T (typed τ i)
-unfolding agrees typed placeFits
+agrees-typed : (τ : Types) (i : InstructionKind) → T (countedAgrees false τ i) → T (typed τ i)
+unfolding agrees countedAgrees typed placeFits
 agrees-typed τ (Assign d x t) h = h
 agrees-typed τ (UnaryOp op d x) h = tt
 agrees-typed τ (BinaryOp op d x y) h = tt
@@ -113,3 +114,7 @@ agrees-typed τ (InsertTuple d x k y t) h = h
 agrees-typed τ (MakeFixedArray d xs t c) h = h
 agrees-typed τ (AssertEq x y) h = tt
 agrees-typed τ (HeapAllocCells d x) h = tt
+
+-- the same for both flags
+pub counted-typed : (debug : B.Bool) (τ : Types) (i : InstructionKind) → T (countedAgrees debug τ i) → T (typed τ i)
+counted-typed debug τ i h = agrees-typed τ i (agrees-aside debug τ i h)

@@ -92,11 +92,11 @@ module _ (b : Bounds) (t : List ℕ) (m : List Bool) (kind : ℕ) (ek : kind ≡
       rw (ne-eqb (kindNumber (i .kind)) 7 (λ y. h (sym z ∙ y))) (f i n e w)
 
 -- an order that fails further on fails
-ordered-fails : (d : ℕ) (xs : List Instruction) → ordered (drop d xs) ≡ false → ordered xs ≡ false
+ordered-fails : (debug : Bool) (d : ℕ) (xs : List Instruction) → ordered debug (drop d xs) ≡ false → ordered debug xs ≡ false
 unfolding ordered
-ordered-fails zero xs e = e
-ordered-fails (suc d) [] e = e
-ordered-fails (suc d) (x ∷ xs) e = ap (λ q. every (λ v. not (among (v .0) (definedIn (x ∷ xs)))) (countedReads false (x .kind)) && q) (ordered-fails d xs e) ∙ and-false (every (λ v. not (among (v .0) (definedIn (x ∷ xs)))) (countedReads false (x .kind)))
+ordered-fails debug zero xs e = e
+ordered-fails debug (suc d) [] e = e
+ordered-fails debug (suc d) (x ∷ xs) e = ap (λ q. every (λ v. not (among (v .0) (definedIn (x ∷ xs)))) (countedReads debug (x .kind)) && q) (ordered-fails debug d xs e) ∙ and-false (every (λ v. not (among (v .0) (definedIn (x ∷ xs)))) (countedReads debug (x .kind)))
   where
     and-false : (a : Bool) → (a && false) ≡ false
     and-false true = refl
@@ -107,16 +107,16 @@ all-below a c [] h g = tt
 all-below a c (x ∷ xs) h g = (omega (arith, g .0), all-below a c xs h (g .1))
 
 -- from instruction k on, the marks are the values defined, and nothing is out of order
-pub record Seen (m : List Bool) (is : List Instruction) (k : ℕ) : Type 0 where
+pub record Seen (debug : Bool) (m : List Bool) (is : List Instruction) (k : ℕ) : Type 0 where
   pub marked : (v : ℕ) → getD m v false ≡ among v (definedIn (drop k is))
-  pub sound : ordered (drop k is) ≡ true
+  pub sound : ordered debug (drop k is) ≡ true
 
-module _ (s : List ℕ) (b : Bounds) (places : List ℕ) (count phis : ℕ) where
+module _ (debug : Bool) (s : List ℕ) (b : Bounds) (places : List ℕ) (count phis : ℕ) where
   pub record Backward (m : List Bool) (k : ℕ) : Type 0 where
     pub over : phis ≤ k
     pub under : k ≤ count
     pub long : length m ≡ 256
-    pub left : (is : List Instruction) → InstructionsAt b s places is → length is ≡ count → b .next ≤ 256 → b .list + b .projections ≤ 30 → Seen m is k
+    pub left : (is : List Instruction) → InstructionsAt b s places is → length is ≡ count → b .next ≤ 256 → b .list + b .projections ≤ 30 → Seen debug m is k
 
   pub backward-start : (m : List Bool) → phis ≤ count → m ≡ replicate 256 false → length m ≡ 256 → Backward m count
   unfolding definedIn ordered
@@ -127,10 +127,10 @@ module _ (s : List ℕ) (b : Bounds) (places : List ℕ) (count phis : ℕ) wher
         long = l;
         left = λ is a g n w.
             let z : drop count is ≡ [] = ap (λ q. drop q is) (sym g) ∙ drop-length is in
-            record { marked = λ v. ap (λ q. getD q v false) e ∙ clear-at 256 v ∙ sym (ap (λ q. among v (definedIn q)) z); sound = ap ordered z };
+            record { marked = λ v. ap (λ q. getD q v false) e ∙ clear-at 256 v ∙ sym (ap (λ q. among v (definedIn q)) z); sound = ap (ordered debug) z };
       }
 
-  module _ (m m′ : List Bool) (k at : ℕ) (t : List ℕ) (r : Bool) (w : Backward m k) (h : phis < k) (ea : at ≡ getD places (k - 1) 0) (et : t ≡ drop at s) (em : m′ ≡ marks m (destsAt (drop (fieldsPlace t) t) (destFirst (getD t 1 0)) (destCount (drop (fieldsPlace t) t) (getD t 1 0)))) (er : (i : Instruction) (n : ℕ) → instructionOf b [] false t ≡ ok i n → b .list + b .projections ≤ 30 → r ≡ clear m′ (countedReads false (i .kind))) where
+  module _ (m m′ : List Bool) (k at : ℕ) (t : List ℕ) (r : Bool) (w : Backward m k) (h : phis < k) (ea : at ≡ getD places (k - 1) 0) (et : t ≡ drop at s) (em : m′ ≡ marks m (destsAt (drop (fieldsPlace t) t) (destFirst (getD t 1 0)) (destCount (drop (fieldsPlace t) t) (getD t 1 0)))) (er : (i : Instruction) (n : ℕ) → instructionOf b [] false t ≡ ok i n → b .list + b .projections ≤ 30 → r ≡ clear m′ (countedReads debug (i .kind))) where
     module _ (is : List Instruction) (a : InstructionsAt b s places is) (l : length is ≡ count) (n : b .next ≤ 256) (f : b .list + b .projections ≤ 30) where
       abbrev here : Instruction
       here = getD is (k - 1) noInstruction
@@ -151,12 +151,12 @@ module _ (s : List ℕ) (b : Bounds) (places : List ℕ) (count phis : ℕ) wher
           ∙ ap (λ q. among v (dests (here .kind)) || q) (w .left is a l n f .marked v)
           ∙ sym (among-append v (dests (here .kind)) (definedIn (drop k is)))
 
-      order-here : ordered (drop (k - 1) is) ≡ (r && ordered (drop k is))
+      order-here : ordered debug (drop (k - 1) is) ≡ (r && ordered debug (drop k is))
       unfolding ordered
       order-here =
-          let z : r ≡ every (λ v. not (among (v .0) (definedIn (here ∷ drop k is)))) (countedReads false (here .kind)) =
-          er here _ stands-here f ∙ every-same (λ v. not (getD m′ (v .0) false)) (λ v. not (among (v .0) (definedIn (here ∷ drop k is)))) (λ v. ap not (marked-here (v .0))) (countedReads false (here .kind)) in
-          ap ordered split-here ∙ ap (λ q. q && ordered (drop k is)) (sym z)
+          let z : r ≡ every (λ v. not (among (v .0) (definedIn (here ∷ drop k is)))) (countedReads debug (here .kind)) =
+          er here _ stands-here f ∙ every-same (λ v. not (getD m′ (v .0) false)) (λ v. not (among (v .0) (definedIn (here ∷ drop k is)))) (λ v. ap not (marked-here (v .0))) (countedReads debug (here .kind)) in
+          ap (ordered debug) split-here ∙ ap (λ q. q && ordered debug (drop k is)) (sym z)
 
     pub backward-again : not r ≡ false → length m′ ≡ length m → Backward m′ (k - 1)
     backward-again g lm =
@@ -167,18 +167,18 @@ module _ (s : List ℕ) (b : Bounds) (places : List ℕ) (count phis : ℕ) wher
           left = λ is a l n f.
               record {
                 marked = λ v. marked-here is a l n f v ∙ sym (ap (λ q. among v (definedIn q)) (split-here is a l n f));
-                sound = order-here is a l n f ∙ ap (λ q. q && ordered (drop k is)) (not-false r g) ∙ w .left is a l n f .sound;
+                sound = order-here is a l n f ∙ ap (λ q. q && ordered debug (drop k is)) (not-false r g) ∙ w .left is a l n f .sound;
               };
         }
 
-    pub backward-stop : not r ≡ true → ((b : Bounds) (is : List Instruction) → InstructionsAt b s places is → length is ≡ count → behindPhis is ≡ drop phis is) → (is : List Instruction) → InstructionsAt b s places is → length is ≡ count → b .next ≤ 256 → b .list + b .projections ≤ 30 → false ≡ orderedBehind is
+    pub backward-stop : not r ≡ true → ((b : Bounds) (is : List Instruction) → InstructionsAt b s places is → length is ≡ count → behindPhis is ≡ drop phis is) → (is : List Instruction) → InstructionsAt b s places is → length is ≡ count → b .next ≤ 256 → b .list + b .projections ≤ 30 → false ≡ orderedBehind debug is
     backward-stop g j is a l n f =
-        let z : ordered (drop (k - 1) is) ≡ false = order-here is a l n f ∙ ap (λ q. q && ordered (drop k is)) (not-true r g) in
+        let z : ordered debug (drop (k - 1) is) ≡ false = order-here is a l n f ∙ ap (λ q. q && ordered debug (drop k is)) (not-true r g) in
         let d : phis + (k - 1 - phis) ≡ k - 1 = omega arith in
         let y : drop (k - 1 - phis) (drop phis is) ≡ drop (k - 1) is = drop-drop (k - 1 - phis) phis is ∙ ap (λ q. drop q is) d in
-        sym (ap ordered (j b is a l) ∙ ordered-fails (k - 1 - phis) (drop phis is) (ap ordered y ∙ z))
+        sym (ap (ordered debug) (j b is a l) ∙ ordered-fails debug (k - 1 - phis) (drop phis is) (ap (ordered debug) y ∙ z))
 
-  pub backward-done : (m : List Bool) (k : ℕ) → Backward m k → k ≤ phis → ((b : Bounds) (is : List Instruction) → InstructionsAt b s places is → length is ≡ count → behindPhis is ≡ drop phis is) → (is : List Instruction) → InstructionsAt b s places is → length is ≡ count → b .next ≤ 256 → b .list + b .projections ≤ 30 → true ≡ orderedBehind is
+  pub backward-done : (m : List Bool) (k : ℕ) → Backward m k → k ≤ phis → ((b : Bounds) (is : List Instruction) → InstructionsAt b s places is → length is ≡ count → behindPhis is ≡ drop phis is) → (is : List Instruction) → InstructionsAt b s places is → length is ≡ count → b .next ≤ 256 → b .list + b .projections ≤ 30 → true ≡ orderedBehind debug is
   backward-done m k w h j is a l n f =
       let z : phis ≡ k = omega (arith, w .over) in
-      sym (ap ordered (j b is a l) ∙ ap (λ q. ordered (drop q is)) z ∙ w .left is a l n f .sound)
+      sym (ap (ordered debug) (j b is a l) ∙ ap (λ q. ordered debug (drop q is)) z ∙ w .left is a l n f .sound)

@@ -39,8 +39,8 @@ abbrev pub eachBlock : (List Instruction → Bool) → List Block → Bool
 eachBlock q ks = every (λ k. q (k .instructions)) ks
 
 -- reason 2 of a block
-abbrev pub orderedBehind : List Instruction → Bool
-orderedBehind is = ordered (behindPhis is)
+abbrev pub orderedBehind : Bool → List Instruction → Bool
+orderedBehind debug is = ordered debug (behindPhis is)
 
 -- Where an instruction's dests stand in its fields: how many there are, and where the first begins.
 -- Nothing here is believed: proofs/Dests.antt ties them to the decoders.

@@ -80,7 +80,7 @@ fn counted_clear(t: &[u8], b: Bounds, marks: &[bool]) -> bool
 
 // Whether no instruction of a block, phis aside, reads a value that it or a later one defines: from the last to the first.
 fn block_ordered(s: &[u8], b: Bounds, places: &[usize], count: u16) -> bool
-    ensures { λ r. ⌜ ((is : List Instruction) → InstructionsAt b (now (s .entry)) (now (places .entry)) is → length is ≡ count → b .next ≤ 256 → b .list + b .projections ≤ 30 → r ≡ orderedBehind is) ⌝ }
+    ensures { λ r. ⌜ ((is : List Instruction) → InstructionsAt b (now (s .entry)) (now (places .entry)) is → length is ≡ count → b .next ≤ 256 → b .list + b .projections ≤ 30 → r ≡ orderedBehind false is) ⌝ }
 {
     let phis = places::phi_count(s, places, count);
     let mut marks: [bool; 256] = [false; 256];
@@ -98,7 +98,7 @@ fn block_ordered(s: &[u8], b: Bounds, places: &[usize], count: u16) -> bool
 
 // Whether no block reads a value that it defines there or later, phis and Debug aside (reason 2).
 pub fn in_order(s: &[u8], b: Bounds, places: &[usize], starts: &[u16], many: u16) -> bool
-    ensures { λ r. ⌜ ((ks : List Block) → CodeAt b (now (s .entry)) (now (places .entry)) (now (starts .entry)) ks → length ks ≡ many → b .next ≤ 256 → b .list + b .projections ≤ 30 → r ≡ every (λ k. ordered (behindPhis (k .instructions))) ks) ⌝ }
+    ensures { λ r. ⌜ ((ks : List Block) → CodeAt b (now (s .entry)) (now (places .entry)) (now (starts .entry)) ks → length ks ≡ many → b .next ≤ 256 → b .list + b .projections ≤ 30 → r ≡ every (λ k. ordered false (behindPhis (k .instructions))) ks) ⌝ }
 {
     let mut k: u16 = 0;
     while k < many {

@@ -32,8 +32,8 @@ use Rattle.eligibility.specs.declared.Settings.{Settings}
 use Rattle.eligibility.specs.Lookup.{Types, recordedType}
 use Rattle.eligibility.specs.Fold.{behindPhis, phisOf}
 use Rattle.rewriting.specs.State.{noStates}
-use Rattle.rewriting.specs.Run.{Walked, walk, blockThen, skipThen, Choice, Rewritten, oneBlock, allBlocks, typesIn, rewriteWith}
-use Rattle.rewriting.specs.Sum.{rewrittenBy, instructionCount}
+use Rattle.rewriting.specs.Run.{Walked, walk, blockThen, skipThen, Choice, Rewritten, oneBlock, allBlocks, typesIn, rewrittenBy, rewriteWith}
+use Rattle.rewriting.specs.Sum.{instructionCount}
 use Rattle.rewriting.specs.Lowers.{Lowers}
 use Rattle.rewriting.proofs.Lowering.{lowers-walk}
 use Rattle.rewriting.proofs.Bound.{bound-blocks, next-bound-by}

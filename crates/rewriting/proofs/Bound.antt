@@ -17,8 +17,8 @@ use Rattle.eligibility.specs.Lookup.{Types}
 use Rattle.eligibility.specs.Fold.{behindPhis, phisOf}
 use Rattle.rewriting.specs.State.{AggStates, noStates}
 use Rattle.rewriting.specs.Step.{Piece, kept, left, assigned, step}
-use Rattle.rewriting.specs.Run.{ends, returned, finish, glue, walk, Rewritten, Choice, blockThen, skipThen, oneBlock, allBlocks, typesIn, choice, rewrittenBlocks, rewriteWith, rewrite}
-use Rattle.rewriting.specs.Sum.{instructionCount, rewrittenBy}
+use Rattle.rewriting.specs.Run.{ends, returned, finish, glue, walk, Rewritten, Choice, blockThen, skipThen, oneBlock, allBlocks, typesIn, choice, rewrittenBy, rewrittenBlocks, rewriteWith, rewrite}
+use Rattle.rewriting.specs.Sum.{instructionCount}
 use Rattle.rewriting.specs.Within.{argumentCount, returnCount, CallsWithin, ListsWithin}
 use Rattle.rewriting.proofs.Steps.{Made, made, rebuilds-returns, taken-most}
 use Rattle.rewriting.proofs.Unchanged.{phis-behind}

@@ -22,8 +22,7 @@ use Rattle.eligibility.specs.Fold.{behindPhis}
 use Rattle.rewriting.specs.State.{AggStates, noStates, insertState, stateOf, onSome, firstInteger, storePart, storeFrom, forwardStore}
 use Rattle.rewriting.specs.Rebuild.{Rebuilt, keepValue, oneValue, Wanted, rebuildAll, wantedArguments, wantedReturns}
 use Rattle.rewriting.specs.Step.{Piece, kept, left, tracked, oneBuild, stepBuild, foldedParts, stepInsert, stepExtract, extractIndex, stepLoaded, stepLoad, storeKept, stepStore, stepAssign, stepCall, guarded, stepKind, step}
-use Rattle.rewriting.specs.Run.{Walked, ends, returned, finish, glue, walk, Rewritten, Choice, blockThen, skipThen, oneBlock, allBlocks, typesIn, choice, rewrittenBlocks}
-use Rattle.rewriting.specs.Sum.{rewrittenBy}
+use Rattle.rewriting.specs.Run.{Walked, ends, returned, finish, glue, walk, Rewritten, Choice, blockThen, skipThen, oneBlock, allBlocks, typesIn, choice, rewrittenBy, rewrittenBlocks}
 
 -- with no states no value is tracked
 no-state : (x : Value) → stateOf noStates x ≡ none

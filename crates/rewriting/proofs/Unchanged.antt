@@ -20,8 +20,7 @@ use Rattle.eligibility.specs.Fold.{behindPhis, phisOf}
 use Rattle.rewriting.specs.State.{AggStates, noStates, stateOf}
 use Rattle.rewriting.specs.Rebuild.{Rebuilt, untouched, keepValue, rebuildValue, oneValue, rebuildAll, wantedReturns, returnType}
 use Rattle.rewriting.specs.Step.{noCounts, Piece, kept, left, assigned}
-use Rattle.rewriting.specs.Run.{Walked, ends, returned, finish, glue, walk, Rewritten, Choice, blockThen, skipThen, oneBlock, allBlocks, typesIn, choice, rewrittenBlocks, rewriteWith, rewrite}
-use Rattle.rewriting.specs.Sum.{rewrittenBy}
+use Rattle.rewriting.specs.Run.{Walked, ends, returned, finish, glue, walk, Rewritten, Choice, blockThen, skipThen, oneBlock, allBlocks, typesIn, choice, rewrittenBy, rewrittenBlocks, rewriteWith, rewrite}
 use Rattle.rewriting.proofs.Steps.{Made, made}
 
 -- the walk that changes, counts, drops and takes nothing, and the same of blocks

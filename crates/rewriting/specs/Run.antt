@@ -150,18 +150,24 @@ module _ (σ : Settings) (τ : Types) (c : Choice) where
   allBlocks n [] = record { blocks = []; dropped = []; fresh = []; counts = noCounts; changed = false; clash = false }
   allBlocks n (k ∷ ks) = oneBlock n k (λ m. allBlocks m ks) (c .skips k)
 
--- the choice that the Rust makes
 unfoldable pub typesIn : Routine → Types
 typesIn r = record { rows = r .types; recorded = r .recorded }
 
+-- the choice that the Rust makes
 unfoldable pub choice : Settings → Routine → Choice
 choice σ r =
     let τ = typesIn r in
     let cross = crossBlockAggregates σ τ (r .blocks) in
     record { folds = λ k. foldsIn σ τ cross (behindPhis (k .instructions)); skips = λ k. skipped τ (k .instructions) }
 
+-- what any choice of builds to fold and blocks to skip makes of a routine
+unfoldable pub rewrittenBy : Settings → Choice → Routine → Rewritten
+rewrittenBy σ c r = allBlocks σ (typesIn r) c (r .next) (r .blocks)
+
+-- and what the Rust's choice makes of it
 unfoldable pub rewrittenBlocks : Settings → Routine → Rewritten
-rewrittenBlocks σ r = allBlocks σ (typesIn r) (choice σ r) (r .next) (r .blocks)
+unfolding rewrittenBy
+rewrittenBlocks σ r = rewrittenBy σ (choice σ r) r
 
 -- the rewritten routine: fresh numbers are recorded in their order
 unfoldable pub rewriteWith : Rewritten → Routine → Routine

@@ -10,14 +10,13 @@ use Rattle.wire.specs.declared.Value.{Value}
 use Rattle.form.specs.Syntax.{Instruction, InstructionKind, Terminator, Jump, If, BranchCmp, Return, Unreachable, Block}
 use Rattle.form.specs.Syntax.{Assign, UnaryOp, BinaryOp, Call, Cast, Load, Store, Debug, Nop, Phi}
 use Rattle.form.specs.Syntax.{MakeTuple, ExtractTupleElement, MakeStruct, ExtractStructField, InsertField, InsertTuple, MakeFixedArray, AssertEq, HeapAllocCells}
-use Rattle.routine.specs.Routine.{Routine}
 use Rattle.eligibility.specs.declared.Settings.{Settings}
 use Rattle.eligibility.specs.Lookup.{Types}
 use Rattle.eligibility.specs.Fold.{behindPhis}
 use Rattle.rewriting.specs.State.{AggStates, noStates, forwardStore}
 use Rattle.rewriting.specs.Rebuild.{rebuildAll, wantedArguments, wantedReturns, aggregateType}
 use Rattle.rewriting.specs.Step.{step}
-use Rattle.rewriting.specs.Run.{Choice, Rewritten, walk, allBlocks, typesIn, choice}
+use Rattle.rewriting.specs.Run.{Choice, walk}
 
 -- how many instructions blocks have in all
 unfoldable pub instructionCount : List Block → ℕ
@@ -74,10 +73,6 @@ module _ (σ : Settings) (τ : Types) (folds : ValueId → Bool) where
   unfoldable pub rebuilt : AggStates → ℕ → List Instruction → Terminator → ℕ
   rebuilt S n [] t = beforeEnd τ S n t
   rebuilt S n (i ∷ is) t = let p = step σ τ folds S n i in before σ τ S n (i .kind) + rebuilt (p .states) (n + length (p .fresh)) is t
-
--- what any choice of builds to fold and blocks to skip makes of a routine
-unfoldable pub rewrittenBy : Settings → Choice → Routine → Rewritten
-rewrittenBy σ c r = allBlocks σ (typesIn r) c (r .next) (r .blocks)
 
 -- both counts over blocks: a skipped block has neither
 module _ (σ : Settings) (τ : Types) (c : Choice) where

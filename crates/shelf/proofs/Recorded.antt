@@ -14,25 +14,15 @@ use Rattle.typetable.specs.Syntax.{StructField, MirType}
 use Rattle.form.specs.Syntax.{Projection, Index, Field, Place, FieldInit, Source, InstructionKind, Assign, UnaryOp, BinaryOp, Call, Cast, Load, Store, Debug, Nop, Phi}
 use Rattle.form.specs.Syntax.{MakeTuple, ExtractTupleElement, MakeStruct, ExtractStructField, InsertField, InsertTuple, MakeFixedArray, AssertEq, HeapAllocCells}
 use Rattle.form.specs.Syntax as S
-use Rattle.form.specs.Reads.{dests}
+use Rattle.form.specs.Reads.{operands, reads, dests}
 use Rattle.eligibility.specs.Lookup.{Types, rowOf, recordedType, valueRow, isTuple, isStruct, isArray, isAggregate, shape}
 use Rattle.eligibility.specs.Climb.{isSome}
 use Rattle.shelf.specs.Lists.{every}
 use Rattle.shelf.specs.Parts.{partType, operandRow}
 use Rattle.shelf.specs.Fits.{sameType, fits, partsFit, allFit, fieldTypeOf, argumentsFit}
-use Rattle.shelf.specs.Agrees.{isScalarType, isScalar, isIndex, indexFits, placeFits, destsFit, equalTypes, agrees, isKnown}
-
-both-l : (a b : B.Bool) → T (a && b) → T a
-both-l true b t = tt
-both-l false b t = t
-
-both-r : (a b : B.Bool) → T (a && b) → T b
-both-r true b t = t
-both-r false b t = absurd t
-
-both : (a b : B.Bool) → T a → T b → T (a && b)
-both true b s t = t
-both false b s t = s
+use Rattle.shelf.specs.Agrees.{isScalarType, isScalar, isIndex, indexFits, placeFits, destsFit, equalTypes, agrees, countedAgrees, isKnown}
+use Rattle.shelf.proofs.Both.{both-l, both-r, both}
+use Rattle.shelf.proofs.Flag.{agrees-all, agrees-aside}
 
 -- a type that is the same as another is there
 same-some : (o : Option TypeId) (t : Option TypeId) → T (sameType o t) → T (isSome o)
@@ -56,6 +46,23 @@ scalar-known τ (Value.Operand v) h = at (recordedType τ v) h
     at none h = h
     at (some t) h = tt
 scalar-known τ Value.Error h = h
+
+-- what known values read has a recorded type
+pub known-recorded : (τ : Types) (xs : List Value) → T (every (isKnown τ) xs) → T (every (λ v. isSome (recordedType τ v)) (operands xs))
+unfolding isKnown
+known-recorded τ [] h = tt
+known-recorded τ (Value.Literal l ∷ xs) h = known-recorded τ xs h
+known-recorded τ (Value.Operand v ∷ xs) h =
+    both (isSome (recordedType τ v)) _ (both-l (isSome (recordedType τ v)) (every (isKnown τ) xs) h) (known-recorded τ xs (both-r (isSome (recordedType τ v)) (every (isKnown τ) xs) h))
+known-recorded τ (Value.Error ∷ xs) h = absurd h
+
+-- with the flag, "Debug's" too: each of its values is known, and what it reads has a recorded type
+pub debug-known : (τ : Types) (m : ℕ) (xs : List Value) → T (countedAgrees true τ (Debug m xs)) → T (every (isKnown τ) xs)
+unfolding agrees
+debug-known τ m xs h = agrees-all τ (Debug m xs) h
+
+pub debug-recorded : (τ : Types) (m : ℕ) (xs : List Value) → T (countedAgrees true τ (Debug m xs)) → T (every (λ v. isSome (recordedType τ v)) (reads (Debug m xs)))
+debug-recorded τ m xs h = known-recorded τ xs (debug-known τ m xs h)
 
 -- the dests have recorded types
 scalar-recorded : (τ : Types) (d : ValueId) → T (isScalarType τ (recordedType τ d)) → T (isSome (recordedType τ d))
@@ -91,25 +98,29 @@ same-dest τ d t b h = one-dest τ d (same-some (recordedType τ d) (some t) (bo
 scalar-dest : (τ : Types) (d : ValueId) (b : B.Bool) → T (isScalarType τ (recordedType τ d) && b) → T (every (λ d. isSome (recordedType τ d)) (d ∷ []))
 scalar-dest τ d b h = one-dest τ d (scalar-recorded τ d (both-l (isScalarType τ (recordedType τ d)) b h))
 
+-- Debug defines nothing
+dests-aside : (τ : Types) (i : InstructionKind) → T (countedAgrees false τ i) → T (every (λ d. isSome (recordedType τ d)) (dests i))
+unfolding agrees countedAgrees isTuple isArray
+dests-aside τ (Assign d x t) h = same-dest τ d t _ h
+dests-aside τ (UnaryOp op d x) h = scalar-dest τ d _ h
+dests-aside τ (BinaryOp op d x y) h = scalar-dest τ d _ h
+dests-aside τ (Call ds f xs ps rs) h = dests-fit τ ds rs (both-r (argumentsFit τ xs ps) (destsFit τ ds rs) h)
+dests-aside τ (Cast d x t u) h = scalar-dest τ d _ h
+dests-aside τ (Load d p t) h = same-dest τ d t _ h
+dests-aside τ (Store p x t) h = tt
+dests-aside τ (Debug m xs) h = tt
+dests-aside τ Nop h = tt
+dests-aside τ (Phi d t ss) h = same-dest τ d t _ h
+dests-aside τ (MakeTuple d xs) h = one-dest τ d (shape-recorded τ d 0 (both-l (eqb (shape (valueRow τ d)) 1) _ h))
+dests-aside τ (ExtractTupleElement d x k t) h = same-dest τ d t _ h
+dests-aside τ (MakeStruct d fs t) h = same-dest τ d t _ h
+dests-aside τ (ExtractStructField d x n t) h = same-dest τ d t _ h
+dests-aside τ (InsertField d x n y t) h = same-dest τ d t _ h
+dests-aside τ (InsertTuple d x k y t) h = same-dest τ d t _ h
+dests-aside τ (MakeFixedArray d xs t c) h = one-dest τ d (shape-recorded τ d 2 (both-l (eqb (shape (valueRow τ d)) 3) _ h))
+dests-aside τ (AssertEq x y) h = tt
+dests-aside τ (HeapAllocCells d x) h = scalar-dest τ d _ h
+
 -- "defined"
-pub dests-recorded : (τ : Types) (i : InstructionKind) → T (agrees τ i) → T (every (λ d. isSome (recordedType τ d)) (dests i))
-unfolding agrees isTuple isArray
-dests-recorded τ (Assign d x t) h = same-dest τ d t _ h
-dests-recorded τ (UnaryOp op d x) h = scalar-dest τ d _ h
-dests-recorded τ (BinaryOp op d x y) h = scalar-dest τ d _ h
-dests-recorded τ (Call ds f xs ps rs) h = dests-fit τ ds rs (both-r (argumentsFit τ xs ps) (destsFit τ ds rs) h)
-dests-recorded τ (Cast d x t u) h = scalar-dest τ d _ h
-dests-recorded τ (Load d p t) h = same-dest τ d t _ h
-dests-recorded τ (Store p x t) h = tt
-dests-recorded τ (Debug m xs) h = tt
-dests-recorded τ Nop h = tt
-dests-recorded τ (Phi d t ss) h = same-dest τ d t _ h
-dests-recorded τ (MakeTuple d xs) h = one-dest τ d (shape-recorded τ d 0 (both-l (eqb (shape (valueRow τ d)) 1) _ h))
-dests-recorded τ (ExtractTupleElement d x k t) h = same-dest τ d t _ h
-dests-recorded τ (MakeStruct d fs t) h = same-dest τ d t _ h
-dests-recorded τ (ExtractStructField d x n t) h = same-dest τ d t _ h
-dests-recorded τ (InsertField d x n y t) h = same-dest τ d t _ h
-dests-recorded τ (InsertTuple d x k y t) h = same-dest τ d t _ h
-dests-recorded τ (MakeFixedArray d xs t c) h = one-dest τ d (shape-recorded τ d 2 (both-l (eqb (shape (valueRow τ d)) 3) _ h))
-dests-recorded τ (AssertEq x y) h = tt
-dests-recorded τ (HeapAllocCells d x) h = scalar-dest τ d _ h
+pub dests-recorded : (debug : B.Bool) (τ : Types) (i : InstructionKind) → T (countedAgrees debug τ i) → T (every (λ d. isSome (recordedType τ d)) (dests i))
+dests-recorded debug τ i h = dests-aside τ i (agrees-aside debug τ i h)

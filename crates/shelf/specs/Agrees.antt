@@ -1,6 +1,6 @@
 -- Shelf reason 1, "Types disagree", as a test for each kind that passes where they agree. "A value read or defined lacks a
--- recorded type, or Error stands as a value" needs no test of its own: what fits a type or is a scalar has a recorded type
--- or is a literal, and so do the dests (proofs/Recorded.antt).
+-- recorded type, or Error stands as a value" is a test of its own for Debug and Return alone: what fits a type or is a scalar
+-- has a recorded type or is a literal, and so do the dests (proofs/Recorded.antt).
 use Prim.Native.Nat.{ℕ}
 use mathlib.Core.Option.{Option, none, some}
 use mathlib.Core.List.{List, [], _∷_}
@@ -16,11 +16,18 @@ use Rattle.form.specs.Syntax.{Projection, Index, Field, Place, Instruction, Ins
 use Rattle.form.specs.Syntax.{MakeTuple, ExtractTupleElement, MakeStruct, ExtractStructField, InsertField, InsertTuple, MakeFixedArray, AssertEq, HeapAllocCells}
 use Rattle.form.specs.Syntax.{Terminator, Jump, If, BranchCmp, Return, Unreachable, Block}
 use Rattle.form.specs.Syntax as S
+use Rattle.form.specs.Reads.{counted}
 use Rattle.eligibility.specs.Lookup.{Types, rowOf, recordedType, valueRow, isTuple, isStruct, isArray, isAggregate, structFieldsOf}
 use Rattle.eligibility.specs.Climb.{isSome}
 use Rattle.shelf.specs.Lists.{every}
 use Rattle.shelf.specs.Parts.{partType, operandRow}
 use Rattle.shelf.specs.Fits.{literalKind, scalarKind, sameType, fits, partsFit, fieldTypeOf, placeType, fieldsFit, argumentsFit}
+
+-- a value with a recorded type, or a literal
+unfoldable pub isKnown : Types → Value → B.Bool
+isKnown τ (Value.Literal l) = true
+isKnown τ (Value.Operand v) = isSome (recordedType τ v)
+isKnown τ Value.Error = false
 
 -- "scalars (all but aggregates)"
 unfoldable pub isScalarType : Types → Option TypeId → B.Bool
@@ -94,7 +101,7 @@ equalTypes τ (Value.Operand v) Value.Error = false
 equalTypes τ Value.Error y = false
 
 -- "a build, insert, extract, assign, phi, load, store or call names types, counts, fields or tuple indices" as "the recorded
--- types have"; "Operations, BranchCmp, casts and allocations take and give scalars"; "Debug's aside"
+-- types have"; "Operations, BranchCmp, casts and allocations take and give scalars"; Debug's values are known
 unfoldable pub agrees : Types → InstructionKind → B.Bool
 agrees τ (Assign d x t) = sameType (recordedType τ d) (some t) && fits τ x (some t)
 agrees τ (UnaryOp op d x) = isScalarType τ (recordedType τ d) && isScalar τ x
@@ -103,7 +110,7 @@ agrees τ (Call ds f xs ps rs) = argumentsFit τ xs ps && destsFit τ ds rs
 agrees τ (Cast d x t u) = isScalarType τ (recordedType τ d) && isScalar τ x
 agrees τ (Load d p t) = sameType (recordedType τ d) (some t) && placeFits τ p t
 agrees τ (Store p x t) = fits τ x (some t) && placeFits τ p t
-agrees τ (Debug m xs) = true
+agrees τ (Debug m xs) = every (isKnown τ) xs
 agrees τ Nop = true
 agrees τ (Phi d t ss) = sameType (recordedType τ d) (some t) && every (λ s. fits τ (s .value) (some t)) ss
 agrees τ (MakeTuple d xs) = isTuple (valueRow τ d) && partsFit τ (recordedType τ d) xs
@@ -125,12 +132,6 @@ isCondition τ (Value.Literal l) = eqb (literalKind l) 2
 isCondition τ (Value.Operand v) = eqb (scalarKind (valueRow τ v)) 2
 isCondition τ Value.Error = false
 
--- a value with a recorded type, or a literal
-unfoldable pub isKnown : Types → Value → B.Bool
-isKnown τ (Value.Literal l) = true
-isKnown τ (Value.Operand v) = isSome (recordedType τ v)
-isKnown τ Value.Error = false
-
 unfoldable pub endAgrees : Types → Terminator → B.Bool
 endAgrees τ (Jump b) = true
 endAgrees τ (If x a b) = isCondition τ x
@@ -138,5 +139,9 @@ endAgrees τ (BranchCmp op x y a b) = isScalar τ x && isScalar τ y
 endAgrees τ (Return xs) = every (isKnown τ) xs
 endAgrees τ Unreachable = true
 
-unfoldable pub blockAgrees : Types → Block → B.Bool
-blockAgrees τ k = every (λ i. agrees τ (i .kind)) (k .instructions) && endAgrees τ (k .terminator)
+-- the same of an instruction that counts: "Debug's aside"; with the flag, Debug's too
+unfoldable pub countedAgrees : B.Bool → Types → InstructionKind → B.Bool
+countedAgrees debug τ i = cond (counted debug i) (agrees τ i) true
+
+unfoldable pub blockAgrees : B.Bool → Types → Block → B.Bool
+blockAgrees debug τ k = every (λ i. countedAgrees debug τ (i .kind)) (k .instructions) && endAgrees τ (k .terminator)

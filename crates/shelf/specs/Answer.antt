@@ -16,7 +16,7 @@ pub data Answer : Type 0 where
   refused : ℕ → ℕ → Answer
   lowered : Bool → Counts → ℕ → List ℕ → Answer
 
--- the reason of the routine that the input is
+-- the reason of the routine that the input is, Debug aside
 unfoldable pub reasonOf : Settings → Parse Routine → ℕ
 reasonOf σ (ok r n) = shelfReason false r (rewrittenBlocks σ r)
 reasonOf σ (bad c o) = 0

@@ -21,10 +21,10 @@ unfoldable pub definedIn : List Instruction → List ValueId
 definedIn [] = []
 definedIn (i ∷ is) = dests (i .kind) ++ definedIn is
 
--- "A block reads a value that it defines there or later, phis and Debug aside" (reason 2)
-unfoldable pub ordered : List Instruction → B.Bool
-ordered [] = true
-ordered (i ∷ is) = every (λ v. not (among (v .0) (definedIn (i ∷ is)))) (countedReads false (i .kind)) && ordered is
+-- "A block reads a value that it defines there or later, phis and Debug aside" (reason 2; with the flag, Debug too)
+unfoldable pub ordered : B.Bool → List Instruction → B.Bool
+ordered debug [] = true
+ordered debug (i ∷ is) = every (λ v. not (among (v .0) (definedIn (i ∷ is)))) (countedReads debug (i .kind)) && ordered debug is
 
 -- "a build's part, an insert's new value or a Store's value"
 abbrev pub partsTaken : InstructionKind → List ValueId

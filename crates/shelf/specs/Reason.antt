@@ -1,4 +1,5 @@
--- The shelf test: "Reason 0 is passed; else the lowest that holds".
+-- The shelf test: "Reason 0 is passed; else the lowest that holds". Reasons 1, 2 and 5 take a flag: document 01 leaves Debug aside
+-- in them; with the flag, Debug's values count like any other instruction's.
 use Prim.Native.Nat.{ℕ}
 use mathlib.Core.List.{List}
 use mathlib.Core.Bool.{Bool, true, false, cond, _&&_}
@@ -13,13 +14,13 @@ use Rattle.shelf.specs.Lists.{every, among}
 use Rattle.shelf.specs.Reads.{ordered, bases, apart, shallow, clean, cleanTerminator}
 use Rattle.shelf.specs.Agrees.{blockAgrees}
 
--- 1. "Types disagree"; a parameter is defined, so that it has a recorded type
-unfoldable pub typesAgree : Routine → Bool
-typesAgree r = every (λ v. isSome (recordedType (typesIn r) v)) (r .parameters) && every (blockAgrees (typesIn r)) (r .blocks)
+-- 1. "Types disagree", Debug's aside; with the flag, Debug's too. A parameter is defined, so that it has a recorded type
+unfoldable pub typesAgree : Bool → Routine → Bool
+typesAgree debug r = every (λ v. isSome (recordedType (typesIn r) v)) (r .parameters) && every (blockAgrees debug (typesIn r)) (r .blocks)
 
--- 2. "A block reads a value that it defines there or later, phis and Debug aside": phis stand in front
-unfoldable pub inOrder : Routine → Bool
-inOrder r = every (λ k. ordered (behindPhis (k .instructions))) (r .blocks)
+-- 2. "A block reads a value that it defines there or later, phis and Debug aside"; with the flag, Debug too. Phis stand in front
+unfoldable pub inOrder : Bool → Routine → Bool
+inOrder debug r = every (λ k. ordered debug (behindPhis (k .instructions))) (r .blocks)
 
 -- 3. "An aggregate that is a Store's base is also a build's part, an insert's new value or a Store's value"
 unfoldable pub keptApart : Routine → Bool
@@ -36,8 +37,8 @@ readsNoDropped debug dropped ks =
 
 unfoldable pub shelfReason : Bool → Routine → Rewritten → ℕ
 shelfReason debug r w =
-    cond (typesAgree r)
-    (cond (inOrder r)
+    cond (typesAgree debug r)
+    (cond (inOrder debug r)
     (cond (keptApart r)
     (cond (noDeepStore (w .dropped) r)
     (cond (readsNoDropped debug (w .dropped) (w .blocks)) 0 5) 4) 3) 2) 1

@@ -27,9 +27,9 @@ told true q b e f = ap not (sym f) ∙ e
 told false q b e f = ap not (sym f) ∙ e
 
 -- what the scans answer, as the tests have it
-pub of-order : (x : Routine) (r : Bool) → r ≡ every (λ k. ordered (behindPhis (k .instructions))) (x .blocks) → r ≡ inOrder x
+pub of-order : (debug : Bool) (x : Routine) (r : Bool) → r ≡ every (λ k. ordered debug (behindPhis (k .instructions))) (x .blocks) → r ≡ inOrder debug x
 unfolding inOrder
-of-order x r e = e
+of-order debug x r e = e
 
 pub of-apart : (x : Routine) (r : Bool) → r ≡ every (λ k. apart (λ v. among v (bases (typesIn x) (x .blocks))) (behindPhis (k .instructions))) (x .blocks) → r ≡ keptApart x
 unfolding keptApart
@@ -71,10 +71,10 @@ module _ (gone : ℕ → Bool) (none : (v : ℕ) → gone v ≡ false) where
   none-read [] = refl
   none-read (v ∷ vs) = rw (none (v .0)) (none-read vs)
 
-  none-clean : (is : List Instruction) → clean false gone is ≡ true
+  none-clean : (debug : Bool) (is : List Instruction) → clean debug gone is ≡ true
   unfolding clean
-  none-clean [] = refl
-  none-clean (i ∷ is) = rw (none-read (countedReads false (i .kind))) (none-clean is)
+  none-clean debug [] = refl
+  none-clean debug (i ∷ is) = rw (none-read (countedReads debug (i .kind))) (none-clean debug is)
 
   none-last : (t : Terminator) → cleanTerminator gone t ≡ true
   unfolding cleanTerminator
@@ -90,29 +90,29 @@ module _ (ds : List ValueId) (none : (v : ℕ) → among v ds ≡ false) where
   unfolding noDeepStore
   none-deep x = sym (every-true _ (λ k. every-true _ (λ i. shallow-kind (λ v. among v ds) none (i .kind)) (behindPhis (k .instructions))) (x .blocks))
 
-  pub none-dropped : (ks : List Block) → true ≡ readsNoDropped false ds ks
+  pub none-dropped : (debug : Bool) (ks : List Block) → true ≡ readsNoDropped debug ds ks
   unfolding readsNoDropped
-  none-dropped ks = sym (rw (every-true _ (λ k. none-clean (λ v. among v ds) none (k .instructions)) ks) (every-true _ (λ k. none-last (λ v. among v ds) none (k .terminator)) ks))
+  none-dropped debug ks = sym (rw (every-true _ (λ k. none-clean (λ v. among v ds) none debug (k .instructions)) ks) (every-true _ (λ k. none-last (λ v. among v ds) none (k .terminator)) ks))
 
 -- lists are short
 pub lists-few : {b : Bounds} {s types recorded : List ℕ} {τ : Types} → Ground b s types recorded τ → b .list + b .projections ≤ 30
 lists-few g = omega (arith, g .listed, g .projected)
 
 -- the reasons of the input
-module _ (x : Routine) where
-  pub input-1 : false ≡ typesAgree x → 1 ≡ inputReason x
+module _ (debug : Bool) (x : Routine) where
+  pub input-1 : false ≡ typesAgree debug x → 1 ≡ inputReason debug x
   unfolding inputReason
   input-1 a = rw (← a)
 
-  pub input-2 : true ≡ typesAgree x → false ≡ inOrder x → 2 ≡ inputReason x
+  pub input-2 : true ≡ typesAgree debug x → false ≡ inOrder debug x → 2 ≡ inputReason debug x
   unfolding inputReason
   input-2 a b = rw (← a, ← b)
 
-  pub input-3 : true ≡ typesAgree x → true ≡ inOrder x → false ≡ keptApart x → 3 ≡ inputReason x
+  pub input-3 : true ≡ typesAgree debug x → true ≡ inOrder debug x → false ≡ keptApart x → 3 ≡ inputReason debug x
   unfolding inputReason
   input-3 a b c = rw (← a, ← b, ← c)
 
-  pub input-0 : true ≡ typesAgree x → true ≡ inOrder x → true ≡ keptApart x → 0 ≡ inputReason x
+  pub input-0 : true ≡ typesAgree debug x → true ≡ inOrder debug x → true ≡ keptApart x → 0 ≡ inputReason debug x
   unfolding inputReason
   input-0 a b c = rw (← a, ← b, ← c)
 
@@ -129,26 +129,26 @@ first-none true true false rest e = absurd (omega arith)
 first-none true false c rest e = absurd (omega arith)
 first-none false b c rest e = absurd (omega arith)
 
-module _ (x : Routine) (w : Rewritten) where
-  pub reason-first : (n : ℕ) → n ≡ inputReason x → (n ≡ 0 → ⊥) → n ≡ shelfReason false x w
+module _ (debug : Bool) (x : Routine) (w : Rewritten) where
+  pub reason-first : (n : ℕ) → n ≡ inputReason debug x → (n ≡ 0 → ⊥) → n ≡ shelfReason debug x w
   unfolding inputReason shelfReason
-  reason-first n e h = first-some (typesAgree x) (inOrder x) (keptApart x) _ n e h
+  reason-first n e h = first-some (typesAgree debug x) (inOrder debug x) (keptApart x) _ n e h
 
   -- where none of them holds, the others
-  others : 0 ≡ inputReason x → cond (noDeepStore (w .dropped) x) (cond (readsNoDropped false (w .dropped) (w .blocks)) 0 5) 4 ≡ shelfReason false x w
+  others : 0 ≡ inputReason debug x → cond (noDeepStore (w .dropped) x) (cond (readsNoDropped debug (w .dropped) (w .blocks)) 0 5) 4 ≡ shelfReason debug x w
   unfolding inputReason shelfReason
-  others e = first-none (typesAgree x) (inOrder x) (keptApart x) _ e
+  others e = first-none (typesAgree debug x) (inOrder debug x) (keptApart x) _ e
 
-  pub reason-4 : 0 ≡ inputReason x → false ≡ noDeepStore (w .dropped) x → 4 ≡ shelfReason false x w
+  pub reason-4 : 0 ≡ inputReason debug x → false ≡ noDeepStore (w .dropped) x → 4 ≡ shelfReason debug x w
   reason-4 e d = rw (← d) at (others e)
 
-  pub reason-5 : 0 ≡ inputReason x → true ≡ noDeepStore (w .dropped) x → false ≡ readsNoDropped false (w .dropped) (w .blocks) → 5 ≡ shelfReason false x w
+  pub reason-5 : 0 ≡ inputReason debug x → true ≡ noDeepStore (w .dropped) x → false ≡ readsNoDropped debug (w .dropped) (w .blocks) → 5 ≡ shelfReason debug x w
   reason-5 e d f = rw (← d, ← f) at (others e)
 
-  pub reason-0 : 0 ≡ inputReason x → true ≡ noDeepStore (w .dropped) x → true ≡ readsNoDropped false (w .dropped) (w .blocks) → 0 ≡ shelfReason false x w
+  pub reason-0 : 0 ≡ inputReason debug x → true ≡ noDeepStore (w .dropped) x → true ≡ readsNoDropped debug (w .dropped) (w .blocks) → 0 ≡ shelfReason debug x w
   reason-0 e d f = rw (← d, ← f) at (others e)
 
   -- where no value is dropped, only the input has reasons
-  pub reason-undropped : (n : ℕ) → n ≡ inputReason x → ((v : ℕ) → among v (w .dropped) ≡ false) → n ≡ shelfReason false x w
+  pub reason-undropped : (n : ℕ) → n ≡ inputReason debug x → ((v : ℕ) → among v (w .dropped) ≡ false) → n ≡ shelfReason debug x w
   unfolding inputReason shelfReason
-  reason-undropped n e h = rw (← none-deep (w .dropped) h x, ← none-dropped (w .dropped) h (w .blocks)) e
+  reason-undropped n e h = rw (← none-deep (w .dropped) h x, ← none-dropped (w .dropped) h debug (w .blocks)) e

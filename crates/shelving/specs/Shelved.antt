@@ -32,8 +32,8 @@ pub record Input (s : List ℕ) (b : Bounds) (types recorded : List ℕ) (parame
   pub given : definedsOf (b .list) (b .next) (replicate (b .next) false) (drop parameters s) ≡ ok (x .parameters) used
 
 -- the lowest of the reasons 1, 2 and 3, which do not ask for the output; else 0
-unfoldable pub inputReason : Routine → ℕ
-inputReason x = cond (typesAgree x) (cond (inOrder x) (cond (keptApart x) 0 3) 2) 1
+unfoldable pub inputReason : Bool → Routine → ℕ
+inputReason debug x = cond (typesAgree debug x) (cond (inOrder debug x) (cond (keptApart x) 0 3) 2) 1
 
 -- and the blocks of its rewriting
 pub record Shelved (s : List ℕ) (b : Bounds) (types recorded : List ℕ) (parameters : ℕ) (places starts out : List ℕ) (at next : ℕ) (dropped : List Bool) (x : Routine) (w : Rewritten) : Type 0 where

@@ -61,7 +61,7 @@ pub fn input_reason(
     places: &[usize],
     starts: &[u16],
 ) -> ShelfReason
-    ensures { λ r. ⌜ ((x : Routine) → Input (now (s .entry)) b (now (types .entry)) (now (recorded .entry)) parameters (now (places .entry)) (now (starts .entry)) x → numberOfReason r ≡ inputReason x) ⌝ }
+    ensures { λ r. ⌜ ((x : Routine) → Input (now (s .entry)) b (now (types .entry)) (now (recorded .entry)) parameters (now (places .entry)) (now (starts .entry)) x → numberOfReason r ≡ inputReason false x) ⌝ }
 {
     if !agreeing::types_agree(s, b, types, recorded, parameters, places, starts, b.blocks) {
         return ShelfReason::TypesDisagree;

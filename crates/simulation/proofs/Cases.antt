@@ -29,13 +29,14 @@ use Rattle.shelf.specs.Lists.{every, All, among}
 use Rattle.shelf.specs.Fits.{sameType, fits}
 use Rattle.simulation.specs.Typing.{Whole, typed}
 use Rattle.shelf.specs.Reads.{countedReads, definedIn, ordered, partsTaken, apart}
+use Rattle.shelf.proofs.Flag.{counted-of, reads-aside}
 use Rattle.simulation.specs.Static.{once}
 use Rattle.simulation.specs.Statement.{FineCause}
 use Rattle.simulation.proofs.Tools.{and-l, and-r, nor-i, none-some, split, passes, fails, cond-yes, change-other, change-same, differ, differ′}
 use Rattle.simulation.proofs.Frame.{changedBase, changes, exec-same}
 use Rattle.simulation.proofs.Retype.{retyped, Alike, looks, looks-in, exec-later}
 use Rattle.simulation.proofs.Invariant.{Ctx, Parts, Tracked, Tracks, Agree, kept-values, parts-later, tracked-on}
-use Rattle.simulation.proofs.Generic.{FineLeft, Match, Good, good-later, OkOut, ok-later, reruns, walks, runsFrom, does, Sim, SimP, clean-one, bases-ok, reads-low, dests-low, counted-of, same-reads, low-alike, resume}
+use Rattle.simulation.proofs.Generic.{FineLeft, Match, Good, good-later, OkOut, ok-later, reruns, walks, runsFrom, does, Sim, SimP, clean-one, bases-ok, reads-low, dests-low, same-reads, low-alike, resume}
 
 -- one instruction put out, and nothing tracked
 abbrev pub alone : Counts → Bool → AggStates → Instruction → Piece
@@ -117,11 +118,13 @@ pub dest-once : {A : Type 0} (κ : Ctx A) (i : Instruction) (is : List Instructi
 unfolding once
 dest-once κ i is t g = search (and-l, and-r)
 
--- what it reads is not defined there or later
+-- what it reads, Debug aside, is not defined there or later
 pub reads-calm : {A : Type 0} (κ : Ctx A) (i : Instruction) (is : List Instruction) (t : Terminator) → Good κ (i ∷ is) t
     → T (every (λ v. not (among (v .0) (definedIn (i ∷ is)))) (countedReads false (i .kind)))
 unfolding ordered
-reads-calm κ i is t g = search (and-l, and-r)
+reads-calm κ i is t g =
+    let calm : ValueId → Bool = λ v. not (among (v .0) (definedIn (i ∷ is))) in
+    reads-aside calm (κ .mean .debug) (i .kind) (and-l (every calm (countedReads (κ .mean .debug) (i .kind))) (ordered (κ .mean .debug) is) (g .order))
 
 -- the parts it takes are no Store's base
 pub parts-free : {A : Type 0} (κ : Ctx A) (i : Instruction) (is : List Instruction) (t : Terminator) → Good κ (i ∷ is) t

@@ -30,12 +30,13 @@ use Rattle.machine.specs.Run.{onward, needed, branch, judged, execTerminator, e
 use Rattle.shelf.specs.Lists.{every, All}
 use Rattle.shelf.specs.Fits.{sameType, fits}
 use Rattle.shelf.specs.Reads.{countedReads, clean, cleanTerminator}
+use Rattle.shelf.proofs.Flag.{counted-of}
 use Rattle.simulation.specs.Static.{below}
 use Rattle.simulation.proofs.Tools.{and-l, and-r, none-some}
 use Rattle.simulation.proofs.Frame.{Same, rest-of, eval-same, evalAll-same, exec-same, write-both}
 use Rattle.simulation.proofs.Retype.{retyped, Alike, looks-in, exec-later, terminator-later}
 use Rattle.simulation.proofs.Invariant.{Ctx, Tracks, Agree}
-use Rattle.simulation.proofs.Generic.{Match, on, over, halt, OkOut, runs, reruns, Sim, SimP, counted-of, same-reads, low-alike}
+use Rattle.simulation.proofs.Generic.{Match, on, over, halt, OkOut, runs, reruns, Sim, SimP, same-reads, low-alike}
 use Rattle.simulation.proofs.Cases.{sim-kept}
 use Rattle.simulation.proofs.Builds.{at, sim-MakeTuple, sim-MakeStruct, sim-MakeFixedArray, sim-Assign}
 use Rattle.simulation.proofs.Takes.{sim-ExtractTupleElement, sim-ExtractStructField}

@@ -1,7 +1,7 @@
 -- The simulation of the rest of a block, stated, and its general cases.
 use mathlib.Core.Path.{_≡_}
 use Prim.Native.Nat.{ℕ, suc, _+_, _≤_}
-use mathlib.Core.Bool.{Bool, true, false, cond, not}
+use mathlib.Core.Bool.{Bool, not}
 use mathlib.Core.Option.{some}
 use mathlib.Core.List.{List, [], _∷_, _++_}
 use native.Mathlib.Nat.{add-zero, add-suc, suc-add}
@@ -11,8 +11,8 @@ use Rattle.wire.specs.declared.ValueId.{ValueId}
 use Rattle.wire.specs.declared.TypeId.{TypeId}
 use Rattle.wire.specs.declared.BlockId.{BlockId}
 use Rattle.wire.specs.declared.Value.{Value}
-use Rattle.form.specs.Syntax.{Instruction, InstructionKind, Terminator}
-use Rattle.form.specs.Reads.{reads, dests, counted, terminatorReads}
+use Rattle.form.specs.Syntax.{Instruction, Terminator}
+use Rattle.form.specs.Reads.{reads, dests, terminatorReads}
 use Rattle.eligibility.specs.Lookup.{Types, recordedType}
 use Rattle.rewriting.specs.State.{AggStates}
 use Rattle.rewriting.specs.Step.{Piece}
@@ -46,7 +46,7 @@ pub data Match {A : Type 0} (κ : Ctx A) : Left A → Left A → Type 0 where
 
 -- what the tests say of the rest of a block
 pub record Good {A : Type 0} (κ : Ctx A) (is : List Instruction) (t : Terminator) : Type 0 where
-  pub order : T (ordered is)
+  pub order : T (ordered (κ .mean .debug) is)
   pub single : T (once is)
   pub low : T (below (κ .m) is)
   pub lowEnd : T (every (λ v. ltb (v .0) (κ .m)) (terminatorReads t))
@@ -172,14 +172,6 @@ pub dests-low : {A : Type 0} (κ : Ctx A) (i : Instruction) (is : List Instructi
     → T (every (λ v. ltb (v .0) (κ .m)) (dests (i .kind)))
 unfolding below
 dests-low κ i is t g = search (and-l, and-r)
-
--- where all are below next, the counted ones are
-pub counted-of : (p : ValueId → Bool) (b : Bool) (i : InstructionKind) → T (every p (reads i)) → T (every p (countedReads b i))
-counted-of p b i t = some-of (counted b i) t
-  where
-    some-of : (c : Bool) → T (every p (reads i)) → T (every p (cond c (reads i) []))
-    some-of true t = t
-    some-of false t = tt
 
 -- reads of nothing fresh and nothing dropped are alike on both sides
 pub same-reads : {A : Type 0} (κ : Ctx A) (E F : Env A) → Agree κ E F → (vs : List ValueId) → T (every (λ v. ltb (v .0) (κ .m)) vs)

@@ -9,10 +9,10 @@ use Rattle.routine.specs.Routine.{Routine}
 use Rattle.eligibility.specs.declared.Settings.{Settings}
 use Rattle.eligibility.specs.Lookup.{structFieldsOf}
 use Rattle.eligibility.specs.Fold.{behindPhis}
-use Rattle.rewriting.specs.Run.{Choice, typesIn}
+use Rattle.rewriting.specs.Run.{Choice, typesIn, rewrittenBy}
 use Rattle.machine.proofs.Examples.{machine, numbers, number, indexOf}
 use Rattle.shelf.specs.Lists.{every, among}
-use Rattle.simulation.specs.Static.{fieldsOnce, rewriting}
+use Rattle.simulation.specs.Static.{fieldsOnce}
 use Rattle.simulation.specs.Static as Sc
 use Rattle.shelf.specs.Reads as Re
 use Rattle.shelf.specs.Fits as Fi
@@ -29,14 +29,14 @@ use Rattle.rewriting.specs.Run as Rn
 
 -- the pass
 unfoldable pub pass : Unit {0}
-unfolding Lk.rowOf Lk.recordedType Lk.valueRow Lk.isScalarizable Lk.shape Lk.isTuple Lk.isStruct Lk.isArray Lk.isAggregate Lk.structFieldsOf Lk.next Lk.position Lk.fieldIndex Lk.isOperand Lk.isInteger Lk.asConstInteger Lk.any Lk.all Fa.joins Fa.member Fa.sweep Fa.sweeps Fa.family Fa.buildDest Fa.placeOf Fa.dynamicFirst Fa.dynamicAt Fa.hasDynamicIndex Fa.readsOne Fa.readElsewhere Fa.union Fa.crossFamily Fa.crossBuild Fa.crossBuilds Fa.crossBlocks Fa.crossBlockAggregates Cl.given Cl.consPart Cl.fromStructFields Cl.isSome Cl.orElse Cl.structRow Cl.structParts Cl.buildable Cl.isBuildOf Cl.buildOf Cl.buildableOf Cl.givenParts Cl.constantFirst Cl.onBase Cl.onward Cl.climbParts Cl.climbBuild Cl.climbOne Cl.climbAll Cl.climb Cl.canScalarize Fo.tupleParent Fo.foldsTuple Fo.foldsStruct Fo.foldsArray Fo.behindPhis Fo.phisOf Fo.aggregatePhi Fo.skipped St.noStates St.insertState St.stateOf St.onSome St.consSome St.replaced St.stepIndex St.stepPart St.chain St.firstInteger St.storePart St.storeLast St.storeDeeper St.storeFrom St.forwardStore Rb.fitted Rb.named Rb.rebuildAt Rb.clashes Rb.keepValue Rb.rebuildValue Rb.oneValue Rb.rebuildAll Rb.aggregateType Rb.wantedArguments Rb.returnType Rb.wantedReturns Sp.kept Sp.left Sp.tracked Sp.assigned Sp.stepBuild Sp.foldedParts Sp.stepInsert Sp.handOn Sp.stepExtract Sp.extractIndex Sp.stepLoaded Sp.stepLoad Sp.storeRebuilt Sp.storeKept Sp.stepStore Sp.stepAssign Sp.stepCall Sp.guarded Sp.stepKind Sp.step Rn.ends Rn.returned Rn.finish Rn.glue Rn.walk Rn.foldsBuild Rn.foldsIn Rn.blockThen Rn.skipThen Rn.oneBlock Rn.allBlocks Rn.typesIn Rn.choice Rn.rewrittenBlocks Rn.rewriteWith Rn.rewrite Sc.rewriting Sm.rewritten
+unfolding Lk.rowOf Lk.recordedType Lk.valueRow Lk.isScalarizable Lk.shape Lk.isTuple Lk.isStruct Lk.isArray Lk.isAggregate Lk.structFieldsOf Lk.next Lk.position Lk.fieldIndex Lk.isOperand Lk.isInteger Lk.asConstInteger Lk.any Lk.all Fa.joins Fa.member Fa.sweep Fa.sweeps Fa.family Fa.buildDest Fa.placeOf Fa.dynamicFirst Fa.dynamicAt Fa.hasDynamicIndex Fa.readsOne Fa.readElsewhere Fa.union Fa.crossFamily Fa.crossBuild Fa.crossBuilds Fa.crossBlocks Fa.crossBlockAggregates Cl.given Cl.consPart Cl.fromStructFields Cl.isSome Cl.orElse Cl.structRow Cl.structParts Cl.buildable Cl.isBuildOf Cl.buildOf Cl.buildableOf Cl.givenParts Cl.constantFirst Cl.onBase Cl.onward Cl.climbParts Cl.climbBuild Cl.climbOne Cl.climbAll Cl.climb Cl.canScalarize Fo.tupleParent Fo.foldsTuple Fo.foldsStruct Fo.foldsArray Fo.behindPhis Fo.phisOf Fo.aggregatePhi Fo.skipped St.noStates St.insertState St.stateOf St.onSome St.consSome St.replaced St.stepIndex St.stepPart St.chain St.firstInteger St.storePart St.storeLast St.storeDeeper St.storeFrom St.forwardStore Rb.fitted Rb.named Rb.rebuildAt Rb.clashes Rb.keepValue Rb.rebuildValue Rb.oneValue Rb.rebuildAll Rb.aggregateType Rb.wantedArguments Rb.returnType Rb.wantedReturns Sp.kept Sp.left Sp.tracked Sp.assigned Sp.stepBuild Sp.foldedParts Sp.stepInsert Sp.handOn Sp.stepExtract Sp.extractIndex Sp.stepLoaded Sp.stepLoad Sp.storeRebuilt Sp.storeKept Sp.stepStore Sp.stepAssign Sp.stepCall Sp.guarded Sp.stepKind Sp.step Rn.ends Rn.returned Rn.finish Rn.glue Rn.walk Rn.foldsBuild Rn.foldsIn Rn.blockThen Rn.skipThen Rn.oneBlock Rn.allBlocks Rn.typesIn Rn.choice Rn.rewrittenBy Rn.rewrittenBlocks Rn.rewriteWith Rn.rewrite Sm.rewritten
 pass = tt
 
 -- the static facts of a routine as answers, in the order of `Static`
 unfoldable pub facts : Bool → Settings → Choice → Routine → List Bool
 facts debug σ c r =
     let bs = r .blocks in
-    let dr : ℕ → Bool = λ x. among x ((rewriting σ c r) .dropped) in
+    let dr : ℕ → Bool = λ x. among x ((rewrittenBy σ c r) .dropped) in
     eqb (length (r .recorded)) (r .next)
     ∷ every (λ v. ltb (v .0) (r .next)) (r .parameters)
     ∷ every (λ k. Sc.below (r .next) (k .instructions)) bs
@@ -45,11 +45,11 @@ facts debug σ c r =
     ∷ every (λ k. Sc.once (behindPhis (k .instructions))) bs
     ∷ every (λ k. Sc.noPhi (behindPhis (k .instructions))) bs
     ∷ every (λ k. every (λ i. Ty.typed (typesIn r) (i .kind)) (behindPhis (k .instructions))) bs
-    ∷ every (λ k. Re.ordered (behindPhis (k .instructions))) bs
+    ∷ every (λ k. Re.ordered debug (behindPhis (k .instructions))) bs
     ∷ every (λ k. Re.apart (λ x. among x (Re.bases (typesIn r) bs)) (behindPhis (k .instructions))) bs
     ∷ every (λ k. every (λ i. Re.shallow dr (i .kind)) (behindPhis (k .instructions))) bs
-    ∷ every (λ k. Re.clean debug dr (k .instructions)) ((rewriting σ c r) .blocks)
-    ∷ every (λ k. Re.cleanTerminator dr (k .terminator)) ((rewriting σ c r) .blocks)
+    ∷ every (λ k. Re.clean debug dr (k .instructions)) ((rewrittenBy σ c r) .blocks)
+    ∷ every (λ k. Re.cleanTerminator dr (k .terminator)) ((rewrittenBy σ c r) .blocks)
     ∷ []
 
 -- the static facts

@@ -17,7 +17,7 @@ use Rattle.eligibility.specs.declared.Settings.{Settings}
 use Rattle.eligibility.specs.Lookup.{Types, rowOf, recordedType, valueRow, isAggregate, structFieldsOf}
 use Rattle.routine.specs.Routine.{Routine}
 use Rattle.eligibility.specs.Fold.{behindPhis}
-use Rattle.rewriting.specs.Run.{Choice, allBlocks, typesIn, rewriteWith, choice, rewrittenBlocks, rewrite}
+use Rattle.rewriting.specs.Run.{Choice, allBlocks, typesIn, choice, rewrittenBy, rewrittenBlocks, rewriteWith, rewrite}
 use Rattle.machine.specs.Values.{Val}
 use Rattle.machine.specs.Meaning.{Meaning, Taken, took, refuses, exhausted}
 use Rattle.machine.specs.Records.{Env, write, Trace}
@@ -28,7 +28,7 @@ use Rattle.shelf.specs.Lists.{every, All, among}
 use Rattle.shelf.specs.Fits.{sameType, fits, placeType}
 use Rattle.simulation.specs.Typing.{typed}
 use Rattle.shelf.specs.Reads.{ordered, aggregateBase, basesIn, bases, apart, shallow, clean, cleanTerminator}
-use Rattle.simulation.specs.Static.{below, once, noPhi, fieldsOnce, rewriting, Static}
+use Rattle.simulation.specs.Static.{below, once, noPhi, fieldsOnce, Static}
 use Rattle.simulation.specs.Statement.{Fine, rewritten, RunsAlike}
 use Rattle.simulation.proofs.Tools.{and-l, and-r, and-i, split, passes, fails, cond-yes, cond-no, every-l, every-r, every-at, all-among}
 use Rattle.simulation.proofs.Frame.{changes, changedBase}
@@ -96,7 +96,7 @@ goods : {A : Type 0} (κ : Ctx A) (bs : List Block) → T (every (λ k. below (�
     → T (every (λ k. every (λ v. ltb (v .0) (κ .m)) (terminatorReads (k .terminator))) bs)
     → T (every (λ k. once (behindPhis (k .instructions))) bs) → T (every (λ k. noPhi (behindPhis (k .instructions))) bs)
     → T (every (λ k. every (λ i. typed (κ .types) (i .kind)) (behindPhis (k .instructions))) bs)
-    → T (every (λ k. ordered (behindPhis (k .instructions))) bs) → T (every (λ k. apart (κ .sb) (behindPhis (k .instructions))) bs)
+    → T (every (λ k. ordered (κ .mean .debug) (behindPhis (k .instructions))) bs) → T (every (λ k. apart (κ .sb) (behindPhis (k .instructions))) bs)
     → T (every (λ k. every (λ i. shallow (κ .dr) (i .kind)) (behindPhis (k .instructions))) bs)
     → T (every (λ v. κ .sb (v .0)) (bases (κ .types) bs)) → All (BlockGood κ) bs
 unfolding bases
@@ -108,7 +108,7 @@ goods κ (k ∷ ks) a b c d e f g h i =
         low = and-l (below (κ .m) (k .instructions)) _ a;
         phisFirst = and-l (noPhi is) _ d;
         good = record {
-          order = and-l (ordered is) _ f;
+          order = and-l (ordered (κ .mean .debug) is) _ f;
           single = and-l (once is) _ c;
           low = below-behind (κ .m) (k .instructions) (and-l (below (κ .m) (k .instructions)) _ a);
           lowEnd = and-l (every (λ v. ltb (v .0) (κ .m)) (terminatorReads (k .terminator))) _ b;
@@ -119,7 +119,7 @@ goods κ (k ∷ ks) a b c d e f g h i =
         };
       },
       goods κ ks (and-r (below (κ .m) (k .instructions)) _ a) (and-r (every (λ v. ltb (v .0) (κ .m)) (terminatorReads (k .terminator))) _ b) (and-r (once is) _ c) (and-r (noPhi is) _ d)
-          (and-r (every (λ i. typed (κ .types) (i .kind)) is) _ e) (and-r (ordered is) _ f) (and-r (apart (κ .sb) is) _ g) (and-r (every (λ i. shallow (κ .dr) (i .kind)) is) _ h)
+          (and-r (every (λ i. typed (κ .types) (i .kind)) is) _ e) (and-r (ordered (κ .mean .debug) is) _ f) (and-r (apart (κ .sb) is) _ g) (and-r (every (λ i. shallow (κ .dr) (i .kind)) is) _ h)
           (every-r (λ v. κ .sb (v .0)) (basesIn (κ .types) is) (bases (κ .types) ks) i),
     )
 
@@ -201,21 +201,21 @@ context M σ c r s =
       mean = M;
       set = σ;
       types = typesIn r;
-      later = r .recorded ++ map some ((rewriting σ c r) .fresh);
+      later = r .recorded ++ map some ((rewrittenBy σ c r) .fresh);
       m = r .next;
-      dr = λ x. among x ((rewriting σ c r) .dropped);
+      dr = λ x. among x ((rewrittenBy σ c r) .dropped);
       sb = λ x. among x (bases (typesIn r) (r .blocks));
-      alike = λ v t. get-front (r .recorded) (map some ((rewriting σ c r) .fresh)) (v .0) (rw (s .recorded) t);
+      alike = λ v t. get-front (r .recorded) (map some ((rewrittenBy σ c r) .fresh)) (v .0) (rw (s .recorded) t);
       names = λ t. names-once (typesIn r) t (s .fields);
     }
 
 -- what came out of the blocks passes its tests
 output-ok : {A : Type 0} (M : Meaning A) (σ : Settings) (c : Choice) (r : Routine) (s : Static (M .debug) σ c r)
     → RewrittenOk (context M σ c r s) (r .next) (allBlocks σ (typesIn r) c (r .next) (r .blocks))
-unfolding context rewriting typesIn
+unfolding context rewrittenBy typesIn
 output-ok M σ c r s =
     let κ = context M σ c r s in
-    let q = rewriting σ c r in
+    let q = rewrittenBy σ c r in
     record {
       cleans = cleans κ (q .blocks) (s .clean) (s .cleanEnds);
       drops = all-among (κ .dr) (q .dropped) (λ x h. h);
@@ -233,11 +233,11 @@ input-ok M σ c r s =
 -- THE THEOREM: for every meaning, every choice, every outside list and every n
 pub simulates : {A : Type 0} (M : Meaning A) (σ : Settings) (c : Choice) (r : Routine) → Static (M .debug) σ c r
     → (w : List (Val A)) (n : ℕ) → Fine (run M r w n) → run M r w n ≡ run M (rewritten σ c r) w n
-unfolding run rewritten rewriteWith context typesIn rewriting
+unfolding run rewritten rewriteWith context typesIn rewrittenBy
 simulates M σ c r s w n f =
     let κ = context M σ c r s in
     parameters-same κ (r .parameters) w noneWritten _ _ (s .parameters)
-    (λ E w′ f′. blocks-sim κ (r .blocks) ((rewriting σ c r) .blocks) (pairs κ c (r .blocks) (r .next) (le-refl (r .next)) (input-ok M σ c r s) (output-ok M σ c r s)) n none (r .entry) E E w′ [] (λ x lo nd. refl) f′) f
+    (λ E w′ f′. blocks-sim κ (r .blocks) ((rewrittenBy σ c r) .blocks) (pairs κ c (r .blocks) (r .next) (le-refl (r .next)) (input-ok M σ c r s) (output-ok M σ c r s)) n none (r .entry) E E w′ [] (λ x lo nd. refl) f′) f
 
 -- the same as one statement of two routines
 pub runs-alike : {A : Type 0} (M : Meaning A) (σ : Settings) (c : Choice) (r : Routine) → Static (M .debug) σ c r → RunsAlike M r (rewritten σ c r)
@@ -246,7 +246,7 @@ runs-alike M σ c r s = simulates M σ c r s
 
 -- and of the choice that the Rust makes: the rewriting of demand 2
 pub rust-choice : (σ : Settings) (r : Routine) → rewritten σ (choice σ r) r ≡ rewrite σ r
-unfolding rewritten rewriting rewrite rewrittenBlocks
+unfolding rewritten rewrite rewrittenBlocks
 rust-choice σ r = refl
 
 -- so the pass simulates

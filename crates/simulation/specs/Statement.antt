@@ -4,12 +4,11 @@ use mathlib.Core.Path.{_≡_}
 use mathlib.Core.List.{List}
 use Rattle.routine.specs.Routine.{Routine}
 use Rattle.eligibility.specs.declared.Settings.{Settings}
-use Rattle.rewriting.specs.Run.{Choice, rewriteWith}
+use Rattle.rewriting.specs.Run.{Choice, rewrittenBy, rewriteWith}
 use Rattle.machine.specs.Values.{Val}
 use Rattle.machine.specs.Meaning.{Meaning}
 use Rattle.machine.specs.Records.{Cause, noValue, noSource, noReply, unwritten, missing, own, Standing, standsAt, ended, stopped, Trace}
 use Rattle.machine.specs.Run.{run}
-use Rattle.simulation.specs.Static.{rewriting}
 
 -- the run did not stop at an unwritten value or a missing part
 abbrev pub FineCause : Cause → Type 0
@@ -32,7 +31,7 @@ Fine t = FineStanding (t .standing)
 
 -- the rewritten routine, its fresh numbers recorded
 unfoldable pub rewritten : Settings → Choice → Routine → Routine
-rewritten σ c r = rewriteWith (rewriting σ c r) r
+rewritten σ c r = rewriteWith (rewrittenBy σ c r) r
 
 -- "record and standing of both runs, under the same list and the same meaning of operations, for every list and every n"
 unfoldable pub RunsAlike : {A : Type 0} → Meaning A → Routine → Routine → Type 0

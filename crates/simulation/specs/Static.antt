@@ -15,7 +15,7 @@ use Rattle.routine.specs.Routine.{Routine}
 use Rattle.eligibility.specs.declared.Settings.{Settings}
 use Rattle.eligibility.specs.Lookup.{structFieldsOf}
 use Rattle.eligibility.specs.Fold.{behindPhis}
-use Rattle.rewriting.specs.Run.{Choice, Rewritten, allBlocks, typesIn}
+use Rattle.rewriting.specs.Run.{Choice, typesIn, rewrittenBy}
 use Rattle.shelf.specs.Lists.{every, among}
 use Rattle.shelf.specs.Reads.{definedIn, ordered, bases, apart, shallow, clean, cleanTerminator}
 use Rattle.simulation.specs.Typing.{typed}
@@ -45,10 +45,6 @@ unfoldable pub fieldsOnce : List StructField → B.Bool
 fieldsOnce [] = true
 fieldsOnce (f ∷ fs) = unlike (f .name) fs && fieldsOnce fs
 
--- the blocks and dropped values of the rewriting under a choice
-unfoldable pub rewriting : Settings → Choice → Routine → Rewritten
-rewriting σ c r = allBlocks σ (typesIn r) c (r .next) (r .blocks)
-
 -- the facts, each with the refusal or the shelf reason that gives it
 pub record Static (debug : B.Bool) (σ : Settings) (c : Choice) (r : Routine) : Type 0 where
   -- the byte form: "a bit map of next-value bits"
@@ -63,14 +59,14 @@ pub record Static (debug : B.Bool) (σ : Settings) (c : Choice) (r : Routine) : 
   pub once : T (every (λ k. once (behindPhis (k .instructions))) (r .blocks))
   -- refusal 7
   pub phisFirst : T (every (λ k. noPhi (behindPhis (k .instructions))) (r .blocks))
-  -- reason 1
+  -- reason 1; of Debug the runs need nothing
   pub typed : T (every (λ k. every (λ i. typed (typesIn r) (i .kind)) (behindPhis (k .instructions))) (r .blocks))
-  -- reason 2
-  pub ordered : T (every (λ k. ordered (behindPhis (k .instructions))) (r .blocks))
+  -- reason 2, Debug under the flag
+  pub ordered : T (every (λ k. ordered debug (behindPhis (k .instructions))) (r .blocks))
   -- reason 3
   pub apart : T (every (λ k. apart (λ x. among x (bases (typesIn r) (r .blocks))) (behindPhis (k .instructions))) (r .blocks))
   -- reason 4
-  pub shallow : T (every (λ k. every (λ i. shallow (λ x. among x ((rewriting σ c r) .dropped)) (i .kind)) (behindPhis (k .instructions))) (r .blocks))
-  -- reason 5
-  pub clean : T (every (λ k. clean debug (λ x. among x ((rewriting σ c r) .dropped)) (k .instructions)) ((rewriting σ c r) .blocks))
-  pub cleanEnds : T (every (λ k. cleanTerminator (λ x. among x ((rewriting σ c r) .dropped)) (k .terminator)) ((rewriting σ c r) .blocks))
+  pub shallow : T (every (λ k. every (λ i. shallow (λ x. among x ((rewrittenBy σ c r) .dropped)) (i .kind)) (behindPhis (k .instructions))) (r .blocks))
+  -- reason 5, Debug under the flag
+  pub clean : T (every (λ k. clean debug (λ x. among x ((rewrittenBy σ c r) .dropped)) (k .instructions)) ((rewrittenBy σ c r) .blocks))
+  pub cleanEnds : T (every (λ k. cleanTerminator (λ x. among x ((rewrittenBy σ c r) .dropped)) (k .terminator)) ((rewrittenBy σ c r) .blocks))

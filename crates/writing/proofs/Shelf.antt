@@ -24,8 +24,7 @@ use Rattle.whole.specs.WellFormed.{FitBlocks, bounds, unmarked, WellFormed}
 use Rattle.index.specs.Code.{CodeAt}
 use Rattle.eligibility.specs.declared.Settings.{Settings}
 use Rattle.eligibility.specs.Family.{Marks}
-use Rattle.rewriting.specs.Run.{Rewritten, choice, rewrittenBlocks, rewriteWith, rewrite}
-use Rattle.rewriting.specs.Sum.{rewrittenBy}
+use Rattle.rewriting.specs.Run.{Rewritten, choice, rewrittenBy, rewrittenBlocks, rewriteWith, rewrite}
 use Rattle.rewriting.proofs.Lowering.{lowers}
 use Rattle.output.specs.Lifted.{lifted}
 use Rattle.output.proofs.Whole.{well-formed}

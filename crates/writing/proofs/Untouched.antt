@@ -56,9 +56,9 @@ module _ {σ : Settings} {s types recorded blocks : List ℕ} {b : Bounds} {plac
   none-dropped v = ap (λ (w : Rewritten). among v (w .dropped)) untouched
 
   -- where it has room
-  pub same-written : length s ≤ length out → (k : ShelfReason) → numberOfReason k ≡ inputReason x → (c : Counts) → c ≡ noCounts → (out′ : List ℕ) → out′ ≡ sets out 0 s → Answers (given σ (length out) s) (Answer.Lowered false c k (length s)) out out′
+  pub same-written : length s ≤ length out → (k : ShelfReason) → numberOfReason k ≡ inputReason false x → (c : Counts) → c ≡ noCounts → (out′ : List ℕ) → out′ ≡ sets out 0 s → Answers (given σ (length out) s) (Answer.Lowered false c k (length s)) out out′
   same-written l k ek c ec out′ eo =
       let e : encode x ≡ s = canon (u .accepted) in
       answers _ (lowered false noCounts (numberOfReason k) (encode x)) _ out out′
-      (given-lowered σ (length out) s x (u .accepted .used) (numberOfReason k) false noCounts (encode x) (u .accepted .reads) (reason-undropped x (rewrittenBlocks σ x) (numberOfReason k) ek none-dropped) (accepted-unchanged σ (length out) s (u .small) x (u .accepted .used) (u .accepted .reads) (u .still) (rw e l)))
+      (given-lowered σ (length out) s x (u .accepted .used) (numberOfReason k) false noCounts (encode x) (u .accepted .reads) (reason-undropped false x (rewrittenBlocks σ x) (numberOfReason k) ek none-dropped) (accepted-unchanged σ (length out) s (u .small) x (u .accepted .used) (u .accepted .reads) (u .still) (rw e l)))
       (rw (ec, e)) (rw e eo)

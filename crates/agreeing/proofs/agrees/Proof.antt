@@ -1,6 +1,7 @@
 use Rattle.agreeing.proofs.agrees.Statement.{statement}
 use Rattle.agreeing.proofs.agrees.Tie as tie
-use Rattle.agreeing.proofs.Whole.{other-agrees}
+use Rattle.agreeing.proofs.Whole.{counts, other-agrees}
+use mathlib.Core.Path.{refl}
 use borrow.Author.Needs.{needs}
 
 assign-requires : tie.Need-assign-requires
@@ -55,55 +56,55 @@ heap-alloc-requires : tie.Need-heap-alloc-requires
 heap-alloc-requires c κs = search needs
 
 returns : tie.Need-returns
-returns c = λ τ seen k i n g e. c .assign .ensures τ seen i n g (rw (c .before .match .keys1) at e)
+returns c = λ τ seen k i n g e. counts _ seen k τ _ i n 0 tt refl (c .before .match .keys1) e (c .assign .ensures τ seen i n g)
 
 returns-2 : tie.Need-returns-2
-returns-2 c = λ τ seen k i n g e. c .unary .ensures τ seen i n g (rw (c .before .match .keys2) at e)
+returns-2 c = λ τ seen k i n g e. counts _ seen k τ _ i n 1 tt refl (c .before .match .keys2) e (c .unary .ensures τ seen i n g)
 
 returns-3 : tie.Need-returns-3
-returns-3 c = λ τ seen k i n g e. c .binary .ensures τ seen i n g (rw (c .before .match .keys3) at e)
+returns-3 c = λ τ seen k i n g e. counts _ seen k τ _ i n 2 tt refl (c .before .match .keys3) e (c .binary .ensures τ seen i n g)
 
 returns-4 : tie.Need-returns-4
-returns-4 c = λ τ seen k i n g e. c .call .ensures τ seen i n g (rw (c .before .match .keys4) at e)
+returns-4 c = λ τ seen k i n g e. counts _ seen k τ _ i n 3 tt refl (c .before .match .keys4) e (c .call .ensures τ seen i n g)
 
 returns-5 : tie.Need-returns-5
-returns-5 c = λ τ seen k i n g e. c .cast .ensures τ seen i n g (rw (c .before .match .keys5) at e)
+returns-5 c = λ τ seen k i n g e. counts _ seen k τ _ i n 4 tt refl (c .before .match .keys5) e (c .cast .ensures τ seen i n g)
 
 returns-6 : tie.Need-returns-6
-returns-6 c = λ τ seen k i n g e. c .load .ensures τ seen i n g (rw (c .before .match .keys6) at e)
+returns-6 c = λ τ seen k i n g e. counts _ seen k τ _ i n 5 tt refl (c .before .match .keys6) e (c .load .ensures τ seen i n g)
 
 returns-7 : tie.Need-returns-7
-returns-7 c = λ τ seen k i n g e. c .store .ensures τ seen i n g (rw (c .before .match .keys7) at e)
+returns-7 c = λ τ seen k i n g e. counts _ seen k τ _ i n 6 tt refl (c .before .match .keys7) e (c .store .ensures τ seen i n g)
 
 returns-8 : tie.Need-returns-8
-returns-8 c = λ τ seen k i n g e. c .phi .ensures τ seen i n g (rw (c .before .match .keys8) at e)
+returns-8 c = λ τ seen k i n g e. counts _ seen k τ _ i n 9 tt refl (c .before .match .keys8) e (c .phi .ensures τ seen i n g)
 
 returns-9 : tie.Need-returns-9
-returns-9 c = λ τ seen k i n g e. c .make-tuple .ensures τ seen i n g (rw (c .before .match .keys9) at e)
+returns-9 c = λ τ seen k i n g e. counts _ seen k τ _ i n 10 tt refl (c .before .match .keys9) e (c .make-tuple .ensures τ seen i n g)
 
 returns-10 : tie.Need-returns-10
-returns-10 c = λ τ seen k i n g e. c .extract-tuple .ensures τ seen i n g (rw (c .before .match .keys10) at e)
+returns-10 c = λ τ seen k i n g e. counts _ seen k τ _ i n 11 tt refl (c .before .match .keys10) e (c .extract-tuple .ensures τ seen i n g)
 
 returns-11 : tie.Need-returns-11
-returns-11 c = λ τ seen k i n g e. c .make-struct .ensures τ seen i n g (rw (c .before .match .keys11) at e)
+returns-11 c = λ τ seen k i n g e. counts _ seen k τ _ i n 12 tt refl (c .before .match .keys11) e (c .make-struct .ensures τ seen i n g)
 
 returns-12 : tie.Need-returns-12
-returns-12 c = λ τ seen k i n g e. c .extract-field .ensures τ seen i n g (rw (c .before .match .keys12) at e)
+returns-12 c = λ τ seen k i n g e. counts _ seen k τ _ i n 13 tt refl (c .before .match .keys12) e (c .extract-field .ensures τ seen i n g)
 
 returns-13 : tie.Need-returns-13
-returns-13 c = λ τ seen k i n g e. c .insert-field .ensures τ seen i n g (rw (c .before .match .keys13) at e)
+returns-13 c = λ τ seen k i n g e. counts _ seen k τ _ i n 14 tt refl (c .before .match .keys13) e (c .insert-field .ensures τ seen i n g)
 
 returns-14 : tie.Need-returns-14
-returns-14 c = λ τ seen k i n g e. c .insert-tuple .ensures τ seen i n g (rw (c .before .match .keys14) at e)
+returns-14 c = λ τ seen k i n g e. counts _ seen k τ _ i n 15 tt refl (c .before .match .keys14) e (c .insert-tuple .ensures τ seen i n g)
 
 returns-15 : tie.Need-returns-15
-returns-15 c = λ τ seen k i n g e. c .make-array .ensures τ seen k i n g (rw (c .before .match .keys15) at e)
+returns-15 c = λ τ seen k i n g e. counts _ seen k τ _ i n 16 tt refl (c .before .match .keys15) e (c .make-array .ensures τ seen k i n g)
 
 returns-16 : tie.Need-returns-16
-returns-16 c = λ τ seen k i n g e. c .assert-eq .ensures τ seen i n g (rw (c .before .match .keys16) at e)
+returns-16 c = λ τ seen k i n g e. counts _ seen k τ _ i n 17 tt refl (c .before .match .keys16) e (c .assert-eq .ensures τ seen i n g)
 
 returns-17 : tie.Need-returns-17
-returns-17 c = λ τ seen k i n g e. c .heap-alloc .ensures τ seen i n g (rw (c .before .match .keys17) at e)
+returns-17 c = λ τ seen k i n g e. counts _ seen k τ _ i n 18 tt refl (c .before .match .keys17) e (c .heap-alloc .ensures τ seen i n g)
 
 returns-18 : tie.Need-returns-18
 returns-18 c = λ τ seen k i n g e. other-agrees (c .before .before .before .before .before .args .b) seen k τ (c .before .before .before .before .before .args .t .now) i n _ (c .match .rest .0 .0 .0 .0 .0 .0 .0 .0 .0 .0 .0 .0 .0 .0 .0 .0 .1) (c .match .rest .0 .0 .0 .0 .0 .0 .0 .0 .0 .0 .0 .0 .0 .0 .0 .1) (c .match .rest .0 .0 .0 .0 .0 .0 .0 .0 .0 .0 .0 .0 .0 .0 .1) (c .match .rest .0 .0 .0 .0 .0 .0 .0 .0 .0 .0 .0 .0 .0 .1) (c .match .rest .0 .0 .0 .0 .0 .0 .0 .0 .0 .0 .0 .0 .1) (c .match .rest .0 .0 .0 .0 .0 .0 .0 .0 .0 .0 .0 .1) (c .match .rest .0 .0 .0 .0 .0 .0 .0 .0 .0 .0 .1) (c .match .rest .0 .0 .0 .0 .0 .0 .0 .0 .0 .1) (c .match .rest .0 .0 .0 .0 .0 .0 .0 .0 .1) (c .match .rest .0 .0 .0 .0 .0 .0 .0 .1) (c .match .rest .0 .0 .0 .0 .0 .0 .1) (c .match .rest .0 .0 .0 .0 .0 .1) (c .match .rest .0 .0 .0 .0 .1) (c .match .rest .0 .0 .0 .1) (c .match .rest .0 .0 .1) (c .match .rest .0 .1) (c .match .rest .1) e

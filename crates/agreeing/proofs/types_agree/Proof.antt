@@ -24,7 +24,7 @@ both-requires : tie.Need-both-requires
 both-requires c κs = search needs
 
 returns : tie.Need-returns
-returns c = λ τ x n g e p h d. let w = parameters-told (c .before .before .before .before .before .before .before .before .before .before .args .b) (c .before .before .before .before .tail .result .now) (replicate (c .before .before .before .before .before .before .before .before .before .before .args .b .next) false) (x .parameters) n (ap (definedsOf (c .before .before .before .before .before .before .before .before .before .before .args .b .list) (c .before .before .before .before .before .before .before .before .before .before .args .b .next) (replicate (c .before .before .before .before .before .before .before .before .before .before .args .b .next) false)) (c .before .before .before .before .tail .ensures) ∙ d) in routine-told τ x e (c .both .ensures) (c .before .before .all-typed .ensures _ _ τ (x .parameters) g (w .0) (w .1 ∙ sym (c .before .before .before .byte-at .ensures))) (c .before .blocks-agree .ensures τ (x .blocks) g p h)
+returns c = λ τ x n g e p h d. let w = parameters-told (c .before .before .before .before .before .before .before .before .before .before .args .b) (c .before .before .before .before .tail .result .now) (replicate (c .before .before .before .before .before .before .before .before .before .before .args .b .next) false) (x .parameters) n (ap (definedsOf (c .before .before .before .before .before .before .before .before .before .before .args .b .list) (c .before .before .before .before .before .before .before .before .before .before .args .b .next) (replicate (c .before .before .before .before .before .before .before .before .before .before .args .b .next) false)) (c .before .before .before .before .tail .ensures) ∙ d) in routine-told false τ x e (c .both .ensures) (c .before .before .all-typed .ensures _ _ τ (x .parameters) g (w .0) (w .1 ∙ sym (c .before .before .before .byte-at .ensures))) (c .before .blocks-agree .ensures τ (x .blocks) g p h)
 
 pub types-agree-spec : {M : Type 1} → statement M
 types-agree-spec =

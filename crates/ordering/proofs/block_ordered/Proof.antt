@@ -3,10 +3,11 @@ use Rattle.ordering.proofs.block_ordered.Tie as tie
 use borrow.Author.Needs.{needs}
 use Prim.Native.Nat.{_-_}
 use mathlib.Core.Path.{refl}
+use mathlib.Core.Bool.{false}
 use Rattle.marking.proofs.Backwards.{Backward, backward-start, backward-again, backward-stop, backward-done}
 
 abbrev Inv-loop : tie.InvT-loop
-Inv-loop s b places count phis marks₀ k₀ marks k = Backward s b places count phis marks k
+Inv-loop s b places count phis marks₀ k₀ marks k = Backward false s b places count phis marks k
 
 abbrev μ-loop : tie.MeasureT-loop
 μ-loop s b places count phis marks₀ k₀ marks k = k
@@ -15,7 +16,7 @@ phi-count-requires : tie.Need-phi-count-requires Inv-loop μ-loop
 phi-count-requires c κs = search needs
 
 loop-holds : tie.Need-loop-holds Inv-loop μ-loop
-loop-holds c = let a = c .before .before .before .args in backward-start (a .s .now) (a .b) (a .places .now) (a .count) _ _ (c .phi-count .ensures .0) refl refl
+loop-holds c = let a = c .before .before .before .args in backward-start false (a .s .now) (a .b) (a .places .now) (a .count) _ _ (c .phi-count .ensures .0) refl refl
 
 sub-k : tie.Need-sub-k Inv-loop μ-loop
 sub-k c = search needs
@@ -39,16 +40,16 @@ counted-clear-requires : tie.Need-counted-clear-requires Inv-loop μ-loop
 counted-clear-requires c κs = search needs
 
 returns : tie.Need-returns Inv-loop μ-loop
-returns c = let a = c .before .before .before .before .before .before .before .before .before .before .before .before .before .args in let l = c .before .before .before .before .before .before .before .before .before .loop in backward-stop (a .s .now) (a .b) (a .places .now) (a .count) _ (l .marks) _ (l .k) _ _ _ (l .inv) (c .before .before .before .before .before .before .before .before .loop-test .taken) (c .before .before .before .before .before .before .before .place-at .ensures) (c .before .before .before .before .before .before .tail .ensures) (c .before .before .before .before .mark-dests .ensures) (c .before .counted-clear .ensures) (c .if1 .taken) (c .before .before .before .before .before .before .before .before .before .before .phi-count .ensures .1)
+returns c = let a = c .before .before .before .before .before .before .before .before .before .before .before .before .before .args in let l = c .before .before .before .before .before .before .before .before .before .loop in backward-stop false (a .s .now) (a .b) (a .places .now) (a .count) _ (l .marks) _ (l .k) _ _ _ (l .inv) (c .before .before .before .before .before .before .before .before .loop-test .taken) (c .before .before .before .before .before .before .before .place-at .ensures) (c .before .before .before .before .before .before .tail .ensures) (c .before .before .before .before .mark-dests .ensures) (c .before .counted-clear .ensures) (c .if1 .taken) (c .before .before .before .before .before .before .before .before .before .before .phi-count .ensures .1)
 
 loop-less : tie.Need-loop-less Inv-loop μ-loop
 loop-less c = search needs
 
 loop-again : tie.Need-loop-again Inv-loop μ-loop
-loop-again c = let a = c .before .before .before .before .before .before .before .before .before .before .before .before .before .args in let l = c .before .before .before .before .before .before .before .before .before .loop in backward-again (a .s .now) (a .b) (a .places .now) (a .count) _ (l .marks) _ (l .k) _ _ _ (l .inv) (c .before .before .before .before .before .before .before .before .loop-test .taken) (c .before .before .before .before .before .before .before .place-at .ensures) (c .before .before .before .before .before .before .tail .ensures) (c .before .before .before .before .mark-dests .ensures) (c .before .counted-clear .ensures) (c .if1 .left) (search needs)
+loop-again c = let a = c .before .before .before .before .before .before .before .before .before .before .before .before .before .args in let l = c .before .before .before .before .before .before .before .before .before .loop in backward-again false (a .s .now) (a .b) (a .places .now) (a .count) _ (l .marks) _ (l .k) _ _ _ (l .inv) (c .before .before .before .before .before .before .before .before .loop-test .taken) (c .before .before .before .before .before .before .before .place-at .ensures) (c .before .before .before .before .before .before .tail .ensures) (c .before .before .before .before .mark-dests .ensures) (c .before .counted-clear .ensures) (c .if1 .left) (search needs)
 
 returns-2 : tie.Need-returns-2 Inv-loop μ-loop
-returns-2 c = let a = c .before .before .before .before .before .args in let l = c .before .loop in backward-done (a .s .now) (a .b) (a .places .now) (a .count) _ (l .marks) (l .k) (l .inv) (c .loop-test .left) (c .before .before .phi-count .ensures .1)
+returns-2 c = let a = c .before .before .before .before .before .args in let l = c .before .loop in backward-done false (a .s .now) (a .b) (a .places .now) (a .count) _ (l .marks) (l .k) (l .inv) (c .loop-test .left) (c .before .before .phi-count .ensures .1)
 
 pub block-ordered-spec : {M : Type 1} → statement M
 block-ordered-spec =

@@ -5,6 +5,7 @@ use borrow.Author.Tests.{not-true}
 use borrow.Author.Needs.{needs}
 use Rattle.shelving.proofs.reason.Statement.{statement}
 use Rattle.shelving.proofs.reason.Tie as tie
+use mathlib.Core.Bool.{false}
 
 input-reason-requires : tie.Need-input-reason-requires
 input-reason-requires c κs = search needs
@@ -13,19 +14,19 @@ reason-number-requires : tie.Need-reason-number-requires
 reason-number-requires c κs = search needs
 
 returns : tie.Need-returns
-returns c = λ x w h. reason-first x w _ (c .before .before .input-reason .ensures x (h .input)) (λ e. c .if1 .taken (c .before .reason-number .ensures ∙ e))
+returns c = λ x w h. reason-first false x w _ (c .before .before .input-reason .ensures x (h .input)) (λ e. c .if1 .taken (c .before .reason-number .ensures ∙ e))
 
 any-requires : tie.Need-any-requires
 any-requires c κs = search needs
 
 returns-2 : tie.Need-returns-2
-returns-2 c = λ x w h. reason-undropped x w 0 (sym (c .before .before .if1 .left) ∙ c .before .before .before .reason-number .ensures ∙ c .before .before .before .before .input-reason .ensures x (h .input)) (λ v. sym (h .marked v) ∙ none-stands _ (c .before .any .ensures) (not-true _ (c .if2 .taken)) v)
+returns-2 c = λ x w h. reason-undropped false x w 0 (sym (c .before .before .if1 .left) ∙ c .before .before .before .reason-number .ensures ∙ c .before .before .before .before .input-reason .ensures x (h .input)) (λ v. sym (h .marked v) ∙ none-stands _ (c .before .any .ensures) (not-true _ (c .if2 .taken)) v)
 
 no-deep-store-requires : tie.Need-no-deep-store-requires
 no-deep-store-requires c κs = search needs
 
 returns-3 : tie.Need-returns-3
-returns-3 c = λ x w h. reason-4 x w (sym (c .before .before .before .before .if1 .left) ∙ c .before .before .before .before .before .reason-number .ensures ∙ c .before .before .before .before .before .before .input-reason .ensures x (h .input)) (told _ _ _ (of-deep x (w .dropped) _ (c .before .no-deep-store .ensures (x .blocks) (w .dropped) (h .input .code) (h .input .many) (lists-few (h .input .ground)) (h .marked))) (c .if3 .taken))
+returns-3 c = λ x w h. reason-4 false x w (sym (c .before .before .before .before .if1 .left) ∙ c .before .before .before .before .before .reason-number .ensures ∙ c .before .before .before .before .before .before .input-reason .ensures x (h .input)) (told _ _ _ (of-deep x (w .dropped) _ (c .before .no-deep-store .ensures (x .blocks) (w .dropped) (h .input .code) (h .input .many) (lists-few (h .input .ground)) (h .marked))) (c .if3 .taken))
 
 widened-requires : tie.Need-widened-requires
 widened-requires c κs = search needs
@@ -34,10 +35,10 @@ reads-no-dropped-requires : tie.Need-reads-no-dropped-requires
 reads-no-dropped-requires c κs = search needs
 
 returns-4 : tie.Need-returns-4
-returns-4 c = λ x w h. reason-5 x w (sym (c .before .before .before .before .before .before .before .if1 .left) ∙ c .before .before .before .before .before .before .before .before .reason-number .ensures ∙ c .before .before .before .before .before .before .before .before .before .input-reason .ensures x (h .input)) (told _ _ _ (of-deep x (w .dropped) _ (c .before .before .before .before .no-deep-store .ensures (x .blocks) (w .dropped) (h .input .code) (h .input .many) (lists-few (h .input .ground)) (h .marked))) (c .before .before .before .if3 .left)) (told _ _ _ (c .before .reads-no-dropped .ensures (w .blocks) (w .dropped) (h .rest) (h .mosts) (h .total) (h .seen) (h .written) (h .as-many) (rw (c .before .before .widened .ensures) (h .fits)) (h .counted) (rw (c .before .before .widened .ensures) (h .wide)) (rw (c .before .before .widened .ensures) (lists-few (h .input .ground))) (h .marked)) (c .if4 .taken))
+returns-4 c = λ x w h. reason-5 false x w (sym (c .before .before .before .before .before .before .before .if1 .left) ∙ c .before .before .before .before .before .before .before .before .reason-number .ensures ∙ c .before .before .before .before .before .before .before .before .before .input-reason .ensures x (h .input)) (told _ _ _ (of-deep x (w .dropped) _ (c .before .before .before .before .no-deep-store .ensures (x .blocks) (w .dropped) (h .input .code) (h .input .many) (lists-few (h .input .ground)) (h .marked))) (c .before .before .before .if3 .left)) (told _ _ _ (c .before .reads-no-dropped .ensures (w .blocks) (w .dropped) (h .rest) (h .mosts) (h .total) (h .seen) (h .written) (h .as-many) (rw (c .before .before .widened .ensures) (h .fits)) (h .counted) (rw (c .before .before .widened .ensures) (h .wide)) (rw (c .before .before .widened .ensures) (lists-few (h .input .ground))) (h .marked)) (c .if4 .taken))
 
 returns-5 : tie.Need-returns-5
-returns-5 c = λ x w h. reason-0 x w (sym (c .before .before .before .before .before .before .before .if1 .left) ∙ c .before .before .before .before .before .before .before .before .reason-number .ensures ∙ c .before .before .before .before .before .before .before .before .before .input-reason .ensures x (h .input)) (told _ _ _ (of-deep x (w .dropped) _ (c .before .before .before .before .no-deep-store .ensures (x .blocks) (w .dropped) (h .input .code) (h .input .many) (lists-few (h .input .ground)) (h .marked))) (c .before .before .before .if3 .left)) (told _ _ _ (c .before .reads-no-dropped .ensures (w .blocks) (w .dropped) (h .rest) (h .mosts) (h .total) (h .seen) (h .written) (h .as-many) (rw (c .before .before .widened .ensures) (h .fits)) (h .counted) (rw (c .before .before .widened .ensures) (h .wide)) (rw (c .before .before .widened .ensures) (lists-few (h .input .ground))) (h .marked)) (c .if4 .left))
+returns-5 c = λ x w h. reason-0 false x w (sym (c .before .before .before .before .before .before .before .if1 .left) ∙ c .before .before .before .before .before .before .before .before .reason-number .ensures ∙ c .before .before .before .before .before .before .before .before .before .input-reason .ensures x (h .input)) (told _ _ _ (of-deep x (w .dropped) _ (c .before .before .before .before .no-deep-store .ensures (x .blocks) (w .dropped) (h .input .code) (h .input .many) (lists-few (h .input .ground)) (h .marked))) (c .before .before .before .if3 .left)) (told _ _ _ (c .before .reads-no-dropped .ensures (w .blocks) (w .dropped) (h .rest) (h .mosts) (h .total) (h .seen) (h .written) (h .as-many) (rw (c .before .before .widened .ensures) (h .fits)) (h .counted) (rw (c .before .before .widened .ensures) (h .wide)) (rw (c .before .before .widened .ensures) (lists-few (h .input .ground))) (h .marked)) (c .if4 .left))
 
 pub reason-spec : {M : Type 1} → statement M
 reason-spec =

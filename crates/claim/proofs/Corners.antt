@@ -31,7 +31,7 @@ use Rattle.routine.specs.Decode.{mosts, mapOf, recordedOf, blocksOf, sizesOf, b
 
 -- every definition on the way, opened
 unfoldable opened : Unit {0}
-unfolding all-open wholeOf routineOf sizesOf bodyOf typesOf typeSeq typeOf structOf hasType typeBytes structFields definedsOf definedSeq mapOf recordedOf blocksOf blockOf instructionsOf instructionOf metaOf terminatorOf jumpOf ifOf branchOf returnOf listOf seqOf numberOf valueOf projectionOf assignOf unaryOf binaryOf returnsOf callOf castOf loadOf storeOf debugOf phiOf makeTupleOf extractTupleOf makeStructOf extractFieldOf insertFieldOf insertTupleOf makeArrayOf assertEqOf heapAllocOf Pa.fieldType Pa.partType Pa.partCount Pa.counts Pa.operandRow Pa.isPointer Pa.onto Fi.literalKind Fi.scalarKind Fi.sameType Fi.fits Fi.allFit Fi.partsFit Fi.fieldTypeOf Fi.stepType Fi.placeType Fi.givenFits Fi.fieldsFit Fi.argumentsFit Ag.isScalarType Ag.isScalar Ag.isIndex Ag.indexFits Ag.pointee Ag.pointed Ag.reached Ag.placeFits Ag.destsFit Ag.equalTypes Ag.agrees Ag.isCondition Ag.isKnown Ag.endAgrees Ag.countedAgrees Ag.blockAgrees Re.definedIn Re.ordered Re.aggregateBase Re.basesIn Re.bases Re.apart Re.isDeep Re.shallow Re.clean Re.cleanTerminator Rs.typesAgree Rs.inOrder Rs.keptApart Rs.noDeepStore Rs.readsNoDropped Rs.shelfReason An.reasonOf
+unfolding all-open wholeOf routineOf sizesOf bodyOf typesOf typeSeq typeOf structOf hasType typeBytes structFields definedsOf definedSeq mapOf recordedOf blocksOf blockOf instructionsOf instructionOf metaOf terminatorOf jumpOf ifOf branchOf returnOf listOf seqOf numberOf valueOf projectionOf assignOf unaryOf binaryOf returnsOf callOf castOf loadOf storeOf debugOf phiOf makeTupleOf extractTupleOf makeStructOf extractFieldOf insertFieldOf insertTupleOf makeArrayOf assertEqOf heapAllocOf Pa.fieldType Pa.partType Pa.partCount Pa.counts Pa.operandRow Pa.isPointer Fi.literalKind Fi.scalarKind Fi.sameType Fi.fits Fi.allFit Fi.partsFit Fi.fieldTypeOf Fi.stepType Fi.placeType Fi.givenFits Fi.fieldsFit Fi.argumentsFit Ag.isScalarType Ag.isScalar Ag.isIndex Ag.indexFits Ag.pointee Ag.pointed Ag.reached Ag.placeFits Ag.destsFit Ag.equalTypes Ag.agrees Ag.isCondition Ag.isKnown Ag.endAgrees Ag.countedAgrees Ag.blockAgrees Re.definedIn Re.ordered Re.aggregateBase Re.basesIn Re.bases Re.apart Re.isDeep Re.shallow Re.clean Re.cleanTerminator Rs.typesAgree Rs.inOrder Rs.keptApart Rs.noDeepStore Rs.readsNoDropped Rs.shelfReason An.reasonOf
 opened = tt
 
 -- "Returning a tuple of a tracked tuple leaves a read of a dropped value (P): shelf reason 5"

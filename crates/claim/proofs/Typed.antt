@@ -14,7 +14,8 @@ use Rattle.form.specs.Syntax.{MakeTuple, ExtractTupleElement, MakeStruct, Extra
 use Rattle.form.specs.Syntax as S
 use Rattle.eligibility.specs.Lookup.{Types, rowOf, recordedType, valueRow, isTuple, isArray, isAggregate, shape, structFieldsOf, position, fieldIndex}
 use Rattle.shelf.specs.Lists.{every}
-use Rattle.shelf.specs.Parts.{partType, isPointer, onto}
+use Rattle.shelf.specs.Parts.{partType, isPointer}
+use Rattle.rewriting.specs.State.{onSome}
 use Rattle.shelf.specs.Fits.{sameType, fits, fieldTypeOf, stepType, placeType, argumentsFit}
 use Rattle.shelf.specs.Agrees.{indexFits, pointee, pointed, reached, placeFits, destsFit, agrees, countedAgrees}
 use Rattle.shelf.proofs.Flag.{agrees-aside}
@@ -23,7 +24,7 @@ use Rattle.simulation.proofs.Tools.{and-l, and-r, and-i, or-l, or-r, split, pas
 
 -- what has no type has no part of a type
 no-step : (p : Projection) → stepType none p ≡ none
-unfolding stepType fieldTypeOf fieldIndex structFieldsOf position isArray isTuple shape onto
+unfolding stepType fieldTypeOf fieldIndex structFieldsOf position isArray isTuple shape onSome
 no-step (Index x) = refl
 no-step (Field n) = refl
 no-step (S.Tuple k) = refl

@@ -14,7 +14,7 @@ use Rattle.form.specs.Syntax.{Instruction, InstructionKind, MakeTuple}
 use Rattle.form.specs.Reads.{kindNumber}
 use Rattle.lookup.specs.Fields.{listValues}
 use Rattle.eligibility.specs.declared.Settings.{Settings}
-use Rattle.eligibility.specs.Lookup.{Types, all}
+use Rattle.eligibility.specs.Lookup.{Types}
 use Rattle.eligibility.specs.Family.{Marks, buildDest, hasDynamicIndex}
 use Rattle.eligibility.specs.Tables.{FactsAt}
 use Rattle.eligibility.specs.Climb.{isSome, buildOf, buildable, buildableOf, canScalarize}

@@ -13,7 +13,7 @@ use Rattle.form.specs.Syntax.{MakeTuple, ExtractTupleElement, MakeStruct, Extra
 use Rattle.form.specs.Reads.{kindNumber}
 use Rattle.lookup.specs.Fields.{listValues}
 use Rattle.eligibility.specs.declared.Settings.{Settings}
-use Rattle.eligibility.specs.Lookup.{Types, isOperand, any, all}
+use Rattle.eligibility.specs.Lookup.{Types, isOperand, any, every}
 use Rattle.eligibility.specs.Family.{Marks, buildDest}
 use Rattle.eligibility.specs.Climb.{canScalarize}
 use Rattle.eligibility.specs.Fold.{tupleParent}
@@ -69,7 +69,7 @@ module _ (σ : Settings) (τ : Types) (cross : Marks) (is : List Instruction) (v
   one (HeapAllocCells d x) es = refl
 
   -- the test over some instructions of the block
-  pub over-tuples : (js : List Instruction) → all (λ i. tupleParent σ τ cross is (record { 0 = v }) (i .kind)) js ≡ tuplesClimb can v (tupleEdgesOf js)
-  unfolding all tupleEdgesOf tuplesClimb
+  pub over-tuples : (js : List Instruction) → every (λ i. tupleParent σ τ cross is (record { 0 = v }) (i .kind)) js ≡ tuplesClimb can v (tupleEdgesOf js)
+  unfolding tupleEdgesOf tuplesClimb
   over-tuples [] = refl
   over-tuples (i ∷ js) = rw (over-tuples js) (one (i .kind) (tupleEdgesOf js))

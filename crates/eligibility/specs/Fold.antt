@@ -11,7 +11,7 @@ use Rattle.form.specs.Syntax.{Assign, UnaryOp, BinaryOp, Call, Cast, Load, Stor
 use Rattle.form.specs.Syntax.{MakeTuple, ExtractTupleElement, MakeStruct, ExtractStructField, InsertField, InsertTuple, MakeFixedArray, AssertEq, HeapAllocCells}
 use Rattle.form.specs.Reads.{isPhi}
 use Rattle.eligibility.specs.declared.Settings.{Settings}
-use Rattle.eligibility.specs.Lookup.{Types, valueRow, isScalarizable, isTuple, isStruct, isArray, isOperand, any, all}
+use Rattle.eligibility.specs.Lookup.{Types, valueRow, isScalarizable, isTuple, isStruct, isArray, isOperand, any, every}
 use Rattle.eligibility.specs.Family.{Marks, marked, hasDynamicIndex}
 use Rattle.eligibility.specs.Climb.{structParts, buildable, canScalarize}
 
@@ -39,7 +39,7 @@ tupleParent σ τ cross is v (HeapAllocCells d x) = true
 
 module _ (σ : Settings) (τ : Types) (cross : Marks) (is : List Instruction) where
   unfoldable pub foldsTuple : ValueId → List Value → Bool
-  foldsTuple d xs = σ .tuples && (buildable σ τ cross (MakeTuple d xs) && all (λ i. tupleParent σ τ cross is d (i .kind)) is)
+  foldsTuple d xs = σ .tuples && (buildable σ τ cross (MakeTuple d xs) && every (λ i. tupleParent σ τ cross is d (i .kind)) is)
 
   unfoldable pub foldsStruct : ValueId → Bool
   foldsStruct d = σ .structs && canScalarize σ τ cross is d

@@ -123,10 +123,12 @@ asConstInteger (Value.Literal Literal.Unit) = none
 asConstInteger (Value.Operand v) = none
 asConstInteger Value.Error = none
 
+-- some element passes
 unfoldable pub any : {A : Type 0} → (A → B.Bool) → List A → B.Bool
 any p [] = false
 any p (a ∷ xs) = p a || any p xs
 
-unfoldable pub all : {A : Type 0} → (A → B.Bool) → List A → B.Bool
-all p [] = true
-all p (a ∷ xs) = p a && all p xs
+-- each element passes
+abbrev pub every : {A : Type 0} → (A → B.Bool) → List A → B.Bool
+every p [] = true
+every p (a ∷ xs) = p a && every p xs

@@ -31,7 +31,7 @@ use Rattle.machine.specs.Document as D
 
 -- every definition on a run's way
 unfoldable pub machine : Unit {0}
-unfolding rowOf recordedType valueRow shape isStruct structFieldsOf next position fieldIndex asConstInteger given consPart fromStructFields orElse structRow structParts behindPhis phisOf Vl.equal Vl.equals Vl.consVal Vl.nth Vl.put Vl.partOf Vl.asAggregate Vl.withPart R.writeAll R.log Pa.fieldType Pa.partType Pa.partCount P.partRow P.argumentRow P.noRow Pa.operandRow P.rowAt Pa.isPointer Pa.onto P.stepPosition P.walked P.changed E.eval E.evalAll E.indexed E.evalStep E.consStep E.evalSteps X.need X.choose X.received X.asserting X.replies X.answered X.built X.extracted X.inserted X.exec N.onward N.needed N.branch N.judged N.sourceFor N.sourceFrom N.phiOf N.readPhi N.readPhis N.execTerminator N.execAll N.execBlock N.trace N.runBlock N.runBlocks N.taking N.takeAll N.noneWritten N.run Pa.counts D.scalarOf D.valsLength D.isOf D.areOf D.onRows D.takeFirst
+unfolding rowOf recordedType valueRow shape isStruct structFieldsOf next position fieldIndex asConstInteger given consPart fromStructFields orElse structRow structParts behindPhis phisOf Vl.equal Vl.equals Vl.consVal Vl.nth Vl.put Vl.partOf Vl.asAggregate Vl.withPart R.writeAll R.log Pa.fieldType Pa.partType Pa.partCount P.partRow P.argumentRow P.noRow Pa.operandRow P.rowAt Pa.isPointer P.stepPosition P.walked P.changed E.eval E.evalAll E.indexed E.evalStep E.consStep E.evalSteps X.need X.choose X.received X.asserting X.replies X.answered X.built X.extracted X.inserted X.exec N.onward N.needed N.branch N.judged N.sourceFor N.sourceFrom N.phiOf N.readPhi N.readPhis N.execTerminator N.execAll N.execBlock N.trace N.runBlock N.runBlocks N.taking N.takeAll N.noneWritten N.run Pa.counts D.scalarOf D.valsLength D.isOf D.areOf D.onRows D.takeFirst
 machine = tt
 
 -- numbers as scalars, an operation gives its first operand

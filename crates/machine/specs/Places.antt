@@ -6,7 +6,8 @@ use lib.ListN.{getElem?}
 use Rattle.wire.specs.declared.TypeId.{TypeId}
 use Rattle.typetable.specs.Syntax.{MirType}
 use Rattle.eligibility.specs.Lookup.{Types, rowOf, fieldIndex}
-use Rattle.shelf.specs.Parts.{partType, onto}
+use Rattle.shelf.specs.Parts.{partType}
+use Rattle.rewriting.specs.State.{onSome}
 use Rattle.machine.specs.Values.{Val, partOf, withPart}
 use Rattle.machine.specs.Meaning.{Meaning}
 use Rattle.machine.specs.Records.{Step, index, field, tuple}
@@ -37,10 +38,10 @@ stepPosition M row (tuple k) = some k
 -- the part at the end of a place
 unfoldable pub walked : {A : Type 0} → Meaning A → Types → Option MirType → Val A → List (Step A) → Option (Val A)
 walked M τ row x [] = some x
-walked M τ row x (s ∷ ss) = onto (stepPosition M row s) (λ k. onto (partOf x k) (λ y. walked M τ (partRow τ row k) y ss))
+walked M τ row x (s ∷ ss) = onSome (stepPosition M row s) (λ k. onSome (partOf x k) (λ y. walked M τ (partRow τ row k) y ss))
 
 -- the value with that part changed, "or with no projection all of it"
 unfoldable pub changed : {A : Type 0} → Meaning A → Types → Option MirType → Val A → List (Step A) → Val A → Option (Val A)
 changed M τ row x [] y = some y
 changed M τ row x (s ∷ ss) y =
-    onto (stepPosition M row s) (λ k. onto (partOf x k) (λ p. onto (changed M τ (partRow τ row k) p ss y) (λ q. withPart x k q)))
+    onSome (stepPosition M row s) (λ k. onSome (partOf x k) (λ p. onSome (changed M τ (partRow τ row k) p ss y) (λ q. withPart x k q)))

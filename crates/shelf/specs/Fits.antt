@@ -15,7 +15,8 @@ use Rattle.form.specs.Syntax.{Projection, Index, Field, FieldInit}
 use Rattle.form.specs.Syntax as S
 use Rattle.eligibility.specs.Lookup.{Types, rowOf, recordedType, isTuple, isArray, fieldIndex}
 use Rattle.eligibility.specs.Climb.{given}
-use Rattle.shelf.specs.Parts.{partType, partCount, counts, onto}
+use Rattle.shelf.specs.Parts.{partType, partCount, counts}
+use Rattle.rewriting.specs.State.{onSome}
 
 -- 1, 2 and 3 for what an Integer, a Boolean and Unit fit
 unfoldable pub literalKind : Literal → ℕ
@@ -61,7 +62,7 @@ partsFit τ t xs = counts (partCount (rowOf τ t)) (length xs) && allFit τ (par
 
 -- the type of a field, by its name
 unfoldable pub fieldTypeOf : Option MirType → NameId → Option TypeId
-fieldTypeOf row n = onto (fieldIndex row n) (partType row)
+fieldTypeOf row n = onSome (fieldIndex row n) (partType row)
 
 -- "Kinds and steps named for tuples, structs or arrays take those alone"; "Index walks arrays"
 unfoldable pub stepType : Option MirType → Projection → Option TypeId

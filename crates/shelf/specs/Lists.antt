@@ -1,14 +1,10 @@
 -- Tests on lists that compute.
 use Prim.Native.Nat.{ℕ}
-use mathlib.Core.Bool.{Bool, true, false, _&&_, _||_}
+use mathlib.Core.Bool.{Bool, false, _||_}
 use mathlib.Core.List.{List, [], _∷_}
 use lib.Dec.{eqb}
 use Rattle.wire.specs.declared.ValueId.{ValueId}
-
--- each element passes
-abbrev pub every : {A : Type 0} → (A → Bool) → List A → Bool
-every p [] = true
-every p (x ∷ xs) = p x && every p xs
+pub use Rattle.eligibility.specs.Lookup.{every}
 
 -- each element, as a statement
 abbrev pub All : {A : Type 0} → (A → Type 0) → List A → Type 0

@@ -70,8 +70,3 @@ isPointer (some (Function ps r)) = false
 isPointer (some Unit) = false
 isPointer (some Error) = false
 isPointer (some Unknown) = false
-
--- a lookup behind another
-unfoldable pub onto : {A B : Type 0} → Option A → (A → Option B) → Option B
-onto none f = none
-onto (some a) f = f a

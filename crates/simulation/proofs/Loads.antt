@@ -19,7 +19,7 @@ use Rattle.rewriting.specs.Rebuild.{aggregateType}
 use Rattle.rewriting.specs.Step.{handOn, stepLoaded, stepLoad, stepKind}
 use Rattle.machine.specs.Values.{Val, Vals, aggregate, nth, partOf}
 use Rattle.machine.specs.Records.{Env, goes, Step, index, field, tuple}
-use Rattle.shelf.specs.Parts.{partType, partCount, isPointer, onto}
+use Rattle.shelf.specs.Parts.{partType, partCount, isPointer}
 use Rattle.machine.specs.Places.{partRow, stepPosition, walked}
 use Rattle.machine.specs.Evaluate.{eval, indexed, evalStep, consStep, evalSteps}
 use Rattle.machine.specs.Exec.{need, choose, exec}
@@ -32,7 +32,7 @@ use Rattle.simulation.proofs.Invariant.{Ctx, Tracked, Tracks}
 use Rattle.simulation.proofs.Generic.{Good, does, Sim, SimP, reads-low}
 use Rattle.simulation.proofs.Cases.{sim-kept, is-typed, sameType→eq, fits-type, same-row, operand-eval}
 use Rattle.simulation.proofs.Builds.{at, through, onSome-inv}
-use Rattle.simulation.proofs.Takes.{nth-eval, operand-at, Took, takes, sim-guarded, taken, onto-some}
+use Rattle.simulation.proofs.Takes.{nth-eval, operand-at, Took, takes, sim-guarded, taken, on-some}
 
 -- ---- one step
 
@@ -76,7 +76,7 @@ pub one-step : {A : Type 0} (κ : Ctx A) (E : Env A) (v : ValueId) (p : Projecti
 unfolding stepIndex stepType evalStep stepPosition fieldTypeOf
 one-step κ E v (Index x) k q e ty = index-steps κ E (valueRow (κ .types) v) x k q e ty
 one-step κ E v (Field n) k q e ty =
-    steps (field n) refl e (sym (onto-some (fieldIndex (valueRow (κ .types) v) n) (partType (valueRow (κ .types) v)) k e) ∙ ty)
+    steps (field n) refl e (sym (on-some (fieldIndex (valueRow (κ .types) v) n) (partType (valueRow (κ .types) v)) k e) ∙ ty)
 one-step κ E v (Tuple j) k q e ty =
     let z : j ≡ k = cc in
     steps (tuple j) refl e (rw (← z) (cond-some (isTuple (valueRow (κ .types) v)) (partType (valueRow (κ .types) v) j) q ty))
@@ -107,7 +107,7 @@ step-inv τ S Value.Error p z e = absurd (none-some e)
 walked-cons : {A : Type 0} (κ : Ctx A) (row : Option MirType) (vs : Vals A) (s : Step A) (ss : List (Step A)) (k : ℕ) (y : Val A) (q : TypeId)
     → stepPosition (κ .mean) row s ≡ some k → nth vs k ≡ some y → partType row k ≡ some q
     → walked (κ .mean) (κ .types) row (aggregate vs) (s ∷ ss) ≡ walked (κ .mean) (κ .types) (rowOf (κ .types) (some q)) y ss
-unfolding walked onto partOf partRow
+unfolding walked onSome partOf partRow
 walked-cons κ row vs s ss k y q a b c = rw a (rw b (rw c))
 
 -- the steps, one more
@@ -118,7 +118,7 @@ evalSteps-cons κ E p ps s ss a b = rw (a, b)
 
 -- from no type no place has one
 no-step : (τ : Types) (p : Projection) → stepType (rowOf τ none) p ≡ none
-unfolding stepType rowOf fieldTypeOf isArray isTuple shape fieldIndex structFieldsOf position onto
+unfolding stepType rowOf fieldTypeOf isArray isTuple shape fieldIndex structFieldsOf position onSome
 no-step τ (Index x) = refl
 no-step τ (Field n) = refl
 no-step τ (Tuple k) = refl

@@ -29,7 +29,7 @@ use Rattle.rewriting.specs.Run as Rn
 
 -- the pass
 unfoldable pub pass : Unit {0}
-unfolding Lk.rowOf Lk.recordedType Lk.valueRow Lk.isScalarizable Lk.shape Lk.isTuple Lk.isStruct Lk.isArray Lk.isAggregate Lk.structFieldsOf Lk.next Lk.position Lk.fieldIndex Lk.isOperand Lk.isInteger Lk.asConstInteger Lk.any Lk.all Fa.joins Fa.member Fa.sweep Fa.sweeps Fa.family Fa.buildDest Fa.placeOf Fa.dynamicFirst Fa.dynamicAt Fa.hasDynamicIndex Fa.readsOne Fa.readElsewhere Fa.union Fa.crossFamily Fa.crossBuild Fa.crossBuilds Fa.crossBlocks Fa.crossBlockAggregates Cl.given Cl.consPart Cl.fromStructFields Cl.isSome Cl.orElse Cl.structRow Cl.structParts Cl.buildable Cl.isBuildOf Cl.buildOf Cl.buildableOf Cl.givenParts Cl.constantFirst Cl.onBase Cl.onward Cl.climbParts Cl.climbBuild Cl.climbOne Cl.climbAll Cl.climb Cl.canScalarize Fo.tupleParent Fo.foldsTuple Fo.foldsStruct Fo.foldsArray Fo.behindPhis Fo.phisOf Fo.aggregatePhi Fo.skipped St.noStates St.insertState St.stateOf St.onSome St.consSome St.replaced St.stepIndex St.stepPart St.chain St.firstInteger St.storePart St.storeLast St.storeDeeper St.storeFrom St.forwardStore Rb.fitted Rb.named Rb.rebuildAt Rb.clashes Rb.keepValue Rb.rebuildValue Rb.oneValue Rb.rebuildAll Rb.aggregateType Rb.wantedArguments Rb.returnType Rb.wantedReturns Sp.kept Sp.left Sp.tracked Sp.assigned Sp.stepBuild Sp.foldedParts Sp.stepInsert Sp.handOn Sp.stepExtract Sp.extractIndex Sp.stepLoaded Sp.stepLoad Sp.storeRebuilt Sp.storeKept Sp.stepStore Sp.stepAssign Sp.stepCall Sp.guarded Sp.stepKind Sp.step Rn.ends Rn.returned Rn.finish Rn.glue Rn.walk Rn.foldsBuild Rn.foldsIn Rn.blockThen Rn.skipThen Rn.oneBlock Rn.allBlocks Rn.typesIn Rn.choice Rn.rewrittenBy Rn.rewrittenBlocks Rn.rewriteWith Rn.rewrite Sm.rewritten
+unfolding Lk.rowOf Lk.recordedType Lk.valueRow Lk.isScalarizable Lk.shape Lk.isTuple Lk.isStruct Lk.isArray Lk.isAggregate Lk.structFieldsOf Lk.next Lk.position Lk.fieldIndex Lk.isOperand Lk.isInteger Lk.asConstInteger Lk.any Fa.joins Fa.member Fa.sweep Fa.sweeps Fa.family Fa.buildDest Fa.placeOf Fa.dynamicFirst Fa.dynamicAt Fa.hasDynamicIndex Fa.readsOne Fa.readElsewhere Fa.union Fa.crossFamily Fa.crossBuild Fa.crossBuilds Fa.crossBlocks Fa.crossBlockAggregates Cl.given Cl.consPart Cl.fromStructFields Cl.isSome Cl.orElse Cl.structRow Cl.structParts Cl.buildable Cl.isBuildOf Cl.buildOf Cl.buildableOf Cl.givenParts Cl.constantFirst Cl.onBase Cl.onward Cl.climbParts Cl.climbBuild Cl.climbOne Cl.climbAll Cl.climb Cl.canScalarize Fo.tupleParent Fo.foldsTuple Fo.foldsStruct Fo.foldsArray Fo.behindPhis Fo.phisOf Fo.aggregatePhi Fo.skipped St.noStates St.insertState St.stateOf St.onSome St.consSome St.replaced St.stepIndex St.stepPart St.chain St.firstInteger St.storePart St.storeLast St.storeDeeper St.storeFrom St.forwardStore Rb.fitted Rb.named Rb.rebuildAt Rb.clashes Rb.keepValue Rb.rebuildValue Rb.oneValue Rb.rebuildAll Rb.aggregateType Rb.wantedArguments Rb.returnType Rb.wantedReturns Sp.kept Sp.left Sp.tracked Sp.assigned Sp.stepBuild Sp.foldedParts Sp.stepInsert Sp.handOn Sp.stepExtract Sp.extractIndex Sp.stepLoaded Sp.stepLoad Sp.storeRebuilt Sp.storeKept Sp.stepStore Sp.stepAssign Sp.stepCall Sp.guarded Sp.stepKind Sp.step Rn.ends Rn.returned Rn.finish Rn.glue Rn.walk Rn.foldsBuild Rn.foldsIn Rn.blockThen Rn.skipThen Rn.oneBlock Rn.allBlocks Rn.typesIn Rn.choice Rn.rewrittenBy Rn.rewrittenBlocks Rn.rewriteWith Rn.rewrite Sm.rewritten
 pass = tt
 
 -- the static facts of a routine as answers, in the order of `Static`

@@ -33,7 +33,7 @@ use Rattle.simulation.proofs.Invariant.{Ctx, Parts, Tracked}
 use Rattle.simulation.proofs.Generic.{Good, does, Sim, SimP, reads-low}
 use Rattle.simulation.proofs.Cases.{sim-kept, reads-calm, parts-free, is-typed, Makes, made, stuck, left-out, seen, see, sameType→eq, fits-type, same-row}
 use Rattle.simulation.proofs.Builds.{at, through, onSome-inv}
-use Rattle.simulation.proofs.Takes.{is-val, consVal-inv, sim-guarded, onto-some}
+use Rattle.simulation.proofs.Takes.{is-val, consVal-inv, sim-guarded, on-some}
 
 -- ---- a part replaced in a list
 
@@ -203,7 +203,7 @@ sim-InsertTuple κ φ m d x k y u is t S n sim =
 pub field-fits : (τ : Types) (row : Option MirType) (f : NameId) (k : ℕ) (y : Value) → fieldIndex row f ≡ some k → T (fits τ y (fieldTypeOf row f))
     → T (fits τ y (partType row k))
 unfolding fieldTypeOf
-field-fits τ row f k y e t = rw (onto-some (fieldIndex row f) (partType row) k e) at t
+field-fits τ row f k y e t = rw (on-some (fieldIndex row f) (partType row) k e) at t
 
 -- an InsertField
 pub sim-InsertField : {A : Type 0} (κ : Ctx A) (φ : ValueId → Bool) (m : Meta) (d : ValueId) (x : Value) (f : NameId) (y : Value) (u : TypeId)

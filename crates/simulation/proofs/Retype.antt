@@ -16,7 +16,8 @@ use Rattle.eligibility.specs.Climb.{structRow, structParts}
 use Rattle.machine.specs.Values.{Val, partOf}
 use Rattle.machine.specs.Meaning.{Meaning, Answer, gives, asks, Taken, took, refuses, exhausted}
 use Rattle.machine.specs.Records.{Env, Writes, Event, loaded, Step, Cause, missing, Out, goes}
-use Rattle.shelf.specs.Parts.{operandRow, isPointer, onto}
+use Rattle.shelf.specs.Parts.{operandRow, isPointer}
+use Rattle.rewriting.specs.State.{onSome}
 use Rattle.machine.specs.Places.{partRow, argumentRow, rowAt, stepPosition, walked, changed}
 use Rattle.machine.specs.Evaluate.{evalAll}
 use Rattle.machine.specs.Exec.{need, choose, received, replies, answered, built, extracted, inserted, exec}
@@ -84,10 +85,10 @@ need-cong c none k k′ h = refl
 need-cong c (some b) k k′ h = h b
 
 -- behind a lookup that finds
-onto-cong : {A B : Type 0} (o : Option A) (f g : A → Option B) → ((a : A) → f a ≡ g a) → onto o f ≡ onto o g
-unfolding onto
-onto-cong none f g h = refl
-onto-cong (some a) f g h = h a
+on-some-cong : {A B : Type 0} (o : Option A) (f g : A → Option B) → ((a : A) → f a ≡ g a) → onSome o f ≡ onSome o g
+unfolding onSome
+on-some-cong none f g h = refl
+on-some-cong (some a) f g h = h a
 
 -- behind a reply
 received-cong : {A : Type 0} (r : Taken A) (ev : List (Event A)) (k k′ : Val A → List (Val A) → Out A)
@@ -155,7 +156,7 @@ module _ {A : Type 0} (M : Meaning A) (τ : Types) (rs : List (Option TypeId)) w
   unfolding walked
   walked-later row x [] = refl
   walked-later row x (s ∷ ss) =
-      onto-cong (stepPosition M row s) _ _ (λ k. onto-cong (partOf x k) _ _ (λ y.
+      on-some-cong (stepPosition M row s) _ _ (λ k. on-some-cong (partOf x k) _ _ (λ y.
       walked-later (partRow τ row k) y ss ∙ ap (λ (o : Option MirType). walked M (retyped τ rs) o y ss) (partRow-later τ rs row k)))
 
   -- and the change at its end
@@ -163,7 +164,7 @@ module _ {A : Type 0} (M : Meaning A) (τ : Types) (rs : List (Option TypeId)) w
   unfolding changed
   changed-later row x [] y = refl
   changed-later row x (s ∷ ss) y =
-      onto-cong (stepPosition M row s) _ _ (λ k. onto-cong (partOf x k) _ _ (λ p.
+      on-some-cong (stepPosition M row s) _ _ (λ k. on-some-cong (partOf x k) _ _ (λ p.
       rw (changed-later (partRow τ row k) p ss y ∙ ap (λ (o : Option MirType). changed M (retyped τ rs) o p ss y) (partRow-later τ rs row k))))
 
   -- replies

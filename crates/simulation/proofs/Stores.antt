@@ -21,7 +21,7 @@ use Rattle.rewriting.specs.Step.{Piece, oneInsert, noCounts, left, storeRebuilt
 use Rattle.rewriting.specs.Run.{glue}
 use Rattle.machine.specs.Values.{Val, Vals, ends, then, consVal, nth, put, partOf, asAggregate, withPart}
 use Rattle.machine.specs.Records.{Env}
-use Rattle.shelf.specs.Parts.{partType, isPointer, onto}
+use Rattle.shelf.specs.Parts.{partType, isPointer}
 use Rattle.machine.specs.Places.{partRow, stepPosition, changed}
 use Rattle.machine.specs.Evaluate.{eval, evalAll, indexed, evalStep, consStep, evalSteps}
 use Rattle.machine.specs.Exec.{need, choose, exec}
@@ -156,7 +156,7 @@ integer-position κ k = κ .mean .literal-position (Literal.Integer k) k refl
 store-puts : {A : Type 0} (κ : Ctx A) (m : Meta) (b : ValueId) (k : ℕ) (y : Value) (u : TypeId) → isPointer (valueRow (κ .types) b) ≡ false
     → partType (valueRow (κ .types) b) k ≡ some u
     → PutsIn κ (at m (Store (record { base = b; projections = numberStep k ∷ [] }) y u)) b b k (partRow (κ .types) (valueRow (κ .types) b) k) y
-unfolding PutsIn exec need eval evalSteps evalStep consStep indexed choose changed onto stepPosition partOf withPart asAggregate partRow
+unfolding PutsIn exec need eval evalSteps evalStep consStep indexed choose changed onSome stepPosition partOf withPart asAggregate partRow
 store-puts κ m b k y u np pt E w vs a =
     rw pt (λ e. rw a (rw e), λ z zs e h. let q = put-nth vs k z zs h in rw a (rw e (rw np (rw (integer-position κ k) (rw (q .1) (rw h))))))
 

@@ -19,7 +19,7 @@ use Rattle.rewriting.specs.Rebuild.{plain}
 use Rattle.rewriting.specs.Step.{Piece, oneExtract, assigned, handOn, stepExtract, extractIndex, guarded, stepKind}
 use Rattle.machine.specs.Values.{Val, Vals, aggregate, then, consVal, nth, partOf}
 use Rattle.machine.specs.Records.{Env, goes}
-use Rattle.shelf.specs.Parts.{partType, operandRow, onto}
+use Rattle.shelf.specs.Parts.{partType, operandRow}
 use Rattle.machine.specs.Places.{partRow}
 use Rattle.machine.specs.Evaluate.{eval, evalAll}
 use Rattle.machine.specs.Exec.{need, extracted, exec}
@@ -133,15 +133,15 @@ unfolding operandRow
 tuple-type τ v k u t = sameType→eq (partType (valueRow τ v) k) (some u) t
 
 -- a lookup that found something
-pub onto-some : {A B : Type 0} (o : Option A) (f : A → Option B) (a : A) → o ≡ some a → onto o f ≡ f a
-unfolding onto
-onto-some o f a e = rw e
+pub on-some : {A B : Type 0} (o : Option A) (f : A → Option B) (a : A) → o ≡ some a → onSome o f ≡ f a
+unfolding onSome
+on-some o f a e = rw e
 
 -- a field's type
 pub field-type : (τ : Types) (v : ValueId) (f : NameId) (k : ℕ) (u : TypeId) → fieldIndex (valueRow τ v) f ≡ some k
     → T (sameType (fieldTypeOf (operandRow τ (Value.Operand v)) f) (some u)) → partType (valueRow τ v) k ≡ some u
 unfolding operandRow fieldTypeOf
-field-type τ v f k u e t = sym (onto-some (fieldIndex (valueRow τ v) f) (partType (valueRow τ v)) k e) ∙ sameType→eq _ (some u) t
+field-type τ v f k u e t = sym (on-some (fieldIndex (valueRow τ v) f) (partType (valueRow τ v)) k e) ∙ sameType→eq _ (some u) t
 
 -- the pass's position is the machine's
 pub index-of : (τ : Types) (v : ValueId) (f : NameId) (k : ℕ) → extractIndex τ (Value.Operand v) f ≡ some k → fieldIndex (valueRow τ v) f ≡ some k

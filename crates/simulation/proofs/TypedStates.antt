@@ -27,7 +27,7 @@ use Rattle.simulation.proofs.Tools.{and-l, and-r, none-some, split, pas
 use Rattle.simulation.proofs.Frame.{cond-some}
 use Rattle.simulation.proofs.Cases.{sameType→eq, fits-type, same-row}
 use Rattle.simulation.proofs.Builds.{whole-fit, struct-whole, folded-inv, through, onSome-inv}
-use Rattle.simulation.proofs.Takes.{onto-some, tuple-type, field-type, index-of}
+use Rattle.simulation.proofs.Takes.{on-some, tuple-type, field-type, index-of}
 use Rattle.simulation.proofs.Loads.{array-part, cond-true, stepped, step-inv, no-place, no-pointer, own-fits, has-type, load-type}
 use Rattle.simulation.proofs.Puts.{whole-replaced, field-fits}
 use Rattle.simulation.proofs.Stores.{store-type, array-step, first-number}
@@ -67,7 +67,7 @@ part-type : (τ : Types) (v : ValueId) (p : Projection) (k : ℕ) (q : TypeId) �
     → partType (valueRow τ v) k ≡ some q
 unfolding stepIndex stepType fieldTypeOf
 part-type τ v (Index x) k q e ty = array-part (valueRow τ v) (cond-true (isArray (valueRow τ v)) (partType (valueRow τ v) 0) q ty) k 0 ∙ cond-some (isArray (valueRow τ v)) (partType (valueRow τ v) 0) q ty
-part-type τ v (Field n) k q e ty = sym (onto-some (fieldIndex (valueRow τ v) n) (partType (valueRow τ v)) k e) ∙ ty
+part-type τ v (Field n) k q e ty = sym (on-some (fieldIndex (valueRow τ v) n) (partType (valueRow τ v)) k e) ∙ ty
 part-type τ v (Tuple j) k q e ty = let z : j ≡ k = cc in rw (← z) (cond-some (isTuple (valueRow τ v)) (partType (valueRow τ v) j) q ty)
 
 -- a part of a tracked value fits its type

@@ -21,7 +21,8 @@ use Rattle.lookup.specs.declared.Step.{Step}
 use Rattle.eligibility.specs.Lookup.{Types, rowOf, recordedType, shape, isTuple, isStruct, isArray, isAggregate, fieldIndex}
 use Rattle.chains.specs.Chained.{asPosition}
 use Rattle.chains.specs.declared.Position.{Position}
-use Rattle.shelf.specs.Parts.{partType, onto}
+use Rattle.shelf.specs.Parts.{partType}
+use Rattle.rewriting.specs.State.{onSome}
 use Rattle.shelf.specs.Fits.{sameType, fieldTypeOf, stepType}
 use Rattle.shelf.specs.Agrees.{isScalarType}
 use Rattle.typing.specs.Rows.{shapedPart}
@@ -80,12 +81,12 @@ scalar-some τ (some t) z e f = rw f (plain (rowOf τ (some t)))
 
 -- the part of a field that is there, and of one that is not
 pub field-some : {r : ℕ} {p : Position} (row : Option MirType) (name : NameId) (k : ℕ) → p ≡ Position.At k → asPosition p ≡ fieldIndex row name → r ≡ recordedNumber (partType row k) → r ≡ recordedNumber (fieldTypeOf row name)
-unfolding fieldTypeOf onto
-field-some row name k e f h = h ∙ ap (λ q. recordedNumber (onto q (partType row))) (sym (ap asPosition e) ∙ f)
+unfolding fieldTypeOf onSome
+field-some row name k e f h = h ∙ ap (λ q. recordedNumber (onSome q (partType row))) (sym (ap asPosition e) ∙ f)
 
 pub field-none : {p : Position} (row : Option MirType) (name : NameId) → p ≡ Position.Nothing → asPosition p ≡ fieldIndex row name → 0 ≡ recordedNumber (fieldTypeOf row name)
-unfolding fieldTypeOf onto
-field-none row name e f = ap (λ q. recordedNumber (onto q (partType row))) (sym (ap asPosition e) ∙ f)
+unfolding fieldTypeOf onSome
+field-none row name e f = ap (λ q. recordedNumber (onSome q (partType row))) (sym (ap asPosition e) ∙ f)
 
 -- a part of a type of that shape, and of another
 pub shaped-part : {r a : ℕ} (row : Option MirType) (kind k : ℕ) → a ≡ shape row → a ≡ kind → r ≡ recordedNumber (partType row k) → r ≡ recordedNumber (shapedPart row kind k)

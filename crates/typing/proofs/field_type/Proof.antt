@@ -4,13 +4,13 @@ use Rattle.typing.proofs.field_type.Tie as tie
 use mathlib.Core.Path.{_∙_}
 use Rattle.routine.specs.Index.{recordedNumber}
 use Rattle.eligibility.specs.Lookup.{rowOf, structFieldsOf, position, fieldIndex}
-use Rattle.shelf.specs.Parts.{onto}
+use Rattle.rewriting.specs.State.{onSome}
 use Rattle.shelf.specs.Fits.{fieldTypeOf}
 use Rattle.facts.proofs.Values.{none-recorded, some-recorded}
 use Rattle.typing.proofs.Numbers.{field-some, field-none}
 
 returns : tie.Need-returns
-unfolding fieldTypeOf onto fieldIndex structFieldsOf position
+unfolding fieldTypeOf onSome fieldIndex structFieldsOf position
 returns c = λ τ o a l e. none-recorded (λ row. recordedNumber (fieldTypeOf row (c .before .before .before .args .name))) τ o (c .if1 .taken) e
 
 sub-field-index : tie.Need-sub-field-index

@@ -16,17 +16,36 @@ fn digit(x: u8) -> u8 {
     if d < 10 { 48 + d } else { 87 + d }
 }
 
-fn print_byte(x: u8) {
-    let pair: [u8; 2] = [digit(x / 16), digit(x)];
-    io::write_all(1, &pair);
+// Gives `text` the two digits of each byte, as far as it goes; answers how many there are then.
+fn put_digits(bytes: &[u8], text: &mut [u8]) -> usize {
+    let mut at = 0;
+    let mut i = 0;
+    while i < bytes.len() {
+        if 131072 <= at {
+            return at;
+        }
+        let x = bytes[i];
+        table::set_byte(text, at, digit(x / 16));
+        table::set_byte(text, at + 1, digit(x));
+        at = at + 2;
+        i = i + 1;
+    }
+    at
+}
+
+// The first bytes of some.
+fn first<'a>(bytes: &'a [u8], size: usize) -> &'a [u8] {
+    let len = bytes.len();
+    if len < size {
+        return &bytes[len..];
+    }
+    &bytes[0..size]
 }
 
 fn print_bytes(bytes: &[u8]) {
-    let mut i = 0;
-    while i < bytes.len() {
-        print_byte(bytes[i]);
-        i = i + 1;
-    }
+    let mut text = [0u8; 131072];
+    let size = put_digits(bytes, &mut text);
+    io::write_all(1, first(&text, size));
     io::write_all(1, b"\n");
 }
 
@@ -48,15 +67,6 @@ fn print_refusal(answer: &[u64]) {
     io::write_all(1, b" ");
     io::print_decimal(1, number_at(answer, 1));
     io::write_all(1, b"\n");
-}
-
-// The first bytes of the output.
-fn first<'a>(out: &'a [u8], size: usize) -> &'a [u8] {
-    let len = out.len();
-    if len < size {
-        return &out[len..];
-    }
-    &out[0..size]
 }
 
 fn show(answer: &[u64], out: &[u8]) {

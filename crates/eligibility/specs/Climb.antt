@@ -1,9 +1,9 @@
 -- sroa.rs 196, `can_scalarize_aggregate`: a recursion over the builds that take a value as a part, with one visited set.
 use Prim.Native.Nat.{ℕ, zero, suc}
-use mathlib.Core.List.{List, [], _∷_, _++_, map}
+use mathlib.Core.List.{List, [], _∷_}
 use mathlib.Core.Bool.{Bool, true, false, cond, not, _&&_, _||_}
 use mathlib.Core.Option.{Option, none, some}
-use lib.ListN.{length, getD, set, replicate}
+use lib.ListN.{length, replicate}
 use lib.Dec.{eqb}
 use Rattle.wire.specs.declared.ValueId.{ValueId}
 use Rattle.wire.specs.declared.NameId.{NameId}
@@ -15,7 +15,7 @@ use Rattle.form.specs.Syntax.{Assign, UnaryOp, BinaryOp, Call, Cast, Load, Stor
 use Rattle.form.specs.Syntax.{MakeTuple, ExtractTupleElement, MakeStruct, ExtractStructField, InsertField, InsertTuple, MakeFixedArray, AssertEq, HeapAllocCells}
 use Rattle.form.specs.Reads.{initValues}
 use Rattle.eligibility.specs.declared.Settings.{Settings}
-use Rattle.eligibility.specs.Lookup.{Types, rowOf, recordedType, valueRow, isScalarizable, isTuple, isStruct, isArray, structFieldsOf, isOperand, isInteger, any}
+use Rattle.eligibility.specs.Lookup.{Types, rowOf, valueRow, isScalarizable, isTuple, isStruct, isArray, structFieldsOf, isOperand, isInteger, any}
 use Rattle.eligibility.specs.Family.{Marks, marked, mark, buildDest}
 
 -- the first value that is given for a name

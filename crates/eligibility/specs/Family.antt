@@ -1,6 +1,6 @@
 -- The values derived from a build, and the aggregates that are used across blocks.
 use Prim.Native.Nat.{ℕ, zero, suc}
-use mathlib.Core.List.{List, [], _∷_, _++_, map}
+use mathlib.Core.List.{List, [], _∷_}
 use mathlib.Core.Bool.{Bool, true, false, cond, not, _&&_, _||_}
 use mathlib.Core.Option.{Option, none, some}
 use lib.ListN.{length, getD, set, replicate}
@@ -13,7 +13,7 @@ use Rattle.form.specs.Syntax.{Assign, UnaryOp, BinaryOp, Call, Cast, Load, Stor
 use Rattle.form.specs.Syntax.{MakeTuple, ExtractTupleElement, MakeStruct, ExtractStructField, InsertField, InsertTuple, MakeFixedArray, AssertEq, HeapAllocCells}
 use Rattle.form.specs.Reads.{reads, counted, terminatorReads}
 use Rattle.eligibility.specs.declared.Settings.{Settings}
-use Rattle.eligibility.specs.Lookup.{Types, rowOf, recordedType, valueRow, isScalarizable, shape, isInteger, any}
+use Rattle.eligibility.specs.Lookup.{Types, rowOf, valueRow, isScalarizable, shape, isInteger, any}
 
 -- a set of values: a mark for each
 abbrev pub Marks : Type 0

@@ -1,19 +1,17 @@
 -- Which builds are folded: the tests that `run` makes at a build, sroa.rs 797 to 954.
-use Prim.Native.Nat.{ℕ, zero, suc}
-use mathlib.Core.List.{List, [], _∷_, _++_, map}
+use mathlib.Core.List.{List, [], _∷_}
 use mathlib.Core.Bool.{Bool, true, false, cond, not, _&&_, _||_}
-use mathlib.Core.Option.{Option, none, some}
 use lib.Dec.{eqb}
 use Rattle.wire.specs.declared.ValueId.{ValueId}
 use Rattle.wire.specs.declared.Value.{Value}
-use Rattle.form.specs.Syntax.{FieldInit, Instruction, InstructionKind, Block}
+use Rattle.form.specs.Syntax.{Instruction, InstructionKind}
 use Rattle.form.specs.Syntax.{Assign, UnaryOp, BinaryOp, Call, Cast, Load, Store, Debug, Nop, Phi}
 use Rattle.form.specs.Syntax.{MakeTuple, ExtractTupleElement, MakeStruct, ExtractStructField, InsertField, InsertTuple, MakeFixedArray, AssertEq, HeapAllocCells}
 use Rattle.form.specs.Reads.{isPhi}
 use Rattle.eligibility.specs.declared.Settings.{Settings}
-use Rattle.eligibility.specs.Lookup.{Types, valueRow, isScalarizable, isTuple, isStruct, isArray, isOperand, any, every}
-use Rattle.eligibility.specs.Family.{Marks, marked, hasDynamicIndex}
-use Rattle.eligibility.specs.Climb.{structParts, buildable, canScalarize}
+use Rattle.eligibility.specs.Lookup.{Types, valueRow, isTuple, isStruct, isOperand, any, every}
+use Rattle.eligibility.specs.Family.{Marks, hasDynamicIndex}
+use Rattle.eligibility.specs.Climb.{buildable, canScalarize}
 
 -- "for tuples, we scalarize even if used in calls": only the tuples that take it as a part are climbed, each with a new set
 unfoldable pub tupleParent : Settings → Types → Marks → List Instruction → ValueId → InstructionKind → Bool

@@ -1,6 +1,6 @@
 -- The settings, and what the pass looks up of types: one level deep.
-use Prim.Native.Nat.{ℕ, zero, suc}
-use mathlib.Core.List.{List, [], _∷_, map}
+use Prim.Native.Nat.{ℕ, suc}
+use mathlib.Core.List.{List, [], _∷_}
 use mathlib.Core.Bool.{true, false, cond, _&&_, _||_}
 use mathlib.Core.Bool as B
 use mathlib.Core.Option.{Option, none, some}

@@ -6,13 +6,13 @@ use wire::TypeId;
 use wire::Value;
 use wire::ValueId;
 ghost use mathlib.Core.Path.{_≡_};
-ghost use mathlib.Core.List.{[], _∷_, _++_};
+ghost use mathlib.Core.List.{[], _∷_};
 ghost use Prim.Native.Nat.{_+_, _-_, _<_, _≤_};
 ghost use lib.ListN.{length};
 ghost use lib.Seq.{sets, slice};
 ghost use Rattle.wire.specs.Number.{toBytes};
 ghost use Rattle.wire.specs.Value.{valueBytes, boolByte};
-ghost use Rattle.form.specs.Syntax.{Projection, Index, Field, Tuple, Assign};
+ghost use Rattle.form.specs.Syntax.{Index, Field, Tuple, Assign};
 ghost use Rattle.form.specs.Encode.{projectionBytes, instructionBytes, valueIdBytes, blockIdBytes, typeIdBytes, nameIdBytes};
 ghost use Rattle.emit.specs.Plain.{plain};
 

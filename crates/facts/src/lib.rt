@@ -2,11 +2,11 @@
 use eligibility::Settings;
 use wire::TypeId;
 ghost use mathlib.Core.Path.{_≡_};
-ghost use mathlib.Core.Bool.{Bool, false, cond, _&&_};
+ghost use mathlib.Core.Bool.{false, cond, _&&_};
 ghost use mathlib.Core.List.{List};
 ghost use mathlib.Core.Option.{Option};
 ghost use Prim.Native.Nat.{ℕ, _≤_, _<_};
-ghost use lib.ListN.{length, getD, getElem?, drop};
+ghost use lib.ListN.{length, getD, getElem?};
 ghost use lib.Dec.{leb, ltb};
 ghost use Rattle.wire.specs.declared.TypeId.{TypeId as DeclaredTypeId};
 ghost use Rattle.typetable.specs.Syntax.{MirType};

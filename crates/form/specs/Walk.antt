@@ -4,9 +4,9 @@ use Prim.Native.Nat.{ℕ, zero, suc, _+_, _/_, _%_}
 use mathlib.Core.List.{List, [], _∷_, map}
 use mathlib.Core.Bool.{Bool, true, false, cond, not, _||_}
 use lib.ListN.{length, getD, set}
-use lib.Dec.{leb, ltb, eqb}
+use lib.Dec.{ltb, eqb}
 use Rattle.wire.specs.Parse.{Parse, ok, bad, andThen, mapParse, checked}
-use Rattle.wire.specs.Number.{u8Of, u16Of, u32Of, below}
+use Rattle.wire.specs.Number.{u16Of, u32Of, below}
 use Rattle.wire.specs.Value.{valueOf, valueIdOf}
 use Rattle.wire.specs.declared.Cause.{Cause}
 use Rattle.wire.specs.declared.Value.{Value}

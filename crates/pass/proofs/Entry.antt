@@ -1,7 +1,7 @@
 -- The entries keep their promises.
-use Prim.Native.Nat.{ℕ, zero, suc, _+_, _≤_, _<_}
+use Prim.Native.Nat.{ℕ, _+_, _≤_, _<_}
 use mathlib.Core.Path.{_≡_, refl, ap, _∙_, sym}
-use mathlib.Core.List.{List, [], _++_, append-assoc}
+use mathlib.Core.List.{List, [], append-assoc}
 use mathlib.Core.Bool.{Bool, true, false}
 use native.Mathlib.Omega.{arith}
 use borrow.Author.Tests.{ltb-true, ltb-false}
@@ -12,7 +12,7 @@ use Rattle.wire.specs.WellFormed.{Bytes}
 use Rattle.eligibility.specs.declared.Settings.{Settings}
 use Rattle.rewriting.specs.declared.Counts.{Counts}
 use Rattle.rewriting.proofs.Outcomes.{too-large}
-use Rattle.shelf.specs.Answer.{Answer as Given, refused, lowered, answer as given}
+use Rattle.shelf.specs.Answer.{refused, lowered, answer as given}
 use Rattle.writing.specs.declared.Answer.{Answer}
 use Rattle.writing.specs.Numbers.{numbersOf, leaves, asAnswer, Answers}
 use Rattle.writing.proofs.Answered.{given-refused}

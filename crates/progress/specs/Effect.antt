@@ -1,13 +1,12 @@
 -- What an instruction, a terminator, a block or a routine adds to the output.
 use Prim.Native.Nat.{ℕ, _+_, _*_, _≤_}
 use mathlib.Core.Path.{_≡_}
-use mathlib.Core.List.{List, [], _∷_, _++_, map}
+use mathlib.Core.List.{List, [], _∷_, _++_}
 use mathlib.Core.Bool.{Bool, true, false}
 use lib.ListN.{length}
 use lib.Seq.{sets}
 use Rattle.wire.specs.declared.ValueId.{ValueId}
 use Rattle.wire.specs.declared.TypeId.{TypeId}
-use Rattle.form.specs.Syntax.{Instruction}
 use Rattle.form.specs.Encode.{eachBytes, instructionBytes, terminatorBytes}
 use Rattle.block.specs.Encode.{blockBytes}
 use Rattle.eligibility.specs.Family.{Marks, mark}

@@ -1,10 +1,10 @@
 -- sroa.rs, `materialize`: an aggregate is rebuilt, directly before what needs it, under the next value number.
-use Prim.Native.Nat.{ℕ, zero, suc, _+_}
-use mathlib.Core.List.{List, [], _∷_, _++_, map}
-use mathlib.Core.Bool.{true, false, cond, not, _||_}
+use Prim.Native.Nat.{ℕ, zero, suc}
+use mathlib.Core.List.{List, [], _∷_, _++_}
+use mathlib.Core.Bool.{false, cond, not, _||_}
 use mathlib.Core.Bool as B
 use mathlib.Core.Option.{Option, none, some}
-use lib.ListN.{length, getElem?}
+use lib.ListN.{length}
 use lib.Dec.{eqb}
 use Rattle.wire.specs.Value.{unit}
 use Rattle.wire.specs.declared.ValueId.{ValueId}

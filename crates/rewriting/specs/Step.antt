@@ -1,7 +1,7 @@
 -- What `run` makes of one instruction: the arms of its `match`, sroa.rs 796 to 1305, in its order.
-use Prim.Native.Nat.{ℕ, zero, suc, _+_}
-use mathlib.Core.List.{List, [], _∷_, _++_, map}
-use mathlib.Core.Bool.{Bool, true, false, cond, _&&_}
+use Prim.Native.Nat.{ℕ}
+use mathlib.Core.List.{List, [], _∷_, _++_}
+use mathlib.Core.Bool.{Bool, true, false}
 use mathlib.Core.Option.{Option, none, some}
 use lib.ListN.{length, getElem?}
 use Rattle.wire.specs.declared.ValueId.{ValueId}
@@ -12,7 +12,7 @@ use Rattle.form.specs.Syntax.{Place, Instruction, InstructionKind, Meta}
 use Rattle.form.specs.Syntax.{Assign, UnaryOp, BinaryOp, Call, Cast, Load, Store, Debug, Nop, Phi}
 use Rattle.form.specs.Syntax.{MakeTuple, ExtractTupleElement, MakeStruct, ExtractStructField, InsertField, InsertTuple, MakeFixedArray, AssertEq, HeapAllocCells}
 use Rattle.eligibility.specs.declared.Settings.{Settings}
-use Rattle.eligibility.specs.Lookup.{Types, rowOf, valueRow, fieldIndex, isStruct}
+use Rattle.eligibility.specs.Lookup.{Types, rowOf, valueRow, fieldIndex}
 use Rattle.eligibility.specs.Climb.{structParts}
 use Rattle.rewriting.specs.declared.Counts.{Counts}
 use Rattle.rewriting.specs.State.{AggStates, insertState, stateOf, onSome, replaced, chain, firstInteger, forwardStore}

@@ -1,7 +1,6 @@
 -- Shelf reason 1, "Types disagree", as a test for each kind that passes where they agree. "A value read or defined lacks a
 -- recorded type, or Error stands as a value" is a test of its own for Debug and Return alone: what fits a type or is a scalar
 -- has a recorded type or is a literal, and so do the dests (proofs/Recorded.antt).
-use Prim.Native.Nat.{ℕ}
 use mathlib.Core.Option.{Option, none, some}
 use mathlib.Core.List.{List, [], _∷_}
 use mathlib.Core.Bool.{true, false, cond, not, _&&_}
@@ -12,7 +11,7 @@ use Rattle.wire.specs.declared.ValueId.{ValueId}
 use Rattle.wire.specs.declared.TypeId.{TypeId}
 use Rattle.wire.specs.declared.Value.{Value}
 use Rattle.typetable.specs.Syntax.{MirType, Felt, Bool, U32, Tuple, Struct, FixedArray, Pointer, Function, Unit, Error, Unknown}
-use Rattle.form.specs.Syntax.{Projection, Index, Field, Place, Instruction, InstructionKind, Assign, UnaryOp, BinaryOp, Call, Cast, Load, Store, Debug, Nop, Phi}
+use Rattle.form.specs.Syntax.{Projection, Index, Field, Place, InstructionKind, Assign, UnaryOp, BinaryOp, Call, Cast, Load, Store, Debug, Nop, Phi}
 use Rattle.form.specs.Syntax.{MakeTuple, ExtractTupleElement, MakeStruct, ExtractStructField, InsertField, InsertTuple, MakeFixedArray, AssertEq, HeapAllocCells}
 use Rattle.form.specs.Syntax.{Terminator, Jump, If, BranchCmp, Return, Unreachable, Block}
 use Rattle.form.specs.Syntax as S

@@ -2,11 +2,11 @@
 -- in them; with the flag, Debug's values count like any other instruction's.
 use Prim.Native.Nat.{ℕ}
 use mathlib.Core.List.{List}
-use mathlib.Core.Bool.{Bool, true, false, cond, _&&_}
+use mathlib.Core.Bool.{Bool, cond, _&&_}
 use Rattle.wire.specs.declared.ValueId.{ValueId}
 use Rattle.form.specs.Syntax.{Block}
 use Rattle.routine.specs.Routine.{Routine}
-use Rattle.eligibility.specs.Lookup.{Types, recordedType}
+use Rattle.eligibility.specs.Lookup.{recordedType}
 use Rattle.eligibility.specs.Climb.{isSome}
 use Rattle.eligibility.specs.Fold.{behindPhis}
 use Rattle.rewriting.specs.Run.{Rewritten, typesIn}

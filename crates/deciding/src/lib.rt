@@ -1,4 +1,4 @@
-// What becomes of one instruction, all kinds but Call and Store: sroa.rs 796 to 1305. The parts of what it defines, if
+// What becomes of one instruction, all kinds but Call and Store: sroa.rs 805 to 1304. The parts of what it defines, if
 // they are tracked then, go into the rows.
 use chains::Position;
 use decided::Action;

@@ -1,4 +1,4 @@
--- sroa.rs 196, `can_scalarize_aggregate`: a recursion over the builds that take a value as a part, with one visited set.
+-- sroa.rs 195, `can_scalarize_aggregate`: a recursion over the builds that take a value as a part, with one visited set.
 use Prim.Native.Nat.{ℕ, zero, suc}
 use mathlib.Core.List.{List, [], _∷_}
 use mathlib.Core.Bool.{Bool, true, false, cond, not, _&&_, _||_}
@@ -28,7 +28,7 @@ consPart none xs = none
 consPart (some x) none = none
 consPart (some x) (some xs) = some (x ∷ xs)
 
--- sroa.rs, `AggState::from_struct_fields`: the parts in the type's order, none where a field is not given
+-- sroa.rs 1395, `AggState::from_struct_fields`: the parts in the type's order, none where a field is not given
 unfoldable pub fromStructFields : List FieldInit → List StructField → Option (List Value)
 fromStructFields fs [] = some []
 fromStructFields fs (t ∷ ts) = consPart (given (t .name) fs) (fromStructFields fs ts)

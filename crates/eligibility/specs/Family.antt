@@ -31,7 +31,7 @@ joins m (Value.Literal l) d = m
 joins m (Value.Operand v) d = cond (marked m v) (mark m d) m
 joins m Value.Error d = m
 
--- sroa.rs 425: an Assign joins where both types are arrays, both tuples or both structs; an insert always
+-- sroa.rs 428 to 466: an Assign joins where both types are arrays, both tuples or both structs; an insert always
 unfoldable pub member : Types → ℕ → Marks → InstructionKind → Marks
 member τ root m (Assign d x t) = cond (not (eqb root 0) && eqb root (shape (rowOf τ (some t)))) (joins m x d) m
 member τ root m (UnaryOp op d x) = m
@@ -63,7 +63,7 @@ unfoldable pub sweeps : Types → ℕ → ℕ → Marks → List Instruction →
 sweeps τ root zero m is = m
 sweeps τ root (suc k) m is = sweeps τ root k (sweep τ root m is) is
 
--- sroa.rs 412, `build_aggregate_family`
+-- sroa.rs 410, `build_aggregate_family`
 unfoldable pub family : Types → ValueId → List Instruction → Marks
 family τ v is = sweeps τ (shape (valueRow τ v)) (length is) (mark (replicate (length (τ .recorded)) false) v) is
 
@@ -159,6 +159,6 @@ unfoldable pub crossBlocks : Settings → Types → List Block → ℕ → List 
 crossBlocks σ τ all own [] m = m
 crossBlocks σ τ all own (k ∷ ks) m = crossBlocks σ τ all (suc own) ks (crossBuilds σ τ all own k (k .instructions) m)
 
--- sroa.rs 518, `find_cross_block_aggregates`
+-- sroa.rs 513, `find_cross_block_aggregates`
 unfoldable pub crossBlockAggregates : Settings → Types → List Block → Marks
 crossBlockAggregates σ τ ks = crossBlocks σ τ ks 0 ks (replicate (length (τ .recorded)) false)

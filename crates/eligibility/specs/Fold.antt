@@ -1,4 +1,4 @@
--- Which builds are folded: the tests that `run` makes at a build, sroa.rs 797 to 954.
+-- Which builds are folded: the tests that `run` makes at a build, sroa.rs 808 to 954.
 use mathlib.Core.List.{List, [], _∷_}
 use mathlib.Core.Bool.{Bool, true, false, cond, not, _&&_, _||_}
 use lib.Dec.{eqb}

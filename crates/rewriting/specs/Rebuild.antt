@@ -1,4 +1,4 @@
--- sroa.rs, `materialize`: an aggregate is rebuilt, directly before what needs it, under the next value number.
+-- sroa.rs 1420, `materialize`: an aggregate is rebuilt, directly before what needs it, under the next value number.
 use Prim.Native.Nat.{ℕ, zero, suc}
 use mathlib.Core.List.{List, [], _∷_, _++_}
 use mathlib.Core.Bool.{false, cond, not, _||_}

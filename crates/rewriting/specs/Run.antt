@@ -1,4 +1,4 @@
--- A block, and a routine: sroa.rs 746 to 1376.
+-- A block, and a routine: sroa.rs 756 to 1375, `run`.
 use Prim.Native.Nat.{ℕ, _+_}
 use mathlib.Core.List.{List, [], _∷_, _++_, map}
 use mathlib.Core.Bool.{Bool, true, false, not, _||_}

@@ -12,7 +12,7 @@ use Rattle.wire.specs.declared.Value.{Value}
 use Rattle.form.specs.Syntax.{Projection, Index, Field, Tuple, Place}
 use Rattle.eligibility.specs.Lookup.{Types, valueRow, fieldIndex, asConstInteger}
 
--- sroa.rs, `agg_states`: ValueId → AggState
+-- sroa.rs 797, `agg_states`: ValueId → AggState
 abbrev pub AggStates : Type 0
 AggStates = ℕ → Option (List Value)
 
@@ -54,7 +54,7 @@ stepPart τ S (Value.Literal l) p = none
 stepPart τ S (Value.Operand v) p = onSome (stepIndex τ v p) (λ k. onSome (S (v .0)) (λ xs. getElem? xs k))
 stepPart τ S Value.Error p = none
 
--- sroa.rs, `forward_projection_chain`
+-- sroa.rs 1489, `forward_projection_chain`
 unfoldable pub chain : Types → AggStates → Value → List Projection → Option Value
 chain τ S x [] = some x
 chain τ S x (p ∷ ps) = onSome (stepPart τ S x p) (λ y. chain τ S y ps)
@@ -90,6 +90,6 @@ storeFrom τ S v [] y k = none
 storeFrom τ S v (p ∷ []) y k = storePart S v k y
 storeFrom τ S v (p ∷ q ∷ ps) y k = onSome (S (v .0)) (λ xs. onSome (getElem? xs k) (λ x. storeDeeper τ S x (q ∷ ps) y))
 
--- sroa.rs, `try_forward_store_chain`: the states behind a Store that is forwarded
+-- sroa.rs 1548, `try_forward_store_chain`: the states behind a Store that is forwarded
 unfoldable pub forwardStore : Types → AggStates → Place → Value → Option AggStates
 forwardStore τ S p y = onSome (firstInteger (p .projections)) (λ k. storeFrom τ S (p .base) (p .projections) y k)

@@ -1,4 +1,4 @@
--- What `run` makes of one instruction: the arms of its `match`, sroa.rs 796 to 1305, in its order.
+-- What `run` makes of one instruction: the arms of its `match`, sroa.rs 805 to 1304, in its order.
 use Prim.Native.Nat.{ℕ}
 use mathlib.Core.List.{List, [], _∷_, _++_}
 use mathlib.Core.Bool.{Bool, true, false}

@@ -118,6 +118,7 @@ dynamicFirst (Index x ∷ ps) = not (isInteger x)
 dynamicFirst (Field n ∷ ps) = false
 dynamicFirst (Tuple k ∷ ps) = false
 
+-- a member of the family is looked into by such an Index
 unfoldable pub dynamicAt : Marks → Option Place → Bool
 dynamicAt m none = false
 dynamicAt m (some p) = marked m (p .base) && dynamicFirst (p .projections)
@@ -147,14 +148,17 @@ union (a ∷ m) (b ∷ n) = (a || b) ∷ union m n
 unfoldable pub crossFamily : Types → List Block → ℕ → Block → ValueId → Marks → Marks
 crossFamily τ ks own k v m = let f = family τ v (k .instructions) in cond (readElsewhere f own 0 ks) (union f m) m
 
+-- sroa.rs 530: only a build whose recorded type is scalarizable is a root
 unfoldable pub crossBuild : Settings → Types → List Block → ℕ → Block → Option ValueId → Marks → Marks
 crossBuild σ τ ks own k none m = m
 crossBuild σ τ ks own k (some v) m = cond (isScalarizable σ (valueRow τ v)) (crossFamily τ ks own k v m) m
 
+-- the builds of block number own, in order
 unfoldable pub crossBuilds : Settings → Types → List Block → ℕ → Block → List Instruction → Marks → Marks
 crossBuilds σ τ ks own k [] m = m
 crossBuilds σ τ ks own k (i ∷ is) m = crossBuilds σ τ ks own k is (crossBuild σ τ ks own k (buildDest (i .kind)) m)
 
+-- the blocks from number own on, among all
 unfoldable pub crossBlocks : Settings → Types → List Block → ℕ → List Block → Marks → Marks
 crossBlocks σ τ all own [] m = m
 crossBlocks σ τ all own (k ∷ ks) m = crossBlocks σ τ all (suc own) ks (crossBuilds σ τ all own k (k .instructions) m)

@@ -36,12 +36,15 @@ tupleParent σ τ cross is v (AssertEq x y) = true
 tupleParent σ τ cross is v (HeapAllocCells d x) = true
 
 module _ (σ : Settings) (τ : Types) (cross : Marks) (is : List Instruction) where
+  -- sroa.rs 808 to 864: its own conditions, and those of each tuple that takes it as a part
   unfoldable pub foldsTuple : ValueId → List Value → Bool
   foldsTuple d xs = σ .tuples && (buildable σ τ cross (MakeTuple d xs) && every (λ i. tupleParent σ τ cross is d (i .kind)) is)
 
+  -- sroa.rs 866 to 905: the climb alone; what 887 and 898 test once more is its condition 3
   unfoldable pub foldsStruct : ValueId → Bool
   foldsStruct d = σ .structs && canScalarize σ τ cross is d
 
+  -- sroa.rs 908 to 954: "general recursive checks AND no dynamic index in the array family"; the climb tests 911 to 926 too
   unfoldable pub foldsArray : ValueId → Bool
   foldsArray d = σ .tuples && (canScalarize σ τ cross is d && not (hasDynamicIndex τ d is))
 
@@ -76,5 +79,6 @@ aggregatePhi τ (MakeFixedArray d xs t c) = false
 aggregatePhi τ (AssertEq x y) = false
 aggregatePhi τ (HeapAllocCells d x) = false
 
+-- sroa.rs 771 to 786: "a block with a tuple or struct phi is skipped"
 unfoldable pub skipped : Types → List Instruction → Bool
 skipped τ is = any (λ i. aggregatePhi τ (i .kind)) is

@@ -34,10 +34,12 @@ pub record Output : Type 0 where
 abbrev pub outputOf : List ℕ → List ℕ → Marks → Progress → Output
 outputOf buffer types dropped p = record { buffer = buffer; types = types; dropped = dropped; progress = p }
 
+-- the values are marked, one after another
 unfoldable pub markAll : Marks → List ValueId → Marks
 markAll m [] = m
 markAll m (d ∷ ds) = markAll (mark m d) ds
 
+-- types by their numbers
 unfoldable pub numbersOf : List TypeId → List ℕ
 numbersOf [] = []
 numbersOf (t ∷ ts) = t .0 ∷ numbersOf ts

@@ -19,6 +19,7 @@ AggStates = ℕ → Option (List Value)
 unfoldable pub noStates : AggStates
 noStates v = none
 
+-- `agg_states.insert(..)`: a value's parts, in place of any it had
 unfoldable pub insertState : AggStates → ValueId → List Value → AggStates
 insertState S d xs = λ v. cond (eqb v (d .0)) (some xs) (S v)
 
@@ -80,11 +81,13 @@ storeLast τ S (Value.Literal l) p y = none
 storeLast τ S (Value.Operand v) p y = onSome (stepIndex τ v p) (λ k. storePart S v k y)
 storeLast τ S Value.Error p y = none
 
+-- sroa.rs 1578 to 1612: from part to part, and at the last projection the new value is put in
 unfoldable pub storeDeeper : Types → AggStates → Value → List Projection → Value → Option AggStates
 storeDeeper τ S x [] y = none
 storeDeeper τ S x (p ∷ []) y = storeLast τ S x p y
 storeDeeper τ S x (p ∷ q ∷ ps) y = onSome (stepPart τ S x p) (λ z. storeDeeper τ S z (q ∷ ps) y)
 
+-- sroa.rs 1568 to 1576: with one projection part k is replaced; with more, the walk goes on from part k
 unfoldable pub storeFrom : Types → AggStates → ValueId → List Projection → Value → ℕ → Option AggStates
 storeFrom τ S v [] y k = none
 storeFrom τ S v (p ∷ []) y k = storePart S v k y

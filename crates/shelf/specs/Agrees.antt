@@ -79,6 +79,7 @@ reached τ p =
     (placeType τ (recordedType τ (p .base)) (p .projections))
     (pointed τ (pointee (valueRow τ (p .base))) (p .projections))
 
+-- a Load's or Store's place: it ends at the type that is named, and each Index has a value that can be one
 unfoldable pub placeFits : Types → Place → TypeId → B.Bool
 placeFits τ p t = sameType (reached τ p) (some t) && every (indexFits τ) (p .projections)
 
@@ -131,6 +132,7 @@ isCondition τ (Value.Literal l) = eqb (literalKind l) 2
 isCondition τ (Value.Operand v) = eqb (scalarKind (valueRow τ v)) 2
 isCondition τ Value.Error = false
 
+-- the same of a terminator: BranchCmp takes scalars, "If a Bool"; Return's values are known
 unfoldable pub endAgrees : Types → Terminator → B.Bool
 endAgrees τ (Jump b) = true
 endAgrees τ (If x a b) = isCondition τ x
@@ -142,5 +144,6 @@ endAgrees τ Unreachable = true
 unfoldable pub countedAgrees : B.Bool → Types → InstructionKind → B.Bool
 countedAgrees debug τ i = cond (counted debug i) (agrees τ i) true
 
+-- and of a block
 unfoldable pub blockAgrees : B.Bool → Types → Block → B.Bool
 blockAgrees debug τ k = every (λ i. countedAgrees debug τ (i .kind)) (k .instructions) && endAgrees τ (k .terminator)

@@ -35,6 +35,7 @@ unfoldable pub readsNoDropped : Bool → List ValueId → List Block → Bool
 readsNoDropped debug dropped ks =
     every (λ k. clean debug (λ x. among x dropped) (k .instructions)) ks && every (λ k. cleanTerminator (λ x. among x dropped) (k .terminator)) ks
 
+-- "Reason 0 is passed; else the lowest that holds"
 unfoldable pub shelfReason : Bool → Routine → Rewritten → ℕ
 shelfReason debug r w =
     cond (typesAgree debug r)

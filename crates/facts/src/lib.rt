@@ -83,6 +83,7 @@ fn recorded_shape(s: &[u8], types: &[usize], many: u16, number: u16) -> u8
     type_shape(s, types, many, number - 1)
 }
 
+// Whether a recorded type is eligible, by that number; none is not.
 fn recorded_eligible(s: &[u8], types: &[usize], many: u16, number: u16, settings: Settings) -> bool
     ensures { λ r. ⌜ ((most : ℕ) (τ : Types) (o : Option DeclaredTypeId) → TypesAt most (now (s .entry)) (now (types .entry)) (τ .rows) → length (τ .rows) ≡ many → number ≡ recordedNumber o → r ≡ isScalarizable settings (rowOf τ o)) ⌝ }
 {

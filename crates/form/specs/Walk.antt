@@ -104,7 +104,7 @@ times f zero w s = ok w 0
 times f (suc k) w s = andThen s (f w s) (λ v t. times f k v t)
 
 -- the fields of an element, by the kind of its list: values, types, defined values, names with values, blocks with
--- values, types; and projections
+-- values, a Call's return types (their count is exact); and projections
 abbrev pub firstOf : ℕ → ℕ
 firstOf k = getD (2 ∷ 3 ∷ 1 ∷ 4 ∷ 6 ∷ 3 ∷ []) k 10
 

@@ -31,8 +31,8 @@ fn then_value(s: &[u8], p: Scan, next: u16, buffer: &mut [u16]) -> Scan
     }
 }
 
-// An element, by the kind of its list: values, types, defined values, names with values, blocks with values, types,
-// projections.
+// An element, by the kind of its list: values, types, defined values, names with values, blocks with values, a Call's
+// return types (their count is exact), projections.
 fn element_at(
     s: &[u8],
     at: usize,

@@ -16,7 +16,8 @@ ghost use Rattle.typetable.specs.Syntax.{MirType};
 ghost use Rattle.typetable.specs.Decode.{hasName, structFields, structOf, typeOf, sameBytes, hasType};
 ghost use Rattle.typetable.specs.Index.{namesAt, fieldOf, TypesAt, TypesRead};
 
-// The classes of each kind's fields (see rows::then_row), in `MirType` order. A Struct has no row: its names differ.
+// The classes of each kind's fields (see `field_at` of crate rows), in `MirType` order. A Struct has no row: its names
+// differ.
 pub const TYPE_ROWS: [u32; 11] = [0x0, 0x0, 0x0, 0xb, 0x0, 0x53, 0x3, 0x3b, 0x0, 0x0, 0x0];
 
 // The name stands among the first `i` of the fields that begin at `from`.

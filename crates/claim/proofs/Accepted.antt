@@ -1,7 +1,7 @@
 -- What a decoded routine gives: the refusals of the byte form, as the runs need them.
 use Prim.Native.Nat.{ℕ, _<_}
 use mathlib.Core.List.{List, [], _∷_, _++_}
-use mathlib.Core.Bool.{true, not, _||_}
+use mathlib.Core.Bool.{not, _||_}
 use mathlib.Core.Bool as B
 use lib.Dec.{T, ltb, lt→ltb}
 use Rattle.wire.specs.declared.ValueId.{ValueId}
@@ -16,7 +16,7 @@ use Rattle.form.specs.Syntax as S
 use Rattle.form.specs.Reads.{operand, operands, indices, placeReads, sourceValues, initValues, reads, dests, isPhi, terminatorReads}
 use Rattle.form.specs.Decode.{mark}
 use Rattle.form.specs.declared.Bounds.{Bounds}
-use Rattle.canon.specs.WellFormed.{Each, FitNew, FitNews, FitProjection, FitPlace, FitSource, FitInit, FitKind, FitTerminator}
+use Rattle.canon.specs.WellFormed.{Each, FitNews, FitProjection, FitPlace, FitSource, FitInit, FitKind, FitTerminator}
 use Rattle.block.specs.Decode.{marks}
 use Rattle.block.specs.WellFormed.{FitInstructions}
 use Rattle.output.proofs.Marks.{dests-new}
@@ -66,9 +66,6 @@ every-append p (x ∷ xs) ys s t = and-i (p x) _ (and-l (p x) (every p xs) s) (e
 pub news-low : (b : Bounds) (seen : List B.Bool) (ds : List ValueId) → FitNews b seen ds → T (every (low (b .next)) ds)
 news-low b seen [] h = tt
 news-low b seen (d ∷ ds) h = and-i (low (b .next) d) _ (fit-low (b .next) d (h .0 .0)) (news-low b (mark seen d) ds (h .1))
-
-one-low : (b : Bounds) (seen : List B.Bool) (d : ValueId) → FitNew b seen d → T (every (low (b .next)) (d ∷ []))
-one-low b seen d h = and-i (low (b .next) d) true (fit-low (b .next) d (h .0)) tt
 
 two-low : (m : ℕ) (x y : Value) → FitValue m x → FitValue m y → T (every (low m) (operand x (operand y [])))
 two-low m x y h k = operand-low m x (operand y []) h (operand-low m y [] k tt)

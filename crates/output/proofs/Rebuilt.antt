@@ -14,13 +14,13 @@ use Rattle.wire.specs.declared.NameId.{NameId}
 use Rattle.wire.specs.declared.Value.{Value}
 use Rattle.typetable.specs.Syntax.{StructField, MirType, Felt, Bool, U32, Tuple, Struct, FixedArray, Pointer, Function, Unit, Error, Unknown}
 use Rattle.typetable.specs.WellFormed.{FitFields, FitMirType}
-use Rattle.form.specs.Syntax.{Instruction, InstructionKind}
+use Rattle.form.specs.Syntax.{Instruction}
 use Rattle.form.specs.Reads.{dests, isPhi}
 use Rattle.form.specs.declared.Bounds.{Bounds}
 use Rattle.canon.specs.WellFormed.{Each, FitType, FitOption, FitNews, FitInit, FitMeta, FitKind}
 use Rattle.eligibility.specs.Lookup.{Types, rowOf, recordedType, isAggregate}
 use Rattle.rewriting.specs.State.{AggStates, stateOf}
-use Rattle.rewriting.specs.Rebuild.{plain, fitted, named, rebuildAt, Rebuilt, keepValue, rebuildValue, oneValue, Wanted, rebuildAll, aggregateType, wantedArguments, returnType, wantedReturns}
+use Rattle.rewriting.specs.Rebuild.{fitted, named, rebuildAt, Rebuilt, keepValue, rebuildValue, oneValue, Wanted, rebuildAll, aggregateType, wantedArguments, returnType, wantedReturns}
 use Rattle.output.proofs.Parts.{Parts, FitStates, Holds, state-fit}
 use Rattle.whole.proofs.Whole.{both-lists}
 
@@ -35,9 +35,6 @@ pub record Typed (c : Bounds) (τ : Types) : Type 0 where
   pub rows : (t : ℕ) (T : MirType) → getElem? (τ .rows) t ≡ some T → FitMirType (c .list) t T
   pub count : length (τ .rows) ≤ c .types
   pub recorded : (v : ValueId) → FitOption (FitType c) (recordedType τ v)
-
-pub no-beside : (k : InstructionKind) → FitMeta (plain k .meta)
-no-beside k = (tt, tt, tt)
 
 module _ (c : Bounds) (top : c .next ≤ 65536) where
   abbrev fit : Value → Type 0

@@ -79,10 +79,6 @@ thenEffect e f =
 abbrev pub noEffect : Effect
 noEffect = record { bytes = []; lines = 0; dropped = []; fresh = []; counts = noCounts }
 
--- some bytes that stand for no instruction
-abbrev pub bytesOnly : List ℕ → Effect
-bytesOnly w = record { bytes = w; lines = 0; dropped = []; fresh = []; counts = noCounts }
-
 -- what one instruction gives
 unfoldable pub pieceEffect : Piece → Effect
 pieceEffect p =

@@ -69,7 +69,3 @@ block-exact m b total seen =
 -- a block that was read is written as it stood
 pub block-canon : (m : Mosts) (b : Bounds) (total : ℕ) (seen : List Bool) (s : List ℕ) {x : Block} {n : ℕ} → Bytes s → blockOf m b total seen s ≡ ok x n → Canon (blockBytes x) s n
 block-canon m b total seen s {x} {n} h e = block-exact m b total seen .each s x n h e .canon
-
--- and has a byte form
-pub block-fit : (m : Mosts) (b : Bounds) (total : ℕ) (seen : List Bool) (s : List ℕ) {x : Block} {n : ℕ} → Bytes s → Wide b → blockOf m b total seen s ≡ ok x n → FitCode m b total seen x
-block-fit m b total seen s {x} {n} h w e = block-exact m b total seen .each s x n h e .good w

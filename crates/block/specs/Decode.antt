@@ -2,15 +2,15 @@
 use Prim.Native.Nat.{ℕ, zero, suc, _+_}
 use mathlib.Core.List.{List, [], _∷_}
 use mathlib.Core.Bool.{Bool, false, cond, not, _&&_, _||_}
-use lib.ListN.{length, getD}
-use lib.Dec.{leb, ltb, eqb}
+use lib.ListN.{length}
+use lib.Dec.{leb, eqb}
 use Rattle.wire.specs.Parse.{Parse, ok, bad, andThen, mapParse, checked}
 use Rattle.wire.specs.Number.{numberOf, u16Of}
 use Rattle.wire.specs.declared.Cause.{Cause}
 use Rattle.wire.specs.declared.ValueId.{ValueId}
 use Rattle.form.specs.Syntax.{Instruction, Block}
 use Rattle.form.specs.Reads.{dests, isPhi}
-use Rattle.form.specs.Decode.{mark, bit, instructionOf, terminatorOf, bitsOf, kindOf}
+use Rattle.form.specs.Decode.{mark, instructionOf, terminatorOf, bitsOf, kindOf}
 use Rattle.form.specs.Walk.{Walk, walkOf, fold}
 use Rattle.form.specs.declared.Bounds.{Bounds}
 use Rattle.block.specs.declared.Mosts.{Mosts}

@@ -13,7 +13,7 @@ ghost use Rattle.form.specs.Decode.{bit as bitOf, definedBits, metaOf, instruct
 ghost use Rattle.form.specs.Walk.{walkOf, fold, passes, leaves, asScan};
 ghost use Rattle.block.specs.Decode.{headOf, skipped, instructionsOf, blockOf, lateBehind, passed, asHead, asBlock};
 
-// "Most: 64 types, next value 256, 32 blocks, 128 instructions in a block, 256 in all, 16 in any list, 8 projections."
+// How many of each a routine may have; document 01's numbers stand at routine::MOSTS.
 pub struct Mosts {
     pub types: u16,
     pub next: u16,
@@ -36,7 +36,7 @@ pub enum BlockRead {
     Refused(Cause, usize),
 }
 
-// The classes of each kind's fields (see rows::then_row), in `InstructionKind` order.
+// The classes of each kind's fields (see `field_at` of crate rows), in `InstructionKind` order.
 pub const ROWS: [u32; 19] = [
     0x321, // Assign
     0x219, // UnaryOp

@@ -13,8 +13,6 @@ use Rattle.wire.specs.Number.{toBytes, below}
 use Rattle.wire.specs.Value.{valueOf, valueIdOf, valueBytes, boolByte}
 use Rattle.wire.specs.WellFormed.{FitValue}
 use Rattle.wire.specs.declared.Cause.{Cause}
-use Rattle.wire.specs.declared.Literal.{Literal}
-use Rattle.wire.specs.declared.Value.{Value}
 use Rattle.wire.proofs.Canon.{value-canon, value-fit, value-short}
 use Rattle.form.specs.Decode.{typeIdOf, blockIdOf, nameIdOf, listOf, mark, definedOf, definedSeq, definedsOf, operationOf, projectionOf, placeOf, sourceOf, fieldInitOf, optional, bit, spanOf, expressionOf, metaOf}
 use Rattle.form.specs.Encode.{valueIdBytes, typeIdBytes, blockIdBytes, nameIdBytes, eachBytes, listBytes, projectionBytes, placeBytes, sourceBytes, fieldInitBytes, optionBytes, spanBytes, expressionBytes, metaBytes, stands}

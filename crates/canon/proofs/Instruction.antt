@@ -20,7 +20,7 @@ use Rattle.form.specs.Syntax.{Instruction, Terminator}
 use Rattle.form.specs.Decode.{kinds, bit, metaOf, definedBits, bitsOf, kindOf, instructionOf, terminatorOf}
 use Rattle.form.specs.Encode.{bitMap, instructionBytes, terminatorBytes}
 use Rattle.form.specs.declared.Bounds.{Bounds}
-use Rattle.canon.specs.WellFormed.{Wide, FitInstruction, FitTerminator}
+use Rattle.canon.specs.WellFormed.{Wide, FitInstruction}
 use Rattle.canon.proofs.Exact.{Exact, ends, After, then, last, whole, byte}
 use Rattle.canon.proofs.Fields.{beside}
 use Rattle.canon.proofs.EachKind.{fieldsMost, fields, terminator}
@@ -88,16 +88,9 @@ instruction-canon b seen late s {i} {n} h e = instruction b seen late .each s i 
 pub instruction-size : (b : Bounds) (seen : List Bool) (late : Bool) (s : List ℕ) {i : Instruction} {n : ℕ} → Bytes s → instructionOf b seen late s ≡ ok i n → b .list ≤ 16 → b .projections ≤ 8 → n ≤ 268
 instruction-size b seen late s {i} {n} h e l p = omega (arith, instruction b seen late .each s i n h e .small)
 
--- it has a byte form
-pub instruction-fit : (b : Bounds) (seen : List Bool) (late : Bool) (s : List ℕ) {i : Instruction} {n : ℕ} → Bytes s → Wide b → instructionOf b seen late s ≡ ok i n → FitInstruction b seen late i
-instruction-fit b seen late s {i} {n} h w e = instruction b seen late .each s i n h e .good w
-
 -- and so for a terminator
 pub terminator-canon : (b : Bounds) (s : List ℕ) {t : Terminator} {n : ℕ} → Bytes s → terminatorOf b s ≡ ok t n → Canon (terminatorBytes t) s n
 terminator-canon b s {t} {n} h e = terminator b .each s t n h e .canon
 
 pub terminator-size : (b : Bounds) (s : List ℕ) {t : Terminator} {n : ℕ} → Bytes s → terminatorOf b s ≡ ok t n → b .list ≤ 16 → n ≤ 96
 terminator-size b s {t} {n} h e l = omega (arith, terminator b .each s t n h e .small)
-
-pub terminator-fit : (b : Bounds) (s : List ℕ) {t : Terminator} {n : ℕ} → Bytes s → Wide b → terminatorOf b s ≡ ok t n → FitTerminator b t
-terminator-fit b s {t} {n} h w e = terminator b .each s t n h e .good w

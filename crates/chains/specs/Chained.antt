@@ -78,7 +78,7 @@ integerStep (some (Tuple k)) = false
 unfoldable pub held : Types → AggStates → ValueId → List Projection → ℕ → Option Value
 held τ S v ps last = onSome (firstInteger ps) (λ k. chain τ S (Value.Operand v) (take last ps))
 
--- sroa.rs, `forward_projection_chain`: the part that a Load takes
+-- sroa.rs 1489, `forward_projection_chain`: the part that a Load takes
 unfoldable pub loadedPart : Types → AggStates → Place → Option Value
 loadedPart τ S p = onSome (firstInteger (p .projections)) (λ k. onSome (S (p .base .0)) (λ xs. chain τ S (Value.Operand (p .base)) (p .projections)))
 

@@ -75,7 +75,7 @@ fn row_position(row: &[u8], name: NameId) -> Position
     Position::Nothing
 }
 
-// sroa.rs, `struct_field_index`: the position of a field's name in type `t` of `many`.
+// sroa.rs 1411, `struct_field_index`: the position of a field's name in type `t` of `many`.
 pub fn field_index(s: &[u8], types: &[usize], many: u16, t: u16, name: NameId) -> Position
     ensures { λ r. ⌜ ((most : ℕ) (ts : List MirType) → TypesAt most (now (s .entry)) (now (types .entry)) ts → length ts ≡ many → asPosition r ≡ fieldIndex (getElem? ts t) name) ⌝ }
 {
@@ -102,7 +102,7 @@ pub fn value_field_index(
     }
 }
 
-// sroa.rs, `forward_projection_chain`: the place of the part that the Load at a place takes.
+// sroa.rs 1489, `forward_projection_chain`: the place of the part that the Load at a place takes.
 pub fn load_part(
     s: &[u8],
     at: usize,
@@ -216,7 +216,7 @@ fn store_last(
     }
 }
 
-// sroa.rs, `try_forward_store_chain`: the Store at a place changes the part that its projections name.
+// sroa.rs 1548, `try_forward_store_chain`: the Store at a place changes the part that its projections name.
 pub fn forward_store(
     s: &[u8],
     at: usize,

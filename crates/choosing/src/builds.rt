@@ -90,7 +90,8 @@ fn looked_into(
     )
 }
 
-// Whether an instruction of a block is a build.
+// Whether an instruction of a block is a build. Only the answer that none is says something: the other is left free, as
+// each build is looked at then, and one answer too many costs time alone.
 pub fn any_build(s: &[u8], places: &[usize], count: u16) -> bool
     ensures { λ r. ⌜ (r ≡ false → (b : DeclaredBounds) (is : List Instruction) → InstructionsAt b (now (s .entry)) (now (places .entry)) is → length is ≡ count → Buildless is) ⌝ }
 {

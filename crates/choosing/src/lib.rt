@@ -145,7 +145,8 @@ fn choose_tables(
     );
 }
 
-// Whether an instruction of any block is a build.
+// Whether an instruction of any block is a build. Only the answer that none is says something: the other is left free, as
+// the whole rewriting is run then, and one answer too many costs time alone.
 pub fn any_builds(s: &[u8], places: &[usize], starts: &[u16], many: u16) -> bool
     ensures { λ r. ⌜ (r ≡ false → (b : DeclaredBounds) (ks : List Block) → CodeAt b (now (s .entry)) (now (places .entry)) (now (starts .entry)) ks → length ks ≡ many → (k : ℕ) → k < length ks → Buildless (getD ks k noBlock .instructions)) ⌝ }
 {

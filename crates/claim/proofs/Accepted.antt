@@ -1,41 +1,27 @@
 -- What a decoded routine gives: the refusals of the byte form, as the runs need them.
-use Prim.Native.Nat.{ℕ, zero, suc, _≤_, _<_}
-use mathlib.Core.Path.{_≡_, refl, ap, _∙_, sym}
-use mathlib.Core.Option.{Option, none, some}
+use Prim.Native.Nat.{ℕ, _<_}
 use mathlib.Core.List.{List, [], _∷_, _++_}
-use mathlib.Core.Bool.{true, false, cond, not, _&&_, _||_}
+use mathlib.Core.Bool.{not, _||_}
 use mathlib.Core.Bool as B
-use native.Mathlib.Omega.{arith}
-use lib.Dec.{T, eqb, ltb, lt→ltb, eqb→eq}
-use lib.ListN.{length, getD, set, replicate, length-set, length-replicate}
-use lib.Seq.{getD-set-same, getD-set-other}
+use lib.Dec.{T, ltb, lt→ltb}
 use Rattle.wire.specs.declared.ValueId.{ValueId}
-use Rattle.wire.specs.declared.NameId.{NameId}
 use Rattle.wire.specs.declared.Literal.{Literal}
 use Rattle.wire.specs.declared.Value.{Value}
 use Rattle.wire.specs.WellFormed.{FitValue}
-use Rattle.typetable.specs.Syntax.{StructField, MirType, Felt, Bool, U32, Tuple, Struct, FixedArray, Pointer, Function, Unit, Error, Unknown}
-use Rattle.typetable.specs.Decode.{hasName}
-use Rattle.typetable.specs.WellFormed.{FitFields, FitMirType, FitTypes}
+use Rattle.typetable.specs.Syntax.{Bool, Tuple, Error}
 use Rattle.form.specs.Syntax.{Projection, Index, Field, Place, FieldInit, Source, Instruction, InstructionKind, Assign, UnaryOp, BinaryOp, Call, Cast, Load, Store, Debug, Nop, Phi}
 use Rattle.form.specs.Syntax.{MakeTuple, ExtractTupleElement, MakeStruct, ExtractStructField, InsertField, InsertTuple, MakeFixedArray, AssertEq, HeapAllocCells}
-use Rattle.form.specs.Syntax.{Terminator, Jump, If, BranchCmp, Return, Unreachable, Block}
+use Rattle.form.specs.Syntax.{Terminator, Jump, If, BranchCmp, Return, Unreachable}
 use Rattle.form.specs.Syntax as S
-use Rattle.form.specs.Reads.{operand, operands, indices, placeReads, sourceValues, initValues, reads, dests, isPhi, kindNumber, terminatorReads}
+use Rattle.form.specs.Reads.{operand, operands, indices, placeReads, sourceValues, initValues, reads, dests, isPhi, terminatorReads}
 use Rattle.form.specs.Decode.{mark}
 use Rattle.form.specs.declared.Bounds.{Bounds}
-use Rattle.canon.specs.WellFormed.{Each, FitNew, FitNews, FitProjection, FitPlace, FitSource, FitInit, FitKind, FitInstruction, FitTerminator}
-use Rattle.block.specs.Decode.{marks, blockMarks}
-use Rattle.block.specs.declared.Mosts.{Mosts}
-use Rattle.block.specs.WellFormed.{FitInstructions, FitCode}
-use Rattle.routine.specs.Routine.{Routine}
-use Rattle.whole.specs.WellFormed.{FitBlocks, bounds, unmarked, WellFormed}
-use Rattle.eligibility.specs.Lookup.{structFieldsOf}
-use Rattle.eligibility.specs.Fold.{behindPhis}
+use Rattle.canon.specs.WellFormed.{Each, FitNews, FitProjection, FitPlace, FitSource, FitInit, FitKind, FitTerminator}
+use Rattle.block.specs.Decode.{marks}
+use Rattle.block.specs.WellFormed.{FitInstructions}
 use Rattle.output.proofs.Marks.{dests-new}
-use Rattle.shelf.specs.Lists.{every, among}
-use Rattle.shelf.specs.Reads.{definedIn}
-use Rattle.simulation.specs.Static.{below, once, noPhi, unlike, fieldsOnce}
+use Rattle.shelf.specs.Lists.{every}
+use Rattle.simulation.specs.Static.{below}
 use Rattle.simulation.proofs.Tools.{and-l, and-r, and-i}
 
 -- ---- refusal 4: values are below next
@@ -80,9 +66,6 @@ every-append p (x ∷ xs) ys s t = and-i (p x) _ (and-l (p x) (every p xs) s) (e
 pub news-low : (b : Bounds) (seen : List B.Bool) (ds : List ValueId) → FitNews b seen ds → T (every (low (b .next)) ds)
 news-low b seen [] h = tt
 news-low b seen (d ∷ ds) h = and-i (low (b .next) d) _ (fit-low (b .next) d (h .0 .0)) (news-low b (mark seen d) ds (h .1))
-
-one-low : (b : Bounds) (seen : List B.Bool) (d : ValueId) → FitNew b seen d → T (every (low (b .next)) (d ∷ []))
-one-low b seen d h = and-i (low (b .next) d) true (fit-low (b .next) d (h .0)) tt
 
 two-low : (m : ℕ) (x y : Value) → FitValue m x → FitValue m y → T (every (low m) (operand x (operand y [])))
 two-low m x y h k = operand-low m x (operand y []) h (operand-low m y [] k tt)

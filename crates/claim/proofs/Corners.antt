@@ -19,13 +19,13 @@ use Rattle.shelf.specs.Agrees as Ag
 use Rattle.shelf.specs.Reads as Re
 use Rattle.shelf.specs.Reason as Rs
 use Rattle.shelf.specs.Answer as An
-use Rattle.wire.specs.Parse.{Parse, ok, bad, seqOf}
+use Rattle.wire.specs.Parse.{seqOf}
 use Rattle.wire.specs.Number.{numberOf}
 use Rattle.wire.specs.Value.{valueOf, integer}
 use Rattle.form.specs.Decode.{listOf, definedSeq, definedsOf, projectionOf, metaOf, instructionOf, terminatorOf, jumpOf, ifOf, branchOf, returnOf}
 use Rattle.form.specs.Decode.{assignOf, unaryOf, binaryOf, returnsOf, callOf, castOf, loadOf, storeOf, debugOf, phiOf, makeTupleOf, extractTupleOf, makeStructOf, extractFieldOf, insertFieldOf, insertTupleOf, makeArrayOf, assertEqOf, heapAllocOf}
 use Rattle.block.specs.Decode.{instructionsOf, blockOf}
-use Rattle.typetable.specs.Encode.{typeBytes, typesBytes}
+use Rattle.typetable.specs.Encode.{typeBytes}
 use Rattle.typetable.specs.Decode.{typeOf, structOf, structFields, hasType, typeSeq, typesOf}
 use Rattle.routine.specs.Decode.{mosts, mapOf, recordedOf, blocksOf, sizesOf, bodyOf, routineOf, wholeOf}
 

@@ -1,24 +1,24 @@
 -- Refusals 5, 6 and 7 of a decoded routine: names once in a struct, values defined once, phis in front.
-use Prim.Native.Nat.{ℕ, zero, suc, _≤_, _<_}
+use Prim.Native.Nat.{ℕ, _≤_}
 use mathlib.Core.Path.{_≡_, refl, ap, _∙_, sym}
-use mathlib.Core.Option.{Option, none, some}
+use mathlib.Core.Option.{some}
 use mathlib.Core.List.{List, [], _∷_, _++_}
-use mathlib.Core.Bool.{true, false, cond, not, _&&_, _||_}
+use mathlib.Core.Bool.{true, false, not, _||_}
 use mathlib.Core.Bool as B
 use native.Mathlib.Omega.{arith}
-use lib.Dec.{T, eqb, eqb→eq, eqb-refl, ltb, ltb→lt}
-use lib.ListN.{length, getD, set, length-set}
-use lib.Seq.{getD-set-same, getD-set-other}
+use lib.Dec.{T, eqb, eqb→eq, eqb-refl}
+use lib.ListN.{length, getD, length-set}
+use lib.Seq.{getD-set-same}
 use Rattle.wire.specs.declared.ValueId.{ValueId}
 use Rattle.wire.specs.declared.NameId.{NameId}
 use Rattle.typetable.specs.Syntax.{StructField, MirType, Felt, Bool, U32, Tuple, Struct, FixedArray, Pointer, Function, Unit, Error, Unknown}
 use Rattle.typetable.specs.Decode.{hasName}
 use Rattle.typetable.specs.WellFormed.{FitFields, FitMirType, FitTypes}
-use Rattle.form.specs.Syntax.{Instruction, InstructionKind, Block}
+use Rattle.form.specs.Syntax.{Instruction}
 use Rattle.form.specs.Reads.{dests, isPhi}
 use Rattle.form.specs.Decode.{mark}
 use Rattle.form.specs.declared.Bounds.{Bounds}
-use Rattle.canon.specs.WellFormed.{FitNew, FitNews}
+use Rattle.canon.specs.WellFormed.{FitNews}
 use Rattle.canon.proofs.Bits.{true-false}
 use Rattle.block.specs.Decode.{marks}
 use Rattle.block.specs.WellFormed.{FitInstructions}
@@ -27,7 +27,7 @@ use Rattle.eligibility.specs.Fold.{behindPhis}
 use Rattle.shelf.specs.Lists.{every, among}
 use Rattle.shelf.specs.Reads.{definedIn}
 use Rattle.simulation.specs.Static.{once, noPhi, unlike, fieldsOnce}
-use Rattle.simulation.proofs.Tools.{and-l, and-r, and-i, nor-i, split, passes, fails, cond-yes, cond-no}
+use Rattle.simulation.proofs.Tools.{and-i, nor-i, split, passes, fails, cond-yes, cond-no}
 use Rattle.block.proofs.Marks.{mark-stays, marks-stay, marks-length}
 use Rattle.output.proofs.Marks.{dests-new}
 

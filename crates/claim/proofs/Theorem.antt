@@ -7,7 +7,7 @@ use native.Mathlib.Omega.{arith}
 use borrow.Author.Tests.{ltb-false}
 use lib.Dec.{ltb}
 use lib.ListN.{length}
-use Rattle.wire.specs.Parse.{Parse, ok, bad, numberOfCause}
+use Rattle.wire.specs.Parse.{Parse, ok, bad}
 use Rattle.wire.specs.WellFormed.{Bytes}
 use Rattle.routine.specs.Routine.{Routine}
 use Rattle.routine.specs.Decode.{mosts, wholeOf}
@@ -19,15 +19,12 @@ use Rattle.eligibility.specs.declared.Settings.{Settings}
 use Rattle.rewriting.specs.declared.Counts.{Counts}
 use Rattle.rewriting.specs.Run.{Rewritten, choice, rewrittenBy, rewrittenBlocks, rewriteWith, rewrite}
 use Rattle.rewriting.specs.Outcome.{Outcome, fittedIn, rewritten, ofInput, outcome}
-use Rattle.output.specs.Lifted.{lifted}
 use Rattle.output.proofs.Whole.{output-decodes}
 use Rattle.shelf.specs.Reason.{shelfReason}
 use Rattle.shelf.specs.Answer.{Answer, refused, lowered, reasonOf, withReason, answer}
-use Rattle.machine.specs.Values.{Val}
 use Rattle.machine.specs.Meaning.{Meaning}
 use Rattle.machine.specs.Document.{Operations, document01}
-use Rattle.machine.specs.Run.{run}
-use Rattle.simulation.specs.Statement.{Fine, RunsAlike}
+use Rattle.simulation.specs.Statement.{RunsAlike}
 use Rattle.simulation.proofs.Theorem.{pass-simulates}
 use Rattle.claim.specs.Claim.{Indistinguishable}
 use Rattle.claim.proofs.Facts.{static}

@@ -1,20 +1,18 @@
 -- Where types agree (shelf reason 1), the instructions are typed as the runs need.
-use Prim.Native.Nat.{ℕ}
-use mathlib.Core.Path.{_≡_, refl, ap, _∙_, sym}
+use mathlib.Core.Path.{_≡_, refl, ap, _∙_}
 use mathlib.Core.Option.{Option, none, some}
 use mathlib.Core.List.{List, [], _∷_}
-use mathlib.Core.Bool.{true, false, cond, not, _&&_, _||_}
+use mathlib.Core.Bool.{true, false, not, _&&_, _||_}
 use mathlib.Core.Bool as B
 use lib.Dec.{T}
 use Rattle.wire.specs.declared.TypeId.{TypeId}
-use Rattle.wire.specs.declared.Value.{Value}
 use Rattle.typetable.specs.Syntax.{MirType, Felt, Bool, U32, Tuple, Struct, FixedArray, Pointer, Function, Unit, Error, Unknown}
-use Rattle.form.specs.Syntax.{Projection, Index, Field, Place, Instruction, InstructionKind, Assign, UnaryOp, BinaryOp, Call, Cast, Load, Store, Debug, Nop, Phi}
+use Rattle.form.specs.Syntax.{Projection, Index, Field, Place, InstructionKind, Assign, UnaryOp, BinaryOp, Call, Cast, Load, Store, Debug, Nop, Phi}
 use Rattle.form.specs.Syntax.{MakeTuple, ExtractTupleElement, MakeStruct, ExtractStructField, InsertField, InsertTuple, MakeFixedArray, AssertEq, HeapAllocCells}
 use Rattle.form.specs.Syntax as S
 use Rattle.eligibility.specs.Lookup.{Types, rowOf, recordedType, valueRow, isTuple, isArray, isAggregate, shape, structFieldsOf, position, fieldIndex}
 use Rattle.shelf.specs.Lists.{every}
-use Rattle.shelf.specs.Parts.{partType, isPointer}
+use Rattle.shelf.specs.Parts.{isPointer}
 use Rattle.rewriting.specs.State.{onSome}
 use Rattle.shelf.specs.Fits.{sameType, fits, fieldTypeOf, stepType, placeType, argumentsFit}
 use Rattle.shelf.specs.Agrees.{indexFits, pointee, pointed, reached, placeFits, destsFit, agrees, countedAgrees}

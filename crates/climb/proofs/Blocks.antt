@@ -1,6 +1,6 @@
 -- The scan's loop over a block, from its last instruction to its first.
 use Prim.Native.Nat.{ℕ, zero, suc, _+_, _-_, _*_, _≤_, _<_}
-use mathlib.Core.Path.{_≡_, refl, ap, _∙_, sym}
+use mathlib.Core.Path.{_≡_, refl, ap, _∙_}
 use mathlib.Core.List.{List, [], _∷_}
 use mathlib.Core.Bool.{Bool, true, false, cond}
 use mathlib.Core.Option.{Option, none, some}
@@ -14,7 +14,6 @@ use Rattle.wire.specs.Parse.{ok}
 use Rattle.wire.specs.declared.ValueId.{ValueId}
 use Rattle.wire.specs.declared.Value.{Value}
 use Rattle.form.specs.Syntax.{Instruction, InstructionKind}
-use Rattle.form.specs.Syntax.{Assign, UnaryOp, BinaryOp, Call, Cast, Load, Store, Debug, Nop, Phi}
 use Rattle.form.specs.Reads.{kindNumber, isPhi}
 use Rattle.form.specs.Decode.{instructionOf}
 use Rattle.form.specs.declared.Bounds.{Bounds}
@@ -26,9 +25,9 @@ use Rattle.eligibility.specs.Family.{Marks, buildDest}
 use Rattle.eligibility.specs.Tables.{FactsAt}
 use Rattle.eligibility.specs.Fold.{behindPhis}
 use Rattle.eligibility.specs.Climb.{buildable, isBuildOf, buildOf, buildableOf}
-use Rattle.climb.specs.Edges.{Edge, edge, partEdge, partEdges, buildEdges, edgesOf, tupleEdgesOf, blocks, blockedIn}
-use Rattle.climb.specs.Scanned.{Each, Scanned, edgesDown, tuplesDown}
-use Rattle.climb.specs.Noted.{Ready, Tables, Hold, Kept, Roomy, StructsAt, OneScanned, BlockScanned}
+use Rattle.climb.specs.Edges.{Edge, edge, partEdge, partEdges, buildEdges, edgesOf, tupleEdgesOf, blockedIn}
+use Rattle.climb.specs.Scanned.{edgesDown, tuplesDown}
+use Rattle.climb.specs.Noted.{Ready, Tables, Hold, Kept, StructsAt, OneScanned, BlockScanned}
 use Rattle.climb.proofs.Sorts.{Idle, idle}
 use Rattle.climb.proofs.Room.{parts-more}
 

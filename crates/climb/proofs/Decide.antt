@@ -2,7 +2,7 @@
 use Prim.Native.Nat.{ℕ, zero, suc, _-_, _≤_, _<_}
 use mathlib.Core.Path.{_≡_, refl, ap, sym, _∙_}
 use mathlib.Core.List.{List, [], _∷_}
-use mathlib.Core.Bool.{Bool, true, false, cond, not, _&&_, _||_}
+use mathlib.Core.Bool.{Bool, true, false, cond, not, _&&_}
 use mathlib.Core.Option.{Option, none, some}
 use native.Mathlib.Omega.{arith}
 use borrow.Author.Tests.{eq-eqb, ne-eqb}
@@ -10,7 +10,7 @@ use lib.ListN.{length, getD}
 use lib.Dec.{eqb}
 use Rattle.wire.specs.declared.ValueId.{ValueId}
 use Rattle.wire.specs.declared.Value.{Value}
-use Rattle.form.specs.Syntax.{Instruction, InstructionKind, MakeTuple}
+use Rattle.form.specs.Syntax.{Instruction, MakeTuple}
 use Rattle.form.specs.Reads.{kindNumber}
 use Rattle.lookup.specs.Fields.{listValues}
 use Rattle.eligibility.specs.declared.Settings.{Settings}
@@ -18,10 +18,10 @@ use Rattle.eligibility.specs.Lookup.{Types}
 use Rattle.eligibility.specs.Family.{Marks, buildDest, hasDynamicIndex}
 use Rattle.eligibility.specs.Tables.{FactsAt}
 use Rattle.eligibility.specs.Climb.{isSome, buildOf, buildable, buildableOf, canScalarize}
-use Rattle.eligibility.specs.Fold.{tupleParent, foldsTuple, foldsStruct, foldsArray}
-use Rattle.climb.specs.Edges.{Edge, edge, partEdge, partEdges, buildEdges, edgesOf, tupleEdgesOf, tuplesClimb, Sight, climbOf, asClimbed}
+use Rattle.eligibility.specs.Fold.{foldsTuple, foldsStruct, foldsArray}
+use Rattle.climb.specs.Edges.{Edge, edge, partEdge, partEdges, buildEdges, edgesOf, tupleEdgesOf, tuplesClimb, Sight, asClimbed}
 use Rattle.climb.specs.declared.Climbed.{Climbed}
-use Rattle.climb.specs.Scanned.{Each, Scanned, sightOf, tuplesDown, fresh}
+use Rattle.climb.specs.Scanned.{Each, Scanned, sightOf, tuplesDown}
 use Rattle.climb.specs.Decided.{climbs, Decided}
 use Rattle.climb.proofs.Whole.{decides}
 use Rattle.climb.proofs.Tuples.{over-tuples}

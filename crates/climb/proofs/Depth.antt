@@ -1,12 +1,12 @@
 -- Law 2: the climb never needs more steps than there are clear marks, so that it unfolds as if it had no bound.
-use Prim.Native.Nat.{ℕ, zero, suc, _+_, _≤_, _<_}
+use Prim.Native.Nat.{ℕ, zero, suc, _≤_, _<_}
 use mathlib.Core.Path.{_≡_, refl, ap, _∙_, sym}
-use mathlib.Core.List.{List, [], _∷_, _++_}
+use mathlib.Core.List.{List, [], _∷_}
 use mathlib.Core.Bool.{Bool, true, false, cond, true≢false}
 use mathlib.Core.Option.{Option, none, some}
 use native.Mathlib.Nat.{le-refl, le-trans}
 use native.Mathlib.Omega.{arith}
-use lib.ListN.{length, getD, set, length-set}
+use lib.ListN.{getD, set}
 use lib.Dec.{eqb}
 use Rattle.eligibility.specs.Family.{Marks}
 use Rattle.climb.specs.Edges.{Edge, Sight, arrayIn, allowedIn, onto, parents, climbIn, unmarked, climbOf}

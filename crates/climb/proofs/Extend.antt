@@ -1,30 +1,28 @@
 -- One more instruction in front: what the tables hold of the instructions behind it, and what its scan noted.
-use Prim.Native.Nat.{ℕ, zero, suc, _+_, _≤_, _<_}
+use Prim.Native.Nat.{ℕ, _≤_, _<_}
 use mathlib.Core.Path.{_≡_, refl, ap, _∙_, sym}
 use mathlib.Core.List.{List, [], _∷_}
-use mathlib.Core.Bool.{Bool, true, false, cond, not, _&&_, _||_}
-use mathlib.Core.Option.{Option, none, some}
-use native.Mathlib.Nat.{le-refl, le-trans}
+use mathlib.Core.Bool.{Bool, true, false, cond, _&&_, _||_}
+use mathlib.Core.Option.{none, some}
 use native.Mathlib.Omega.{arith}
-use borrow.Author.Tests.{eqb-true, eqb-false, eq-eqb, ne-eqb}
-use lib.ListN.{length, getD, set, length-set}
+use borrow.Author.Tests.{eqb-true, eqb-false}
+use lib.ListN.{length, getD, set}
 use lib.Seq.{getD-set-same, getD-set-other}
 use lib.Dec.{eqb}
 use Rattle.wire.specs.declared.ValueId.{ValueId}
 use Rattle.wire.specs.declared.Value.{Value}
-use Rattle.form.specs.Syntax.{Place, Projection, Instruction, InstructionKind}
+use Rattle.form.specs.Syntax.{Place, Instruction}
 use Rattle.form.specs.Reads.{kindNumber}
 use Rattle.lookup.specs.Fields.{listValues, placeSteps}
 use Rattle.eligibility.specs.declared.Settings.{Settings}
 use Rattle.eligibility.specs.Lookup.{Types, isOperand, any}
-use Rattle.eligibility.specs.Family.{Marks, buildDest, placeOf}
+use Rattle.eligibility.specs.Family.{Marks, buildDest}
 use Rattle.eligibility.specs.Climb.{buildable, isBuildOf, buildOf, buildableOf}
 use Rattle.climb.specs.Edges.{partEdges, buildEdges, edgesOf, tupleEdgesOf, variesFirst, variesAt, blocks, blockedIn}
-use Rattle.climb.specs.Scanned.{Each, Scanned}
-use Rattle.climb.specs.Noted.{Edges, notedWhole, notedArguments, notedParts, Roomy, Tables, Hold}
+use Rattle.climb.specs.Noted.{Edges, notedArguments, notedParts, Roomy, Tables, Hold}
 use Rattle.climb.proofs.Noting.{whole-long}
 use Rattle.climb.proofs.Sorts.{Idle, Calls, Walks, builds}
-use Rattle.climb.proofs.Room.{Holds, parts-hold, parts-each}
+use Rattle.climb.proofs.Room.{parts-hold, parts-each}
 use Rattle.climb.proofs.Depth.{both-arms}
 
 -- a mark that is set, at every place

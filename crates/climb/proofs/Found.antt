@@ -1,27 +1,25 @@
 -- Where the numbers that the scan reads stand in an accepted instruction: a build's dest, a place's base.
-use Prim.Native.Nat.{ℕ, zero, suc, _+_, _≤_, _<_}
-use mathlib.Core.Path.{_≡_, refl, ap, _∙_, sym}
-use mathlib.Core.List.{List, [], _∷_, map}
-use mathlib.Core.Bool.{Bool, true, false, not}
-use mathlib.Core.Option.{Option, none, some}
-use lib.ListN.{length, getD, drop, take}
-use lib.Dec.{ltb}
-use Rattle.wire.specs.Parse.{Parse, ok, bad, checked, mapParse}
-use Rattle.wire.specs.Number.{at16, below, fromBytes}
+use Prim.Native.Nat.{ℕ, _<_}
+use mathlib.Core.Path.{_≡_, refl, ap, _∙_}
+use mathlib.Core.List.{List}
+use mathlib.Core.Bool.{Bool, false, not}
+use mathlib.Core.Option.{some}
+use lib.ListN.{length, getD, drop}
+use Rattle.wire.specs.Parse.{ok}
+use Rattle.wire.specs.Number.{at16, below}
 use Rattle.wire.specs.Value.{valueIdOf, valueOf}
 use Rattle.wire.specs.declared.Cause.{Cause}
 use Rattle.wire.specs.declared.ValueId.{ValueId}
 use Rattle.wire.proofs.Laws.{from-16}
 use Rattle.wire.proofs.Inv.{both, image, and-inv, map-inv, checked-inv, number-inv, below-inv}
-use Rattle.form.specs.Syntax.{Projection, Place, Instruction, InstructionKind}
+use Rattle.form.specs.Syntax.{Place, Instruction, InstructionKind}
 use Rattle.form.specs.Syntax.{Load, Store, MakeTuple, MakeStruct, MakeFixedArray}
 use Rattle.form.specs.Reads.{kindNumber}
 use Rattle.form.specs.Decode as D
-use Rattle.form.specs.Decode.{kinds, bit, definedOf, listOf, fieldInitOf, typeIdOf, projectionOf, instructionOf, loadOf, storeOf, makeTupleOf, makeStructOf, makeArrayOf}
+use Rattle.form.specs.Decode.{bit, definedOf, listOf, fieldInitOf, typeIdOf, projectionOf, instructionOf, loadOf, storeOf, makeTupleOf, makeStructOf, makeArrayOf}
 use Rattle.form.specs.declared.Bounds.{Bounds}
 use Rattle.lookup.specs.Fields.{listValues, placeSteps, fieldsPlace, listCount}
-use Rattle.lookup.proofs.EachKind.{Stands}
-use Rattle.lookup.proofs.Instruction.{KindAt, chosen, instruction-fields, instruction-stands}
+use Rattle.lookup.proofs.Instruction.{chosen, instruction-fields, instruction-stands}
 use Rattle.eligibility.specs.Family.{buildDest, placeOf}
 
 -- a value's number at a place

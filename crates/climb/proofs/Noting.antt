@@ -15,7 +15,7 @@ use Rattle.wire.specs.declared.Value.{Value}
 use Rattle.form.specs.Syntax.{Projection, Index, Field, Tuple, Instruction}
 use Rattle.form.specs.Decode.{instructionOf}
 use Rattle.form.specs.declared.Bounds.{Bounds}
-use Rattle.lookup.specs.Fields.{listValues, placeSteps}
+use Rattle.lookup.specs.Fields.{listValues}
 use Rattle.eligibility.specs.Family.{Marks}
 use Rattle.climb.specs.Edges.{variesFirst}
 use Rattle.climb.specs.Noted.{Edges, edgesIn, pushed, notedPart, notedParts, PartsNoted, notedWhole, notedArguments, variesFound}

@@ -1,16 +1,16 @@
 -- Scanning one instruction, by its kind.
-use Prim.Native.Nat.{ℕ, zero, suc, _+_, _≤_, _<_}
+use Prim.Native.Nat.{ℕ, _<_}
 use mathlib.Core.Path.{_≡_, refl, ap, _∙_, sym}
-use mathlib.Core.List.{List, [], _∷_}
-use mathlib.Core.Bool.{Bool, true, false, cond, not, _&&_, _||_}
-use mathlib.Core.Option.{Option, some}
+use mathlib.Core.List.{List, []}
+use mathlib.Core.Bool.{Bool, true, false, cond, not, _&&_}
+use mathlib.Core.Option.{some}
 use native.Mathlib.Omega.{arith}
 use lib.ListN.{length, getD, set, drop, length-set}
 use lib.Dec.{eqb}
 use Rattle.wire.specs.Parse.{ok}
 use Rattle.wire.specs.Number.{at16}
 use Rattle.wire.specs.declared.ValueId.{ValueId}
-use Rattle.form.specs.Syntax.{Place, Instruction, InstructionKind}
+use Rattle.form.specs.Syntax.{Instruction, InstructionKind}
 use Rattle.form.specs.Syntax.{Assign, UnaryOp, BinaryOp, Call, Cast, Load, Store, Debug, Nop, Phi}
 use Rattle.form.specs.Syntax.{MakeTuple, ExtractTupleElement, MakeStruct, ExtractStructField, InsertField, InsertTuple, MakeFixedArray, AssertEq, HeapAllocCells}
 use Rattle.form.specs.Reads.{kindNumber}
@@ -18,12 +18,12 @@ use Rattle.form.specs.Decode.{instructionOf}
 use Rattle.form.specs.declared.Bounds.{Bounds}
 use Rattle.lookup.specs.Fields.{listValues, placeSteps, fieldsPlace, listCount}
 use Rattle.eligibility.specs.declared.Settings.{Settings}
-use Rattle.eligibility.specs.Lookup.{Types, valueRow, isScalarizable, isTuple, isArray}
+use Rattle.eligibility.specs.Lookup.{Types, isTuple, isArray}
 use Rattle.eligibility.specs.Family.{Marks, buildDest}
 use Rattle.eligibility.specs.Tables.{FactsAt}
 use Rattle.eligibility.specs.Climb.{buildable}
-use Rattle.climb.specs.Edges.{edgesOf, variesFirst}
-use Rattle.climb.specs.Noted.{Edges, notedArguments, notedParts, PartsNoted, Roomy, Ready, Tables, Hold, Kept, OneScanned}
+use Rattle.climb.specs.Edges.{variesFirst}
+use Rattle.climb.specs.Noted.{Edges, notedArguments, PartsNoted, Roomy, Tables, OneScanned}
 use Rattle.climb.proofs.Sorts.{idle, calls, walks}
 use Rattle.climb.proofs.Found.{dest, base, DestAt, BaseAt, kind-at, tuple-place, struct-place, array-place, load-place, store-place, list-count}
 use Rattle.climb.proofs.Extend.{idle-step, call-step, walk-step, build-step}

@@ -1,20 +1,20 @@
 -- The edges that were noted are the edges of the definition.
-use Prim.Native.Nat.{ℕ, zero, suc, _+_, _-_, _≤_, _<_}
+use Prim.Native.Nat.{ℕ, zero, suc, _≤_, _<_}
 use mathlib.Core.Path.{_≡_, refl, ap, _∙_, sym}
 use mathlib.Core.List.{List, [], _∷_}
 use mathlib.Core.Bool.{Bool, true, false, cond}
-use mathlib.Core.Option.{Option, none, some}
+use mathlib.Core.Option.{some}
 use native.Mathlib.Nat.{le-refl, le-trans}
 use native.Mathlib.Numerals.{add-one}
 use native.Mathlib.Omega.{arith}
 use borrow.Author.Tests.{lt-ltb}
-use lib.ListN.{length, getD, set, length-set}
+use lib.ListN.{length, set, length-set}
 use lib.Seq.{getD-set-same, getD-set-other}
-use lib.Dec.{ltb, eqb}
+use lib.Dec.{eqb}
 use Rattle.wire.specs.declared.Value.{Value}
 use Rattle.climb.specs.Edges.{Edge, edge, partEdge, partEdges}
 use Rattle.climb.specs.Scanned.{Each, edgesDown, tuplesDown}
-use Rattle.climb.specs.Noted.{Edges, edgesIn, pushed, notedPart, notedParts, Roomy}
+use Rattle.climb.specs.Noted.{Edges, pushed, notedPart, notedParts, Roomy}
 use Rattle.climb.proofs.Depth.{both-arms}
 
 length-down : (cs ps : List ℕ) (k : ℕ) → length (edgesDown cs ps k) ≡ k

@@ -1,19 +1,18 @@
 -- The climb's loop: one edge at a time, the one that was noted last first.
 use Prim.Native.Nat.{ℕ, zero, suc, _-_, _≤_, _<_}
-use mathlib.Core.Path.{_≡_, refl, ap, _∙_, sym}
-use mathlib.Core.List.{List, [], _∷_}
-use mathlib.Core.Bool.{Bool, true, false, cond, not, _&&_}
-use mathlib.Core.Option.{Option, none, some}
-use native.Mathlib.Nat.{le-refl, le-trans}
+use mathlib.Core.Path.{_≡_, _∙_, sym}
+use mathlib.Core.List.{List, _∷_}
+use mathlib.Core.Bool.{true, false}
+use mathlib.Core.Option.{none, some}
+use native.Mathlib.Nat.{le-trans}
 use native.Mathlib.Omega.{arith}
 use borrow.Author.Tests.{eq-eqb, ne-eqb}
 use lib.ListN.{length, getD, set, List·getD-eq-default}
-use lib.Dec.{eqb}
 use Rattle.eligibility.specs.Family.{Marks}
-use Rattle.climb.specs.Edges.{Edge, edge, Sight, arrayIn, allowedIn, onto, parents, unmarked, climbOf, asClimbed}
-use Rattle.climb.specs.Scanned.{edgesDown, sightOf}
+use Rattle.climb.specs.Edges.{edge, Sight, arrayIn, allowedIn, parents, unmarked, climbOf, asClimbed}
+use Rattle.climb.specs.Scanned.{edgesDown}
 use Rattle.climb.specs.declared.Climbed.{Climbed}
-use Rattle.climb.proofs.Depth.{On, climb-met, climb-barred, climb-on, climb-clear, unmarked-set}
+use Rattle.climb.proofs.Depth.{climb-met, climb-on, climb-clear, unmarked-set}
 use Rattle.climb.proofs.Whole.{flag}
 
 down : (cs ps : List ℕ) (i : ℕ) → 0 < i → edgesDown cs ps i ≡ edge (getD cs (i - 1) 0) (getD ps (i - 1) 0) ∷ edgesDown cs ps (i - 1)

@@ -2,9 +2,8 @@
 use Prim.Native.Nat.{ℕ, zero, suc, _+_, _-_, _≤_, _<_}
 use mathlib.Core.Path.{_≡_, refl, ap, _∙_, sym}
 use mathlib.Core.List.{List, [], _∷_, _++_}
-use mathlib.Core.Bool.{Bool, true, false, cond, not, _&&_, _||_}
+use mathlib.Core.Bool.{Bool, true, false, cond, not, _&&_}
 use mathlib.Core.Option.{Option, none, some}
-use native.Mathlib.Nat.{le-refl, le-trans}
 use native.Mathlib.Omega.{arith}
 use lib.ListN.{length, getD, set, replicate, length-set, length-replicate, replicate-append-replicate, List·getD-append}
 use lib.Seq.{set-append-left}
@@ -13,13 +12,13 @@ use Rattle.wire.specs.declared.ValueId.{ValueId}
 use Rattle.form.specs.Syntax.{Instruction}
 use Rattle.eligibility.specs.declared.Settings.{Settings}
 use Rattle.eligibility.specs.Lookup.{Types, valueRow, shape, isArray}
-use Rattle.eligibility.specs.Family.{Marks, marked, mark}
+use Rattle.eligibility.specs.Family.{Marks}
 use Rattle.eligibility.specs.Tables.{FactsAt}
-use Rattle.eligibility.specs.Climb.{isSome, buildOf, buildableOf, climbAll, climb, canScalarize}
-use Rattle.climb.specs.Edges.{Edge, edgesOf, blockedIn, Sight, arrayIn, allowedIn, onto, parents, climbIn, unmarked, climbOf}
-use Rattle.climb.specs.Scanned.{Each, Scanned, sightOf, fresh, edgesDown}
+use Rattle.eligibility.specs.Climb.{isSome, buildOf, buildableOf, climb, canScalarize}
+use Rattle.climb.specs.Edges.{edgesOf, blockedIn, Sight, arrayIn, allowedIn, parents, climbIn, unmarked, climbOf}
+use Rattle.climb.specs.Scanned.{Each, Scanned, sightOf, fresh}
 use Rattle.climb.proofs.Passing.{over-edges}
-use Rattle.climb.proofs.Depth.{On, through, through-id, each-any, parents-through, climb-keeps, climb-same}
+use Rattle.climb.proofs.Depth.{On, through, through-id, parents-through, climb-keeps, climb-same}
 
 -- within the marks, what stands past the end does not matter
 pub flag : (m : Marks) (v : ℕ) → v < length m → getD m v true ≡ getD m v false

@@ -31,7 +31,7 @@ pub fn allowed(buildable: &[bool], blocked: &[bool], at: usize) -> bool
     }
 }
 
-// Sroa.rs, `can_scalarize_aggregate`, over the block's tables.
+// sroa.rs 195, `can_scalarize_aggregate`, over the block's tables.
 pub fn climb(
     v: u16,
     children: &[u16],

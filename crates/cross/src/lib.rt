@@ -43,7 +43,8 @@ fn build_dest(t: &[u8]) -> BuildRead
     }
 }
 
-// Whether the instruction at the head of `t` is a build of an eligible type.
+// Whether the instruction at the head of `t` is a build of an eligible type. Only the answer that it is not says
+// something: the other is left free, as `cross_build` looks again, and one answer too many costs time alone.
 fn eligible_build(t: &[u8], eligible: &[bool]) -> bool
     ensures { λ r. ⌜ (r ≡ false → (b : DeclaredBounds) (i : Instruction) (n : ℕ) → instructionOf b [] false (now (t .entry)) ≡ ok i n → Idle (now (eligible .entry)) (b .next) (i .kind)) ⌝ }
 {
@@ -53,7 +54,7 @@ fn eligible_build(t: &[u8], eligible: &[bool]) -> bool
     }
 }
 
-// Whether a block has such a build, its `count` instructions standing at `places`.
+// Whether a block has such a build, its `count` instructions standing at `places`. The other answer is left free likewise.
 fn has_build(s: &[u8], places: &[usize], count: u16, eligible: &[bool]) -> bool
     ensures { λ r. ⌜ (r ≡ false → (b : DeclaredBounds) (is : List Instruction) → InstructionsAt b (now (s .entry)) (now (places .entry)) is → length is ≡ count → IdleAll (now (eligible .entry)) (b .next) is) ⌝ }
 {

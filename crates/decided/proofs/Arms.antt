@@ -1,5 +1,5 @@
 -- The arms: what is found of an instruction, and the step that it is.
-use Prim.Native.Nat.{ℕ, _+_, _-_, _*_, _≤_, _<_}
+use Prim.Native.Nat.{ℕ, _+_, _*_, _≤_, _<_}
 use mathlib.Core.Path.{_≡_, refl, ap, _∙_}
 use mathlib.Core.List.{List}
 use mathlib.Core.Bool.{Bool, true, false, cond}
@@ -21,7 +21,7 @@ use Rattle.lookup.proofs.EachKind.{At, at}
 use Rattle.eligibility.specs.Lookup.{Types, rowOf, isAggregate}
 use Rattle.rewriting.specs.State.{AggStates, stateOf, onSome, chain, firstInteger}
 use Rattle.rewriting.specs.Rebuild.{aggregateType}
-use Rattle.rewriting.specs.Step.{step, stepExtract, handOn, stepLoaded, stepLoad}
+use Rattle.rewriting.specs.Step.{stepExtract, handOn, stepLoaded, stepLoad}
 use Rattle.chains.specs.Chained.{loadedPart}
 use Rattle.decided.specs.Decided.{Below, stepTaken}
 

@@ -1,5 +1,5 @@
 -- What is found of a value: the value itself, whether it is tracked, its type, and a part of it.
-use Prim.Native.Nat.{ℕ, zero, suc, _+_, _-_, _<_}
+use Prim.Native.Nat.{ℕ, zero, suc, _+_, _<_}
 use mathlib.Core.Path.{_≡_, refl, ap, _∙_, sym}
 use mathlib.Core.List.{List, [], _∷_}
 use mathlib.Core.Bool.{not}

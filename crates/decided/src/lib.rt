@@ -26,7 +26,7 @@ ghost use Rattle.eligibility.specs.Lookup.{Types, rowOf, isAggregate};
 ghost use Rattle.eligibility.specs.Tables.{Known};
 ghost use Rattle.eligibility.specs.Climb.{structRow, structParts};
 ghost use Rattle.rewriting.specs.State.{AggStates, stateOf, onSome, replaced};
-ghost use Rattle.rewriting.specs.Step.{step, stepBuild, foldedParts, stepInsert, stepAssign, extractIndex};
+ghost use Rattle.rewriting.specs.Step.{stepBuild, foldedParts, stepInsert, stepAssign, extractIndex};
 ghost use Rattle.parts.specs.Rows.{ValueAt, Rep, Room, Values, Inits, InitAt};
 ghost use Rattle.progress.specs.Ground.{Ground};
 ghost use Rattle.decided.specs.Decided.{Decided, SourceOf, Below, stepTaken, builtAs};

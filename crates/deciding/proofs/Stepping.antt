@@ -34,7 +34,6 @@ use Rattle.decided.specs.Decided.{Decided, Here, Below, stepTaken, Built, tuple
 use Rattle.chains.specs.declared.Position.{Position}
 use Rattle.decided.specs.declared.Decision.{Decision}
 use Rattle.decided.specs.declared.Spot.{Spot}
-use Rattle.decided.proofs.Actions.{stays}
 use Rattle.decided.proofs.Arms.{behind-16, behind-32, behind-value, value-below, taken-extract, whole-aggregate, load-taken}
 use Rattle.decided.proofs.Own.{Named, Dest, IsAssign, is-assign, assign-stands, IsLoad, is-load, load-stands, IsTuple, is-tuple, tuple-stands, IsArray, is-array, array-stands, IsStruct, is-struct, struct-stands}
 use Rattle.decided.proofs.Own.{IsElement, is-element, element-stands, IsField, is-field, field-stands, IsInsertField, is-insert-field, insert-field-stands, IsInsertElement, is-insert-element, insert-element-stands}

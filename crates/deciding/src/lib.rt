@@ -1,4 +1,4 @@
-// What becomes of one instruction, all kinds but Call and Store: sroa.rs 796 to 1305. The parts of what it defines, if
+// What becomes of one instruction, all kinds but Call and Store: sroa.rs 805 to 1304. The parts of what it defines, if
 // they are tracked then, go into the rows.
 use chains::Position;
 use decided::Action;
@@ -13,7 +13,7 @@ ghost use mathlib.Core.Path.{_≡_};
 ghost use mathlib.Core.List.{List, []};
 ghost use mathlib.Core.Bool.{Bool, false};
 ghost use mathlib.Core.Option.{some};
-ghost use Prim.Native.Nat.{ℕ, _+_, _-_, _≤_, _<_};
+ghost use Prim.Native.Nat.{ℕ, _+_, _≤_, _<_};
 ghost use lib.ListN.{drop};
 ghost use Rattle.wire.specs.Parse.{ok};
 ghost use Rattle.wire.specs.declared.ValueId.{ValueId as IdOf};

@@ -1,9 +1,9 @@
--- sroa.rs 196, `can_scalarize_aggregate`: a recursion over the builds that take a value as a part, with one visited set.
+-- sroa.rs 195, `can_scalarize_aggregate`: a recursion over the builds that take a value as a part, with one visited set.
 use Prim.Native.Nat.{ℕ, zero, suc}
-use mathlib.Core.List.{List, [], _∷_, _++_, map}
+use mathlib.Core.List.{List, [], _∷_}
 use mathlib.Core.Bool.{Bool, true, false, cond, not, _&&_, _||_}
 use mathlib.Core.Option.{Option, none, some}
-use lib.ListN.{length, getD, set, replicate}
+use lib.ListN.{length, replicate}
 use lib.Dec.{eqb}
 use Rattle.wire.specs.declared.ValueId.{ValueId}
 use Rattle.wire.specs.declared.NameId.{NameId}
@@ -15,7 +15,7 @@ use Rattle.form.specs.Syntax.{Assign, UnaryOp, BinaryOp, Call, Cast, Load, Stor
 use Rattle.form.specs.Syntax.{MakeTuple, ExtractTupleElement, MakeStruct, ExtractStructField, InsertField, InsertTuple, MakeFixedArray, AssertEq, HeapAllocCells}
 use Rattle.form.specs.Reads.{initValues}
 use Rattle.eligibility.specs.declared.Settings.{Settings}
-use Rattle.eligibility.specs.Lookup.{Types, rowOf, recordedType, valueRow, isScalarizable, isTuple, isStruct, isArray, structFieldsOf, isOperand, isInteger, any}
+use Rattle.eligibility.specs.Lookup.{Types, rowOf, valueRow, isScalarizable, isTuple, isStruct, isArray, structFieldsOf, isOperand, isInteger, any}
 use Rattle.eligibility.specs.Family.{Marks, marked, mark, buildDest}
 
 -- the first value that is given for a name
@@ -28,7 +28,7 @@ consPart none xs = none
 consPart (some x) none = none
 consPart (some x) (some xs) = some (x ∷ xs)
 
--- sroa.rs, `AggState::from_struct_fields`: the parts in the type's order, none where a field is not given
+-- sroa.rs 1395, `AggState::from_struct_fields`: the parts in the type's order, none where a field is not given
 unfoldable pub fromStructFields : List FieldInit → List StructField → Option (List Value)
 fromStructFields fs [] = some []
 fromStructFields fs (t ∷ ts) = consPart (given (t .name) fs) (fromStructFields fs ts)
@@ -45,11 +45,12 @@ orElse (some a) b = some a
 unfoldable pub structRow : Types → ValueId → TypeId → Option MirType
 structRow τ d t = orElse (valueRow τ d) (rowOf τ (some t))
 
+-- sroa.rs 235 to 247, and again 887 to 898: the parts of a struct's build, none where it has no state
 unfoldable pub structParts : Types → ValueId → List FieldInit → TypeId → Option (List Value)
 structParts τ d fs t = cond (isStruct (structRow τ d t)) (fromStructFields fs (structFieldsOf (structRow τ d t))) none
 
 module _ (σ : Settings) (τ : Types) (cross : Marks) where
-  -- conditions 1 to 3 of a build
+  -- sroa.rs 220 to 272, conditions 1 to 3 of a build: its type is scalarizable, it is not used across blocks, it has a state
   unfoldable pub buildable : InstructionKind → Bool
   buildable (Assign d x t) = false
   buildable (UnaryOp op d x) = false
@@ -131,9 +132,11 @@ module _ (σ : Settings) (τ : Types) (cross : Marks) where
       onward (climbParts up v parent xs)
       (cond (isOperand v x) (cond (isArray (valueRow τ v)) none (up parent m)) (some m))
 
+  -- "Skip self-reference": a build is not its own parent
   unfoldable pub climbBuild : Climb → ValueId → ValueId → List Value → Marks → Option Marks
   climbBuild up v parent xs m = cond (eqb (parent .0) (v .0)) (some m) (climbParts up v parent xs m)
 
+  -- sroa.rs 275 to 401, condition 4 of one instruction: no Call takes the value, its parents are climbed, Load and Store as above
   unfoldable pub climbOne : Climb → ValueId → InstructionKind → Marks → Option Marks
   climbOne up v (Assign d x t) m = some m
   climbOne up v (UnaryOp op d x) m = some m
@@ -155,6 +158,7 @@ module _ (σ : Settings) (τ : Types) (cross : Marks) where
   climbOne up v (AssertEq x y) m = some m
   climbOne up v (HeapAllocCells d x) m = some m
 
+  -- condition 4 of each instruction in turn, with one visited set
   unfoldable pub climbAll : Climb → ValueId → List Instruction → Marks → Option Marks
   climbAll up v [] m = some m
   climbAll up v (i ∷ is) m = onward (climbAll up v is) (climbOne up v (i .kind) m)
@@ -166,5 +170,6 @@ module _ (σ : Settings) (τ : Types) (cross : Marks) where
       cond (marked m v) none
       (cond (buildableOf (buildOf v is)) (climbAll (climb k is) v is (mark m v)) none)
 
+  -- `can_scalarize_aggregate` of a value, with nothing visited before
   unfoldable pub canScalarize : List Instruction → ValueId → Bool
   canScalarize is v = isSome (climb (suc (length (τ .recorded))) is v (replicate (length (τ .recorded)) false))

@@ -1,6 +1,6 @@
 -- The values derived from a build, and the aggregates that are used across blocks.
 use Prim.Native.Nat.{ℕ, zero, suc}
-use mathlib.Core.List.{List, [], _∷_, _++_, map}
+use mathlib.Core.List.{List, [], _∷_}
 use mathlib.Core.Bool.{Bool, true, false, cond, not, _&&_, _||_}
 use mathlib.Core.Option.{Option, none, some}
 use lib.ListN.{length, getD, set, replicate}
@@ -13,7 +13,7 @@ use Rattle.form.specs.Syntax.{Assign, UnaryOp, BinaryOp, Call, Cast, Load, Stor
 use Rattle.form.specs.Syntax.{MakeTuple, ExtractTupleElement, MakeStruct, ExtractStructField, InsertField, InsertTuple, MakeFixedArray, AssertEq, HeapAllocCells}
 use Rattle.form.specs.Reads.{reads, counted, terminatorReads}
 use Rattle.eligibility.specs.declared.Settings.{Settings}
-use Rattle.eligibility.specs.Lookup.{Types, rowOf, recordedType, valueRow, isScalarizable, shape, isInteger, any}
+use Rattle.eligibility.specs.Lookup.{Types, rowOf, valueRow, isScalarizable, shape, isInteger, any}
 
 -- a set of values: a mark for each
 abbrev pub Marks : Type 0
@@ -31,7 +31,7 @@ joins m (Value.Literal l) d = m
 joins m (Value.Operand v) d = cond (marked m v) (mark m d) m
 joins m Value.Error d = m
 
--- sroa.rs 425: an Assign joins where both types are arrays, both tuples or both structs; an insert always
+-- sroa.rs 428 to 466: an Assign joins where both types are arrays, both tuples or both structs; an insert always
 unfoldable pub member : Types → ℕ → Marks → InstructionKind → Marks
 member τ root m (Assign d x t) = cond (not (eqb root 0) && eqb root (shape (rowOf τ (some t)))) (joins m x d) m
 member τ root m (UnaryOp op d x) = m
@@ -63,7 +63,7 @@ unfoldable pub sweeps : Types → ℕ → ℕ → Marks → List Instruction →
 sweeps τ root zero m is = m
 sweeps τ root (suc k) m is = sweeps τ root k (sweep τ root m is) is
 
--- sroa.rs 412, `build_aggregate_family`
+-- sroa.rs 410, `build_aggregate_family`
 unfoldable pub family : Types → ValueId → List Instruction → Marks
 family τ v is = sweeps τ (shape (valueRow τ v)) (length is) (mark (replicate (length (τ .recorded)) false) v) is
 
@@ -118,6 +118,7 @@ dynamicFirst (Index x ∷ ps) = not (isInteger x)
 dynamicFirst (Field n ∷ ps) = false
 dynamicFirst (Tuple k ∷ ps) = false
 
+-- a member of the family is looked into by such an Index
 unfoldable pub dynamicAt : Marks → Option Place → Bool
 dynamicAt m none = false
 dynamicAt m (some p) = marked m (p .base) && dynamicFirst (p .projections)
@@ -147,18 +148,21 @@ union (a ∷ m) (b ∷ n) = (a || b) ∷ union m n
 unfoldable pub crossFamily : Types → List Block → ℕ → Block → ValueId → Marks → Marks
 crossFamily τ ks own k v m = let f = family τ v (k .instructions) in cond (readElsewhere f own 0 ks) (union f m) m
 
+-- sroa.rs 530: only a build whose recorded type is scalarizable is a root
 unfoldable pub crossBuild : Settings → Types → List Block → ℕ → Block → Option ValueId → Marks → Marks
 crossBuild σ τ ks own k none m = m
 crossBuild σ τ ks own k (some v) m = cond (isScalarizable σ (valueRow τ v)) (crossFamily τ ks own k v m) m
 
+-- the builds of block number own, in order
 unfoldable pub crossBuilds : Settings → Types → List Block → ℕ → Block → List Instruction → Marks → Marks
 crossBuilds σ τ ks own k [] m = m
 crossBuilds σ τ ks own k (i ∷ is) m = crossBuilds σ τ ks own k is (crossBuild σ τ ks own k (buildDest (i .kind)) m)
 
+-- the blocks from number own on, among all
 unfoldable pub crossBlocks : Settings → Types → List Block → ℕ → List Block → Marks → Marks
 crossBlocks σ τ all own [] m = m
 crossBlocks σ τ all own (k ∷ ks) m = crossBlocks σ τ all (suc own) ks (crossBuilds σ τ all own k (k .instructions) m)
 
--- sroa.rs 518, `find_cross_block_aggregates`
+-- sroa.rs 513, `find_cross_block_aggregates`
 unfoldable pub crossBlockAggregates : Settings → Types → List Block → Marks
 crossBlockAggregates σ τ ks = crossBlocks σ τ ks 0 ks (replicate (length (τ .recorded)) false)

@@ -1,19 +1,17 @@
--- Which builds are folded: the tests that `run` makes at a build, sroa.rs 797 to 954.
-use Prim.Native.Nat.{ℕ, zero, suc}
-use mathlib.Core.List.{List, [], _∷_, _++_, map}
+-- Which builds are folded: the tests that `run` makes at a build, sroa.rs 808 to 954.
+use mathlib.Core.List.{List, [], _∷_}
 use mathlib.Core.Bool.{Bool, true, false, cond, not, _&&_, _||_}
-use mathlib.Core.Option.{Option, none, some}
 use lib.Dec.{eqb}
 use Rattle.wire.specs.declared.ValueId.{ValueId}
 use Rattle.wire.specs.declared.Value.{Value}
-use Rattle.form.specs.Syntax.{FieldInit, Instruction, InstructionKind, Block}
+use Rattle.form.specs.Syntax.{Instruction, InstructionKind}
 use Rattle.form.specs.Syntax.{Assign, UnaryOp, BinaryOp, Call, Cast, Load, Store, Debug, Nop, Phi}
 use Rattle.form.specs.Syntax.{MakeTuple, ExtractTupleElement, MakeStruct, ExtractStructField, InsertField, InsertTuple, MakeFixedArray, AssertEq, HeapAllocCells}
 use Rattle.form.specs.Reads.{isPhi}
 use Rattle.eligibility.specs.declared.Settings.{Settings}
-use Rattle.eligibility.specs.Lookup.{Types, valueRow, isScalarizable, isTuple, isStruct, isArray, isOperand, any, every}
-use Rattle.eligibility.specs.Family.{Marks, marked, hasDynamicIndex}
-use Rattle.eligibility.specs.Climb.{structParts, buildable, canScalarize}
+use Rattle.eligibility.specs.Lookup.{Types, valueRow, isTuple, isStruct, isOperand, any, every}
+use Rattle.eligibility.specs.Family.{Marks, hasDynamicIndex}
+use Rattle.eligibility.specs.Climb.{buildable, canScalarize}
 
 -- "for tuples, we scalarize even if used in calls": only the tuples that take it as a part are climbed, each with a new set
 unfoldable pub tupleParent : Settings → Types → Marks → List Instruction → ValueId → InstructionKind → Bool
@@ -38,12 +36,15 @@ tupleParent σ τ cross is v (AssertEq x y) = true
 tupleParent σ τ cross is v (HeapAllocCells d x) = true
 
 module _ (σ : Settings) (τ : Types) (cross : Marks) (is : List Instruction) where
+  -- sroa.rs 808 to 864: its own conditions, and those of each tuple that takes it as a part
   unfoldable pub foldsTuple : ValueId → List Value → Bool
   foldsTuple d xs = σ .tuples && (buildable σ τ cross (MakeTuple d xs) && every (λ i. tupleParent σ τ cross is d (i .kind)) is)
 
+  -- sroa.rs 866 to 905: the climb alone; what 887 and 898 test once more is its condition 3
   unfoldable pub foldsStruct : ValueId → Bool
   foldsStruct d = σ .structs && canScalarize σ τ cross is d
 
+  -- sroa.rs 908 to 954: "general recursive checks AND no dynamic index in the array family"; the climb tests 911 to 926 too
   unfoldable pub foldsArray : ValueId → Bool
   foldsArray d = σ .tuples && (canScalarize σ τ cross is d && not (hasDynamicIndex τ d is))
 
@@ -78,5 +79,6 @@ aggregatePhi τ (MakeFixedArray d xs t c) = false
 aggregatePhi τ (AssertEq x y) = false
 aggregatePhi τ (HeapAllocCells d x) = false
 
+-- sroa.rs 771 to 786: "a block with a tuple or struct phi is skipped"
 unfoldable pub skipped : Types → List Instruction → Bool
 skipped τ is = any (λ i. aggregatePhi τ (i .kind)) is

@@ -1,6 +1,6 @@
 -- The settings, and what the pass looks up of types: one level deep.
-use Prim.Native.Nat.{ℕ, zero, suc}
-use mathlib.Core.List.{List, [], _∷_, map}
+use Prim.Native.Nat.{ℕ, suc}
+use mathlib.Core.List.{List, [], _∷_}
 use mathlib.Core.Bool.{true, false, cond, _&&_, _||_}
 use mathlib.Core.Bool as B
 use mathlib.Core.Option.{Option, none, some}
@@ -31,7 +31,7 @@ recordedType τ v = getD (τ .recorded) (v .0) none
 unfoldable pub valueRow : Types → ValueId → Option MirType
 valueRow τ v = rowOf τ (recordedType τ v)
 
--- sroa.rs 173, `is_scalarizable`
+-- sroa.rs 172, `is_scalarizable`
 unfoldable pub isScalarizable : Settings → Option MirType → B.Bool
 isScalarizable σ none = false
 isScalarizable σ (some Felt) = false
@@ -97,7 +97,7 @@ unfoldable pub position : NameId → List StructField → Option ℕ
 position n [] = none
 position n (f ∷ fs) = cond (eqb (n .0) (f .name .0)) (some 0) (next (position n fs))
 
--- sroa.rs, `struct_field_index`
+-- sroa.rs 1411, `struct_field_index`
 unfoldable pub fieldIndex : Option MirType → NameId → Option ℕ
 fieldIndex t n = position n (structFieldsOf t)
 

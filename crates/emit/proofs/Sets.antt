@@ -5,8 +5,8 @@ use mathlib.Core.List.{List, [], _∷_, _++_}
 use native.Mathlib.Nat.{add-zero}
 use native.Mathlib.Numerals.{add-one, add-two}
 use native.Mathlib.Omega.{arith}
-use lib.ListN.{length, getD, take, drop, set, length-set}
-use lib.Seq.{sets, set-out, set-comm, getD-set-other, take-set-le, drop-set-lt, slice, slice-cons, slice-empty}
+use lib.ListN.{length, getD, set, length-set}
+use lib.Seq.{sets, set-comm, slice, slice-cons, slice-empty}
 use Rattle.wire.specs.Number.{toBytes}
 
 -- two runs, the second behind the first, are one
@@ -15,11 +15,6 @@ sets-append l i [] b = ap (λ k. sets l k b) (sym (add-zero i))
 sets-append l i (x ∷ a) b =
     let e : suc i + length a ≡ i + suc (length a) = omega arith in
     sets-append (set l i x) (suc i) a b ∙ ap (λ k. sets (sets (set l i x) (suc i) a) k b) e
-
--- past the end nothing is stored
-pub sets-out : {A : Type 0} (l : List A) (i : ℕ) (a : List A) → length l ≤ i → sets l i a ≡ l
-sets-out l i [] h = refl
-sets-out l i (x ∷ a) h = rw (set-out l i x h) (sets-out l (suc i) a (omega arith))
 
 -- a store before a run may come first
 set-sets : {A : Type 0} (l : List A) (j i : ℕ) (x : A) (a : List A) → j < i → set (sets l i a) j x ≡ sets (set l j x) i a
@@ -34,33 +29,6 @@ sets-front l i [] b = ap (λ k. sets l k b) (add-zero i)
 sets-front l i (x ∷ a) b =
     let e : i + suc (length a) ≡ suc i + length a = omega arith in
     rw (e, set-sets l i (suc i + length a) x b (omega arith)) (sets-front (set l i x) (suc i) a b)
-
--- an element before the run is as it was
-pub sets-before : {A : Type 0} (l : List A) (i : ℕ) (a : List A) (j : ℕ) (d : A) → j < i → getD (sets l i a) j d ≡ getD l j d
-sets-before l i [] j d h = refl
-sets-before l i (x ∷ a) j d h =
-    let ne : (j ≡ i → ⊥) = λ e. omega arith in
-    sets-before (set l i x) (suc i) a j d (omega arith) ∙ getD-set-other l i j x d ne
-
--- and so are all of them
-pub take-before : {A : Type 0} (l : List A) (i : ℕ) (a : List A) (n : ℕ) → n ≤ i → take n (sets l i a) ≡ take n l
-take-before l i [] n h = refl
-take-before l i (x ∷ a) n h = take-before (set l i x) (suc i) a n (omega arith) ∙ take-set-le n l i x h
-
--- what stands behind the run is as it was
-pub drop-behind : {A : Type 0} (l : List A) (i : ℕ) (a : List A) (n : ℕ) → i + length a ≤ n → drop n (sets l i a) ≡ drop n l
-drop-behind l i [] n h = refl
-drop-behind l i (x ∷ a) n h = drop-behind (set l i x) (suc i) a n (omega arith) ∙ drop-set-lt n l i x (omega arith)
-
-pub sets-behind : {A : Type 0} (l : List A) (i : ℕ) (a : List A) → drop (i + length a) (sets l i a) ≡ drop (i + length a) l
-sets-behind l i a = drop-behind l i a (i + length a) (omega arith)
-
--- an element behind the run is as it was
-pub getD-behind : {A : Type 0} (l : List A) (i : ℕ) (a : List A) (j : ℕ) (d : A) → i + length a ≤ j → getD (sets l i a) j d ≡ getD l j d
-getD-behind l i [] j d h = refl
-getD-behind l i (x ∷ a) j d h =
-    let ne : (j ≡ i → ⊥) = λ e. omega arith in
-    getD-behind (set l i x) (suc i) a j d (omega arith) ∙ getD-set-other l i j x d ne
 
 -- multiples of 256 do not change the lowest byte
 low-byte : (a b : ℕ) → (a + 256 * b) % 256 ≡ a % 256

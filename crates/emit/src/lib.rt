@@ -1,19 +1,18 @@
 // Writers. None asks for room: a byte past the end is counted and not stored, so that one code path sizes and writes.
-use wire::BlockId;
 use wire::Literal;
 use wire::NameId;
 use wire::TypeId;
 use wire::Value;
 use wire::ValueId;
 ghost use mathlib.Core.Path.{_≡_};
-ghost use mathlib.Core.List.{[], _∷_, _++_};
+ghost use mathlib.Core.List.{[], _∷_};
 ghost use Prim.Native.Nat.{_+_, _-_, _<_, _≤_};
 ghost use lib.ListN.{length};
 ghost use lib.Seq.{sets, slice};
 ghost use Rattle.wire.specs.Number.{toBytes};
 ghost use Rattle.wire.specs.Value.{valueBytes, boolByte};
-ghost use Rattle.form.specs.Syntax.{Projection, Index, Field, Tuple, Assign};
-ghost use Rattle.form.specs.Encode.{projectionBytes, instructionBytes, valueIdBytes, blockIdBytes, typeIdBytes, nameIdBytes};
+ghost use Rattle.form.specs.Syntax.{Assign};
+ghost use Rattle.form.specs.Encode.{instructionBytes, valueIdBytes, typeIdBytes, nameIdBytes};
 ghost use Rattle.emit.specs.Plain.{plain};
 
 pub fn put_u8(out: &mut [u8], to: usize, b: u8)
@@ -43,13 +42,6 @@ pub fn put_value_id(out: &mut [u8], to: usize, v: ValueId)
     ensures { λ _. ⌜ now (out .exit) ≡ sets (now (out .entry)) to (valueIdBytes v) ⌝ }
 {
     put_u16(out, to, v.0);
-}
-
-pub fn put_block_id(out: &mut [u8], to: usize, b: BlockId)
-    requires { ⌜ to < 2199023255552 ⌝ }
-    ensures { λ _. ⌜ now (out .exit) ≡ sets (now (out .entry)) to (blockIdBytes b) ⌝ }
-{
-    put_u16(out, to, b.0);
 }
 
 pub fn put_type_id(out: &mut [u8], to: usize, t: TypeId)
@@ -111,33 +103,6 @@ pub fn put_value(out: &mut [u8], to: usize, x: Value) -> usize
             to + 1
         }
     }
-}
-
-// The projections: an Index's value, a Field's name, a Tuple's index.
-pub fn put_index(out: &mut [u8], to: usize, x: Value) -> usize
-    requires { ⌜ to < 549755813888 ⌝ }
-    ensures { λ r. ⌜ (r ≡ to + length (projectionBytes (Index x))) × (now (out .exit) ≡ sets (now (out .entry)) to (projectionBytes (Index x))) ⌝ }
-{
-    put_u8(out, to, 0);
-    put_value(out, to + 1, x)
-}
-
-pub fn put_field(out: &mut [u8], to: usize, n: NameId) -> usize
-    requires { ⌜ to < 549755813888 ⌝ }
-    ensures { λ r. ⌜ (r ≡ to + length (projectionBytes (Field n))) × (now (out .exit) ≡ sets (now (out .entry)) to (projectionBytes (Field n))) ⌝ }
-{
-    put_u8(out, to, 1);
-    put_name_id(out, to + 1, n);
-    to + 3
-}
-
-pub fn put_tuple(out: &mut [u8], to: usize, k: u32) -> usize
-    requires { ⌜ to < 549755813888 ⌝ }
-    ensures { λ r. ⌜ (r ≡ to + length (projectionBytes (Tuple k))) × (now (out .exit) ≡ sets (now (out .entry)) to (projectionBytes (Tuple k))) ⌝ }
-{
-    put_u8(out, to, 2);
-    put_u32(out, to + 1, k);
-    to + 5
 }
 
 // An Assign without span, expression id and comment; returns the place behind it.

@@ -1,19 +1,18 @@
 -- A type's row says its shape and its number of parts.
-use Prim.Native.Nat.{ℕ, zero, suc, _+_, _<_}
+use Prim.Native.Nat.{ℕ, zero, suc, _<_}
 use mathlib.Core.Path.{_≡_, refl, ap, _∙_, sym}
-use mathlib.Core.List.{List, [], _∷_, map}
-use mathlib.Core.Bool.{true, false, cond, _&&_}
+use mathlib.Core.List.{List, [], _∷_}
+use mathlib.Core.Bool.{true, false, cond}
 use mathlib.Core.Bool as B
 use mathlib.Core.Option.{Option, some}
-use native.Mathlib.Nat.{add-zero}
 use native.Mathlib.Omega.{arith}
 use borrow.Author.Tests.{ltb-true, ltb-false}
-use lib.ListN.{length, getD, getElem?, drop, take}
+use lib.ListN.{length, getD, getElem?, drop}
 use lib.Seq.{drop-length, getD-drop}
 use lib.Dec.{ltb}
 use Rattle.table.proofs.Elements.{some-at, none-at}
-use Rattle.wire.specs.Parse.{Parse, ok, bad, later, andThen, mapParse, checked, seqOf}
-use Rattle.wire.specs.Number.{u16Of, u32Of, below, at32, fromBytes}
+use Rattle.wire.specs.Parse.{Parse, ok, andThen, mapParse, seqOf}
+use Rattle.wire.specs.Number.{u16Of, u32Of, below, at32}
 use Rattle.wire.specs.declared.NameId.{NameId}
 use Rattle.wire.specs.declared.TypeId.{TypeId}
 use Rattle.wire.proofs.Laws.{from-32}

@@ -2,11 +2,11 @@
 use eligibility::Settings;
 use wire::TypeId;
 ghost use mathlib.Core.Path.{_≡_};
-ghost use mathlib.Core.Bool.{Bool, false, cond, _&&_};
+ghost use mathlib.Core.Bool.{false, cond, _&&_};
 ghost use mathlib.Core.List.{List};
 ghost use mathlib.Core.Option.{Option};
 ghost use Prim.Native.Nat.{ℕ, _≤_, _<_};
-ghost use lib.ListN.{length, getD, getElem?, drop};
+ghost use lib.ListN.{length, getD, getElem?};
 ghost use lib.Dec.{leb, ltb};
 ghost use Rattle.wire.specs.declared.TypeId.{TypeId as DeclaredTypeId};
 ghost use Rattle.typetable.specs.Syntax.{MirType};
@@ -83,6 +83,7 @@ fn recorded_shape(s: &[u8], types: &[usize], many: u16, number: u16) -> u8
     type_shape(s, types, many, number - 1)
 }
 
+// Whether a recorded type is eligible, by that number; none is not.
 fn recorded_eligible(s: &[u8], types: &[usize], many: u16, number: u16, settings: Settings) -> bool
     ensures { λ r. ⌜ ((most : ℕ) (τ : Types) (o : Option DeclaredTypeId) → TypesAt most (now (s .entry)) (now (types .entry)) (τ .rows) → length (τ .rows) ≡ many → number ≡ recordedNumber o → r ≡ isScalarizable settings (rowOf τ o)) ⌝ }
 {

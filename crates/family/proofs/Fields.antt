@@ -1,17 +1,17 @@
 -- Where a copy's source and dest stand, and the base that a Load or Store looks into.
-use Prim.Native.Nat.{ℕ, zero, suc, _+_, _≤_, _<_}
+use Prim.Native.Nat.{ℕ}
 use mathlib.Core.Path.{_≡_, refl, ap, _∙_, sym}
-use mathlib.Core.List.{List, [], _∷_, map}
+use mathlib.Core.List.{List, [], _∷_}
 use mathlib.Core.Bool.{Bool, true, false, cond, not}
-use mathlib.Core.Option.{Option, none, some}
+use mathlib.Core.Option.{none, some}
 use native.Mathlib.Omega.{arith}
 use native.Mathlib.Nat.{add-comm}
 use borrow.Author.Tests.{ne-eqb}
 use lib.ListN.{length, getD, getElem?, set, drop}
 use lib.Seq.{drop-drop}
 use lib.Dec.{eqb}
-use Rattle.wire.specs.Parse.{Parse, ok, bad, andThen, mapParse}
-use Rattle.wire.specs.Number.{u16Of, u32Of, below, at16}
+use Rattle.wire.specs.Parse.{Parse, ok, andThen, mapParse}
+use Rattle.wire.specs.Number.{u32Of, below, at16}
 use Rattle.wire.specs.Value.{valueOf, valueIdOf, asValue}
 use Rattle.wire.specs.declared.Cause.{Cause}
 use Rattle.wire.specs.declared.ReadValue.{ReadValue}
@@ -30,11 +30,11 @@ use Rattle.form.specs.declared.Bounds.{Bounds}
 use Rattle.typetable.specs.Syntax.{MirType}
 use Rattle.typetable.specs.Index.{TypesAt}
 use Rattle.lookup.specs.Fields.{fieldsPlace, placeSteps}
-use Rattle.lookup.proofs.Instruction.{chosen, KindAt, instruction-fields, fields-read}
+use Rattle.lookup.proofs.Instruction.{chosen, instruction-fields, fields-read}
 use Rattle.eligibility.specs.Lookup.{Types, rowOf, shape}
 use Rattle.eligibility.specs.Family.{Marks, placeOf, dynamicFirst}
 use Rattle.family.specs.declared.CopyRead.{CopyRead}
-use Rattle.family.specs.Copies.{Copy, copied, assigned, copyOf, dynamicStep, dynamicPlace, asCopy}
+use Rattle.family.specs.Copies.{copied, assigned, copyOf, dynamicStep, dynamicPlace, asCopy}
 
 -- a value's number takes two bytes
 id-at : (next : ℕ) (u : List ℕ) {d : ValueId} {m : ℕ} → valueIdOf next u ≡ ok d m → (d .0 ≡ at16 u 0) × (m ≡ 2)

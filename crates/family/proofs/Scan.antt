@@ -1,14 +1,14 @@
 -- The scan of a block: its copies, noted one after another.
-use Prim.Native.Nat.{ℕ, zero, suc, _+_, _-_, _≤_, _<_, zero-le}
+use Prim.Native.Nat.{ℕ, suc, _+_, _-_, _≤_, _<_, zero-le}
 use mathlib.Core.Path.{_≡_, refl, ap, _∙_, sym}
 use mathlib.Core.List.{List, [], _∷_, _++_, append-assoc, append-nil}
-use mathlib.Core.Bool.{Bool, true, false}
+use mathlib.Core.Bool.{false}
 use mathlib.Core.Option.{Option, none, some}
 use mathlib.Core.Logic.{⊎-elim}
 use native.Mathlib.Nat.{eq-or-lt-of-le}
 use native.Mathlib.Numerals.{add-one}
 use native.Mathlib.Omega.{arith}
-use lib.ListN.{length, getD, set, drop, length-set, length-append, List·getD-append}
+use lib.ListN.{length, getD, set, drop, length-append, List·getD-append}
 use lib.Seq.{getD-set-same, getD-set-other, getD-at, drop-cons, drop-length}
 use Rattle.wire.specs.Parse.{ok}
 use Rattle.form.specs.Syntax.{Instruction}

@@ -6,8 +6,8 @@ use wire::ReadValue;
 use wire::Value;
 use wire::ValueId;
 ghost use mathlib.Core.Path.{_≡_};
-ghost use mathlib.Core.List.{List, [], _∷_, _++_};
-ghost use mathlib.Core.Bool.{Bool, true, false, cond, not, _&&_, _||_};
+ghost use mathlib.Core.List.{List, [], _++_};
+ghost use mathlib.Core.Bool.{true, false, cond, _&&_, _||_};
 ghost use mathlib.Core.Option.{some};
 ghost use Prim.Native.Nat.{ℕ, _+_, _≤_, _<_};
 ghost use lib.ListN.{length, getD, set, drop, replicate};
@@ -191,7 +191,8 @@ fn asks(wanted: u8, shape: u8) -> bool
     if wanted == 0 { true } else { wanted == shape }
 }
 
-// Copy `k` joins where its source is a member; whether it is a new one.
+// Copy `k` joins where its source is a member; whether it is a new one. Only the answer that it is not says something: the
+// other is left free, as one too many costs a sweep that changes nothing.
 fn join(sources: &[u16], dests: &[u16], asked: &[u8], k: u16, shape: u8, marks: &mut [bool]) -> bool
     ensures { λ r. ⌜ (now (marks .exit) ≡ joining shape (now (marks .entry)) (copyAt (now (sources .entry)) (now (dests .entry)) (now (asked .entry)) k)) × (r ≡ false → now (marks .exit) ≡ now (marks .entry)) ⌝ }
 {
@@ -215,7 +216,8 @@ fn either(a: bool, b: bool) -> bool
     if a { true } else { b }
 }
 
-// One sweep over the copies; whether it found a new member.
+// One sweep over the copies; whether it found a new member, which is left free likewise: sweeps are at most as many as the
+// instructions.
 fn sweep(
     sources: &[u16],
     dests: &[u16],

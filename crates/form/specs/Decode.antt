@@ -152,6 +152,7 @@ module _ (b : Bounds) (seen : List Bool) where
   unfoldable pub heapAllocOf : List ℕ → Parse InstructionKind
   heapAllocOf s = andThen s (destOf s) (λ d s. mapParse (λ x. InstructionKind.HeapAllocCells d x) (value s))
 
+  -- "u8 kind in `InstructionKind` order (0 to 18)"
   abbrev pub kinds : Bool → List (List ℕ → Parse InstructionKind)
   kinds c =
       (λ s. assignOf s) ∷ (λ s. unaryOf s) ∷ (λ s. binaryOf s) ∷ (λ s. callOf s) ∷ (λ s. castOf s)
@@ -174,6 +175,7 @@ spanOf s = andThen s (u32Of s) (λ a t. mapParse (λ e. record { start = a; stop
 abbrev pub expressionOf : List ℕ → Parse ExpressionId
 expressionOf s = andThen s (u32Of s) (λ i t. mapParse (λ f. record { index = i; file = f }) (numberOf 8 t))
 
+-- "the fields whose bit stands"
 unfoldable pub metaOf : ℕ → List ℕ → Parse Meta
 metaOf bits s =
     andThen s (optional (bit 0 bits) spanOf s) (λ p s.
@@ -184,6 +186,7 @@ metaOf bits s =
 abbrev pub definedBits : List ℕ → ℕ → Bool
 definedBits s x = ltb x 16 && not (bit 3 x && (ltb 1 (length s) && not (eqb (getD s 1 0) 16)))
 
+-- an undefined bit is refused at the bit map
 abbrev pub bitsOf : List ℕ → Parse ℕ
 bitsOf s = checked Cause.Undefined (definedBits s) (u8Of s)
 
@@ -212,6 +215,7 @@ branchOf b s = andThen s (operationOf 26 s) (λ op s. andThen s (valueOf (b .nex
 unfoldable pub returnOf : Bounds → List ℕ → Parse Terminator
 returnOf b s = mapParse Terminator.Return (listOf (b .list) (valueOf (b .next)) s)
 
+-- Jump, If, BranchCmp, Return, Unreachable
 abbrev pub terminators : Bounds → List (List ℕ → Parse Terminator)
 terminators b = (λ s. jumpOf b s) ∷ (λ s. ifOf b s) ∷ (λ s. branchOf b s) ∷ (λ s. returnOf b s) ∷ (λ s. ok Terminator.Unreachable 0) ∷ []
 

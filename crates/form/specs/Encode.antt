@@ -1,12 +1,10 @@
 -- The bytes of instructions and terminators: each field behind the one before.
-use Prim.Native.Nat.{ℕ, zero, suc, _+_, _*_}
-use mathlib.Core.List.{List, [], _∷_, _++_, map}
-use mathlib.Core.Bool.{Bool, true, false}
+use Prim.Native.Nat.{ℕ, _+_, _*_}
+use mathlib.Core.List.{List, [], _∷_, _++_}
 use mathlib.Core.Option.{Option, none, some}
 use lib.ListN.{length}
 use Rattle.wire.specs.Number.{toBytes}
 use Rattle.wire.specs.Value.{valueBytes, boolByte}
-use Rattle.wire.specs.declared.Value.{Value}
 use Rattle.wire.specs.declared.ValueId.{ValueId}
 use Rattle.wire.specs.declared.BlockId.{BlockId}
 use Rattle.wire.specs.declared.TypeId.{TypeId}

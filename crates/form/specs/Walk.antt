@@ -4,9 +4,9 @@ use Prim.Native.Nat.{ℕ, zero, suc, _+_, _/_, _%_}
 use mathlib.Core.List.{List, [], _∷_, map}
 use mathlib.Core.Bool.{Bool, true, false, cond, not, _||_}
 use lib.ListN.{length, getD, set}
-use lib.Dec.{leb, ltb, eqb}
+use lib.Dec.{ltb, eqb}
 use Rattle.wire.specs.Parse.{Parse, ok, bad, andThen, mapParse, checked}
-use Rattle.wire.specs.Number.{u8Of, u16Of, u32Of, below}
+use Rattle.wire.specs.Number.{u16Of, u32Of, below}
 use Rattle.wire.specs.Value.{valueOf, valueIdOf}
 use Rattle.wire.specs.declared.Cause.{Cause}
 use Rattle.wire.specs.declared.Value.{Value}
@@ -104,7 +104,7 @@ times f zero w s = ok w 0
 times f (suc k) w s = andThen s (f w s) (λ v t. times f k v t)
 
 -- the fields of an element, by the kind of its list: values, types, defined values, names with values, blocks with
--- values, types; and projections
+-- values, a Call's return types (their count is exact); and projections
 abbrev pub firstOf : ℕ → ℕ
 firstOf k = getD (2 ∷ 3 ∷ 1 ∷ 4 ∷ 6 ∷ 3 ∷ []) k 10
 
@@ -150,6 +150,7 @@ fields b many w =
     ∷ (λ s. listWalk b (exactly (b .list) many) 3 0 w s)
     ∷ []
 
+-- a field, by its class
 unfoldable pub fieldWalk : Bounds → ℕ → ℕ → Walk → List ℕ → Parse Walk
 fieldWalk b many c w s = getD (map (λ f. f s) (fields b many w)) c (ok w 0)
 
@@ -158,11 +159,13 @@ unfoldable pub rowWalk : Bounds → ℕ → ℕ → ℕ → Walk → List ℕ �
 rowWalk b many zero row w s = ok w 0
 rowWalk b many (suc k) row w s = andThen s (fieldWalk b many (row % 16) w s) (λ v t. rowWalk b many k (row / 16) v t)
 
+-- the row of each kind, in `InstructionKind` order
 abbrev pub rows : List ℕ
 rows =
     0x321 ∷ 0x219 ∷ 0x2218 ∷ 0xfba4c ∷ 0x3321 ∷ 0x371 ∷ 0x327 ∷ 0xa5 ∷ 0x0 ∷ 0xe31
     ∷ 0xa1 ∷ 0x3521 ∷ 0x3d1 ∷ 0x3421 ∷ 0x32421 ∷ 0x32521 ∷ 0x3a1 ∷ 0x22 ∷ 0x21 ∷ []
 
+-- and of each terminator, in declared order
 abbrev pub terminatorRows : List ℕ
 terminatorRows = 0x6 ∷ 0x662 ∷ 0x66228 ∷ 0xa ∷ 0x0 ∷ []
 

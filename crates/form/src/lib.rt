@@ -3,15 +3,15 @@ use wire::Cause;
 use wire::Value;
 ghost use mathlib.Core.Path.{_≡_};
 ghost use mathlib.Core.List.{List};
-ghost use mathlib.Core.Bool.{Bool, cond, not};
+ghost use mathlib.Core.Bool.{Bool, cond};
 ghost use Prim.Native.Nat.{ℕ, _+_, _-_, _≤_, _<_};
 ghost use lib.ListN.{length, set, take, drop};
 ghost use lib.Dec.{ltb};
-ghost use Rattle.wire.specs.Parse.{andThen, mapParse, later};
+ghost use Rattle.wire.specs.Parse.{mapParse, later};
 ghost use Rattle.wire.specs.Number.{numberOf, below};
 ghost use Rattle.wire.specs.Value.{valueOf, valueIdOf};
-ghost use Rattle.form.specs.Decode.{definedOf, operationOf, projectionOf, placeOf};
-ghost use Rattle.form.specs.Walk.{walkOf, defines, uses, usesValue, usesPlace, usesProjection, pairWalk, times, firstOf, secondOf, counts, listWalk, placeWalk, fieldWalk, rowWalk, asScan};
+ghost use Rattle.form.specs.Decode.{definedOf, operationOf, projectionOf};
+ghost use Rattle.form.specs.Walk.{walkOf, defines, uses, usesValue, usesProjection, asScan};
 
 // What the numbers of an instruction stay below, and the mosts of its lists and projections.
 pub struct Bounds {

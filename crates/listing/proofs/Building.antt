@@ -35,9 +35,6 @@ use Rattle.listing.specs.Lists.{Few, PutFew, Roomy, Setting, Lies, _&_, 
 use Rattle.listing.proofs.Copying.{line-none, line-one}
 use Rattle.listing.proofs.Joining.{joined, join-first, join-effect, built, one-built}
 
-pub no-true : true ≡ false → ⊥
-no-true e = let z : _≡_ {A = ℕ} 0 1 = cc in omega arith
-
 pub no-went : {p : Progress} → Put.Clash ≡ Put.Went p → ⊥
 no-went {p} e = let z : _≡_ {A = ℕ} 0 1 = cc in omega arith
 

@@ -45,7 +45,8 @@ fn moved(from: usize, to: usize) -> u32
     if from == to { 0 } else { 1 }
 }
 
-// Copies the first n bytes of s, where there are so many and n is at most 1,024.
+// Copies the first n bytes of s, for at most 1,024 that stand there, and returns the place behind them; else the place
+// alone is bounded.
 pub fn copy_bytes(out: &mut [u8], to: usize, s: &[u8], n: usize) -> usize
     requires { ⌜ to < 1099511627776 ⌝ }
     ensures { λ r. ⌜ r ≤ to + 1024 ⌝ }

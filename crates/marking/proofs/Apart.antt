@@ -1,19 +1,18 @@
 -- Reasons 3 and 4 over all blocks, and the marks of the aggregates that are stored into.
-use Prim.Native.Nat.{ℕ, _-_}
+use Prim.Native.Nat.{ℕ}
 use mathlib.Core.Path.{_≡_, refl, _∙_, sym}
 use mathlib.Core.List.{List}
-use mathlib.Core.Bool.{true, false, not}
+use mathlib.Core.Bool.{true, false}
 use mathlib.Core.Bool as B
 use native.Mathlib.Omega.{arith}
 use lib.ListN.{getD}
-use lib.Dec.{eqb, eqb→eq}
+use lib.Dec.{eqb→eq}
 use Rattle.wire.specs.declared.ValueId.{ValueId}
 use Rattle.typetable.specs.Syntax.{Bool}
 use Rattle.form.specs.Syntax.{InstructionKind, Block}
 use Rattle.form.specs.Syntax.{Assign, UnaryOp, BinaryOp, Call, Cast, Load, Store, Debug, Nop, Phi}
 use Rattle.form.specs.Syntax.{MakeTuple, ExtractTupleElement, MakeStruct, ExtractStructField, InsertField, InsertTuple, MakeFixedArray, AssertEq, HeapAllocCells}
 use Rattle.form.specs.Reads.{kindNumber, isPhi}
-use Rattle.block.specs.Decode.{marks}
 use Rattle.eligibility.specs.Fold.{behindPhis}
 use Rattle.shelf.specs.Lists.{every, among}
 use Rattle.shelf.specs.Reads.{shallow}

@@ -14,7 +14,7 @@ use Rattle.wire.specs.declared.ValueId.{ValueId}
 use Rattle.form.specs.Syntax.{Projection, Instruction, InstructionKind}
 use Rattle.form.specs.Syntax.{Assign, UnaryOp, BinaryOp, Call, Cast, Load, Store, Debug, Nop, Phi}
 use Rattle.form.specs.Syntax.{MakeTuple, ExtractTupleElement, MakeStruct, ExtractStructField, InsertField, InsertTuple, MakeFixedArray, AssertEq, HeapAllocCells}
-use Rattle.form.specs.Reads.{operand, reads, storeBase, kindNumber}
+use Rattle.form.specs.Reads.{reads, storeBase, kindNumber}
 use Rattle.form.specs.Decode.{instructionOf}
 use Rattle.form.specs.declared.Bounds.{Bounds}
 use Rattle.lookup.specs.Fields.{asFound, operandFields, placeSteps}

@@ -57,9 +57,6 @@ CallPut b s types tracked firsts pool at end out fresh p out′ fresh′ r =
 module _ (b : Bounds) (s types : List ℕ) (tracked : Marks) (firsts pool : List ℕ) (at end : ℕ) (out fresh : List ℕ) (p : Progress) (nothing t f : List ℕ) (place first many behind np : ℕ)
     (ht : t ≡ drop at s) (hp : place ≡ fieldsPlace t) (hf : f ≡ drop place t) (h1 : first ≡ 4 + 2 * getD f 0 0) (hm : many ≡ getD f (first - 1) 0) (hb : behind ≡ after (valueStep f 0 0) many first) (hn : np ≡ getD f behind 0)
     (r : Put) (out₁ fresh₁ : List ℕ) (u : AllPut b s f types nothing tracked firsts pool (Asks.Types (behind + 1) np) first many out fresh p out₁ fresh₁ r) where
-  abbrev asks : Asks
-  asks = Asks.Types (behind + 1) np
-
   -- what is known in each case
   module _ (τ : Types) (S : AggStates) (used : ℕ) (recorded : List ℕ) (i : Instruction) (ds : List ValueId) (g : ℕ) (xs : List Value) (ps rs : List TypeId) (dropped : Marks) (q : Piece) (ground : Ground b s types recorded τ) (a : Rep (b .next) s tracked firsts pool used S) (e : instructionOf b [] false (drop at s) ≡ ok i (end - at)) (k : i .kind ≡ Call ds g xs ps rs)
       (y : q ≡ stepCall S i ds g ps rs (rebuildAll τ S (b .next + p .fresh) (wantedArguments τ xs ps)) (rebuildAll τ S (b .next + p .fresh) (wantedArguments τ xs ps) .fresh)) (h : b .next + p .fresh + length (q .fresh) < 65536) where

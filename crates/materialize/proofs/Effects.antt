@@ -37,9 +37,6 @@ no-went {p} e = let z : _≡_ {A = ℕ} 0 1 = cc in omega arith
 no-clash : {p : Progress} → Put.Went p ≡ Put.Clash → ⊥
 no-clash {p} e = let z : _≡_ {A = ℕ} 0 1 = cc in omega arith
 
-no-true : true ≡ false → ⊥
-no-true e = let z : _≡_ {A = ℕ} 0 1 = cc in omega arith
-
 -- what stands behind the builds
 abbrev pub line : List ℕ → ℕ → ℕ → Effect
 line w lines made = record { bytes = w; lines = lines; dropped = []; fresh = []; counts = materialized made }
@@ -105,10 +102,6 @@ pub idle : (τ : Types) (S : AggStates) (ws : List Wanted) (n : ℕ) → rebuild
 unfolding rebuildAll
 idle τ S [] n e = record { before = refl; clash = refl }
 idle τ S (w ∷ ws) n e = idle-one τ n (w .value) (λ m. rebuildAll τ S m ws) (w .at) (stateOf S (w .value)) e (λ f. idle τ S ws n f)
-
-none-of : {A : Type 0} (l : List A) → length l ≡ 0 → l ≡ []
-none-of [] e = refl
-none-of (x ∷ l) e = absurd (omega arith)
 
 same-effect : {w w′ : List ℕ} {a a′ : ℕ} {ts ts′ : List TypeId} {m m′ : ℕ} → w ≡ w′ → a ≡ a′ → ts ≡ ts′ → m ≡ m′ → _≡_ {A = Effect} (record { bytes = w; lines = a; dropped = []; fresh = ts; counts = materialized m }) (record { bytes = w′; lines = a′; dropped = []; fresh = ts′; counts = materialized m′ })
 same-effect e f g h = rw (e, f, g, h) refl

@@ -32,7 +32,7 @@ use Rattle.canon.proofs.Exact.{Exact}
 use Rattle.canon.proofs.Fields as exact
 use Rattle.eligibility.specs.Lookup.{Types}
 use Rattle.rewriting.specs.Rebuild.{wantedArguments}
-use Rattle.parts.specs.Rows.{ValueAt, stands}
+use Rattle.parts.specs.Rows.{ValueAt}
 use Rattle.wanting.specs.declared.Asks.{Asks}
 use Rattle.wanting.specs.Asked.{askedList}
 use Rattle.listing.specs.Lists as lies

@@ -7,7 +7,6 @@ ghost use Prim.Native.Nat.{ℕ, _+_, _≤_, _<_};
 ghost use lib.ListN.{length, getD, drop};
 ghost use Rattle.wire.specs.Parse.{ok};
 ghost use Rattle.form.specs.Syntax.{Instruction, Block};
-ghost use Rattle.form.specs.Reads.{reads};
 ghost use Rattle.form.specs.Decode.{instructionOf};
 ghost use Rattle.block.specs.Decode.{marks as marksOf};
 ghost use Rattle.lookup.specs.Fields.{fieldsPlace};

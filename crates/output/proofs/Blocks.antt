@@ -1,22 +1,21 @@
 -- The blocks of the output fit, their values defined once.
-use Prim.Native.Nat.{ℕ, zero, suc, _+_, _≤_, _<_}
-use mathlib.Core.Path.{_≡_, refl, ap, _∙_, sym}
+use Prim.Native.Nat.{ℕ, suc, _≤_}
+use mathlib.Core.Path.{_≡_, refl, _∙_, sym}
 use mathlib.Core.List.{List, [], _∷_, _++_, append-nil}
-use mathlib.Core.Bool.{Bool, true, false, not, _||_}
+use mathlib.Core.Bool.{Bool, true, not, _||_}
 use native.Mathlib.Omega.{arith}
-use lib.ListN.{length, length-append}
 use Rattle.wire.specs.declared.ValueId.{ValueId}
 use Rattle.wire.specs.declared.Value.{Value}
-use Rattle.form.specs.Syntax.{Instruction, InstructionKind, Assign, Call, Load, Store, ExtractTupleElement, ExtractStructField, Terminator}
+use Rattle.form.specs.Syntax.{Instruction, InstructionKind, Call, Store, Terminator}
 use Rattle.form.specs.Reads.{dests, isPhi}
 use Rattle.form.specs.Decode.{mark}
 use Rattle.form.specs.declared.Bounds.{Bounds}
-use Rattle.canon.specs.WellFormed.{Each, FitNews, FitMeta, FitKind, FitInstruction}
+use Rattle.canon.specs.WellFormed.{Each, FitNews}
 use Rattle.canon.proofs.Bits.{true-false}
 use Rattle.block.specs.Decode.{marks, blockMarks}
 use Rattle.block.specs.WellFormed.{FitInstructions}
 use Rattle.rewriting.specs.Rebuild.{plain}
-use Rattle.rewriting.specs.Lowers.{Rebuild, Rebuilds, Stands, Leaves, Lowers}
+use Rattle.rewriting.specs.Lowers.{Rebuild, Rebuilds, Stands, Lowers}
 use Rattle.output.proofs.Rebuilt.{Loose}
 use Rattle.output.proofs.Marks.{dests-new, Both, news-both, both-kept, both-left, both-fresh, both-later}
 

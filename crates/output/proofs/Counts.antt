@@ -1,7 +1,6 @@
 -- The mosts of a decoded routine, as the bound of the fresh numbers needs them.
-use Prim.Native.Nat.{ℕ, zero, suc, _+_, _*_, _≤_, _<_, zero-le}
-use mathlib.Core.Path.{_≡_, refl, ap, _∙_, sym}
-use mathlib.Core.List.{List, [], _∷_, _++_}
+use Prim.Native.Nat.{ℕ, _+_, _≤_, zero-le}
+use mathlib.Core.List.{List, [], _∷_}
 use mathlib.Core.Bool.{Bool, false, not, _||_}
 use native.Mathlib.Omega.{arith}
 use lib.ListN.{length, length-append}
@@ -15,12 +14,12 @@ use Rattle.form.specs.declared.Bounds.{Bounds}
 use Rattle.canon.specs.WellFormed.{FitKind, FitTerminator}
 use Rattle.block.specs.Decode.{marks, blockMarks}
 use Rattle.block.specs.declared.Mosts.{Mosts}
-use Rattle.block.specs.WellFormed.{FitInstructions, FitCode}
+use Rattle.block.specs.WellFormed.{FitInstructions}
 use Rattle.routine.specs.Routine.{Routine}
 use Rattle.whole.specs.WellFormed.{FitBlocks, bounds, unmarked, WellFormed}
 use Rattle.rewriting.specs.Sum.{instructionCount}
 use Rattle.rewriting.specs.Within.{argumentCount, returnCount, CallsWithin, ListsWithin}
-use Rattle.rewriting.specs.Lowers.{Rebuild, Rebuilds, Stands, Leaves, Lowers}
+use Rattle.rewriting.specs.Lowers.{Rebuilds, Lowers}
 
 call-most : (b : Bounds) (seen : List Bool) (i : InstructionKind) → FitKind b seen i → argumentCount i ≤ b .list
 unfolding argumentCount

@@ -1,9 +1,9 @@
 -- The marks of the values defined so far, in the input and in the output: the output has fewer below next, and its fresh
 -- numbers come in order.
-use Prim.Native.Nat.{ℕ, suc, _+_, _≤_, _<_}
+use Prim.Native.Nat.{ℕ, suc, _≤_, _<_}
 use mathlib.Core.Path.{_≡_, refl, ap, _∙_, sym}
-use mathlib.Core.List.{List, [], _∷_, _++_}
-use mathlib.Core.Bool.{true, false, not, _||_}
+use mathlib.Core.List.{List, [], _∷_}
+use mathlib.Core.Bool.{true, false, not}
 use mathlib.Core.Bool as B
 use native.Mathlib.Omega.{arith}
 use lib.Dec.{T, eqb, eqb→eq, eqb-refl}
@@ -12,12 +12,12 @@ use lib.Seq.{getD-set-same, getD-set-other}
 use Rattle.wire.specs.declared.ValueId.{ValueId}
 use Rattle.form.specs.Syntax.{InstructionKind, Assign, UnaryOp, BinaryOp, Call, Cast, Load, Store, Debug, Nop, Phi}
 use Rattle.form.specs.Syntax.{MakeTuple, ExtractTupleElement, MakeStruct, ExtractStructField, InsertField, InsertTuple, MakeFixedArray, AssertEq, HeapAllocCells}
-use Rattle.form.specs.Reads.{dests, isPhi}
+use Rattle.form.specs.Reads.{dests}
 use Rattle.form.specs.Decode.{mark}
 use Rattle.form.specs.declared.Bounds.{Bounds}
-use Rattle.canon.specs.WellFormed.{FitNew, FitNews, FitKind}
+use Rattle.canon.specs.WellFormed.{FitNews, FitKind}
 use Rattle.canon.proofs.Bits.{true-false}
-use Rattle.block.specs.Decode.{marks, blockMarks}
+use Rattle.block.specs.Decode.{marks}
 use Rattle.block.proofs.Marks.{mark-stays}
 
 -- a test with its answer

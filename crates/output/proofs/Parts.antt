@@ -1,20 +1,19 @@
 -- The parts that are tracked are values of the input: they fit, and there are at most as many as a list may have.
-use Prim.Native.Nat.{ℕ, zero, suc, _+_, _≤_, _<_}
-use mathlib.Core.Path.{_≡_, refl, ap, _∙_, sym}
+use Prim.Native.Nat.{ℕ, zero, suc}
+use mathlib.Core.Path.{_≡_, refl, ap}
 use mathlib.Core.List.{List, [], _∷_}
 use mathlib.Core.Bool.{Bool, true, false, cond}
 use mathlib.Core.Option.{Option, none, some, Option·none-ne-some}
 use native.Mathlib.Omega.{arith}
 use lib.Dec.{eqb}
-use lib.ListN.{length, getElem?, getD}
+use lib.ListN.{length, getElem?}
 use Rattle.wire.specs.WellFormed.{FitValue}
 use Rattle.wire.specs.declared.ValueId.{ValueId}
 use Rattle.wire.specs.declared.NameId.{NameId}
-use Rattle.wire.specs.declared.TypeId.{TypeId}
 use Rattle.wire.specs.declared.Literal.{Literal}
 use Rattle.wire.specs.declared.Value.{Value}
-use Rattle.typetable.specs.Syntax.{StructField, MirType}
-use Rattle.form.specs.Syntax.{Projection, Index, Field, Place, FieldInit}
+use Rattle.typetable.specs.Syntax.{StructField}
+use Rattle.form.specs.Syntax.{Projection, Place, FieldInit}
 use Rattle.form.specs.Syntax as S
 use Rattle.form.specs.declared.Bounds.{Bounds}
 use Rattle.canon.specs.WellFormed.{Each, FitList, FitInit}

@@ -1,34 +1,31 @@
 -- What a step puts out fits, and so do the parts it tracks.
-use Prim.Native.Nat.{ℕ, zero, suc, _+_, _≤_, _<_, zero-le}
-use mathlib.Core.Path.{_≡_, refl, ap, _∙_, sym}
-use mathlib.Core.List.{List, [], _∷_, _++_}
+use Prim.Native.Nat.{ℕ, _+_, _≤_, _<_, zero-le}
+use mathlib.Core.Path.{_≡_, refl}
+use mathlib.Core.List.{List, [], _∷_}
 use mathlib.Core.Bool.{true, false, cond}
 use mathlib.Core.Bool as B
 use mathlib.Core.Option.{Option, none, some, Option·none-ne-some}
 use native.Mathlib.Omega.{arith}
-use lib.ListN.{length, getElem?, getD}
+use lib.ListN.{length, getElem?}
 use Rattle.wire.specs.WellFormed.{FitValue}
 use Rattle.wire.specs.declared.ValueId.{ValueId}
 use Rattle.wire.specs.declared.TypeId.{TypeId}
-use Rattle.wire.specs.declared.NameId.{NameId}
 use Rattle.wire.specs.declared.Value.{Value}
-use Rattle.typetable.specs.Syntax.{StructField, MirType, Felt, Bool, U32, Tuple, Struct, FixedArray, Pointer, Function, Unit, Error, Unknown}
+use Rattle.typetable.specs.Syntax.{MirType, Felt, Bool, U32, Tuple, Struct, FixedArray, Pointer, Function, Unit, Error, Unknown}
 use Rattle.typetable.specs.WellFormed.{FitMirType}
-use Rattle.form.specs.Syntax.{Place, FieldInit, Meta, Instruction, InstructionKind, Assign, UnaryOp, BinaryOp, Call, Cast, Load, Store, Debug, Nop, Phi}
-use Rattle.form.specs.Syntax.{MakeTuple, ExtractTupleElement, MakeStruct, ExtractStructField, InsertField, InsertTuple, MakeFixedArray, AssertEq, HeapAllocCells}
-use Rattle.form.specs.Reads.{dests, isPhi}
+use Rattle.form.specs.Syntax.{Place, FieldInit, Meta, Instruction, Call}
+use Rattle.form.specs.Reads.{isPhi}
 use Rattle.form.specs.declared.Bounds.{Bounds}
-use Rattle.canon.specs.WellFormed.{Each, FitList, FitType, FitOption, FitNew, FitNews, FitInit, FitMeta, FitPlace, FitKind}
-use Rattle.eligibility.specs.declared.Settings.{Settings}
-use Rattle.eligibility.specs.Lookup.{Types, rowOf, recordedType, valueRow, isStruct, structFieldsOf, fieldIndex}
+use Rattle.canon.specs.WellFormed.{Each, FitType, FitNews, FitInit, FitMeta, FitPlace, FitKind}
+use Rattle.eligibility.specs.Lookup.{Types, rowOf, recordedType, valueRow, isStruct, structFieldsOf}
 use Rattle.eligibility.specs.Climb.{fromStructFields, orElse, structRow, structParts}
 use Rattle.rewriting.specs.declared.Counts.{Counts}
-use Rattle.rewriting.specs.State.{AggStates, insertState, stateOf, onSome, replaced, chain, firstInteger, forwardStore}
-use Rattle.rewriting.specs.Rebuild.{Rebuilt, plain, Wanted, oneValue, keepValue, rebuildValue, rebuildAll, wantedArguments, aggregateType}
-use Rattle.rewriting.specs.Step.{Piece, kept, left, tracked, assigned, stepBuild, foldedParts, stepInsert, handOn, stepExtract, extractIndex, stepLoaded, stepLoad, storeRebuilt, storeKept, stepStore, stepAssign, stepCall, guarded, stepKind, step}
-use Rattle.output.proofs.Wider.{Wider, value-wider, values-wider, list-wider, kind-wider, type-wider, place-wider, types-wider, init-wider}
-use Rattle.output.proofs.Parts.{Parts, FitStates, Holds, holds-at, holds-some, insert-fit, state-fit, on-some, any, holds-any, element-fit, replaced-fit, chain-fit, forward-fit, fields-fit}
-use Rattle.output.proofs.Rebuilt.{Loose, Typed, RebuiltFit, all-fit, arguments-fit}
+use Rattle.rewriting.specs.State.{AggStates, stateOf, onSome, replaced, chain}
+use Rattle.rewriting.specs.Rebuild.{Rebuilt, Wanted, oneValue, keepValue, rebuildValue, rebuildAll, aggregateType}
+use Rattle.rewriting.specs.Step.{Piece, kept, left, tracked, assigned, stepBuild, foldedParts, stepInsert, handOn, stepExtract, stepLoaded, stepLoad, storeRebuilt, storeKept, stepStore, stepAssign, stepCall, guarded}
+use Rattle.output.proofs.Wider.{Wider, kind-wider}
+use Rattle.output.proofs.Parts.{Parts, FitStates, Holds, insert-fit, state-fit, on-some, any, holds-any, element-fit, replaced-fit, chain-fit, fields-fit}
+use Rattle.output.proofs.Rebuilt.{Loose, Typed, all-fit}
 use Rattle.whole.proofs.Whole.{both-lists}
 
 pub record PieceFit (c : Bounds) (p : Piece) : Type 0 where

@@ -1,27 +1,26 @@
 -- Rebuilds fit, and so do the values behind them.
 use Prim.Native.Nat.{ℕ, zero, suc, _+_, _≤_, _<_}
-use mathlib.Core.Path.{_≡_, refl, ap, _∙_, sym}
+use mathlib.Core.Path.{_≡_, refl, ap}
 use mathlib.Core.List.{List, [], _∷_}
 use mathlib.Core.Bool.{true, false, cond}
 use mathlib.Core.Bool as B
-use mathlib.Core.Option.{Option, none, some, Option·none-ne-some}
+use mathlib.Core.Option.{Option, none, some}
 use native.Mathlib.Omega.{arith}
-use lib.ListN.{length, getElem?, getD}
+use lib.ListN.{length, getElem?}
 use Rattle.wire.specs.WellFormed.{FitValue}
-use Rattle.wire.specs.Value.{unit}
 use Rattle.wire.specs.declared.ValueId.{ValueId}
 use Rattle.wire.specs.declared.TypeId.{TypeId}
 use Rattle.wire.specs.declared.NameId.{NameId}
 use Rattle.wire.specs.declared.Value.{Value}
 use Rattle.typetable.specs.Syntax.{StructField, MirType, Felt, Bool, U32, Tuple, Struct, FixedArray, Pointer, Function, Unit, Error, Unknown}
 use Rattle.typetable.specs.WellFormed.{FitFields, FitMirType}
-use Rattle.form.specs.Syntax.{FieldInit, Instruction, InstructionKind}
+use Rattle.form.specs.Syntax.{Instruction}
 use Rattle.form.specs.Reads.{dests, isPhi}
 use Rattle.form.specs.declared.Bounds.{Bounds}
-use Rattle.canon.specs.WellFormed.{Each, FitList, FitType, FitOption, FitNews, FitInit, FitMeta, FitKind}
+use Rattle.canon.specs.WellFormed.{Each, FitType, FitOption, FitNews, FitInit, FitMeta, FitKind}
 use Rattle.eligibility.specs.Lookup.{Types, rowOf, recordedType, isAggregate}
 use Rattle.rewriting.specs.State.{AggStates, stateOf}
-use Rattle.rewriting.specs.Rebuild.{plain, fitted, named, rebuildAt, Rebuilt, untouched, keepValue, rebuildValue, oneValue, Wanted, rebuildAll, aggregateType, wantedArguments, returnType, wantedReturns}
+use Rattle.rewriting.specs.Rebuild.{fitted, named, rebuildAt, Rebuilt, keepValue, rebuildValue, oneValue, Wanted, rebuildAll, aggregateType, wantedArguments, returnType, wantedReturns}
 use Rattle.output.proofs.Parts.{Parts, FitStates, Holds, state-fit}
 use Rattle.whole.proofs.Whole.{both-lists}
 
@@ -36,9 +35,6 @@ pub record Typed (c : Bounds) (τ : Types) : Type 0 where
   pub rows : (t : ℕ) (T : MirType) → getElem? (τ .rows) t ≡ some T → FitMirType (c .list) t T
   pub count : length (τ .rows) ≤ c .types
   pub recorded : (v : ValueId) → FitOption (FitType c) (recordedType τ v)
-
-pub no-beside : (k : InstructionKind) → FitMeta (plain k .meta)
-no-beside k = (tt, tt, tt)
 
 module _ (c : Bounds) (top : c .next ≤ 65536) where
   abbrev fit : Value → Type 0

@@ -1,21 +1,20 @@
 -- Each kind's step, and the walk over a block.
-use Prim.Native.Nat.{ℕ, zero, suc, _+_, _≤_, _<_}
-use mathlib.Core.Path.{_≡_, refl, ap, _∙_, sym}
+use Prim.Native.Nat.{ℕ, _+_, _≤_}
+use mathlib.Core.Path.{_≡_, refl, _∙_}
 use mathlib.Core.List.{List, [], _∷_, _++_}
-use mathlib.Core.Bool.{Bool, true, false, cond, not, _||_}
-use mathlib.Core.Option.{Option, none, some}
+use mathlib.Core.Bool.{Bool, true, false, not, _||_}
+use mathlib.Core.Option.{some}
 use native.Mathlib.Omega.{arith}
 use lib.ListN.{length, getElem?, length-append}
 use Rattle.wire.specs.WellFormed.{FitValue}
 use Rattle.wire.specs.declared.ValueId.{ValueId}
 use Rattle.wire.specs.declared.TypeId.{TypeId}
-use Rattle.wire.specs.declared.Value.{Value}
 use Rattle.form.specs.Syntax.{Instruction, InstructionKind, Assign, UnaryOp, BinaryOp, Call, Cast, Load, Store, Debug, Nop, Phi}
 use Rattle.form.specs.Syntax.{MakeTuple, ExtractTupleElement, MakeStruct, ExtractStructField, InsertField, InsertTuple, MakeFixedArray, AssertEq, HeapAllocCells}
 use Rattle.form.specs.Syntax.{Terminator, Jump, If, BranchCmp, Return, Unreachable}
 use Rattle.form.specs.Reads.{dests, isPhi}
 use Rattle.form.specs.declared.Bounds.{Bounds}
-use Rattle.canon.specs.WellFormed.{Each, FitType, FitMeta, FitKind, FitInstruction, FitTerminator}
+use Rattle.canon.specs.WellFormed.{Each, FitType, FitMeta, FitKind, FitTerminator}
 use Rattle.block.specs.Decode.{marks}
 use Rattle.block.specs.WellFormed.{FitInstructions}
 use Rattle.eligibility.specs.declared.Settings.{Settings}
@@ -25,8 +24,8 @@ use Rattle.rewriting.specs.State.{AggStates, stateOf, onSome, replaced, firstIn
 use Rattle.rewriting.specs.Rebuild.{Rebuilt, rebuildAll, wantedArguments, wantedReturns, aggregateType}
 use Rattle.rewriting.specs.Step.{Piece, kept, stepCall, stepStore, guarded, extractIndex, stepKind, step}
 use Rattle.rewriting.specs.Run.{Walked, ends, returned, finish, glue, walk}
-use Rattle.output.proofs.Wider.{Wider, value-wider, values-wider, list-wider, kind-wider, type-wider, place-wider, types-wider, init-wider, each-wider, end-wider}
-use Rattle.output.proofs.Parts.{Parts, FitStates, Holds, on-some, any, holds-any, forward-fit}
+use Rattle.output.proofs.Wider.{Wider, value-wider, values-wider, kind-wider, type-wider, place-wider, types-wider, init-wider, each-wider, end-wider}
+use Rattle.output.proofs.Parts.{Parts, FitStates, on-some, any, holds-any, forward-fit}
 use Rattle.output.proofs.Rebuilt.{Loose, Typed, all-fit, arguments-fit, returns-fit}
 use Rattle.output.proofs.Pieces.{PieceFit, kept-loose, piece-kept, build-fit, folded-fit, insert-piece, extract-fit, part-of, put-of, load-fit, assign-fit, state-at, guarded-fit, store-fit, call-fit, struct-parts}
 use Rattle.whole.proofs.Whole.{both-lists}

@@ -1,13 +1,12 @@
 -- THE OUTPUT HAS A BYTE FORM: the rewritten routine is well formed under the lifted mosts, by any choice, and so it is what
 -- its bytes decode to.
-use Prim.Native.Nat.{ℕ, zero, suc, _+_, _*_, _≤_, _<_}
+use Prim.Native.Nat.{ℕ, zero, suc, _+_, _*_, _≤_}
 use mathlib.Core.Path.{_≡_, refl, ap, _∙_, sym}
 use mathlib.Core.List.{List, [], _∷_, _++_, map}
 use mathlib.Core.Bool.{Bool, true, false, cond, not, _||_}
 use mathlib.Core.Option.{Option, none, some, Option·none-ne-some}
 use native.Mathlib.Omega.{arith}
 use lib.Dec.{T}
-use lib.Seq.{getD-set-other}
 use lib.ListN.{length, getElem?, getD, replicate, length-append, length-replicate}
 use Rattle.wire.specs.Parse.{ok}
 use Rattle.wire.specs.declared.ValueId.{ValueId}
@@ -16,13 +15,11 @@ use Rattle.typetable.specs.Syntax.{MirType}
 use Rattle.typetable.specs.WellFormed.{FitMirType, FitTypes}
 use Rattle.form.specs.Syntax.{Instruction, Terminator, Block}
 use Rattle.form.specs.Reads.{dests, isPhi}
-use Rattle.form.specs.Decode.{mark}
 use Rattle.form.specs.declared.Bounds.{Bounds}
-use Rattle.canon.specs.WellFormed.{Each, FitType, FitOption, FitNews, FitInstruction, FitTerminator}
-use Rattle.canon.proofs.Bits.{true-false}
+use Rattle.canon.specs.WellFormed.{Each, FitType, FitOption, FitInstruction, FitTerminator}
 use Rattle.block.specs.Decode.{marks, blockMarks}
 use Rattle.block.specs.declared.Mosts.{Mosts}
-use Rattle.block.specs.WellFormed.{WideMosts, FitInstructions, FitCode}
+use Rattle.block.specs.WellFormed.{WideMosts, FitInstructions}
 use Rattle.routine.specs.Routine.{Routine}
 use Rattle.routine.specs.Decode.{mosts, wholeOf}
 use Rattle.routine.specs.Encode.{encode}
@@ -34,16 +31,15 @@ use Rattle.eligibility.specs.Fold.{behindPhis, phisOf}
 use Rattle.rewriting.specs.State.{noStates}
 use Rattle.rewriting.specs.Run.{Walked, walk, blockThen, skipThen, Choice, Rewritten, oneBlock, allBlocks, typesIn, rewrittenBy, rewriteWith}
 use Rattle.rewriting.specs.Sum.{instructionCount}
-use Rattle.rewriting.specs.Lowers.{Lowers}
 use Rattle.rewriting.proofs.Lowering.{lowers-walk}
-use Rattle.rewriting.proofs.Bound.{bound-blocks, next-bound-by}
+use Rattle.rewriting.proofs.Bound.{bound-blocks}
 use Rattle.output.specs.Lifted.{lifted}
 use Rattle.output.proofs.Wider.{Wider, kind-wider, end-wider}
 use Rattle.output.proofs.Parts.{no-states}
 use Rattle.output.proofs.Rebuilt.{Typed}
 use Rattle.output.proofs.Steps.{walk-fit}
-use Rattle.output.proofs.Marks.{Split, passes, fails, split, dests-new, Both, news-both, both-kept}
-use Rattle.output.proofs.Blocks.{Fits, fits-lowers}
+use Rattle.output.proofs.Marks.{dests-new, Both, news-both, both-kept}
+use Rattle.output.proofs.Blocks.{fits-lowers}
 use Rattle.output.proofs.Counts.{lists-within, all-most, lowers-count}
 use Rattle.whole.proofs.Whole.{both-lists}
 

@@ -1,23 +1,20 @@
 -- What fits some bounds fits wider ones, with any marks that leave the dests new.
-use Prim.Native.Nat.{ℕ, _≤_, _<_}
-use mathlib.Core.Path.{_≡_}
+use Prim.Native.Nat.{ℕ, _≤_}
 use mathlib.Core.List.{List, [], _∷_}
 use mathlib.Core.Bool.{Bool}
 use native.Mathlib.Omega.{arith}
-use lib.ListN.{length}
 use Rattle.wire.specs.WellFormed.{FitValue}
-use Rattle.wire.specs.declared.ValueId.{ValueId}
 use Rattle.wire.specs.declared.TypeId.{TypeId}
 use Rattle.wire.specs.declared.BlockId.{BlockId}
 use Rattle.wire.specs.declared.Literal.{Literal}
 use Rattle.wire.specs.declared.Value.{Value}
-use Rattle.form.specs.Syntax.{Projection, Index, Field, Place, FieldInit, Source, Instruction, InstructionKind, Assign, UnaryOp, BinaryOp, Call, Cast, Load, Store, Debug, Nop, Phi}
+use Rattle.form.specs.Syntax.{Projection, Index, Field, Place, FieldInit, Source, InstructionKind, Assign, UnaryOp, BinaryOp, Call, Cast, Load, Store, Debug, Nop, Phi}
 use Rattle.form.specs.Syntax.{MakeTuple, ExtractTupleElement, MakeStruct, ExtractStructField, InsertField, InsertTuple, MakeFixedArray, AssertEq, HeapAllocCells}
 use Rattle.form.specs.Syntax.{Terminator, Jump, If, BranchCmp, Return, Unreachable}
 use Rattle.form.specs.Syntax as S
 use Rattle.form.specs.Reads.{dests}
 use Rattle.form.specs.declared.Bounds.{Bounds}
-use Rattle.canon.specs.WellFormed.{Each, FitList, FitType, FitBlock, FitNew, FitNews, FitProjection, FitPlace, FitSource, FitInit, FitKind, FitTerminator}
+use Rattle.canon.specs.WellFormed.{Each, FitList, FitType, FitBlock, FitNews, FitProjection, FitPlace, FitSource, FitInit, FitKind, FitTerminator}
 
 -- the bounds c are not narrower than b
 pub record Wider (b c : Bounds) : Type 0 where

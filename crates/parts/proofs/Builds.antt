@@ -30,7 +30,7 @@ use Rattle.lookup.proofs.Places.{Stand, Field, then, last, alone, takes-number,
 use Rattle.lookup.proofs.EachKind.{At, at, Stands, value-size}
 use Rattle.lookup.proofs.Values.{value-behind}
 use Rattle.lookup.proofs.Instruction.{instruction-fields, instruction-stands}
-use Rattle.parts.specs.Rows.{stands, placeOf, Values, Inits, Names, noInit, noField}
+use Rattle.parts.specs.Rows.{placeOf, Values, Inits, Names, noInit, noField}
 
 -- thing k of those that stand one behind another
 pub listed-each : {A : Type 0} {Q : ℕ → A → Type 0} {end : ℕ → ℕ} {p : ℕ} {xs : List A} (d : A) → Listed Q end p xs → (k : ℕ) → k < length xs → Q (after end k p) (getD xs k d)

@@ -1,7 +1,7 @@
 -- The entries keep their promises.
-use Prim.Native.Nat.{ℕ, zero, suc, _+_, _≤_, _<_}
+use Prim.Native.Nat.{ℕ, _+_, _≤_, _<_}
 use mathlib.Core.Path.{_≡_, refl, ap, _∙_, sym}
-use mathlib.Core.List.{List, [], _++_, append-assoc}
+use mathlib.Core.List.{List, [], append-assoc}
 use mathlib.Core.Bool.{Bool, true, false}
 use native.Mathlib.Omega.{arith}
 use borrow.Author.Tests.{ltb-true, ltb-false}
@@ -12,7 +12,7 @@ use Rattle.wire.specs.WellFormed.{Bytes}
 use Rattle.eligibility.specs.declared.Settings.{Settings}
 use Rattle.rewriting.specs.declared.Counts.{Counts}
 use Rattle.rewriting.proofs.Outcomes.{too-large}
-use Rattle.shelf.specs.Answer.{Answer as Given, refused, lowered, answer as given}
+use Rattle.shelf.specs.Answer.{refused, lowered, answer as given}
 use Rattle.writing.specs.declared.Answer.{Answer}
 use Rattle.writing.specs.Numbers.{numbersOf, leaves, asAnswer, Answers}
 use Rattle.writing.proofs.Answered.{given-refused}
@@ -21,7 +21,7 @@ use Rattle.claim.specs.Claim.{Indistinguishable}
 use Rattle.claim.proofs.Theorem.{indistinguishable, with-room}
 use Rattle.pass.specs.declared.Totals.{Totals}
 use Rattle.pass.specs.Totals.{afterAnswer}
-use Rattle.pass.specs.Promise.{inOrder, Lowers, Counted}
+use Rattle.pass.specs.Promise.{tenNumbers, Lowers, Counted}
 use Rattle.pass.proofs.Laws.{Fit, as-given}
 
 -- which settings are refused with 12 does not matter
@@ -52,11 +52,11 @@ pub for-every-meaning : {A : Type 0} {σ : Settings} {input out out′ numbers n
 for-every-meaning {A} {σ} {input} {out} {out′} b h = unseen σ input out out′ b (h .left)
 
 -- the answer's numbers are those that are given
-pub lowers : (σ σ′ : Settings) (s out out′ numbers numbers′ : List ℕ) (r : Answer) → Bytes s → given σ′ (length out) s ≡ given σ (length out) s → Answers (given σ′ (length out) s) r out out′ → numbers′ ≡ sets numbers 0 (inOrder (asAnswer r)) → Lowers σ s out out′ numbers numbers′
+pub lowers : (σ σ′ : Settings) (s out out′ numbers numbers′ : List ℕ) (r : Answer) → Bytes s → given σ′ (length out) s ≡ given σ (length out) s → Answers (given σ′ (length out) s) r out out′ → numbers′ ≡ sets numbers 0 (tenNumbers (asAnswer r)) → Lowers σ s out out′ numbers numbers′
 lowers σ σ′ s out out′ numbers numbers′ r b e h f =
     let left : out′ ≡ leaves (given σ (length out) s) out = h .left ∙ ap (λ x. leaves x out) e in
     record {
-      says = f ∙ ap (λ n. sets numbers 0 (inOrder n)) (h .says ∙ ap numbersOf e);
+      says = f ∙ ap (λ n. sets numbers 0 (tenNumbers n)) (h .says ∙ ap numbersOf e);
       left = left;
       unseen = unseen σ s out out′ b left;
     }

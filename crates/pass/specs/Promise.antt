@@ -16,8 +16,8 @@ use Rattle.pass.specs.declared.Totals.{Totals}
 use Rattle.pass.specs.Totals.{totalsAfter}
 
 -- the numbers in the order in which the entry gives them
-abbrev pub inOrder : Numbers → List ℕ
-inOrder n = n .number ∷ n .offset ∷ n .result ∷ n .builds ∷ n .extracts ∷ n .inserts ∷ n .assigns ∷ n .materializations ∷ n .reason ∷ n .size ∷ []
+abbrev pub tenNumbers : Numbers → List ℕ
+tenNumbers n = n .number ∷ n .offset ∷ n .result ∷ n .builds ∷ n .extracts ∷ n .inserts ∷ n .assigns ∷ n .materializations ∷ n .reason ∷ n .size ∷ []
 
 -- demand 3: with shelf reason 0, whoever runs what now stands in the output cannot tell it from the input. Scalars are numbered here, since
 -- a contract speaks of no collection of all types; `for-every-meaning` (proofs/Entry.antt) has scalars of any type
@@ -27,7 +27,7 @@ Unseen σ input out out′ = (w : Bool) (c : Counts) (bytes : List ℕ) → answ
 -- a call for any caller: of the input, of the output before and after it, and of the caller's numbers before and after it
 pub record Lowers (σ : Settings) (input out out′ numbers numbers′ : List ℕ) : Type 0 where
   -- demands 1 and 2: numbers and output are those that the definition answers
-  pub says : numbers′ ≡ sets numbers 0 (inOrder (numbersOf (answer σ (length out) input)))
+  pub says : numbers′ ≡ sets numbers 0 (tenNumbers (numbersOf (answer σ (length out) input)))
   pub left : out′ ≡ leaves (answer σ (length out) input) out
   pub unseen : Unseen σ input out out′
 

@@ -11,7 +11,7 @@ ghost use Rattle.wire.specs.Value.{boolByte};
 ghost use Rattle.rewriting.specs.Outcome.{settingsOf};
 ghost use Rattle.shelf.specs.Answer.{answer as given};
 ghost use Rattle.writing.specs.Numbers.{refusal, asAnswer};
-ghost use Rattle.pass.specs.Promise.{inOrder};
+ghost use Rattle.pass.specs.Promise.{tenNumbers};
 
 // The setting most: all numbers above 16 are refused alike.
 fn most_of(most: u64) -> u8
@@ -57,7 +57,7 @@ fn put_numbers(
     reason: u64,
     size: u64,
 )
-    ensures { λ _. ⌜ now (answer .exit) ≡ sets (now (answer .entry)) 0 (inOrder (record { number = number; offset = offset; result = result; builds = c .builds; extracts = c .extracts; inserts = c .inserts; assigns = c .assigns; materializations = c .materializations; reason = reason; size = size })) ⌝ }
+    ensures { λ _. ⌜ now (answer .exit) ≡ sets (now (answer .entry)) 0 (tenNumbers (record { number = number; offset = offset; result = result; builds = c .builds; extracts = c .extracts; inserts = c .inserts; assigns = c .assigns; materializations = c .materializations; reason = reason; size = size })) ⌝ }
 {
     put_number(answer, 0, number);
     put_number(answer, 1, offset);
@@ -72,7 +72,7 @@ fn put_numbers(
 }
 
 fn put_refusal(answer: &mut [u64], number: u8, offset: usize)
-    ensures { λ _. ⌜ now (answer .exit) ≡ sets (now (answer .entry)) 0 (inOrder (refusal number offset)) ⌝ }
+    ensures { λ _. ⌜ now (answer .exit) ≡ sets (now (answer .entry)) 0 (tenNumbers (refusal number offset)) ⌝ }
 {
     let none = Counts {
         builds: 0,
@@ -86,7 +86,7 @@ fn put_refusal(answer: &mut [u64], number: u8, offset: usize)
 
 // An answer as numbers, from the first place on: the number and values that document 01 gives it.
 pub fn put_answer(answer: &mut [u64], a: Answer)
-    ensures { λ _. ⌜ now (answer .exit) ≡ sets (now (answer .entry)) 0 (inOrder (asAnswer a)) ⌝ }
+    ensures { λ _. ⌜ now (answer .exit) ≡ sets (now (answer .entry)) 0 (tenNumbers (asAnswer a)) ⌝ }
 {
     match a {
         Answer::Malformed(c, o) => {

@@ -2,15 +2,15 @@
 use Prim.Native.Nat.{ℕ, zero, suc, _+_, _-_, _≤_, _<_, zero-le}
 use mathlib.Core.Path.{_≡_, refl, ap, _∙_, sym}
 use mathlib.Core.List.{List, [], _∷_}
-use mathlib.Core.Bool.{Bool, true, false, not, _&&_, _||_}
+use mathlib.Core.Bool.{Bool, false, not, _&&_, _||_}
 use mathlib.Core.Logic.{⊎-elim}
-use native.Mathlib.Nat.{add-zero, add-assoc, sub-zero, eq-or-lt-of-le}
+use native.Mathlib.Nat.{add-zero, add-assoc, eq-or-lt-of-le}
 use native.Mathlib.Numerals.{add-one}
 use native.Mathlib.Omega.{arith}
 use lib.ListN.{length, getD, drop, set, length-set, length-drop}
-use lib.Seq.{drop-drop, getD-drop, getD-set-same, getD-set-other, drop-cons}
+use lib.Seq.{drop-drop, getD-drop, getD-set-same, getD-set-other}
 use lib.Dec.{leb}
-use Rattle.wire.specs.Parse.{Parse, ok, bad, andThen, mapParse, checked, seqOf}
+use Rattle.wire.specs.Parse.{Parse, ok, andThen, mapParse, seqOf}
 use Rattle.wire.specs.Number.{u16Of, at16}
 use Rattle.wire.specs.declared.Cause.{Cause}
 use Rattle.wire.proofs.Laws.{size, size-map, from-16}
@@ -25,7 +25,7 @@ use Rattle.block.specs.Decode.{marks, instructionsOf, blockCountOf, blockOf}
 use Rattle.block.specs.declared.Mosts.{Mosts}
 use Rattle.block.proofs.Laws.{instructions-length}
 use Rattle.block.proofs.Sizes.{size-instruction}
-use Rattle.places.specs.Places.{noInstruction, InstructionsAt, BlockPlaces, IndexedBlock}
+use Rattle.places.specs.Places.{noInstruction, IndexedBlock}
 use Rattle.lookup.proofs.Relax.{relax}
 
 -- an instruction wherever it stands

@@ -1,11 +1,11 @@
 -- Where the instructions of a block stand.
-use Prim.Native.Nat.{ℕ, zero, suc, _-_, _≤_, _<_}
+use Prim.Native.Nat.{ℕ, suc, _-_, _≤_, _<_}
 use mathlib.Core.Path.{_≡_}
 use mathlib.Core.List.{List, []}
-use mathlib.Core.Bool.{Bool, false}
+use mathlib.Core.Bool.{false}
 use lib.ListN.{length, getD, drop}
-use Rattle.wire.specs.Parse.{Parse, ok}
-use Rattle.form.specs.Syntax.{Instruction, InstructionKind, Terminator, Block}
+use Rattle.wire.specs.Parse.{ok}
+use Rattle.form.specs.Syntax.{Instruction, InstructionKind, Block}
 use Rattle.form.specs.Decode.{instructionOf, terminatorOf}
 use Rattle.form.specs.declared.Bounds.{Bounds}
 use mathlib.Core.Option.{none}

@@ -1,20 +1,16 @@
 -- Effects one after another are one effect.
-use Prim.Native.Nat.{ℕ, suc, _+_}
+use Prim.Native.Nat.{ℕ, suc}
 use mathlib.Core.Path.{_≡_, refl, ap, _∙_, sym}
-use mathlib.Core.List.{List, [], _∷_, _++_, append-assoc, append-nil}
-use native.Mathlib.Omega.{arith}
+use mathlib.Core.List.{List, [], _∷_, _++_, append-assoc}
 use native.Mathlib.Nat.{add-assoc, add-zero}
 use lib.ListN.{length, length-append}
-use lib.Seq.{sets}
 use Rattle.wire.specs.declared.ValueId.{ValueId}
 use Rattle.wire.specs.declared.TypeId.{TypeId}
-use Rattle.form.specs.Syntax.{Instruction}
 use Rattle.form.specs.Encode.{eachBytes, instructionBytes, terminatorBytes}
 use Rattle.emit.proofs.Sets.{sets-append}
 use Rattle.eligibility.specs.Family.{Marks, mark}
-use Rattle.rewriting.specs.declared.Counts.{Counts}
-use Rattle.rewriting.specs.Step.{Piece, noCounts}
-use Rattle.rewriting.specs.Run.{Walked, addCounts, glue}
+use Rattle.rewriting.specs.Step.{Piece}
+use Rattle.rewriting.specs.Run.{Walked, glue}
 use Rattle.progress.specs.declared.Progress.{Progress}
 use Rattle.progress.specs.Effect.{Effect, Output, markAll, numbersOf, further, behind, thenEffect, noEffect, pieceEffect, walkedEffect}
 
@@ -36,9 +32,6 @@ pub numbers-length : (xs : List TypeId) → length (numbersOf xs) ≡ length xs
 unfolding numbersOf
 numbers-length [] = refl
 numbers-length (x ∷ xs) = ap (λ n. suc n) (numbers-length xs)
-
-add-counts-assoc : (a b c : Counts) → addCounts (addCounts a b) c ≡ addCounts a (addCounts b c)
-add-counts-assoc a b c = simp (add-assoc)
 
 pub further-then : (p : Progress) (e f : Effect) → further (further p e) f ≡ further p (thenEffect e f)
 unfolding further thenEffect

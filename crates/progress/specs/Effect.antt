@@ -1,13 +1,12 @@
 -- What an instruction, a terminator, a block or a routine adds to the output.
 use Prim.Native.Nat.{ℕ, _+_, _*_, _≤_}
 use mathlib.Core.Path.{_≡_}
-use mathlib.Core.List.{List, [], _∷_, _++_, map}
+use mathlib.Core.List.{List, [], _∷_, _++_}
 use mathlib.Core.Bool.{Bool, true, false}
 use lib.ListN.{length}
 use lib.Seq.{sets}
 use Rattle.wire.specs.declared.ValueId.{ValueId}
 use Rattle.wire.specs.declared.TypeId.{TypeId}
-use Rattle.form.specs.Syntax.{Instruction}
 use Rattle.form.specs.Encode.{eachBytes, instructionBytes, terminatorBytes}
 use Rattle.block.specs.Encode.{blockBytes}
 use Rattle.eligibility.specs.Family.{Marks, mark}
@@ -35,10 +34,12 @@ pub record Output : Type 0 where
 abbrev pub outputOf : List ℕ → List ℕ → Marks → Progress → Output
 outputOf buffer types dropped p = record { buffer = buffer; types = types; dropped = dropped; progress = p }
 
+-- the values are marked, one after another
 unfoldable pub markAll : Marks → List ValueId → Marks
 markAll m [] = m
 markAll m (d ∷ ds) = markAll (mark m d) ds
 
+-- types by their numbers
 unfoldable pub numbersOf : List TypeId → List ℕ
 numbersOf [] = []
 numbersOf (t ∷ ts) = t .0 ∷ numbersOf ts
@@ -77,10 +78,6 @@ thenEffect e f =
 -- nothing at all
 abbrev pub noEffect : Effect
 noEffect = record { bytes = []; lines = 0; dropped = []; fresh = []; counts = noCounts }
-
--- some bytes that stand for no instruction
-abbrev pub bytesOnly : List ℕ → Effect
-bytesOnly w = record { bytes = w; lines = 0; dropped = []; fresh = []; counts = noCounts }
 
 -- what one instruction gives
 unfoldable pub pieceEffect : Piece → Effect

@@ -1,5 +1,5 @@
 -- Which block reads each value: one table for all blocks. proofs/Elsewhere.antt ties it to the definition.
-use Prim.Native.Nat.{ℕ, zero, suc, _+_, _<_}
+use Prim.Native.Nat.{ℕ, suc, _+_, _<_}
 use mathlib.Core.Path.{_≡_}
 use mathlib.Core.List.{List, [], _∷_, map}
 use mathlib.Core.Bool.{Bool, false, cond, not, _&&_}

@@ -9,10 +9,9 @@ use routine::sections;
 use wire::BlockId;
 use wire::Cause;
 ghost use mathlib.Core.Path.{_≡_};
-ghost use mathlib.Core.List.{List};
 ghost use mathlib.Core.Bool.{false};
 ghost use Prim.Native.Nat.{_≤_, _<_};
-ghost use lib.ListN.{length, getD, replicate};
+ghost use lib.ListN.{length, replicate};
 ghost use Rattle.routine.specs.Decode.{mosts, wholeOf};
 ghost use Rattle.routine.specs.Index.{BodyRead, RoutineRead, answered, verdict};
 

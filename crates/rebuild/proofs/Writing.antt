@@ -14,7 +14,7 @@ use Rattle.form.specs.Encode.{eachBytes, nameIdBytes, fieldInitBytes}
 use Rattle.emit.proofs.Sets.{sets-append}
 use Rattle.typetable.specs.Syntax.{StructField}
 use Rattle.rewriting.specs.Rebuild.{fitted, named}
-use Rattle.parts.specs.Rows.{ValueAt, stands, RowAt}
+use Rattle.parts.specs.Rows.{ValueAt, RowAt}
 use Rattle.rebuild.specs.Written.{Writes, noField, NamesIn}
 
 -- within a list it does not matter what stands behind it

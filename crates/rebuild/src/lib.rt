@@ -1,4 +1,4 @@
-// The rebuild of an aggregate from its parts: sroa.rs, `materialize`. The parts are places of values in the input.
+// The rebuild of an aggregate from its parts: sroa.rs 1420, `materialize`. The parts are places of values in the input.
 use wire::Literal;
 use wire::NameId;
 use wire::TypeId;

@@ -1,7 +1,6 @@
-use Prim.Native.Nat.{ℕ}
 use mathlib.Core.Path.{_≡_, refl}
-use mathlib.Core.List.{List, [], _∷_}
-use mathlib.Core.Bool.{true, false}
+use mathlib.Core.List.{[], _∷_}
+use mathlib.Core.Bool.{true}
 use Rattle.form.specs.Encode.{fieldBytes, instructionBytes, terminatorBytes}
 use Rattle.block.specs.Encode.{blockBytes}
 use Rattle.typetable.specs.Encode.{typeBytes, typesBytes}

@@ -17,7 +17,7 @@ use Rattle.eligibility.specs.Fold.{behindPhis, phisOf}
 use Rattle.rewriting.specs.State.{AggStates, noStates}
 use Rattle.rewriting.specs.Step.{Piece, kept, left, assigned, step}
 use Rattle.rewriting.specs.Run.{Walked, ends, returned, finish, glue, walk, Rewritten, Choice, blockThen, skipThen, oneBlock, allBlocks, typesIn, choice, rewrittenBy, rewrittenBlocks, rewriteWith, rewrite}
-use Rattle.rewriting.specs.Sum.{instructionCount, without, before, beforeEnd, leftOut, rebuilt, leftOutBlock, leftOutBlocks, rebuiltBlock, rebuiltBlocks}
+use Rattle.rewriting.specs.Sum.{instructionCount, without, beforeEnd, leftOut, rebuilt, leftOutBlock, leftOutBlocks, rebuiltBlock, rebuiltBlocks}
 use Rattle.rewriting.specs.Lowers.{Lowers, LowersAll}
 use Rattle.rewriting.proofs.Steps.{Made, made, rebuilds-returns}
 use Rattle.rewriting.proofs.Unchanged.{phis-behind}

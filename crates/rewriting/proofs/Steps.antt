@@ -11,7 +11,7 @@ use Rattle.wire.specs.declared.ValueId.{ValueId}
 use Rattle.wire.specs.declared.TypeId.{TypeId}
 use Rattle.wire.specs.declared.Value.{Value}
 use Rattle.typetable.specs.Syntax.{MirType}
-use Rattle.form.specs.Syntax.{Place, Meta, Instruction, InstructionKind, Return}
+use Rattle.form.specs.Syntax.{Place, Meta, Instruction, InstructionKind}
 use Rattle.form.specs.Syntax.{Assign, UnaryOp, BinaryOp, Call, Cast, Load, Store, Debug, Nop, Phi}
 use Rattle.form.specs.Syntax.{MakeTuple, ExtractTupleElement, MakeStruct, ExtractStructField, InsertField, InsertTuple, MakeFixedArray, AssertEq, HeapAllocCells}
 use Rattle.eligibility.specs.declared.Settings.{Settings}

@@ -1,7 +1,7 @@
 -- What a call gives, for every input, every settings and every length of the output: demand 1 and demand 2.
-use Prim.Native.Nat.{ℕ, _+_}
+use Prim.Native.Nat.{ℕ}
 use mathlib.Core.List.{List}
-use mathlib.Core.Bool.{Bool, true, false, cond, not}
+use mathlib.Core.Bool.{Bool, cond, not}
 use lib.ListN.{length}
 use lib.Dec.{ltb, eqb}
 use Rattle.wire.specs.Parse.{Parse, ok, bad, numberOfCause}

@@ -1,10 +1,10 @@
--- sroa.rs, `materialize`: an aggregate is rebuilt, directly before what needs it, under the next value number.
-use Prim.Native.Nat.{ℕ, zero, suc, _+_}
-use mathlib.Core.List.{List, [], _∷_, _++_, map}
-use mathlib.Core.Bool.{true, false, cond, not, _||_}
+-- sroa.rs 1420, `materialize`: an aggregate is rebuilt, directly before what needs it, under the next value number.
+use Prim.Native.Nat.{ℕ, zero, suc}
+use mathlib.Core.List.{List, [], _∷_, _++_}
+use mathlib.Core.Bool.{false, cond, not, _||_}
 use mathlib.Core.Bool as B
 use mathlib.Core.Option.{Option, none, some}
-use lib.ListN.{length, getElem?}
+use lib.ListN.{length}
 use lib.Dec.{eqb}
 use Rattle.wire.specs.Value.{unit}
 use Rattle.wire.specs.declared.ValueId.{ValueId}
@@ -76,6 +76,7 @@ untouched xs = record { before = []; values = xs; fresh = []; clash = false }
 unfoldable pub keepValue : Value → Rebuilt → Rebuilt
 keepValue x r = record { before = r .before; values = x ∷ r .values; fresh = r .fresh; clash = r .clash }
 
+-- "a rebuilt value takes the next value number, which rises by one, and its type is recorded"
 unfoldable pub rebuildValue : Types → ℕ → TypeId → List Value → Rebuilt → Rebuilt
 rebuildValue τ n t xs r =
     record {
@@ -96,6 +97,7 @@ pub record Wanted : Type 0 where
   pub value : Value
   pub at : Option TypeId
 
+-- the values in order: each rebuild takes the next number
 unfoldable pub rebuildAll : Types → AggStates → ℕ → List Wanted → Rebuilt
 rebuildAll τ S n [] = untouched []
 rebuildAll τ S n (w ∷ ws) = oneValue τ n (w .value) (λ m. rebuildAll τ S m ws) (w .at) (stateOf S (w .value))
@@ -116,6 +118,7 @@ returnType τ (Value.Literal l) = none
 returnType τ (Value.Operand v) = recordedType τ v
 returnType τ Value.Error = none
 
+-- sroa.rs 1324 to 1332: a Return's values, each at its recorded type, aggregate or not
 unfoldable pub wantedReturns : Types → List Value → List Wanted
 wantedReturns τ [] = []
 wantedReturns τ (x ∷ xs) = record { value = x; at = returnType τ x } ∷ wantedReturns τ xs

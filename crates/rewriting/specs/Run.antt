@@ -1,13 +1,12 @@
--- A block, and a routine: sroa.rs 746 to 1376.
-use Prim.Native.Nat.{ℕ, zero, suc, _+_}
+-- A block, and a routine: sroa.rs 756 to 1375, `run`.
+use Prim.Native.Nat.{ℕ, _+_}
 use mathlib.Core.List.{List, [], _∷_, _++_, map}
-use mathlib.Core.Bool.{Bool, true, false, cond, not, _&&_, _||_}
+use mathlib.Core.Bool.{Bool, true, false, not, _||_}
 use mathlib.Core.Option.{Option, none, some}
 use lib.ListN.{length}
 use lib.Dec.{eqb}
 use Rattle.wire.specs.declared.ValueId.{ValueId}
 use Rattle.wire.specs.declared.TypeId.{TypeId}
-use Rattle.wire.specs.declared.Value.{Value}
 use Rattle.form.specs.Syntax.{Instruction, InstructionKind, Terminator, Jump, If, BranchCmp, Return, Unreachable, Block}
 use Rattle.form.specs.Syntax.{Assign, UnaryOp, BinaryOp, Call, Cast, Load, Store, Debug, Nop, Phi}
 use Rattle.form.specs.Syntax.{MakeTuple, ExtractTupleElement, MakeStruct, ExtractStructField, InsertField, InsertTuple, MakeFixedArray, AssertEq, HeapAllocCells}
@@ -59,6 +58,7 @@ returned r =
       clash = r .clash;
     }
 
+-- sroa.rs 1307 to 1346: the terminator, behind the last instruction
 unfoldable pub finish : Types → AggStates → ℕ → Terminator → Walked
 finish τ S n (Jump b) = ends (Jump b)
 finish τ S n (If x a b) = ends (If x a b)
@@ -80,6 +80,7 @@ glue p w =
     }
 
 module _ (σ : Settings) (τ : Types) (folds : ValueId → Bool) where
+  -- sroa.rs 805 to 1346: the instructions behind the phis in order, then the terminator
   unfoldable pub walk : AggStates → ℕ → List Instruction → Terminator → Walked
   walk S n [] t = finish τ S n t
   walk S n (i ∷ is) t = let p = step σ τ folds S n i in glue p (walk (p .states) (n + length (p .fresh)) is t)
@@ -107,6 +108,7 @@ foldsBuild σ τ cross is (some (MakeFixedArray d xs t c)) = foldsArray σ τ cr
 foldsBuild σ τ cross is (some (AssertEq x y)) = false
 foldsBuild σ τ cross is (some (HeapAllocCells d x)) = false
 
+-- the same, by the value that is built
 unfoldable pub foldsIn : Settings → Types → Marks → List Instruction → ValueId → Bool
 foldsIn σ τ cross is d = foldsBuild σ τ cross is (buildOf σ τ cross d is)
 
@@ -140,12 +142,14 @@ pub record Choice : Type 0 where
   pub skips : Block → Bool
 
 module _ (σ : Settings) (τ : Types) (c : Choice) where
+  -- sroa.rs 764 to 1361, one block in front of the blocks behind it; the flag says that it is skipped
   unfoldable pub oneBlock : ℕ → Block → (ℕ → Rewritten) → Bool → Rewritten
   oneBlock n k rest true = skipThen k (rest n)
   oneBlock n k rest false =
       let w = walk σ τ (c .folds k) noStates n (behindPhis (k .instructions)) (k .terminator) in
       blockThen (phisOf (k .instructions)) w (rest (n + length (w .fresh)))
 
+  -- "Process blocks one by one", each from the value number that the last one left
   unfoldable pub allBlocks : ℕ → List Block → Rewritten
   allBlocks n [] = record { blocks = []; dropped = []; fresh = []; counts = noCounts; changed = false; clash = false }
   allBlocks n (k ∷ ks) = oneBlock n k (λ m. allBlocks m ks) (c .skips k)
@@ -181,5 +185,6 @@ rewriteWith w r =
       blocks = w .blocks;
     }
 
+-- the routine that `run` leaves
 unfoldable pub rewrite : Settings → Routine → Routine
 rewrite σ r = rewriteWith (rewrittenBlocks σ r) r

@@ -1,26 +1,25 @@
 -- What the pass remembers while it walks a block: the parts of each tracked value. (Tracked: document 01's word for a
 -- value whose definition is left out and whose parts are remembered.)
-use Prim.Native.Nat.{ℕ, zero, suc, _+_}
-use mathlib.Core.List.{List, [], _∷_, _++_, map}
-use mathlib.Core.Bool.{Bool, true, false, cond}
+use Prim.Native.Nat.{ℕ, zero, suc}
+use mathlib.Core.List.{List, [], _∷_}
+use mathlib.Core.Bool.{cond}
 use mathlib.Core.Option.{Option, none, some}
-use lib.ListN.{length, getElem?}
+use lib.ListN.{getElem?}
 use lib.Dec.{eqb}
 use Rattle.wire.specs.declared.ValueId.{ValueId}
-use Rattle.wire.specs.declared.TypeId.{TypeId}
 use Rattle.wire.specs.declared.Literal.{Literal}
 use Rattle.wire.specs.declared.Value.{Value}
-use Rattle.typetable.specs.Syntax.{MirType}
 use Rattle.form.specs.Syntax.{Projection, Index, Field, Tuple, Place}
 use Rattle.eligibility.specs.Lookup.{Types, valueRow, fieldIndex, asConstInteger}
 
--- sroa.rs, `agg_states`: ValueId → AggState
+-- sroa.rs 797, `agg_states`: ValueId → AggState
 abbrev pub AggStates : Type 0
 AggStates = ℕ → Option (List Value)
 
 unfoldable pub noStates : AggStates
 noStates v = none
 
+-- `agg_states.insert(..)`: a value's parts, in place of any it had
 unfoldable pub insertState : AggStates → ValueId → List Value → AggStates
 insertState S d xs = λ v. cond (eqb v (d .0)) (some xs) (S v)
 
@@ -56,7 +55,7 @@ stepPart τ S (Value.Literal l) p = none
 stepPart τ S (Value.Operand v) p = onSome (stepIndex τ v p) (λ k. onSome (S (v .0)) (λ xs. getElem? xs k))
 stepPart τ S Value.Error p = none
 
--- sroa.rs, `forward_projection_chain`
+-- sroa.rs 1489, `forward_projection_chain`
 unfoldable pub chain : Types → AggStates → Value → List Projection → Option Value
 chain τ S x [] = some x
 chain τ S x (p ∷ ps) = onSome (stepPart τ S x p) (λ y. chain τ S y ps)
@@ -82,16 +81,18 @@ storeLast τ S (Value.Literal l) p y = none
 storeLast τ S (Value.Operand v) p y = onSome (stepIndex τ v p) (λ k. storePart S v k y)
 storeLast τ S Value.Error p y = none
 
+-- sroa.rs 1578 to 1612: from part to part, and at the last projection the new value is put in
 unfoldable pub storeDeeper : Types → AggStates → Value → List Projection → Value → Option AggStates
 storeDeeper τ S x [] y = none
 storeDeeper τ S x (p ∷ []) y = storeLast τ S x p y
 storeDeeper τ S x (p ∷ q ∷ ps) y = onSome (stepPart τ S x p) (λ z. storeDeeper τ S z (q ∷ ps) y)
 
+-- sroa.rs 1568 to 1576: with one projection part k is replaced; with more, the walk goes on from part k
 unfoldable pub storeFrom : Types → AggStates → ValueId → List Projection → Value → ℕ → Option AggStates
 storeFrom τ S v [] y k = none
 storeFrom τ S v (p ∷ []) y k = storePart S v k y
 storeFrom τ S v (p ∷ q ∷ ps) y k = onSome (S (v .0)) (λ xs. onSome (getElem? xs k) (λ x. storeDeeper τ S x (q ∷ ps) y))
 
--- sroa.rs, `try_forward_store_chain`: the states behind a Store that is forwarded
+-- sroa.rs 1548, `try_forward_store_chain`: the states behind a Store that is forwarded
 unfoldable pub forwardStore : Types → AggStates → Place → Value → Option AggStates
 forwardStore τ S p y = onSome (firstInteger (p .projections)) (λ k. storeFrom τ S (p .base) (p .projections) y k)

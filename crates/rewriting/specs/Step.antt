@@ -1,7 +1,7 @@
--- What `run` makes of one instruction: the arms of its `match`, sroa.rs 796 to 1305, in its order.
-use Prim.Native.Nat.{ℕ, zero, suc, _+_}
-use mathlib.Core.List.{List, [], _∷_, _++_, map}
-use mathlib.Core.Bool.{Bool, true, false, cond, _&&_}
+-- What `run` makes of one instruction: the arms of its `match`, sroa.rs 805 to 1304, in its order.
+use Prim.Native.Nat.{ℕ}
+use mathlib.Core.List.{List, [], _∷_, _++_}
+use mathlib.Core.Bool.{Bool, true, false}
 use mathlib.Core.Option.{Option, none, some}
 use lib.ListN.{length, getElem?}
 use Rattle.wire.specs.declared.ValueId.{ValueId}
@@ -12,7 +12,7 @@ use Rattle.form.specs.Syntax.{Place, Instruction, InstructionKind, Meta}
 use Rattle.form.specs.Syntax.{Assign, UnaryOp, BinaryOp, Call, Cast, Load, Store, Debug, Nop, Phi}
 use Rattle.form.specs.Syntax.{MakeTuple, ExtractTupleElement, MakeStruct, ExtractStructField, InsertField, InsertTuple, MakeFixedArray, AssertEq, HeapAllocCells}
 use Rattle.eligibility.specs.declared.Settings.{Settings}
-use Rattle.eligibility.specs.Lookup.{Types, rowOf, valueRow, fieldIndex, isStruct}
+use Rattle.eligibility.specs.Lookup.{Types, rowOf, valueRow, fieldIndex}
 use Rattle.eligibility.specs.Climb.{structParts}
 use Rattle.rewriting.specs.declared.Counts.{Counts}
 use Rattle.rewriting.specs.State.{AggStates, insertState, stateOf, onSome, replaced, chain, firstInteger, forwardStore}
@@ -32,6 +32,7 @@ pub record Piece : Type 0 where
   pub changed : Bool
   pub clash : Bool
 
+-- `new_instrs.push(inst)`: the instruction stays as it is
 unfoldable pub kept : AggStates → Instruction → Piece
 kept S i = record { out = i ∷ []; dropped = []; states = S; fresh = []; counts = noCounts; changed = false; clash = false }
 
@@ -81,6 +82,7 @@ unfoldable pub handOn : AggStates → ValueId → TypeId → Value → Option (L
 handOn S d t x none = assigned oneExtract S d x t
 handOn S d t x (some xs) = tracked oneExtract S d xs
 
+-- sroa.rs 1014 to 1096: an extract whose source is tracked and has the part; else it is kept
 unfoldable pub stepExtract : AggStates → Instruction → ValueId → TypeId → Option Value → Piece
 stepExtract S i d t none = kept S i
 stepExtract S i d t (some x) = handOn S d t x (stateOf S x)
@@ -96,20 +98,24 @@ unfoldable pub stepLoaded : Types → AggStates → Instruction → ValueId → 
 stepLoaded τ S i d t none = kept S i
 stepLoaded τ S i d t (some x) = handOn S d t x (onSome (aggregateType τ t) (λ u. stateOf S x))
 
+-- sroa.rs 1099 to 1145: a Load on a tracked base whose first projection is an Integer literal
 unfoldable pub stepLoad : Types → AggStates → Instruction → ValueId → Place → TypeId → Option ℕ → Piece
 stepLoad τ S i d p t none = kept S i
 stepLoad τ S i d p t (some k) = stepLoaded τ S i d t (onSome (S (p .base .0)) (λ xs. chain τ S (Value.Operand (p .base)) (p .projections)))
 
--- a Store: forwarded into the states; else a tracked value is rebuilt before it, which is not counted
+-- a Store with its value rebuilt: it "keeps its own" span, expression id and comment, and the rebuild is not counted.
+-- One value is asked for and one comes back: the clause for none is never met
 unfoldable pub storeRebuilt : AggStates → Meta → Place → TypeId → Rebuilt → List Value → Piece
 storeRebuilt S m p t r [] = kept S (record { meta = m; kind = Store p Value.Error t })
 storeRebuilt S m p t r (x ∷ xs) =
     record { out = r .before ++ (record { meta = m; kind = Store p x t } ∷ []); dropped = []; states = S; fresh = r .fresh; counts = noCounts; changed = true; clash = r .clash }
 
+-- sroa.rs 1160 to 1184: a Store that is not forwarded; where its value is tracked, that is rebuilt before it
 unfoldable pub storeKept : Types → AggStates → ℕ → Instruction → Place → Value → TypeId → Option (List Value) → Piece
 storeKept τ S n i p x t none = kept S i
 storeKept τ S n i p x t (some xs) = let r = rebuildAll τ S n (record { value = x; at = some t } ∷ []) in storeRebuilt S (i .meta) p t r (r .values)
 
+-- sroa.rs 1150 to 1185: a Store is forwarded into the states where that can be; else its value is looked at
 unfoldable pub stepStore : Types → AggStates → ℕ → Instruction → Place → Value → TypeId → Option AggStates → Piece
 stepStore τ S n i p x t none = storeKept τ S n i p x t (onSome (aggregateType τ t) (λ u. stateOf S x))
 stepStore τ S n i p x t (some S′) = left oneInsert [] S′
@@ -140,6 +146,7 @@ guarded false S i p = kept S i
 
 -- the decision which builds are folded, by their dest
 module _ (σ : Settings) (τ : Types) (folds : ValueId → Bool) where
+  -- the arms by kind; the second Load arm of the Rust, 1188, is never met
   unfoldable pub stepKind : AggStates → ℕ → Instruction → InstructionKind → Piece
   stepKind S n i (Assign d x t) = stepAssign S i d (onSome (aggregateType τ t) (λ u. stateOf S x))
   stepKind S n i (UnaryOp op d x) = kept S i
@@ -161,5 +168,6 @@ module _ (σ : Settings) (τ : Types) (folds : ValueId → Bool) where
   stepKind S n i (AssertEq x y) = kept S i
   stepKind S n i (HeapAllocCells d x) = kept S i
 
+  -- one instruction, whatever its kind
   unfoldable pub step : AggStates → ℕ → Instruction → Piece
   step S n i = stepKind S n i (i .kind)

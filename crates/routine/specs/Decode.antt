@@ -33,6 +33,7 @@ atMost most s = checked Cause.TooMany (λ n. leb n most) (u16Of s)
 abbrev pub lastByteOf : ℕ → List ℕ → Parse (List ℕ)
 lastByteOf bits s = cond (eqb bits 0) (ok [] 0) (mapParse (λ x. x ∷ []) (checked Cause.Undefined (λ x. ltb x (2 ^ bits)) (u8Of s)))
 
+-- "a bit map of next-value bits": the whole bytes, then one for the bits that are left
 unfoldable pub mapOf : ℕ → List ℕ → Parse (List ℕ)
 mapOf next s = andThen s (seqOf u8Of (next / 8) s) (λ whole s. mapParse (λ last. whole ++ last) (lastByteOf (next % 8) s))
 
@@ -65,6 +66,7 @@ pub record Sizes : Type 0 where
   pub blocks : ℕ
   pub entry : BlockId
 
+-- the three numbers behind the types
 unfoldable pub sizesOf : Mosts → List ℕ → Parse Sizes
 sizesOf m s =
     andThen s (atMost (m .next) s) (λ next s.
@@ -81,6 +83,7 @@ bodyOf m ts z s =
     mapParse (λ ks. record { types = ts; next = z .next; entry = z .entry; parameters = ps; recorded = rs; blocks = ks })
     (blocksOf m (boundsOf m (length ts) (z .next) (z .blocks)) 0 (marks clear ps) (z .blocks) s))))
 
+-- "u16 type count, types", then the sizes, then the rest
 unfoldable pub routineOf : Mosts → List ℕ → Parse Routine
 routineOf m s = andThen s (typesOf (m .types) (m .list) s) (λ ts s. andThen s (sizesOf m s) (λ z s. bodyOf m ts z s))
 
@@ -88,5 +91,6 @@ routineOf m s = andThen s (typesOf (m .types) (m .list) s) (λ ts s. andThen s (
 abbrev pub ended : Routine → List ℕ → Parse Routine
 ended r s = cond (eqb (length s) 0) (ok r 0) (bad Cause.Trailing 0)
 
+-- the whole input: a routine and no byte behind it
 unfoldable pub wholeOf : Mosts → List ℕ → Parse Routine
 wholeOf m s = andThen s (routineOf m s) (λ r t. ended r t)

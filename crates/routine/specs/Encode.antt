@@ -19,6 +19,7 @@ mapNumber (t ∷ ts) = stands t + 2 * mapNumber ts
 abbrev pub recordedBytes : List (Option TypeId) → List ℕ
 recordedBytes ts = toBytes ((length ts + 7) / 8) (mapNumber ts) ++ eachBytes (optionBytes typeIdBytes) ts
 
+-- in the order of the decoder
 unfoldable pub encode : Routine → List ℕ
 encode r =
     typesBytes (r .types)

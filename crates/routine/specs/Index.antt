@@ -86,6 +86,7 @@ pub record Indexed (m : Mosts) (s : List ℕ) (l : Layout) (recorded blocks : Li
   pub types-recorded : RecordedAt recorded (r .recorded)
   pub code : BlocksAt m (boundsOf m (length (r .types)) (r .next) (length (r .blocks))) s blocks (r .blocks)
 
+-- reading a whole routine: the decoder's answer, and where an accepted one is found again
 pub record RoutineRead (m : Mosts) (s : List ℕ) (answer : Checked) (types recorded blocks : List ℕ) : Type 0 where
   pub answers : asChecked (length s) answer ≡ mapParse unit (wholeOf m s)
   pub found : (l : Layout) (r : Routine) (n : ℕ) → answer ≡ Checked.Accepted l → wholeOf m s ≡ ok r n → Indexed m s l recorded blocks r
@@ -95,6 +96,7 @@ pub record RoutineRead (m : Mosts) (s : List ℕ) (answer : Checked) (types reco
 abbrev pub sizesFrom : Bounds → BlockId → Sizes
 sizesFrom b entry = record { next = b .next; blocks = b .blocks; entry = entry }
 
+-- the same of what stands behind the sizes, from place `at` on
 pub record BodyRead (m : Mosts) (b : Bounds) (entry : BlockId) (at : ℕ) (s : List ℕ) (answer : Checked) (recorded blocks : List ℕ) : Type 0 where
   pub answers : (ts : List MirType) → b ≡ boundsOf m (length ts) (b .next) (b .blocks) → asChecked (length s) answer ≡ later at (mapParse unit (andThen (drop at s) (bodyOf m ts (sizesFrom b entry) (drop at s)) (λ r t. ended r t)))
   pub found : (l : Layout) (ts : List MirType) (r : Routine) (n : ℕ) → b ≡ boundsOf m (length ts) (b .next) (b .blocks) → answer ≡ Checked.Accepted l → bodyOf m ts (sizesFrom b entry) (drop at s) ≡ ok r n → Indexed m s l recorded blocks r
@@ -117,6 +119,7 @@ pub record Verdict : Type 0 where
 abbrev pub answered : ℕ → ℕ → Verdict
 answered number offset = record { number = number; offset = offset }
 
+-- what document 01's table gives for an answer of the decoder
 abbrev pub verdict : {A : Type 0} → Parse A → Verdict
 verdict (ok a n) = record { number = 0; offset = 0 }
 verdict (bad c o) = record { number = numberOfCause c; offset = o }

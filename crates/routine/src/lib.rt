@@ -8,16 +8,14 @@ use wire::TypeId;
 use wire::ValueId;
 ghost use mathlib.Core.Path.{_≡_};
 ghost use mathlib.Core.List.{List};
-ghost use mathlib.Core.Bool.{false};
-ghost use Prim.Native.Nat.{_≤_, _<_};
-ghost use lib.ListN.{length, getD, replicate};
+ghost use Prim.Native.Nat.{_<_};
+ghost use lib.ListN.{length, getD};
 ghost use Rattle.wire.specs.WellFormed.{Bytes};
 ghost use Rattle.form.specs.Syntax.{Block};
 ghost use Rattle.form.specs.declared.Bounds.{Bounds};
 ghost use Rattle.block.specs.Encode.{blockBytes};
 ghost use Rattle.block.specs.declared.Mosts.{Mosts};
-ghost use Rattle.routine.specs.Decode.{mosts, wholeOf};
-ghost use Rattle.routine.specs.Index.{BodyRead, RoutineRead, BlocksAt, noBlock, asRecorded, recordedFrom, answered, verdict};
+ghost use Rattle.routine.specs.Index.{BlocksAt, noBlock, asRecorded, recordedFrom};
 
 // How many types, values and blocks an accepted routine has, its entry block, and where its parts stand.
 pub struct Layout {

@@ -6,15 +6,13 @@ use form::Scan;
 use wire::Cause;
 ghost use mathlib.Core.Path.{_≡_};
 ghost use mathlib.Core.List.{List};
-ghost use mathlib.Core.Bool.{Bool, true, false, cond, not};
-ghost use Prim.Native.Nat.{ℕ, _+_, _≤_, _<_};
-ghost use lib.ListN.{length, getD, set, drop};
-ghost use lib.Dec.{ltb};
+ghost use mathlib.Core.Bool.{Bool, false, not};
+ghost use Prim.Native.Nat.{_+_, _≤_, _<_};
+ghost use lib.ListN.{length, drop};
 ghost use Rattle.wire.specs.Parse.{andThen, mapParse, later};
-ghost use Rattle.wire.specs.Number.{numberOf, below, at16};
-ghost use Rattle.wire.specs.Value.{valueOf, valueIdOf};
-ghost use Rattle.form.specs.Decode.{definedOf, operationOf, projectionOf, placeOf};
-ghost use Rattle.form.specs.Walk.{walkOf, defines, uses, usesValue, usesPlace, usesProjection, pairWalk, times, firstOf, secondOf, counts, listWalk, placeWalk, fieldWalk, rowWalk, asScan};
+ghost use Rattle.wire.specs.Value.{valueOf};
+ghost use Rattle.form.specs.Decode.{placeOf};
+ghost use Rattle.form.specs.Walk.{walkOf, usesValue, usesPlace, pairWalk, times, firstOf, secondOf, counts, listWalk, placeWalk, fieldWalk, rowWalk, asScan};
 
 // The count is not the one asked for.
 fn miscounts(count: u8, l: Lists) -> bool
@@ -33,8 +31,8 @@ fn then_value(s: &[u8], p: Scan, next: u16, buffer: &mut [u16]) -> Scan
     }
 }
 
-// An element, by the kind of its list: values, types, defined values, names with values, blocks with values, types,
-// projections.
+// An element, by the kind of its list: values, types, defined values, names with values, blocks with values, a Call's
+// return types (their count is exact), projections.
 fn element_at(
     s: &[u8],
     at: usize,

@@ -1,26 +1,21 @@
 -- "a value read or defined .. lacks a recorded type, or Error stands as a value": what passes the tests of reason 1 does not.
-use Prim.Native.Nat.{ℕ, zero, suc}
-use mathlib.Core.Path.{_≡_, refl, ap, _∙_, sym}
+use Prim.Native.Nat.{ℕ, suc}
 use mathlib.Core.Option.{Option, none, some}
-use mathlib.Core.List.{List, [], _∷_, _++_}
-use mathlib.Core.Bool.{true, false, cond, not, _&&_, _||_}
+use mathlib.Core.List.{List, [], _∷_}
+use mathlib.Core.Bool.{true, false, _&&_}
 use mathlib.Core.Bool as B
 use lib.Dec.{T, eqb, eqb·zero-suc}
-use lib.ListN.{length}
 use Rattle.wire.specs.declared.ValueId.{ValueId}
 use Rattle.wire.specs.declared.TypeId.{TypeId}
 use Rattle.wire.specs.declared.Value.{Value}
-use Rattle.typetable.specs.Syntax.{StructField, MirType}
-use Rattle.form.specs.Syntax.{Projection, Index, Field, Place, FieldInit, Source, InstructionKind, Assign, UnaryOp, BinaryOp, Call, Cast, Load, Store, Debug, Nop, Phi}
+use Rattle.form.specs.Syntax.{InstructionKind, Assign, UnaryOp, BinaryOp, Call, Cast, Load, Store, Debug, Nop, Phi}
 use Rattle.form.specs.Syntax.{MakeTuple, ExtractTupleElement, MakeStruct, ExtractStructField, InsertField, InsertTuple, MakeFixedArray, AssertEq, HeapAllocCells}
-use Rattle.form.specs.Syntax as S
 use Rattle.form.specs.Reads.{operands, reads, dests}
-use Rattle.eligibility.specs.Lookup.{Types, rowOf, recordedType, valueRow, isTuple, isStruct, isArray, isAggregate, shape}
+use Rattle.eligibility.specs.Lookup.{Types, rowOf, recordedType, valueRow, isTuple, isArray, shape}
 use Rattle.eligibility.specs.Climb.{isSome}
 use Rattle.shelf.specs.Lists.{every}
-use Rattle.shelf.specs.Parts.{partType, operandRow}
-use Rattle.shelf.specs.Fits.{sameType, fits, partsFit, allFit, fieldTypeOf, argumentsFit}
-use Rattle.shelf.specs.Agrees.{isScalarType, isScalar, isIndex, indexFits, placeFits, destsFit, equalTypes, agrees, countedAgrees, isKnown}
+use Rattle.shelf.specs.Fits.{sameType, fits, argumentsFit}
+use Rattle.shelf.specs.Agrees.{isScalarType, isScalar, destsFit, agrees, countedAgrees, isKnown}
 use Rattle.shelf.proofs.Both.{both-l, both-r, both}
 use Rattle.shelf.proofs.Flag.{agrees-all, agrees-aside}
 

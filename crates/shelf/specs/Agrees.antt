@@ -1,7 +1,6 @@
 -- Shelf reason 1, "Types disagree", as a test for each kind that passes where they agree. "A value read or defined lacks a
 -- recorded type, or Error stands as a value" is a test of its own for Debug and Return alone: what fits a type or is a scalar
 -- has a recorded type or is a literal, and so do the dests (proofs/Recorded.antt).
-use Prim.Native.Nat.{ℕ}
 use mathlib.Core.Option.{Option, none, some}
 use mathlib.Core.List.{List, [], _∷_}
 use mathlib.Core.Bool.{true, false, cond, not, _&&_}
@@ -12,7 +11,7 @@ use Rattle.wire.specs.declared.ValueId.{ValueId}
 use Rattle.wire.specs.declared.TypeId.{TypeId}
 use Rattle.wire.specs.declared.Value.{Value}
 use Rattle.typetable.specs.Syntax.{MirType, Felt, Bool, U32, Tuple, Struct, FixedArray, Pointer, Function, Unit, Error, Unknown}
-use Rattle.form.specs.Syntax.{Projection, Index, Field, Place, Instruction, InstructionKind, Assign, UnaryOp, BinaryOp, Call, Cast, Load, Store, Debug, Nop, Phi}
+use Rattle.form.specs.Syntax.{Projection, Index, Field, Place, InstructionKind, Assign, UnaryOp, BinaryOp, Call, Cast, Load, Store, Debug, Nop, Phi}
 use Rattle.form.specs.Syntax.{MakeTuple, ExtractTupleElement, MakeStruct, ExtractStructField, InsertField, InsertTuple, MakeFixedArray, AssertEq, HeapAllocCells}
 use Rattle.form.specs.Syntax.{Terminator, Jump, If, BranchCmp, Return, Unreachable, Block}
 use Rattle.form.specs.Syntax as S
@@ -80,6 +79,7 @@ reached τ p =
     (placeType τ (recordedType τ (p .base)) (p .projections))
     (pointed τ (pointee (valueRow τ (p .base))) (p .projections))
 
+-- a Load's or Store's place: it ends at the type that is named, and each Index has a value that can be one
 unfoldable pub placeFits : Types → Place → TypeId → B.Bool
 placeFits τ p t = sameType (reached τ p) (some t) && every (indexFits τ) (p .projections)
 
@@ -132,6 +132,7 @@ isCondition τ (Value.Literal l) = eqb (literalKind l) 2
 isCondition τ (Value.Operand v) = eqb (scalarKind (valueRow τ v)) 2
 isCondition τ Value.Error = false
 
+-- the same of a terminator: BranchCmp takes scalars, "If a Bool"; Return's values are known
 unfoldable pub endAgrees : Types → Terminator → B.Bool
 endAgrees τ (Jump b) = true
 endAgrees τ (If x a b) = isCondition τ x
@@ -143,5 +144,6 @@ endAgrees τ Unreachable = true
 unfoldable pub countedAgrees : B.Bool → Types → InstructionKind → B.Bool
 countedAgrees debug τ i = cond (counted debug i) (agrees τ i) true
 
+-- and of a block
 unfoldable pub blockAgrees : B.Bool → Types → Block → B.Bool
 blockAgrees debug τ k = every (λ i. countedAgrees debug τ (i .kind)) (k .instructions) && endAgrees τ (k .terminator)

@@ -25,5 +25,6 @@ unfoldable pub withReason : ℕ → Outcome → Answer
 withReason k (Outcome.refused n o) = refused n o
 withReason k (Outcome.lowered w c bytes) = lowered w c k bytes
 
+-- what a call answers: the outcome, with the shelf reason where it is accepted
 unfoldable pub answer : Settings → ℕ → List ℕ → Answer
 answer σ room s = withReason (reasonOf σ (wholeOf mosts s)) (outcome σ room s)

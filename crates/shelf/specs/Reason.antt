@@ -2,11 +2,11 @@
 -- in them; with the flag, Debug's values count like any other instruction's.
 use Prim.Native.Nat.{ℕ}
 use mathlib.Core.List.{List}
-use mathlib.Core.Bool.{Bool, true, false, cond, _&&_}
+use mathlib.Core.Bool.{Bool, cond, _&&_}
 use Rattle.wire.specs.declared.ValueId.{ValueId}
 use Rattle.form.specs.Syntax.{Block}
 use Rattle.routine.specs.Routine.{Routine}
-use Rattle.eligibility.specs.Lookup.{Types, recordedType}
+use Rattle.eligibility.specs.Lookup.{recordedType}
 use Rattle.eligibility.specs.Climb.{isSome}
 use Rattle.eligibility.specs.Fold.{behindPhis}
 use Rattle.rewriting.specs.Run.{Rewritten, typesIn}
@@ -35,6 +35,7 @@ unfoldable pub readsNoDropped : Bool → List ValueId → List Block → Bool
 readsNoDropped debug dropped ks =
     every (λ k. clean debug (λ x. among x dropped) (k .instructions)) ks && every (λ k. cleanTerminator (λ x. among x dropped) (k .terminator)) ks
 
+-- "Reason 0 is passed; else the lowest that holds"
 unfoldable pub shelfReason : Bool → Routine → Rewritten → ℕ
 shelfReason debug r w =
     cond (typesAgree debug r)

@@ -1,5 +1,5 @@
 -- What the shelf test looks at: an accepted routine with its tables, and the blocks of its rewriting in the output.
-use Prim.Native.Nat.{ℕ, _≤_, _<_}
+use Prim.Native.Nat.{ℕ, _≤_}
 use mathlib.Core.Path.{_≡_}
 use mathlib.Core.List.{List, _++_}
 use mathlib.Core.Bool.{Bool, false, cond}

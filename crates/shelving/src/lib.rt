@@ -1,12 +1,7 @@
 // The shelf test: the reason of a rewritten routine.
 use form::Bounds;
 ghost use mathlib.Core.Path.{_≡_};
-ghost use mathlib.Core.List.{List, _++_};
-ghost use mathlib.Core.Bool.{Bool, false};
-ghost use Prim.Native.Nat.{ℕ, _≤_};
-ghost use lib.ListN.{length, getD, drop};
-ghost use Rattle.form.specs.Encode.{eachBytes};
-ghost use Rattle.block.specs.Encode.{blockBytes};
+ghost use mathlib.Core.Bool.{false};
 ghost use Rattle.routine.specs.Routine.{Routine};
 ghost use Rattle.rewriting.specs.Run.{Rewritten};
 ghost use Rattle.shelf.specs.Reason.{shelfReason};

@@ -1,5 +1,5 @@
 -- The relation between the two runs inside a block, and what a step does to it.
-use mathlib.Core.Path.{_≡_, refl, _∙_}
+use mathlib.Core.Path.{_≡_, _∙_}
 use Prim.Native.Nat.{ℕ}
 use mathlib.Core.Bool.{Bool, not}
 use mathlib.Core.Option.{Option, some}

@@ -1,6 +1,6 @@
 -- Rebuilds: directly before what needs it, a tracked value is built anew under a fresh number.
 use mathlib.Core.Path.{_≡_, refl, sym, ap, _∙_, ap₂}
-use Prim.Native.Nat.{ℕ, zero, suc, _+_, _≤_}
+use Prim.Native.Nat.{ℕ, zero, suc, _≤_}
 use mathlib.Core.Bool.{Bool, true, false, not}
 use mathlib.Core.Option.{Option, none, some}
 use mathlib.Core.List.{List, [], _∷_, _++_, append-assoc}

@@ -1,7 +1,7 @@
 -- What of shelf reason 1 the runs need, and that the parts of tracked values fit.
 use Prim.Native.Nat.{ℕ, _+_}
 use mathlib.Core.Path.{_≡_}
-use mathlib.Core.Option.{Option, none, some}
+use mathlib.Core.Option.{Option, some}
 use mathlib.Core.List.{List, [], _∷_}
 use mathlib.Core.Bool.{true, _&&_, _||_}
 use mathlib.Core.Bool as B

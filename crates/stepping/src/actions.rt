@@ -26,7 +26,7 @@ ghost use Rattle.progress.specs.Effect.{outputOf, behind, pieceEffect, Low};
 ghost use Rattle.decided.specs.Decided.{countedAs, Does};
 ghost use Rattle.stepping.specs.Stepping.{movedTo, raisedBy};
 
-// The bytes of the input from one place to another; none where they do not stand there.
+// The bytes of the input from one place to another, for places that stand there in this order; else the part is free.
 pub fn input_part(s: &[u8], at: usize, end: usize) -> &[u8]
     ensures { λ r. ⌜ (at ≤ end → end ≤ length (now (s .entry)) → now r ≡ take (end - at) (drop at (now (s .entry)))) ⌝ }
 {
@@ -39,7 +39,7 @@ pub fn input_part(s: &[u8], at: usize, end: usize) -> &[u8]
     &s[at..end]
 }
 
-// Copies a part of at most 65,536 bytes, and returns the place behind it; a longer one is not copied.
+// Copies a part of at most 65,536 bytes, and returns the place behind it; for a longer one the place alone is bounded.
 pub fn copy_part(out: &mut [u8], to: usize, part: &[u8]) -> usize
     requires { ⌜ to < 1099511627776 ⌝ }
     ensures { λ r. ⌜ r ≤ to + 65536 ⌝ }

@@ -108,10 +108,3 @@ type-canon most own s {t} {n} h e = type-exact most own .each s t n h e .canon
 -- and has a byte form
 pub type-fit : (most own : ℕ) (s : List ℕ) {t : MirType} {n : ℕ} → Bytes s → typeOf most own s ≡ ok t n → FitMirType most own t
 type-fit most own s {t} {n} h e = type-exact most own .each s t n h e .good
-
--- and so for the type table
-pub types-canon : (mostTypes most : ℕ) (s : List ℕ) {ts : List MirType} {n : ℕ} → Bytes s → typesOf mostTypes most s ≡ ok ts n → Canon (typesBytes ts) s n
-types-canon mostTypes most s {ts} {n} h e = types-exact mostTypes most .each s ts n h e .canon
-
-pub types-fit : (mostTypes most : ℕ) (s : List ℕ) {ts : List MirType} {n : ℕ} → Bytes s → typesOf mostTypes most s ≡ ok ts n → (length ts ≤ mostTypes) × FitTypes most [] ts
-types-fit mostTypes most s {ts} {n} h e = types-exact mostTypes most .each s ts n h e .good

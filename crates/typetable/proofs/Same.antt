@@ -6,7 +6,7 @@ use mathlib.Core.Bool.{true, false, _&&_, _||_}
 use mathlib.Core.Bool as B
 use native.Mathlib.Numerals.{add-one}
 use native.Mathlib.Omega.{arith}
-use borrow.Author.Tests.{eqb-true, eq-eqb, ne-eqb}
+use borrow.Author.Tests.{eq-eqb, ne-eqb}
 use lib.ListN.{length, getD, drop, drop-of-length-le}
 use lib.Seq.{drop-cons}
 use lib.Dec.{eqb}
@@ -17,25 +17,6 @@ use Rattle.typetable.specs.Index.{namesAt}
 -- false is not true
 pub no-true : false ≡ true → ⊥
 no-true e = let z : _≡_ {A = ℕ} 0 1 = cc in omega arith
-
--- both hold
-pub and-true : (x y : B.Bool) → x && y ≡ true → (x ≡ true) × (y ≡ true)
-and-true true y e = (refl, e)
-and-true false y e = absurd (no-true e)
-
--- bytes that are found equal are equal
-pub sameBytes-true : (a b : List ℕ) → sameBytes a b ≡ true → a ≡ b
-sameBytes-true [] [] e = refl
-sameBytes-true [] (y ∷ ys) e = absurd (no-true e)
-sameBytes-true (x ∷ xs) [] e = absurd (no-true e)
-sameBytes-true (x ∷ xs) (y ∷ ys) e =
-    let h = and-true (eqb x y) (sameBytes xs ys) e in
-    rw (eqb-true x y (h .0), sameBytes-true xs ys (h .1))
-
--- and the other way round
-pub sameBytes-refl : (a : List ℕ) → sameBytes a a ≡ true
-sameBytes-refl [] = refl
-sameBytes-refl (x ∷ xs) = rw (eq-eqb x x refl) (sameBytes-refl xs)
 
 -- bytes of which there are not equally many
 pub same-long : (a b : List ℕ) → (length a ≡ length b → ⊥) → false ≡ sameBytes a b

@@ -11,7 +11,7 @@ use native.Mathlib.Omega.{arith}
 use borrow.Author.Tests.{le-leb, lt-leb}
 use lib.ListN.{length, getD, drop, set, length-append, length-drop, length-set, List·getD-append}
 use lib.Seq.{drop-drop, getD-at, getD-set-same, getD-set-other}
-use Rattle.wire.specs.Parse.{Parse, ok, bad, later, mapParse}
+use Rattle.wire.specs.Parse.{ok, bad, later, mapParse}
 use Rattle.wire.specs.Number.{u16Of}
 use Rattle.wire.specs.WellFormed.{Bytes}
 use Rattle.wire.specs.declared.Cause.{Cause}

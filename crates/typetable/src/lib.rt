@@ -5,19 +5,19 @@ use form::Scan;
 use wire::Cause;
 use wire::Read16;
 ghost use mathlib.Core.Path.{_≡_};
-ghost use mathlib.Core.List.{List, [], _∷_};
+ghost use mathlib.Core.List.{List, []};
 ghost use mathlib.Core.Bool.{Bool};
 ghost use Prim.Native.Nat.{ℕ, _+_, _-_, _*_, _≤_, _<_};
 ghost use lib.ListN.{length, getD, drop};
-ghost use Rattle.wire.specs.Parse.{Parse, ok, andThen, mapParse, later};
+ghost use Rattle.wire.specs.Parse.{ok, mapParse, later};
 ghost use Rattle.wire.specs.WellFormed.{Bytes};
-ghost use Rattle.form.specs.Decode.{typeIdOf};
 ghost use Rattle.form.specs.Walk.{asScan, asPart, unit};
 ghost use Rattle.typetable.specs.Syntax.{MirType};
-ghost use Rattle.typetable.specs.Decode.{hasName, newNameOf, structFields, structOf, typeOf, sameBytes, hasType, typesOf};
+ghost use Rattle.typetable.specs.Decode.{hasName, structFields, structOf, typeOf, sameBytes, hasType};
 ghost use Rattle.typetable.specs.Index.{namesAt, fieldOf, TypesAt, TypesRead};
 
-// The classes of each kind's fields (see rows::then_row), in `MirType` order. A Struct has no row: its names differ.
+// The classes of each kind's fields (see `field_at` of crate rows), in `MirType` order. A Struct has no row: its names
+// differ.
 pub const TYPE_ROWS: [u32; 11] = [0x0, 0x0, 0x0, 0xb, 0x0, 0x53, 0x3, 0x3b, 0x0, 0x0, 0x0];
 
 // The name stands among the first `i` of the fields that begin at `from`.

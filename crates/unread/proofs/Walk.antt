@@ -1,5 +1,5 @@
 -- The walk over a block's bytes, instruction after instruction.
-use Prim.Native.Nat.{ℕ, _+_, _-_, _≤_, _<_, zero-le}
+use Prim.Native.Nat.{ℕ, _+_, _≤_, _<_, zero-le}
 use mathlib.Core.Path.{_≡_, refl, ap, _∙_, sym}
 use mathlib.Core.List.{List, [], _∷_, _++_, append-assoc}
 use mathlib.Core.Bool.{Bool, true, false, _&&_}

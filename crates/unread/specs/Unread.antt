@@ -1,5 +1,5 @@
 -- Blocks that are walked one behind another in their bytes, and what they read of marked values.
-use Prim.Native.Nat.{ℕ, _+_, _<_}
+use Prim.Native.Nat.{ℕ, _<_}
 use mathlib.Core.Path.{_≡_}
 use mathlib.Core.List.{List, [], _++_}
 use mathlib.Core.Bool.{Bool, false, cond, not, _&&_}

@@ -1,7 +1,7 @@
 -- What was read is written as it stood, and what was read has a byte form.
 use Prim.Native.Nat.{ℕ, zero, suc, _+_, _*_, _/_, _%_, _^_, _≤_, _<_}
-use mathlib.Core.Path.{_≡_, refl, ap, _∙_, sym}
-use mathlib.Core.List.{List, [], _∷_, _++_, flatMap}
+use mathlib.Core.Path.{_≡_, refl, _∙_, sym}
+use mathlib.Core.List.{List, [], _∷_, _++_}
 use mathlib.Core.Bool.{Bool}
 use native.Mathlib.Nat.{pow-zero, pow-suc, one-le-pow}
 use native.Mathlib.Omega.{arith}
@@ -9,14 +9,14 @@ use borrow.Author.Tests.{ltb-true}
 use lib.ListN.{length, take, drop, length-append}
 use lib.Seq.{getD-drop, take-add}
 use lib.Dec.{ltb, eqb}
-use Rattle.wire.specs.Parse.{Parse, ok, mapParse, checked, seqOf}
+use Rattle.wire.specs.Parse.{ok, mapParse, checked}
 use Rattle.wire.specs.Number.{fromBytes, toBytes, numberOf, u8Of, u32Of, below}
 use Rattle.wire.specs.Value.{integer, boolean, unit, boolByte, boolOf, valueIdOf, valueOf, valueKinds, valueBytes}
 use Rattle.wire.specs.WellFormed.{Bytes, FitValue}
 use Rattle.wire.specs.declared.Cause.{Cause}
 use Rattle.wire.specs.declared.Literal.{Literal}
 use Rattle.wire.specs.declared.Value.{Value}
-use Rattle.wire.proofs.Inv.{no-ok, both, behind, image, later-inv, and-inv, map-inv, checked-inv, number-inv, below-inv, tagged-inv}
+use Rattle.wire.proofs.Inv.{no-ok, behind, image, later-inv, map-inv, checked-inv, number-inv, below-inv, tagged-inv}
 use Rattle.wire.proofs.RoundTrip.{length-toBytes}
 
 -- b is what the first n bytes of t are, all n of them
@@ -142,20 +142,3 @@ value-short (Value.Literal (Literal.Boolean b)) = omega arith
 value-short (Value.Literal Literal.Unit) = omega arith
 value-short (Value.Operand v) = omega arith
 value-short Value.Error = omega arith
-
--- a sequence of things each of which is written as it stood: all of them, as many as asked for
-pub seq-canon : {A : Type 0} (dec : List ℕ → Parse A) (enc : A → List ℕ) → ((t : List ℕ) (a : A) (n : ℕ) → Bytes t → dec t ≡ ok a n → Canon (enc a) t n) → (k : ℕ) (s : List ℕ) {xs : List A} {n : ℕ} → Bytes s → seqOf dec k s ≡ ok xs n → Canon (flatMap enc xs) s n × (length xs ≡ k)
-unfolding seqOf flatMap
-seq-canon dec enc c zero s {xs} {n} h e =
-    let p : xs ≡ [] = cc in
-    let q : n ≡ 0 = cc in
-    rw (p, q) (record { same = refl; size = refl }, refl)
-seq-canon dec enc c (suc k) s {xs} {n} h e =
-    elim (and-inv s (dec s) (λ a t. mapParse (λ xs. a ∷ xs) (seqOf dec k t)) e) [
-      | both a m j p q r ↦
-          elim (map-inv (λ xs. a ∷ xs) (seqOf dec k (drop m s)) q) [
-            | image ys f g ↦
-                let i = seq-canon dec enc c k (drop m s) (bytes-drop s m h) f in
-                rw (g, r) (canon-and (c s a m h p) (i .0), ap suc (i .1))
-          ]
-    ]

@@ -164,22 +164,9 @@ pub and-nothing : {A : Type 0} (s : List ℕ) (d : Parse A) → andThen s d (λ 
 and-nothing s (ok a n) = ap (ok a) (add-zero n)
 and-nothing s (bad c o) = refl
 
--- a test of what is made of the value
-pub map-checked : {A B : Type 0} (c : Cause) (f : A → B) (p : B → Bool) (d : Parse A) → mapParse f (checked c (λ a. p (f a)) d) ≡ checked c p (mapParse f d)
-map-checked c f p (ok a n) = go (p (f a))
-  where
-    go : (b : Bool) → mapParse f (cond b (ok a n) (bad c 0)) ≡ cond b (ok (f a) n) (bad c 0)
-    go true = refl
-    go false = refl
-map-checked c f p (bad k o) = refl
-
 -- the test holds
 pub checked-true : {A : Type 0} (c : Cause) (p : A → Bool) (a : A) (n : ℕ) → p a ≡ true → checked c p (ok a n) ≡ ok a n
 checked-true c p a n h = rw h
-
--- the test fails
-pub checked-false : {A : Type 0} (c : Cause) (p : A → Bool) (a : A) (n : ℕ) → p a ≡ false → checked c p (ok a n) ≡ bad c 0
-checked-false c p a n h = rw h
 
 -- too few bytes
 pub number-short : (w : ℕ) (s : List ℕ) → length s < w → numberOf w s ≡ bad Cause.Truncated 0

@@ -10,7 +10,7 @@ use lib.ListN.{length, length-append}
 use lib.Seq.{take-at}
 use lib.Dec.{leb}
 use Rattle.wire.specs.Parse.{ok}
-use Rattle.wire.specs.Number.{fromBytes, toBytes, numberOf, below}
+use Rattle.wire.specs.Number.{fromBytes, toBytes, numberOf}
 use Rattle.wire.specs.Value.{valueOf, valueBytes}
 use Rattle.wire.specs.WellFormed.{FitValue}
 use Rattle.wire.specs.declared.Literal.{Literal}
@@ -35,10 +35,6 @@ pub number-back : (w x : ℕ) (t : List ℕ) → x < 256 ^ w → numberOf w (toB
 number-back w x t h =
     let l : w ≤ length (toBytes w x ++ t) = omega (arith, length-append (toBytes w x) t, length-toBytes w x) in
     number-some w (toBytes w x ++ t) l ∙ rw (take-at (toBytes w x) t w (length-toBytes w x), from-to w x h)
-
--- a number below a bound
-pub below-back : (bound x : ℕ) (t : List ℕ) → x < bound → bound ≤ 65536 → below bound (toBytes 2 x ++ t) ≡ ok x 2
-below-back bound x t h g = let k : x < 65536 = omega arith in simp (number-back 2 x t k, lt-ltb _ _ h)
 
 -- there is a first byte
 some-bytes : (a : ℕ) (t : List ℕ) → leb 1 (length (a ∷ t)) ≡ true

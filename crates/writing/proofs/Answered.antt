@@ -5,7 +5,7 @@ use mathlib.Core.List.{List, [], _++_, append-assoc}
 use mathlib.Core.Bool.{Bool, true, false, not}
 use native.Mathlib.Nat.{zero-add}
 use native.Mathlib.Omega.{arith}
-use borrow.Author.Tests.{ltb-true, ltb-false, lt-ltb, ne-eqb}
+use borrow.Author.Tests.{lt-ltb, ne-eqb}
 use lib.ListN.{length, getD, drop, replicate, length-append, List·getD-append}
 use lib.Seq.{sets, sets-eq}
 use lib.Dec.{ltb, eqb}
@@ -24,7 +24,7 @@ use Rattle.eligibility.specs.declared.Settings.{Settings}
 use Rattle.eligibility.specs.Family.{Marks}
 use Rattle.rewriting.specs.declared.Counts.{Counts}
 use Rattle.rewriting.specs.Run.{Rewritten, typesIn, choice, allBlocks, rewrittenBlocks, rewriteWith, rewrite}
-use Rattle.rewriting.specs.Outcome.{Outcome, outcome}
+use Rattle.rewriting.specs.Outcome.{outcome}
 use Rattle.rewriting.specs.Outcome as O
 use Rattle.shelf.specs.Reason.{shelfReason}
 use Rattle.shelf.specs.Answer.{Answer as Given, refused, lowered, reasonOf, withReason, answer as given}

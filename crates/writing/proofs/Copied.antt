@@ -1,7 +1,7 @@
 -- The input, copied to the output byte by byte.
 use Prim.Native.Nat.{ℕ, suc, _+_, _≤_, _<_}
 use mathlib.Core.Path.{_≡_, refl, ap, _∙_, sym}
-use mathlib.Core.List.{List, []}
+use mathlib.Core.List.{List}
 use native.Mathlib.Omega.{arith}
 use lib.ListN.{length, getD, set, drop, length-set, drop-of-length-le}
 use lib.Seq.{sets, drop-cons}

@@ -20,7 +20,7 @@ use Rattle.whole.specs.WellFormed.{FitBlocks}
 use Rattle.eligibility.specs.Family.{Marks}
 use Rattle.eligibility.specs.Fold.{behindPhis}
 use Rattle.rewriting.specs.Lowers.{Leaves, Lowers, LowersAll}
-use Rattle.output.proofs.Marks.{Split, passes, fails, split, dests-new}
+use Rattle.output.proofs.Marks.{passes, fails, split, dests-new}
 use Rattle.progress.specs.Effect.{markAll}
 use Rattle.shelf.specs.Lists.{among}
 

@@ -1,10 +1,10 @@
 -- What the shelf test looks at, of an accepted routine whose rewriting is written.
-use Prim.Native.Nat.{ℕ, zero, suc, _+_, _≤_, _<_}
-use mathlib.Core.Path.{_≡_, refl, ap, _∙_, sym, subst}
+use Prim.Native.Nat.{ℕ, suc, _+_, _≤_}
+use mathlib.Core.Path.{_≡_, ap, _∙_, sym, subst}
 use mathlib.Core.List.{List, [], _∷_, _++_, append-assoc}
 use mathlib.Core.Bool.{Bool, false}
 use native.Mathlib.Omega.{arith}
-use lib.ListN.{length, getD, drop, replicate, length-append}
+use lib.ListN.{length, drop, replicate, length-append}
 use lib.Seq.{sets, sets-eq, drop-append-seam}
 use Rattle.wire.specs.Parse.{ok}
 use Rattle.wire.specs.Number.{toBytes}
@@ -20,11 +20,11 @@ use Rattle.typetable.specs.Encode.{typesBytes}
 use Rattle.routine.specs.Routine.{Routine}
 use Rattle.routine.specs.Decode.{mosts, boundsOf}
 use Rattle.routine.specs.Encode.{recordedBytes, encode}
-use Rattle.whole.specs.WellFormed.{FitBlocks, bounds, unmarked, WellFormed}
+use Rattle.whole.specs.WellFormed.{FitBlocks, bounds, unmarked}
 use Rattle.index.specs.Code.{CodeAt}
 use Rattle.eligibility.specs.declared.Settings.{Settings}
 use Rattle.eligibility.specs.Family.{Marks}
-use Rattle.rewriting.specs.Run.{Rewritten, choice, rewrittenBy, rewrittenBlocks, rewriteWith, rewrite}
+use Rattle.rewriting.specs.Run.{Rewritten, choice, rewrittenBy, rewrittenBlocks, rewriteWith}
 use Rattle.rewriting.proofs.Lowering.{lowers}
 use Rattle.output.specs.Lifted.{lifted}
 use Rattle.output.proofs.Whole.{well-formed}

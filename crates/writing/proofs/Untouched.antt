@@ -3,7 +3,6 @@ use Prim.Native.Nat.{ℕ, _+_, _≤_, _<_}
 use mathlib.Core.Path.{_≡_, refl, ap, _∙_, sym}
 use mathlib.Core.List.{List}
 use mathlib.Core.Bool.{Bool, false}
-use native.Mathlib.Omega.{arith}
 use lib.ListN.{length, getD}
 use lib.Seq.{sets}
 use Rattle.form.specs.declared.Bounds.{Bounds}
@@ -25,9 +24,9 @@ use Rattle.shelving.specs.Number.{numberOfReason}
 use Rattle.shelving.specs.Shelved.{inputReason}
 use Rattle.shelving.proofs.Reasons.{reason-undropped}
 use Rattle.writing.specs.declared.Answer.{Answer}
-use Rattle.writing.specs.Numbers.{numbersOf, asAnswer, Answers}
+use Rattle.writing.specs.Numbers.{Answers}
 use Rattle.writing.specs.Tables.{Accepted, Chosen, Unchanged}
-use Rattle.writing.proofs.Accepted.{canon, many-blocks}
+use Rattle.writing.proofs.Accepted.{canon}
 use Rattle.writing.proofs.Answered.{answers, given-refused, given-lowered}
 use Rattle.writing.proofs.Still.{still}
 

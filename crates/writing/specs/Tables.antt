@@ -71,6 +71,7 @@ pub record Ran (w : Rewritten) (to : ℕ) (out fresh : List ℕ) (dropped : Mark
   pub counted : p .counts ≡ w .counts
   pub marks : dropped′ ≡ markAll dropped (w .dropped)
 
+-- a run's answer: Clash only where the rewriting has one, else all of it is written
 pub record Runs (w : Rewritten) (to : ℕ) (out fresh : List ℕ) (dropped : Marks) (out′ fresh′ : List ℕ) (dropped′ : Marks) (r : Put) : Type 0 where
   pub clashed : r ≡ Put.Clash → w .clash ≡ true
   pub went : (p : Progress) → r ≡ Put.Went p → Ran w to out fresh dropped out′ fresh′ dropped′ p

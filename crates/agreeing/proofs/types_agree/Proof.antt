@@ -2,7 +2,6 @@ use Rattle.agreeing.proofs.types_agree.Statement.{statement}
 use Rattle.agreeing.proofs.types_agree.Tie as tie
 use mathlib.Core.Path.{ap, _∙_, sym}
 use mathlib.Core.Bool.{false}
-use Prim.Native.Nat.{_-_}
 use Rattle.agreeing.proofs.Whole.{routine-told, parameters-told}
 use lib.ListN.{replicate}
 use Rattle.form.specs.Decode.{definedsOf}

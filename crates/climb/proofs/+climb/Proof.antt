@@ -10,12 +10,12 @@ use Rattle.wire.proofs.byte_at.Reads as byte-at-reads
 use Rattle.climb.proofs.+climb.{statement}
 use Rattle.climb.proofs.+climb.Tie.{close}
 use borrow.Author.Needs.{needs}
-use Prim.Native.Nat.{_≤_, _-_}
+use Prim.Native.Nat.{_≤_}
 use native.Mathlib.Nat.{le-refl}
 use native.Mathlib.Omega.{arith}
-use mathlib.Core.Path.{_≡_, refl, sym, ap, _∙_}
-use mathlib.Core.Bool.{true, false}
-use lib.ListN.{length, getD, set}
+use mathlib.Core.Path.{refl, sym, ap, _∙_}
+use mathlib.Core.Bool.{true}
+use lib.ListN.{length, set}
 use borrow.Author.Tests.{not-true, not-false}
 use Rattle.climb.specs.Edges.{unmarked}
 use Rattle.climb.specs.Scanned.{sightOf}

@@ -1,8 +1,8 @@
 use borrow.Author.Needs.{needs}
 use Rattle.climb.proofs.folds.Statement.{statement}
 use Rattle.climb.proofs.folds.Tie as tie
-use mathlib.Core.Path.{refl, sym, _∙_}
-use mathlib.Core.Bool.{true, false}
+use mathlib.Core.Path.{sym}
+use mathlib.Core.Bool.{false}
 use borrow.Author.Tests.{not-true, not-false}
 use Rattle.climb.specs.Scanned.{sightOf}
 use Rattle.climb.specs.Decided.{climbs}

@@ -6,7 +6,6 @@ use Rattle.climb.specs.Scanned.{sightOf}
 use Rattle.climb.specs.Decided.{climbs}
 use Rattle.climb.proofs.Decide.{Testing, test-done, test-kind, test-other, test-on, test-stop}
 use borrow.Author.Needs.{needs}
-use Prim.Native.Nat.{ℕ}
 
 abbrev Inv-loop : tie.InvT-loop
 Inv-loop v children parents tuples many shapes buildable blocked i₀ i = Testing (climbs (sightOf shapes buildable blocked children parents many)) v tuples children parents many i

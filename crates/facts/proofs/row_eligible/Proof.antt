@@ -1,7 +1,6 @@
 use borrow.Author.Needs.{needs}
 use Rattle.facts.proofs.row_eligible.Statement.{statement}
 use Rattle.facts.proofs.row_eligible.Tie as tie
-use mathlib.Core.Path.{sym, _∙_}
 use mathlib.Core.Bool.{false}
 use Rattle.facts.proofs.Rows.{other-kind}
 

@@ -1,7 +1,6 @@
 use borrow.Author.Needs.{needs}
 use Rattle.facts.proofs.row_shape.Statement.{statement}
 use Rattle.facts.proofs.row_shape.Tie as tie
-use mathlib.Core.Path.{sym, _∙_}
 use Rattle.facts.proofs.Rows.{other-kind}
 
 byte-at-requires : tie.Need-byte-at-requires

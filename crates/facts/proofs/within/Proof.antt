@@ -1,4 +1,3 @@
-use borrow.Author.Needs.{needs}
 use Rattle.facts.proofs.within.Statement.{statement}
 use Rattle.facts.proofs.within.Tie as tie
 

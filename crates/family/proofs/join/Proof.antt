@@ -1,9 +1,8 @@
 use borrow.Author.Needs.{needs}
 use Rattle.family.proofs.join.Statement.{statement}
 use Rattle.family.proofs.join.Tie as tie
-use mathlib.Core.Path.{refl, sym, _∙_}
-use mathlib.Core.Bool.{true, false, true≢false}
-use native.Mathlib.Omega.{arith}
+use mathlib.Core.Path.{refl}
+use mathlib.Core.Bool.{true≢false}
 use Rattle.family.proofs.Members.{join-unasked, join-outside, join-known, join-new}
 
 shape-at-requires : tie.Need-shape-at-requires

@@ -2,9 +2,7 @@ use borrow.Author.Needs.{needs}
 use Rattle.family.proofs.note_copy.Statement.{statement}
 use Rattle.family.proofs.note_copy.Tie as tie
 use native.Mathlib.Omega.{arith}
-use mathlib.Core.Path.{ap, sym, _∙_}
-use mathlib.Core.List.{[], _++_}
-use Rattle.family.specs.Copies.{before, asCopy}
+use Rattle.family.specs.Copies.{before}
 use Rattle.family.proofs.Scan.{copies-same, copies-more}
 
 enum-told : tie.Need-enum-told

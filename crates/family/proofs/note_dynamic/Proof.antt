@@ -1,7 +1,7 @@
 use borrow.Author.Needs.{needs}
 use Rattle.family.proofs.note_dynamic.Statement.{statement}
 use Rattle.family.proofs.note_dynamic.Tie as tie
-use mathlib.Core.Path.{ap, sym, _∙_}
+use mathlib.Core.Path.{ap, _∙_}
 use mathlib.Core.Bool.{false}
 use mathlib.Core.List.{[]}
 use Rattle.family.specs.Copies.{dynamicStep}

@@ -2,7 +2,6 @@ use borrow.Author.Needs.{needs}
 use Rattle.family.proofs.scan_copies.Statement.{statement}
 use Rattle.family.proofs.scan_copies.Tie as tie
 use Prim.Native.Nat.{_-_}
-use native.Mathlib.Omega.{arith}
 use Rattle.family.specs.Copies.{asCopy}
 use Rattle.family.proofs.Scan.{Scanning, scan-start, scan-again, scan-done}
 

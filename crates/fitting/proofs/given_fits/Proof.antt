@@ -1,7 +1,6 @@
 use Rattle.fitting.proofs.given_fits.Statement.{statement}
 use Rattle.fitting.proofs.given_fits.Tie as tie
 use mathlib.Core.Option.{some}
-use Prim.Native.Nat.{_-_}
 use Rattle.fitting.proofs.Tests.{given-some, given-none}
 use borrow.Author.Needs.{needs}
 

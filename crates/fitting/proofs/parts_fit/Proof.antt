@@ -1,7 +1,6 @@
 use Rattle.fitting.proofs.parts_fit.Statement.{statement}
 use Rattle.fitting.proofs.parts_fit.Tie as tie
 use mathlib.Core.Path.{ap, _∙_, sym}
-use Prim.Native.Nat.{_-_}
 use Rattle.eligibility.specs.Lookup.{rowOf}
 use Rattle.shelf.specs.Parts.{partCount, counts}
 use Rattle.shelf.specs.Fits.{partsFit}

@@ -1,7 +1,6 @@
 use Rattle.fitting.proofs.value_known.Statement.{statement}
 use Rattle.fitting.proofs.value_known.Tie as tie
 use mathlib.Core.Path.{ap, _∙_}
-use Prim.Native.Nat.{_-_}
 use lib.ListN.{length}
 use Rattle.shelf.specs.Agrees.{isKnown}
 use Rattle.wire.specs.WellFormed.{FitValue}

@@ -1,7 +1,6 @@
 use Rattle.ordering.proofs.block_ordered.Statement.{statement}
 use Rattle.ordering.proofs.block_ordered.Tie as tie
 use borrow.Author.Needs.{needs}
-use Prim.Native.Nat.{_-_}
 use mathlib.Core.Path.{refl}
 use mathlib.Core.Bool.{false}
 use Rattle.marking.proofs.Backwards.{Backward, backward-start, backward-again, backward-stop, backward-done}

@@ -1,10 +1,6 @@
 use borrow.Author.Needs.{needs}
 use Rattle.parts.proofs.part_count.Statement.{statement}
 use Rattle.parts.proofs.part_count.Tie as tie
-use Rattle.parts.proofs.part_count.Reads as reads
-use Rattle.parts.proofs.part_count.Lts as lts
-use Rattle.table.proofs.number.Reads as number-reads
-use Rattle.table.proofs.place.Reads as place-reads
 use native.Mathlib.Omega.{arith}
 use mathlib.Core.Path.{_∙_, ap}
 use lib.ListN.{getD}

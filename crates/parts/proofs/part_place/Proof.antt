@@ -1,10 +1,6 @@
 use borrow.Author.Needs.{needs}
 use Rattle.parts.proofs.part_place.Statement.{statement}
 use Rattle.parts.proofs.part_place.Tie as tie
-use Rattle.parts.proofs.part_place.Reads as reads
-use Rattle.parts.proofs.part_place.Lts as lts
-use Rattle.table.proofs.number.Reads as number-reads
-use Rattle.table.proofs.place.Reads as place-reads
 use Rattle.parts.proofs.Tables.{found-row}
 
 cast-number : tie.Need-cast-number

@@ -1,14 +1,6 @@
 use borrow.Author.Needs.{needs}
 use Rattle.parts.proofs.replace.Statement.{statement}
 use Rattle.parts.proofs.replace.Tie as tie
-use Rattle.parts.proofs.replace.Reads as reads
-use Rattle.parts.proofs.replace.Lts as lts
-use Rattle.parts.proofs.copy_row.Reads as copy-row-reads
-use Rattle.parts.proofs.part_count.Reads as part-count-reads
-use Rattle.table.proofs.number.Reads as number-reads
-use Rattle.table.proofs.set_flag.Reads as set-flag-reads
-use Rattle.table.proofs.set_number.Reads as set-number-reads
-use Rattle.table.proofs.set_place.Reads as set-place-reads
 use native.Mathlib.Omega.{arith}
 use mathlib.Core.Path.{_∙_, ap, sym}
 use Prim.Native.Nat.{_+_}

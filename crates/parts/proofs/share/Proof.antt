@@ -1,11 +1,6 @@
 use borrow.Author.Needs.{needs}
 use Rattle.parts.proofs.share.Statement.{statement}
 use Rattle.parts.proofs.share.Tie as tie
-use Rattle.parts.proofs.share.Reads as reads
-use Rattle.parts.proofs.share.Lts as lts
-use Rattle.table.proofs.number.Reads as number-reads
-use Rattle.table.proofs.set_flag.Reads as set-flag-reads
-use Rattle.table.proofs.set_number.Reads as set-number-reads
 use Rattle.parts.proofs.Tables.{rep-share}
 
 cast-number : tie.Need-cast-number

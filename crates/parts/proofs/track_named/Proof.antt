@@ -1,12 +1,6 @@
 use borrow.Author.Needs.{needs}
 use Rattle.parts.proofs.track_named.Statement.{statement}
 use Rattle.parts.proofs.track_named.Tie as tie
-use Rattle.parts.proofs.track_named.Reads as reads
-use Rattle.parts.proofs.track_named.Lts as lts
-use Rattle.parts.proofs.put_named.Reads as put-named-reads
-use Rattle.table.proofs.set_flag.Reads as set-flag-reads
-use Rattle.table.proofs.set_number.Reads as set-number-reads
-use Rattle.table.proofs.set_place.Reads as set-place-reads
 use native.Mathlib.Omega.{arith}
 use mathlib.Core.Path.{_∙_, sym}
 use borrow.Author.Tests.{not-true, not-false}

@@ -1,12 +1,6 @@
 use borrow.Author.Needs.{needs}
 use Rattle.parts.proofs.track_values.Statement.{statement}
 use Rattle.parts.proofs.track_values.Tie as tie
-use Rattle.parts.proofs.track_values.Reads as reads
-use Rattle.parts.proofs.track_values.Lts as lts
-use Rattle.parts.proofs.put_places.Reads as put-places-reads
-use Rattle.table.proofs.set_flag.Reads as set-flag-reads
-use Rattle.table.proofs.set_number.Reads as set-number-reads
-use Rattle.table.proofs.set_place.Reads as set-place-reads
 use native.Mathlib.Omega.{arith}
 use Rattle.parts.proofs.Tables.{rep-track}
 use Rattle.parts.proofs.Loops.{grown-row, row-number}

@@ -3,7 +3,7 @@ use Rattle.places.proofs.index_block.Statement.{statement}
 use Rattle.places.proofs.index_block.Tie as tie
 use Prim.Native.Nat.{_-_}
 use native.Mathlib.Omega.{arith}
-use mathlib.Core.Path.{ap, sym, _∙_}
+use mathlib.Core.Path.{ap, _∙_}
 use lib.ListN.{length-set}
 use Rattle.places.proofs.Laws.{Indexing, index-start, index-again, index-done, no-block}
 use lib.ListN.{length}

@@ -2,7 +2,6 @@ use borrow.Author.Needs.{needs}
 use Rattle.places.proofs.instruction_end.Statement.{statement}
 use Rattle.places.proofs.instruction_end.Tie as tie
 use native.Mathlib.Omega.{arith}
-use mathlib.Core.Path.{sym}
 use Rattle.places.proofs.Laws.{end-within, end-used, end-refused}
 
 tail-requires : tie.Need-tail-requires

@@ -2,7 +2,6 @@ use Rattle.reaching.proofs.place_fits.Statement.{statement}
 use Rattle.reaching.proofs.place_fits.Tie as tie
 use mathlib.Core.Path.{_∙_, sym}
 use mathlib.Core.Option.{some}
-use Prim.Native.Nat.{_-_}
 use Rattle.shelf.specs.Agrees.{reached, placeFits}
 use Rattle.fields.proofs.Lines.{and-both}
 use borrow.Author.Needs.{needs}

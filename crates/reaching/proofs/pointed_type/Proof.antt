@@ -1,7 +1,6 @@
 use Rattle.reaching.proofs.pointed_type.Statement.{statement}
 use Rattle.reaching.proofs.pointed_type.Tie as tie
 use mathlib.Core.Path.{ap, _∙_, sym}
-use Prim.Native.Nat.{_-_}
 use Rattle.eligibility.specs.Climb.{given}
 use Rattle.reaching.proofs.Places.{pointed-none, pointed-index, pointed-field, pointed-tuple, pointed-nothing}
 use Rattle.lookup.specs.Fields.{asStep}

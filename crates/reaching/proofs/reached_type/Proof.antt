@@ -1,7 +1,6 @@
 use Rattle.reaching.proofs.reached_type.Statement.{statement}
 use Rattle.reaching.proofs.reached_type.Tie as tie
 use mathlib.Core.Path.{_∙_, sym}
-use Prim.Native.Nat.{_-_}
 use Rattle.eligibility.specs.Lookup.{rowOf, recordedType}
 use Rattle.reaching.proofs.Places.{reached-pointer, reached-aggregate}
 use Rattle.shelf.specs.Agrees.{pointee}

@@ -1,10 +1,6 @@
 use borrow.Author.Needs.{needs}
 use Rattle.chains.proofs.path.has_part.Statement.{statement}
 use Rattle.chains.proofs.path.has_part.Tie as tie
-use Rattle.chains.proofs.path.has_part.Reads as reads
-use Rattle.chains.proofs.path.has_part.Lts as lts
-use Rattle.parts.proofs.part_count.Reads as part-count-reads
-use Rattle.parts.proofs.tracked.Reads as tracked-reads
 use mathlib.Core.Path.{_∙_, sym}
 use borrow.Author.Tests.{not-true, not-false}
 use Rattle.chains.proofs.Steps.{part-untracked, part-tracked}

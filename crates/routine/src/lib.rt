@@ -17,7 +17,8 @@ ghost use Rattle.block.specs.Encode.{blockBytes};
 ghost use Rattle.block.specs.declared.Mosts.{Mosts};
 ghost use Rattle.routine.specs.Index.{BlocksAt, noBlock, asRecorded, recordedFrom};
 
-// How many types, values and blocks an accepted routine has, its entry block, and where its parts stand.
+// How many types, values and blocks an accepted routine has, its entry block, and where its sections begin. Of these four
+// places nothing is promised, and nothing asks for them: they are left free.
 pub struct Layout {
     pub types: u16,
     pub next: u16,

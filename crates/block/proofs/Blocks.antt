@@ -1,25 +1,35 @@
--- A terminator, and a block: its count, instructions and terminator.
-use Prim.Native.Nat.{ℕ, zero, suc, _+_, _≤_, _<_}
+-- A terminator, and a block: its count, instructions and terminator, with their rows.
+use Prim.Native.Nat.{ℕ, zero, suc, _+_, _-_, _*_, _≤_, _<_}
 use mathlib.Core.Path.{_≡_, refl, ap, _∙_, sym}
 use mathlib.Core.List.{List, [], _∷_, map}
 use mathlib.Core.Bool.{Bool, true, false, _&&_}
+use native.Mathlib.Nat.{add-zero}
 use native.Mathlib.Omega.{arith}
 use borrow.Author.Tests.{le-leb, lt-leb, leb-true}
-use lib.ListN.{length, getD, drop, List·getD-eq-default}
+use lib.ListN.{length, getD, drop, length-drop, List·getD-eq-default}
+use lib.Seq.{drop-drop}
 use lib.Dec.{leb}
 use Rattle.wire.specs.Parse.{Parse, ok, bad, later, andThen, mapParse}
 use Rattle.wire.specs.Number.{u16Of}
 use Rattle.wire.specs.declared.Cause.{Cause}
-use Rattle.wire.proofs.Laws.{map-map, map-and, and-map, map-later, assoc}
-use Rattle.wire.proofs.Inv.{both, image, and-inv, map-inv, checked-inv}
-use Rattle.form.specs.Syntax.{Block}
+use Rattle.wire.proofs.Laws.{size, size-map, size-later, map-later, later-later}
+use Rattle.wire.proofs.Inv.{no-ok, both, behind, image, later-inv, and-inv, map-inv, map-bad, checked-inv}
+use Rattle.form.specs.Syntax.{Instruction, Terminator, Block}
+use Rattle.form.specs.Reads.{terminatorReads}
 use Rattle.form.specs.Decode.{terminators, terminatorOf}
-use Rattle.form.specs.Walk.{Walk, walkOf, fold, passes, leaves, rowWalk, terminatorRows}
+use Rattle.form.specs.Walk.{Walk, walkOf, leaves, rowWalk, terminatorRows, asScan, asPart, unit}
 use Rattle.form.specs.declared.Bounds.{Bounds}
-use Rattle.form.proofs.Rows.{map-same, terminator-row}
-use Rattle.block.specs.Decode.{instructionsOf, blockCountOf, blockOf, Passed, passed}
+use Rattle.form.specs.declared.Part.{Part}
+use Rattle.form.specs.declared.Scan.{Scan}
+use Rattle.form.proofs.Laws.{and-later}
+use Rattle.form.proofs.Rows.{terminator-row as row-of}
+use Rattle.block.specs.Decode.{blockMarks, instructionsOf, blockCountOf, blockOf, passed}
+use Rattle.block.specs.Rows.{rowEnded, InstructionsRead, TerminatorRead, CodeRead}
 use Rattle.block.specs.declared.Mosts.{Mosts}
-use Rattle.block.proofs.Laws.{and-same-ok, passes-seen, leaves-seen, instructions-length}
+use Rattle.block.proofs.Laws.{instructions-length}
+use Rattle.block.proofs.Sizes.{size-left, size-instructions}
+use Rattle.block.proofs.Rows.{noted, row-kept, terminator-row, instructions-same}
+use Rattle.block.proofs.Filling.{kept-through}
 
 -- counted from later or from earlier, the same is chosen
 choose-later : {A : Type 0} (fs : List (List ℕ → Parse A)) (t : List ℕ) (k : ℕ) → k < length fs → getD (map (λ f. later 1 (f t)) fs) k (bad Cause.Undefined 0) ≡ later 1 (getD (map (λ f. f t) fs) k (bad Cause.Undefined 0))
@@ -49,32 +59,147 @@ module _ (b : Bounds) (w : Walk) (s : List ℕ) where
       let d = getD (map (λ f. f t) (terminators b)) k (bad Cause.Undefined 0) in
       let told : mapParse (leaves w) (terminatorOf b s) ≡ later 1 (mapParse (leaves w) d) =
       simp (le-leb _ _ h) (ap (mapParse (leaves w)) (choose-later (terminators b) t k g) ∙ map-later (leaves w) 1 d) in
-      e ∙ ap (λ x. later 1 (rowWalk b 0 5 x w t)) er ∙ ap (later 1) (terminator-row b 0 w k t g) ∙ sym told
+      e ∙ ap (λ x. later 1 (rowWalk b 0 5 x w t)) er ∙ ap (later 1) (row-of b 0 w k t g) ∙ sym told
 
-module _ (m : Mosts) (b : Bounds) (total : ℕ) (seen : List Bool) (s : List ℕ) where
+-- reading a terminator: what the scan answered, and the row that it ended
+module _ (b : Bounds) (s facts facts′ : List ℕ) (seen seen′ : List Bool) (slot at : ℕ) (h : at ≤ length s) (r : Scan) (e : asScan r seen′ facts′ ≡ mapParse (leaves (walkOf seen facts (387 + 20 * slot + 4) false)) (terminatorOf b (drop at s))) where
+  abbrev row : Walk
+  row = walkOf seen facts (387 + 20 * slot + 4) false
+
+  told : {q : Scan} → r ≡ q → mapParse (leaves row) (terminatorOf b (drop at s)) ≡ asScan q seen′ facts′
+  told g = sym e ∙ ap (λ x. asScan x seen′ facts′) g
+
+  -- it reaches no further than the bytes do
+  pub end-size : {q : Scan} → r ≡ q → at + size (asScan q seen′ facts′) ≤ length s
+  end-size g = omega (arith, ap (λ d. size d) (told g), size-left b row (drop at s), length-drop at s)
+
+  -- it is refused
+  pub end-bad : {c : Cause} {o : ℕ} → r ≡ Scan.Refused c o → TerminatorRead b at slot s (bad c (at + o)) facts facts′
+  end-bad g =
+      let z = map-bad (leaves row) (terminatorOf b (drop at s)) (told g) in
+      record { answers = sym (rw z); filled = λ x n f. absurd (no-ok (sym z ∙ f)) }
+
+  module _ {k m : ℕ} {after : Bool} (g : r ≡ Scan.Used k m after) where
+    -- its reads stand behind the row's four numbers
+    pub end-reads : 391 + 20 * slot ≤ m
+    end-reads = elim (map-inv (leaves row) (terminatorOf b (drop at s)) (told g)) [ image x f w ↦ omega (arith, noted row (terminatorReads x) .grows, ap (λ v. v .count) w) ]
+
+    -- its row is ended
+    pub end-some : (facts″ : List ℕ) → facts″ ≡ rowEnded facts′ (387 + 20 * slot) at (at + k) 0 (m - (391 + 20 * slot)) → TerminatorRead b at slot s (ok tt (at + k)) facts facts″
+    end-some facts″ ended =
+        elim (map-inv (leaves row) (terminatorOf b (drop at s)) (told g)) [
+          | image x f w ↦
+              let v = walkOf seen′ facts′ m after in
+              let n = rw (← w) at (noted row (terminatorReads x)) in
+              record {
+                answers = sym (rw f);
+                filled = λ y j q.
+                    let z : x ≡ y = cc in
+                    rw (← z) record {
+                      kept = row-kept facts facts″ seen false slot at (at + k) 0 (terminatorReads x) v n ended;
+                      rows = λ t room. terminator-row b s facts facts″ seen slot at k x v w ended f h t room;
+                    };
+              }
+        ]
+
+module _ (m : Mosts) (b : Bounds) (total at first : ℕ) (s : List ℕ) (seen : List Bool) (before facts : List ℕ) where
+  -- a refusal leaves no rows
+  code-bad : {c : Cause} {o : ℕ} → later at (blockOf m b total seen (drop at s)) ≡ bad c o → CodeRead m b total at first s seen (bad c o) before facts
+  code-bad e =
+      record {
+        answers = sym (sym (map-later (passed seen) at (blockOf m b total seen (drop at s))) ∙ ap (mapParse (passed seen)) e);
+        filled = λ x n f. absurd (no-ok (sym e ∙ ap (later at) f));
+      }
+
   -- there are no bytes for the count
-  pub no-block : {c : Cause} {o : ℕ} → u16Of s ≡ bad c o → _≡_ {A = Parse Passed} (bad c o) (mapParse (passed seen) (blockOf m b total seen s))
+  pub no-block : {c : Cause} {o : ℕ} → u16Of (drop at s) ≡ bad c o → CodeRead m b total at first s seen (bad c (at + o)) before facts
   unfolding blockOf
-  no-block e = rw e
+  no-block e = code-bad (rw e refl)
 
   -- the count passes the block's most
-  pub block-past : {k n : ℕ} → u16Of s ≡ ok k n → m .block < k → _≡_ {A = Parse Passed} (bad Cause.TooMany 0) (mapParse (passed seen) (blockOf m b total seen s))
+  pub block-past : {k n : ℕ} → u16Of (drop at s) ≡ ok k n → m .block < k → CodeRead m b total at first s seen (bad Cause.TooMany at) before facts
   unfolding blockOf
-  block-past e h = simp (e, lt-leb _ _ h)
+  block-past e h = code-bad (simp (e, lt-leb _ _ h, add-zero))
 
   -- with the blocks before, it passes that of all blocks
-  pub all-past : {k n : ℕ} → u16Of s ≡ ok k n → k ≤ m .block → m .all < total + k → _≡_ {A = Parse Passed} (bad Cause.TooMany 0) (mapParse (passed seen) (blockOf m b total seen s))
+  pub all-past : {k n : ℕ} → u16Of (drop at s) ≡ ok k n → k ≤ m .block → m .all < total + k → CodeRead m b total at first s seen (bad Cause.TooMany at) before facts
   unfolding blockOf
-  all-past e h g = simp (e, le-leb _ _ h, lt-leb _ _ g)
+  all-past e h g = code-bad (simp (e, le-leb _ _ h, lt-leb _ _ g, add-zero))
 
-  -- the instructions, then the terminator
-  pub block-walked : (buffer : List ℕ) (k n : ℕ) {p q : Parse Walk} {r : Parse Passed} → u16Of s ≡ ok k n → k ≤ m .block → total + k ≤ m .all → p ≡ andThen s (ok (walkOf seen buffer 0 false) n) (λ w t. mapParse (fold passes w) (instructionsOf b (w .seen) (w .late) k t)) → q ≡ andThen s p (λ w t. mapParse (leaves w) (terminatorOf b t)) → r ≡ mapParse (λ w. record { seen = w .seen; count = k }) q → r ≡ mapParse (passed seen) (blockOf m b total seen s)
-  unfolding blockOf
-  block-walked buffer k n e h g ep eq er =
-      let w = walkOf seen buffer 0 false in
-      let t = drop n s in
-      er ∙ rw (eq, ep) (simp (e, le-leb _ _ h, le-leb _ _ g, assoc, and-map, map-later, map-and, map-map)
-      (ap (later n) (and-same-ok t (instructionsOf b seen false k t) _ _ (λ is j f. map-same _ _ (terminatorOf b (drop j t)) (λ x. rw (leaves-seen (fold passes w is) x, passes-seen w is, instructions-length b seen false k t f))))))
+  module _ {k n : ℕ} (e : u16Of (drop at s) ≡ ok k n) (own : k ≤ m .block) (all : total + k ≤ m .all) (marked : List Bool) (middle : List ℕ) (r : Part) (p : InstructionsRead b (at + n) k first s seen marked (asPart r) before middle) where
+    -- the instructions behind the count
+    abbrev code : Parse (List Instruction)
+    code = later (at + n) (instructionsOf b seen false k (drop (at + n) s))
+
+    -- and the terminator behind them
+    abbrev rest : List Instruction → List ℕ → Parse Block
+    rest is t = mapParse (λ x. record { instructions = is; terminator = x }) (terminatorOf b t)
+
+    after-count : later at (blockOf m b total seen (drop at s)) ≡ andThen s code rest
+    unfolding blockOf
+    after-count = simp (e, le-leb _ _ own, le-leb _ _ all, and-later, later-later, drop-drop)
+
+    marked-code : {q : Part} → r ≡ q → mapParse (blockMarks seen) code ≡ mapParse (λ u. marked) (asPart q)
+    marked-code g = map-later (blockMarks seen) (at + n) (instructionsOf b seen false k (drop (at + n) s)) ∙ sym (p .answers) ∙ ap (λ x. mapParse (λ u. marked) (asPart x)) g
+
+    -- the instructions are refused
+    pub code-stop : {c : Cause} {o : ℕ} → r ≡ Part.Refused c o → CodeRead m b total at first s seen (bad c o) before facts
+    code-stop g = code-bad (after-count ∙ ap (λ d. andThen s d rest) (map-bad (blockMarks seen) code (marked-code g)))
+
+    module _ {end : ℕ} (g : r ≡ Part.Used end) where
+      -- they end within the bytes
+      pub code-size : at + n ≤ length s → end ≤ length s
+      code-size h = omega (arith, ap (λ d. size d) (marked-code g), size-map (blockMarks seen) code, size-later (at + n) (instructionsOf b seen false k (drop (at + n) s)), size-instructions b seen false k (drop (at + n) s), length-drop (at + n) s)
+
+      module _ (q : Part) (f : TerminatorRead b end (first + k) s (asPart q) middle facts) where
+        abbrev last : Parse Terminator
+        last = later end (terminatorOf b (drop end s))
+
+        after-code : (is : List Instruction) → code ≡ ok is end → later at (blockOf m b total seen (drop at s)) ≡ mapParse (λ x. record { instructions = is; terminator = x }) last
+        after-code is h = after-count ∙ ap (λ d. andThen s d rest) h ∙ sym (map-later (λ x. record { instructions = is; terminator = x }) end (terminatorOf b (drop end s)))
+
+        told-end : {z : Part} → q ≡ z → mapParse unit last ≡ asPart z
+        told-end h = map-later unit end (terminatorOf b (drop end s)) ∙ sym (f .answers) ∙ ap asPart h
+
+        -- the terminator is refused
+        pub code-end : {c : Cause} {o : ℕ} → q ≡ Part.Refused c o → CodeRead m b total at first s seen (bad c o) before facts
+        code-end h =
+            elim (map-inv (blockMarks seen) code (marked-code g)) [
+              | image is i j ↦ code-bad (after-code is i ∙ ap (mapParse (λ x. record { instructions = is; terminator = x })) (map-bad unit last (told-end h)))
+            ]
+
+        -- the block is read, and has its rows
+        pub code-some : {to : ℕ} → q ≡ Part.Used to → CodeRead m b total at first s seen (ok (record { seen = marked; count = k }) to) before facts
+        code-some {to} h =
+            elim (map-inv (blockMarks seen) code (marked-code g)) [
+              | image is i marking ↦
+                  elim (map-inv unit last (told-end h)) [
+                    | image x l v ↦
+                        elim (later-inv (at + n) (instructionsOf b seen false k (drop (at + n) s)) i) [
+                          | behind j read place ↦
+                              elim (later-inv end (terminatorOf b (drop end s)) l) [
+                                | behind j′ read′ place′ ↦
+                                    let many : length is ≡ k = instructions-length b seen false k (drop (at + n) s) read in
+                                    let y : later at (blockOf m b total seen (drop at s)) ≡ ok (record { instructions = is; terminator = x }) to = after-code is i ∙ rw l refl in
+                                    let I = p .filled is j read in
+                                    let T = f .filled x j′ read′ in
+                                    record {
+                                      answers = sym (sym (map-later (passed seen) at (blockOf m b total seen (drop at s))) ∙ ap (mapParse (passed seen)) y ∙ rw (← marking, many) refl);
+                                      filled = λ x′ n′ w.
+                                          let o : ok (record { instructions = is; terminator = x }) to ≡ later at (ok x′ n′) = sym y ∙ ap (later at) w in
+                                          let z : record { instructions = is; terminator = x } ≡ x′ = cc in
+                                          rw (← z) record {
+                                            kept = kept-through (387 + 20 * first) (387 + 20 * (first + k)) (omega arith) (I .kept) (T .kept);
+                                            rows = λ t room. record {
+                                              instructions = instructions-same b s middle facts t first is (λ j a c. T .kept .same j (omega arith)) (I .rows t (omega arith));
+                                              terminator = rw many (T .rows t (omega (arith, I .kept .long)));
+                                            };
+                                          };
+                                    }
+                              ]
+                        ]
+                  ]
+            ]
 
 -- a block keeps to the most of all blocks
 pub block-count : (m : Mosts) (b : Bounds) (total : ℕ) (seen : List Bool) (s : List ℕ) {x : Block} {n : ℕ} → blockOf m b total seen s ≡ ok x n → total + length (x .instructions) ≤ m .all

@@ -9,14 +9,14 @@ use Rattle.wire.specs.declared.Cause.{Cause}
 use Rattle.wire.specs.declared.ValueId.{ValueId}
 use Rattle.wire.proofs.Laws.{map-map, map-and, and-map, assoc, and-same}
 use Rattle.wire.proofs.Inv.{both, image, and-inv, map-inv}
-use Rattle.form.specs.Syntax.{Meta, InstructionKind, Instruction, Terminator}
-use Rattle.form.specs.Reads.{reads, dests, isPhi, terminatorReads}
+use Rattle.form.specs.Syntax.{Meta, InstructionKind, Instruction}
+use Rattle.form.specs.Reads.{reads, dests, isPhi}
 use Rattle.form.specs.Decode.{bit, bitsOf, kindOf, metaOf, kinds, instructionOf}
-use Rattle.form.specs.Walk.{Walk, fold, defines, uses, behind, passes, leaves, times, rowWalk, rows}
+use Rattle.form.specs.Walk.{Walk, fold, defines, uses, behind, passes, rowWalk, rows}
 use Rattle.form.specs.declared.Bounds.{Bounds}
 use Rattle.form.proofs.Laws.{head}
 use Rattle.form.proofs.Rows.{kind-row, kind-late, behind-late}
-use Rattle.block.specs.Decode.{KindRead, headOf, instructionsOf, marks, blockMarks, lateBehind}
+use Rattle.block.specs.Decode.{KindRead, headOf, instructionsOf, marks, lateBehind}
 use Rattle.block.proofs.Start.{kind-below}
 
 -- the same behind what was read, for the value that it was
@@ -74,27 +74,6 @@ defines-seen w (d ∷ ds) = defines-seen (defines w d) ds
 -- an instruction adds its own
 pub behind-seen : (w : Walk) (i : InstructionKind) → behind w i .seen ≡ marks (w .seen) (dests i)
 behind-seen w i = uses-seen (fold defines w (dests i)) (reads i) ∙ defines-seen w (dests i)
-
--- several do so one after the other
-pub passes-seen : (w : Walk) (is : List Instruction) → fold passes w is .seen ≡ blockMarks (w .seen) is
-passes-seen w [] = refl
-passes-seen w (i ∷ is) = passes-seen (passes w i) is ∙ ap (λ m. blockMarks m is) (behind-seen w (i .kind))
-
--- a terminator adds none
-pub leaves-seen : (w : Walk) (e : Terminator) → leaves w e .seen ≡ w .seen
-leaves-seen w e = uses-seen w (terminatorReads e)
-
--- one instruction of a walk
-abbrev pub instructed : Bounds → Walk → List ℕ → Parse Walk
-instructed b w t = mapParse (passes w) (instructionOf b (w .seen) (w .late) t)
-
--- k of them
-pub instructed-times : (b : Bounds) (k : ℕ) (w : Walk) (s : List ℕ) → times (instructed b) k w s ≡ mapParse (fold passes w) (instructionsOf b (w .seen) (w .late) k s)
-unfolding times instructionsOf
-instructed-times b zero w s = refl
-instructed-times b (suc k) w s =
-    let ih : (v : Walk) (t : List ℕ) → times (instructed b) k v t ≡ mapParse (fold passes v) (instructionsOf b (v .seen) (v .late) k t) = λ v t. instructed-times b k v t in
-    simp (and-map, map-and, map-map, ih, behind-seen)
 
 -- there are as many as are asked for
 pub instructions-length : (b : Bounds) (seen : List Bool) (late : Bool) (k : ℕ) (s : List ℕ) {is : List Instruction} {n : ℕ} → instructionsOf b seen late k s ≡ ok is n → length is ≡ k

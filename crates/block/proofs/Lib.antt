@@ -2,7 +2,11 @@ pub mod Start
 pub mod Meta
 pub mod Laws
 pub mod Marks
-pub mod Blocks
 pub mod Sizes
 pub mod Canon
+pub mod Relax
+pub mod Few
+pub mod Rows
+pub mod Filling
+pub mod Blocks
 pub mod RoundTrip

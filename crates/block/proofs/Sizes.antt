@@ -20,7 +20,7 @@ use Rattle.form.proofs.Sizes.{size-row}
 use Rattle.block.specs.Decode.{headOf, instructionsOf, blockCountOf, blockOf, marks}
 use Rattle.block.specs.declared.Mosts.{Mosts}
 use Rattle.block.proofs.Meta.{size-meta}
-use Rattle.block.proofs.Laws.{instruction-rows, rowBehind, instructed}
+use Rattle.block.proofs.Laws.{instruction-rows, rowBehind}
 
 -- a kind
 size-kind : (late : Bool) (s : List ℕ) → size (kindOf late s) ≤ length s
@@ -46,10 +46,6 @@ size-instruction b seen late s =
       size-and s (headOf late s) (rowBehind b w) (size-head late s) (λ h t. rw size-map
           (size-and t (mapParse (λ x. w) (metaOf (h .bits) t)) (λ v u. rowWalk b (getD u 0 0) 5 (getD rows (h .kind) 0) v u) (rw size-map (size-meta (h .bits) t)) (λ v u. size-row b (getD u 0 0) 5 (getD rows (h .kind) 0) v u))),
     )
-
--- what it does to a walk
-pub size-instructed : (b : Bounds) (w : Walk) (s : List ℕ) → size (instructed b w s) ≤ length s
-size-instructed b w s = rw size-map (size-instruction b (w .seen) (w .late) s)
 
 -- a terminator
 pub size-terminator : (b : Bounds) (s : List ℕ) → size (terminatorOf b s) ≤ length s

@@ -1,3 +1,4 @@
 pub mod Decode
+pub mod Rows
 pub mod Encode
 pub mod WellFormed

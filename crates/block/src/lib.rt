@@ -1,17 +1,19 @@
 // Instructions, terminators and blocks.
 use form::Bounds;
+use form::Part;
 use form::Scan;
 use wire::Cause;
 use wire::Read16;
 ghost use mathlib.Core.Path.{_≡_};
 ghost use mathlib.Core.List.{List};
 ghost use mathlib.Core.Bool.{Bool, true, false};
-ghost use Prim.Native.Nat.{ℕ, _+_, _≤_, _<_};
-ghost use lib.ListN.{getD};
+ghost use Prim.Native.Nat.{ℕ, _+_, _-_, _*_, _≤_, _<_};
+ghost use lib.ListN.{length, getD};
 ghost use Rattle.wire.specs.Parse.{andThen, mapParse};
 ghost use Rattle.form.specs.Decode.{bit as bitOf, definedBits, metaOf, instructionOf, terminatorOf};
-ghost use Rattle.form.specs.Walk.{walkOf, fold, passes, leaves, asScan};
-ghost use Rattle.block.specs.Decode.{headOf, skipped, instructionsOf, blockOf, lateBehind, passed, asHead, asBlock};
+ghost use Rattle.form.specs.Walk.{walkOf, passes, leaves, asScan, asPart};
+ghost use Rattle.block.specs.Decode.{headOf, skipped, lateBehind, asHead, asBlock};
+ghost use Rattle.block.specs.Rows.{rowEnded, InstructionsRead, TerminatorRead, CodeRead};
 
 // How many of each a routine may have; document 01's numbers stand at routine::MOSTS.
 pub struct Mosts {
@@ -65,7 +67,8 @@ pub const TERMINATOR_ROWS: [u32; 5] = [0x6, 0x662, 0x66228, 0xa, 0x0];
 // A number of `width` bytes, where `on` says that it stands.
 fn then_number(s: &[u8], p: Scan, on: bool, width: usize) -> Scan
     requires { ⌜ width ≤ 8 ⌝ }
-    ensures { λ r. ⌜ ((seen : List Bool) (buffer : List ℕ) → asScan r seen buffer ≡ andThen (now (s .entry)) (asScan p seen buffer) (λ w t. mapParse (λ x. w) (skipped on width t))) ⌝ }
+    ensures { λ r. ⌜ ((seen : List Bool) (buffer : List ℕ) →
+        asScan r seen buffer ≡ andThen (now (s .entry)) (asScan p seen buffer) (λ w t. mapParse (λ x. w) (skipped on width t))) ⌝ }
 {
     if !on {
         return p;
@@ -100,7 +103,8 @@ fn bit(x: u8, k: u8) -> bool
 
 // The span, the expression id and the comment whose bits stand.
 fn then_meta(s: &[u8], p: Scan, bits: u8) -> Scan
-    ensures { λ r. ⌜ ((seen : List Bool) (buffer : List ℕ) → asScan r seen buffer ≡ andThen (now (s .entry)) (asScan p seen buffer) (λ w t. mapParse (λ x. w) (metaOf bits t))) ⌝ }
+    ensures { λ r. ⌜ ((seen : List Bool) (buffer : List ℕ) →
+        asScan r seen buffer ≡ andThen (now (s .entry)) (asScan p seen buffer) (λ w t. mapParse (λ x. w) (metaOf bits t))) ⌝ }
 {
     if bits % 8 == 0 {
         return p;
@@ -191,7 +195,8 @@ pub fn read_instruction(
     seen: &mut [bool],
     buffer: &mut [u16],
 ) -> Scan
-    ensures { λ r. ⌜ asScan r (now (seen .exit)) (now (buffer .exit)) ≡ mapParse (passes (walkOf (now (seen .entry)) (now (buffer .entry)) n late)) (instructionOf b (now (seen .entry)) late (now (s .entry))) ⌝ }
+    ensures { λ r. ⌜ asScan r (now (seen .exit)) (now (buffer .exit)) ≡
+        mapParse (passes (walkOf (now (seen .entry)) (now (buffer .entry)) n late)) (instructionOf b (now (seen .entry)) late (now (s .entry))) ⌝ }
 {
     match read_head(s, late) {
         Head::Refused(c, o) => Scan::Refused(c, o),
@@ -204,38 +209,59 @@ pub fn read_instruction(
     }
 }
 
-fn then_instruction(s: &[u8], p: Scan, b: Bounds, seen: &mut [bool], buffer: &mut [u16]) -> Scan
-    ensures { λ r. ⌜ asScan r (now (seen .exit)) (now (buffer .exit)) ≡ andThen (now (s .entry)) (asScan p (now (seen .entry)) (now (buffer .entry))) (λ w t. mapParse (passes w) (instructionOf b (w .seen) (w .late) t)) ⌝ }
+// Ends a slot's row, whose reads stand before `behind`: stores from which place to which it goes, its kind, how many reads.
+fn end_row(facts: &mut [u16], slot: u16, from: usize, to: usize, kind: u8, behind: usize)
+    requires { ⌜ 391 + 20 * slot ≤ behind ⌝ }
+    ensures { λ _. ⌜ now (facts .exit) ≡ rowEnded (now (facts .entry)) (387 + 20 * slot) from to kind (behind - (391 + 20 * slot)) ⌝ }
 {
-    match p {
-        Scan::Refused(c, o) => Scan::Refused(c, o),
-        Scan::Used(at, n, late) => {
-            let t = form::tail(s, at);
-            match read_instruction(t, b, n, late, seen, buffer) {
-                Scan::Refused(c, o) => Scan::Refused(c, at + o),
-                Scan::Used(k, m, after) => Scan::Used(at + k, m, after),
-            }
-        }
-    }
+    let n = index::row_place(slot, 0);
+    table::set_place(facts, n, from);
+    table::set_place(facts, n + index::END, to);
+    table::set_number(facts, n + index::KIND, kind as u16);
+    table::set_place(facts, n + index::COUNT, behind - (n + index::READS));
 }
 
-fn then_instructions(
+// `count` instructions from `at` on, and their rows from slot `first` on.
+fn instruction_rows(
     s: &[u8],
-    p: Scan,
+    at: usize,
     count: u16,
+    first: u16,
     b: Bounds,
     seen: &mut [bool],
-    buffer: &mut [u16],
-) -> Scan
-    ensures { λ r. ⌜ asScan r (now (seen .exit)) (now (buffer .exit)) ≡ andThen (now (s .entry)) (asScan p (now (seen .entry)) (now (buffer .entry))) (λ w t. mapParse (fold passes w) (instructionsOf b (w .seen) (w .late) count t)) ⌝ }
+    facts: &mut [u16],
+) -> Part
+    requires { ⌜ (at ≤ length (now s)) × (first + count < 65536) ⌝ }
+    ensures { λ r. ⌜ InstructionsRead b at count first (now (s .entry)) (now (seen .entry)) (now (seen .exit))
+        (asPart r) (now (facts .entry)) (now (facts .exit)) ⌝ }
 {
-    let mut q = p;
+    let mut here = at;
+    let mut late = false;
     let mut i: u16 = 0;
     while i < count {
-        q = then_instruction(s, q, b, seen, buffer);
+        let slot = first + i;
+        let t = form::tail(s, here);
+        match read_instruction(
+            t,
+            b,
+            index::row_place(slot, index::READS),
+            late,
+            seen,
+            facts,
+        ) {
+            Scan::Refused(c, o) => {
+                return Part::Refused(c, here + o);
+            }
+            Scan::Used(n, behind, after) => {
+                let end = here + n;
+                end_row(facts, slot, here, end, wire::byte_at(t, 1), behind);
+                here = end;
+                late = after;
+            }
+        }
         i = i + 1;
     }
-    q
+    Part::Used(here)
 }
 
 // A terminator, from its kind on.
@@ -247,7 +273,8 @@ pub fn read_terminator(
     seen: &mut [bool],
     buffer: &mut [u16],
 ) -> Scan
-    ensures { λ r. ⌜ asScan r (now (seen .exit)) (now (buffer .exit)) ≡ mapParse (leaves (walkOf (now (seen .entry)) (now (buffer .entry)) n late)) (terminatorOf b (now (s .entry))) ⌝ }
+    ensures { λ r. ⌜ asScan r (now (seen .exit)) (now (buffer .exit)) ≡
+        mapParse (leaves (walkOf (now (seen .entry)) (now (buffer .entry)) n late)) (terminatorOf b (now (s .entry))) ⌝ }
 {
     if s.len() < 1 {
         return Scan::Refused(Cause::Truncated, 0);
@@ -268,47 +295,60 @@ pub fn read_terminator(
     )
 }
 
-fn then_terminator(s: &[u8], p: Scan, b: Bounds, seen: &mut [bool], buffer: &mut [u16]) -> Scan
-    ensures { λ r. ⌜ asScan r (now (seen .exit)) (now (buffer .exit)) ≡ andThen (now (s .entry)) (asScan p (now (seen .entry)) (now (buffer .entry))) (λ w t. mapParse (leaves w) (terminatorOf b t)) ⌝ }
+// A terminator from `at` on, and its row.
+fn terminator_row(s: &[u8], at: usize, slot: u16, b: Bounds, facts: &mut [u16]) -> Part
+    requires { ⌜ at ≤ length (now s) ⌝ }
+    ensures { λ r. ⌜ TerminatorRead b at slot (now (s .entry)) (asPart r) (now (facts .entry)) (now (facts .exit)) ⌝ }
 {
-    match p {
-        Scan::Refused(c, o) => Scan::Refused(c, o),
-        Scan::Used(at, n, late) => {
-            let t = form::tail(s, at);
-            match read_terminator(t, b, n, late, seen, buffer) {
-                Scan::Refused(c, o) => Scan::Refused(c, at + o),
-                Scan::Used(k, m, after) => Scan::Used(at + k, m, after),
-            }
+    let mut none: [bool; 0] = [false; 0];
+    match read_terminator(
+        form::tail(s, at),
+        b,
+        index::row_place(slot, index::READS),
+        false,
+        &mut none,
+        facts,
+    ) {
+        Scan::Refused(c, o) => Part::Refused(c, at + o),
+        Scan::Used(n, behind, _) => {
+            let end = at + n;
+            end_row(facts, slot, at, end, 0, behind);
+            Part::Used(end)
         }
     }
 }
 
-fn block_answer(p: Scan, count: u16) -> BlockRead
-    ensures { λ r. ⌜ ((seen : List Bool) (buffer : List ℕ) → asBlock r seen ≡ mapParse (λ w. record { seen = w .seen; count = count }) (asScan p seen buffer)) ⌝ }
+// The block from `at` on, and its rows from slot `first` on. `total` instructions stand in the blocks before it.
+pub fn read_block(
+    s: &[u8],
+    at: usize,
+    m: Mosts,
+    b: Bounds,
+    total: u16,
+    first: u16,
+    seen: &mut [bool],
+    facts: &mut [u16],
+) -> BlockRead
+    requires { ⌜ (at ≤ length (now s)) × (first + m .block < 65536) ⌝ }
+    ensures { λ r. ⌜ CodeRead m b total at first (now (s .entry)) (now (seen .entry))
+        (asBlock r (now (seen .exit))) (now (facts .entry)) (now (facts .exit)) ⌝ }
 {
-    match p {
-        Scan::Used(at, _, _) => BlockRead::Used(at, count),
-        Scan::Refused(c, o) => BlockRead::Refused(c, o),
-    }
-}
-
-// A block, from its instruction count on. `total` instructions stand in the blocks before it.
-pub fn read_block(s: &[u8], m: Mosts, b: Bounds, total: u16, seen: &mut [bool]) -> BlockRead
-    ensures { λ r. ⌜ asBlock r (now (seen .exit)) ≡ mapParse (passed (now (seen .entry))) (blockOf m b total (now (seen .entry)) (now (s .entry))) ⌝ }
-{
-    match wire::read_u16(s) {
-        Read16::Refused(c, o) => BlockRead::Refused(c, o),
+    match wire::read_u16(form::tail(s, at)) {
+        Read16::Refused(c, o) => BlockRead::Refused(c, at + o),
         Read16::Got(count, n) => {
             if m.block < count {
-                return BlockRead::Refused(Cause::TooMany, 0);
+                return BlockRead::Refused(Cause::TooMany, at);
             }
             if (m.all as u32) < (total as u32) + (count as u32) {
-                return BlockRead::Refused(Cause::TooMany, 0);
+                return BlockRead::Refused(Cause::TooMany, at);
             }
-            let mut none: [u16; 0] = [0; 0];
-            let p = then_instructions(s, Scan::Used(n, 0, false), count, b, seen, &mut none);
-            let q = then_terminator(s, p, b, seen, &mut none);
-            block_answer(q, count)
+            match instruction_rows(s, at + n, count, first, b, seen, facts) {
+                Part::Refused(c, o) => BlockRead::Refused(c, o),
+                Part::Used(end) => match terminator_row(s, end, first + count, b, facts) {
+                    Part::Refused(c, o) => BlockRead::Refused(c, o),
+                    Part::Used(to) => BlockRead::Used(to, count),
+                },
+            }
         }
     }
 }

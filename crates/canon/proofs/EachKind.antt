@@ -1,5 +1,5 @@
 -- The fields of each kind are written as they stood, and have a byte form.
-use Prim.Native.Nat.{ℕ, _+_, _*_, _≤_}
+use Prim.Native.Nat.{ℕ, _+_, _-_, _*_, _≤_}
 use mathlib.Core.Path.{_≡_, refl, ap, _∙_}
 use mathlib.Core.List.{List, _∷_, map}
 use mathlib.Core.Bool.{Bool, cond}
@@ -24,7 +24,7 @@ use Rattle.canon.proofs.Rows.{none, _&_, row, tag}
 
 -- the most bytes that the fields of a kind take
 abbrev pub fieldsMost : Bounds → ℕ
-fieldsMost b = 18 + (b .list * 11 + b .projections * 6)
+fieldsMost b = 18 + (b .list * 11 + (b .projections * 6 - b .list * 11))
 
 -- the return types of a Call: as many as it has dests
 returns : (b : Bounds) (seen : List Bool) (many : ℕ) → Exact (returnsOf b seen many) (listBytes typeIdBytes) (λ rs. FitList (b .list) (FitType b) rs × (length rs ≡ many)) (1 + b .list * 2)

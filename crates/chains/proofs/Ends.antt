@@ -7,23 +7,26 @@ use mathlib.Core.Option.{Option, none, some}
 use native.Mathlib.Omega.{arith}
 use lib.ListN.{length, getD, getElem?, drop, take}
 use Rattle.wire.specs.Parse.{ok}
-use Rattle.wire.specs.Number.{at16}
 use Rattle.wire.specs.declared.Literal.{Literal}
 use Rattle.wire.specs.declared.TypeId.{TypeId}
 use Rattle.wire.specs.declared.Value.{Value}
 use Rattle.wire.specs.declared.ValueId.{ValueId}
+use Rattle.wire.proofs.Canon.{bytes-drop}
 use Rattle.form.specs.Syntax.{Projection, Index, Field, Tuple, Place, Instruction, InstructionKind}
-use Rattle.form.specs.Reads.{kindNumber}
+use Rattle.form.specs.Reads.{reads, kindNumber}
 use Rattle.form.specs.Decode.{instructionOf}
 use Rattle.form.specs.declared.Bounds.{Bounds}
+use Rattle.canon.specs.WellFormed.{Wide, FitKind}
+use Rattle.canon.proofs.Instruction.{instruction}
+use Rattle.index.specs.Table.{placeIn, endIn, readIn}
 use Rattle.lookup.specs.Fields.{placeSteps, fieldsPlace, asStep, stepCount}
 use Rattle.lookup.specs.declared.Step.{Step}
 use Rattle.lookup.proofs.Instruction.{instruction-fields, instruction-stands}
-use Rattle.climb.proofs.Found.{base, load-place, store-place}
-use Rattle.eligibility.specs.Family.{placeOf}
+use Rattle.eligibility.specs.Family.{Marks}
 use Rattle.eligibility.specs.Lookup.{Types, asConstInteger}
 use Rattle.rewriting.specs.State.{AggStates, onSome, stepIndex, stepPart, chain, firstInteger, storeLast, storeDeeper, storeFrom, forwardStore}
 use Rattle.parts.specs.Rows.{InitAt}
+use Rattle.parts.specs.Here.{Here}
 use Rattle.parts.specs.declared.Init.{Init}
 use Rattle.chains.specs.Chained.{operandIn, LeadsTo, StepsAt, steps-at, held, loadedPart}
 use Rattle.chains.specs.declared.Walked.{Walked}
@@ -118,44 +121,36 @@ pub record PlaceRead (b : Bounds) (t : List ℕ) (p : Place) (at many : ℕ) : T
   pub below : at < b .next
   pub long : length (p .projections) ≡ many
 
-module _ (b : Bounds) (s t u : List ℕ) (from f : ℕ) (i : Instruction) (n : ℕ) (p : Place) (et : t ≡ drop from s) (e₀ : instructionOf b [] false (drop from s) ≡ ok i n) (eu : u ≡ drop f t) (ef : f ≡ fieldsPlace t) where
-  e : instructionOf b [] false t ≡ ok i n
-  e = ap (instructionOf b [] false) et ∙ e₀
+module _ {b : Bounds} {s facts : List ℕ} {slot : ℕ} {tracked : Marks} {rows : List ℕ} {used : ℕ} {τ : Types} {S : AggStates} {i : Instruction} (o : Here b s facts slot tracked rows used τ S i) (few-types : b .types < 65536) (few-blocks : b .blocks < 65536) {t u : List ℕ} {f : ℕ} (p : Place) (et : t ≡ drop (placeIn facts slot) s) (eu : u ≡ drop f t) (ef : f ≡ fieldsPlace t) where
+  abbrev size : ℕ
+  size = endIn facts slot - placeIn facts slot
 
-  own : u ≡ drop (fieldsPlace t) t
-  own = eu ∙ ap (λ a. drop a t) ef
+  e : instructionOf b [] false t ≡ ok i size
+  e = ap (instructionOf b [] false) et ∙ o .line .read
 
-  counted : (j : ℕ) → getD t 1 0 ≡ j → length (placeSteps (i .kind)) ≡ stepCount u j
-  counted j h = instruction-stands b [] false t i n e .stepped ∙ ap (λ a. stepCount a (getD t 1 0)) (sym own) ∙ ap (stepCount u) h
+  fits : FitKind b [] (i .kind)
+  fits = instruction b [] false .each (drop (placeIn facts slot) s) i size (bytes-drop s (placeIn facts slot) (o .ground .bytes)) (o .line .read) .good wide .1
+    where
+      wide : Wide b
+      wide = record { types = omega arith; next = omega (arith, o .ground .few); blocks = omega arith; list = omega (arith, o .ground .listed); projections = omega (arith, o .ground .projected) }
 
-  numbered : (j : ℕ) → kindNumber (i .kind) ≡ j → getD t 1 0 ≡ j
-  numbered j h = sym (instruction-fields b [] false t i n e .numbered) ∙ h
+  counted : (j : ℕ) → kindNumber (i .kind) ≡ j → length (placeSteps (i .kind)) ≡ stepCount u j
+  counted j k =
+      let own : u ≡ drop (fieldsPlace t) t = eu ∙ ap (λ a. drop a t) ef in
+      instruction-stands b [] false t i size e .stepped ∙ ap (λ a. stepCount a (getD t 1 0)) (sym own) ∙ ap (stepCount u) (sym (instruction-fields b [] false t i size e .numbered) ∙ k)
 
-  pub load-read : {d : ValueId} {y : TypeId} {at many : ℕ} → i .kind ≡ InstructionKind.Load d p y → at ≡ at16 u 2 → many ≡ getD u 4 0 → PlaceRead b t p at many
-  unfolding placeOf
+  first : {at : ℕ} (v : ValueId) (vs : List ValueId) → reads (i .kind) ≡ v ∷ vs → at ≡ readIn facts slot 0 → at ≡ v .0
+  first v vs k ea = ea ∙ o .line .reads-in .each 0 (rw k (omega arith)) ∙ ap (λ (xs : List ValueId). getD xs 0 (record { 0 = 0 }) .0) k
+
+  pub load-read : {d : ValueId} {y : TypeId} {at many : ℕ} → i .kind ≡ InstructionKind.Load d p y → at ≡ readIn facts slot 0 → many ≡ getD u 4 0 → PlaceRead b t p at many
   load-read {d} {y} {at} {many} k ea em =
-      let five : getD t 1 0 ≡ 5 = numbered 5 (ap kindNumber k) in
-      let ps : placeSteps (i .kind) ≡ p .projections = ap placeSteps k in
-      elim (load-place b [] false t i n e five) [
-        | base x g h m l ↦
-            let w : some x ≡ some p = sym g ∙ ap placeOf k in
-            let z : x ≡ p = cc in
-            let here : at ≡ x .base .0 = ea ∙ ap (λ a. at16 a 2) own ∙ sym m in
-            record { steps = steps-at i n e ps; based = here ∙ ap (λ (a : Place). a .base .0) z; below = rw here l; long = sym (ap length ps) ∙ counted 5 five ∙ sym em }
-      ]
+      let z : at ≡ p .base .0 = first (p .base) _ (ap reads k) ea in
+      record { steps = steps-at i size e (ap placeSteps k); based = z; below = rw z ((rw k at fits) .1 .0); long = sym (ap (λ j. length (placeSteps j)) k) ∙ counted 5 (ap kindNumber k) ∙ sym em }
 
-  pub store-read : {x : Value} {y : TypeId} {at many : ℕ} → i .kind ≡ InstructionKind.Store p x y → at ≡ at16 u 0 → many ≡ getD u 2 0 → PlaceRead b t p at many
-  unfolding placeOf
+  pub store-read : {x : Value} {y : TypeId} {at many : ℕ} → i .kind ≡ InstructionKind.Store p x y → at ≡ readIn facts slot 0 → many ≡ getD u 2 0 → PlaceRead b t p at many
   store-read {x} {y} {at} {many} k ea em =
-      let six : getD t 1 0 ≡ 6 = numbered 6 (ap kindNumber k) in
-      let ps : placeSteps (i .kind) ≡ p .projections = ap placeSteps k in
-      elim (store-place b [] false t i n e six) [
-        | base x′ g h m l ↦
-            let w : some x′ ≡ some p = sym g ∙ ap placeOf k in
-            let z : x′ ≡ p = cc in
-            let here : at ≡ x′ .base .0 = ea ∙ ap (λ a. at16 a 0) own ∙ sym m in
-            record { steps = steps-at i n e ps; based = here ∙ ap (λ (a : Place). a .base .0) z; below = rw here l; long = sym (ap length ps) ∙ counted 6 six ∙ sym em }
-      ]
+      let z : at ≡ p .base .0 = first (p .base) _ (ap reads k) ea in
+      record { steps = steps-at i size e (ap placeSteps k); based = z; below = rw z ((rw k at fits) .0 .0); long = sym (ap (λ j. length (placeSteps j)) k) ∙ counted 6 (ap kindNumber k) ∙ sym em }
 
 -- the last projection
 pub data LastOf (ps : List Projection) (last : ℕ) : Type 0 where

@@ -5,8 +5,8 @@ use mathlib.Core.List.{List, [], _∷_}
 use mathlib.Core.Bool.{Bool, true, false, cond}
 use mathlib.Core.Option.{Option, none, some}
 use native.Mathlib.Omega.{arith}
-use borrow.Author.Tests.{ltb-true, ltb-false}
-use lib.ListN.{length, getD, getElem?, drop, set, drop-of-length-le}
+use borrow.Author.Tests.{ltb-false}
+use lib.ListN.{length, getD, getElem?, drop, set}
 use lib.Seq.{drop-drop}
 use lib.Dec.{ltb}
 use Rattle.wire.specs.Parse.{ok}
@@ -14,7 +14,6 @@ use Rattle.wire.specs.Value.{valueOf}
 use Rattle.wire.specs.declared.TypeId.{TypeId}
 use Rattle.wire.specs.declared.Value.{Value}
 use Rattle.wire.specs.declared.ValueId.{ValueId}
-use Rattle.wire.proofs.Inv.{no-ok}
 use Rattle.form.specs.Syntax.{Projection, Place, Instruction, InstructionKind}
 use Rattle.form.specs.Reads.{kindNumber}
 use Rattle.form.specs.Decode.{instructionOf, bit}
@@ -46,26 +45,14 @@ at-most false n = omega arith
 pub fields-near : (s : List ℕ) → fieldsPlace s ≤ 26
 fields-near s = omega (arith, at-most (bit 0 (getD s 0 0)) 8, at-most (bit 1 (getD s 0 0)) 12, at-most (bit 2 (getD s 0 0)) 4)
 
--- a value stands within the bytes
-value-within : (next : ℕ) (s : List ℕ) (p : ℕ) {x : Value} {n : ℕ} → valueOf next (drop p s) ≡ ok x n → p ≤ length s
-unfolding valueOf
-value-within next s p {x} {n} e = go (ltb (length s) p) refl
-  where
-    go : (b : Bool) → ltb (length s) p ≡ b → p ≤ length s
-    go true h =
-        let l = ltb-true (length s) p h in
-        let m : length s ≤ p = omega arith in
-        absurd (no-ok (sym (ap (valueOf next) (drop-of-length-le s m)) ∙ e))
-    go false h = ltb-false (length s) p h
-
 -- the first of a list
 first-listed : {A : Type 0} {Q : ℕ → A → Type 0} {end : ℕ → ℕ} {p : ℕ} {xs : List A} (x : A) → Listed Q end p xs → xs ≡ x ∷ [] → Q p x
 first-listed {xs} x empty e = absurd (let z : _≡_ {A = ℕ} 0 1 = ap length e in omega arith)
 first-listed {Q} {p} x (_&_ {x = y} {xs = ys} q qs) e = let z : y ≡ x = cc in rw z at q
 
 -- the value of the Store at a place of s: t is the instruction, u its own fields
-pub stored-value : (b : Bounds) (s t u : List ℕ) (from f many far : ℕ) (i : Instruction) (n : ℕ) (p : Place) (x : Value) (y : TypeId) {r : ℕ} → t ≡ drop from s → f ≡ fieldsPlace t → u ≡ drop f t → many ≡ getD u 2 0 → far ≡ after (projectionEnd u) many 3 → (from + (f + far) ≤ length s → r ≡ from + (f + far)) → instructionOf b [] false (drop from s) ≡ ok i n → i .kind ≡ InstructionKind.Store p x y → ValueAt (b .next) s r x
-stored-value b s t u from f many far i n p x y {r} et ef eu em ea g e k =
+pub stored-value : (b : Bounds) (s t u : List ℕ) (from f many far : ℕ) (i : Instruction) (n : ℕ) (p : Place) (x : Value) (y : TypeId) → t ≡ drop from s → f ≡ fieldsPlace t → u ≡ drop f t → many ≡ getD u 2 0 → far ≡ after (projectionEnd u) many 3 → instructionOf b [] false (drop from s) ≡ ok i n → i .kind ≡ InstructionKind.Store p x y → ValueAt (b .next) s (from + f + far) x
+stored-value b s t u from f many far i n p x y et ef eu em ea e k =
     let e′ : instructionOf b [] false t ≡ ok i n = ap (instructionOf b [] false) et ∙ e in
     let six : getD t 1 0 ≡ 6 = sym (instruction-fields b [] false t i n e′ .numbered) ∙ ap kindNumber k in
     let own : drop (fieldsPlace t) t ≡ u = sym (eu ∙ ap (λ a. drop a t) ef) in
@@ -73,15 +60,14 @@ stored-value b s t u from f many far i n p x y {r} et ef eu em ea g e k =
     let here : At (valueOf (b .next)) u (after (projectionEnd u) (getD u 2 0) 3) x = first-listed x (w .operands) (ap operandFields k) in
     elim here [
       | at m h ↦
-          let there : drop (after (projectionEnd u) (getD u 2 0) 3) u ≡ drop (from + (f + far)) s =
-          ap (λ a. drop a u) (sym (ea ∙ ap (λ a. after (projectionEnd u) a 3) em)) ∙ ap (drop far) (eu ∙ ap (drop f) et) ∙ drop-drop far f (drop from s) ∙ drop-drop (f + far) from s in
-          let h′ : valueOf (b .next) (drop (from + (f + far)) s) ≡ ok x m = sym (ap (valueOf (b .next)) there) ∙ h in
-          let z : r ≡ from + (f + far) = g (value-within (b .next) s (from + (f + far)) h′) in
-          stands m (rw z h′)
+          let there : drop (after (projectionEnd u) (getD u 2 0) 3) u ≡ drop (from + f + far) s =
+          ap (λ a. drop a u) (sym (ea ∙ ap (λ a. after (projectionEnd u) a 3) em)) ∙ ap (drop far) (eu ∙ ap (drop f) et) ∙ ap (drop far) (drop-drop f from s) ∙ drop-drop far (from + f) s in
+          let h′ : valueOf (b .next) (drop (from + f + far) s) ≡ ok x m = sym (ap (valueOf (b .next)) there) ∙ h in
+          stands m h′
     ]
 
 -- nothing is forwarded
-pub forwards-none : {next : ℕ} {s : List ℕ} {tracked : Marks} {firsts pool : List ℕ} {used : ℕ} {S : AggStates} {o : Option AggStates} → o ≡ none → Rep next s tracked firsts pool used S → Forwards next s S o tracked firsts pool (record { forwarded = false; used = used })
+pub forwards-none : {next : ℕ} {s : List ℕ} {tracked : Marks} {rows : List ℕ} {used : ℕ} {S : AggStates} {o : Option AggStates} → o ≡ none → Rep next s tracked rows used S → Forwards next s S o tracked rows (record { forwarded = false; used = used })
 unfolding statesAfter isSome
 forwards-none e r = record { told = rw e; rep = rw e r }
 
@@ -99,13 +85,13 @@ module _ (S : AggStates) (v : ValueId) (k : ℕ) (y : Value) {h : Bool} (e : h �
           rw (g, w)
 
   -- the part
-  pub store-replaced : {next : ℕ} {s : List ℕ} {tracked : Marks} {firsts pool : List ℕ} {more : ℕ} → h ≡ true → ((xs ys : List Value) → S (v .0) ≡ some xs → replaced xs k y ≡ some ys → Rep next s tracked firsts pool more (insertState S v ys)) → Forwards next s S (storePart S v k y) tracked firsts pool (record { forwarded = true; used = more })
+  pub store-replaced : {next : ℕ} {s : List ℕ} {tracked : Marks} {rows : List ℕ} {more : ℕ} → h ≡ true → ((xs ys : List Value) → S (v .0) ≡ some xs → replaced xs k y ≡ some ys → Rep next s tracked rows more (insertState S v ys)) → Forwards next s S (storePart S v k y) tracked rows (record { forwarded = true; used = more })
   unfolding storePart onSome statesAfter isSome
   store-replaced {next} {s} f w =
       elim (has-part (S (v .0)) k (sym e ∙ f)) [
         | has xs g l ↦
             let z : replaced xs k y ≡ some (set xs k y) = replaced-set xs k y l in
-            let r : Rep next s _ _ _ _ (insertState S v (set xs k y)) = w xs (set xs k y) g z in
+            let r : Rep next s _ _ _ (insertState S v (set xs k y)) = w xs (set xs k y) g z in
             let o : storePart S v k y ≡ some (insertState S v (set xs k y)) = rw (g, z) in
             record { told = rw o; rep = rw o r }
       ]
@@ -137,7 +123,7 @@ module _ {b : Bounds} {t : List ℕ} (τ : Types) (S : AggStates) (p : Place) (y
         ]
 
     -- an operand does
-    pub store-ends : {s : List ℕ} {tracked : Marks} {firsts pool : List ℕ} {o : Forwarded} (v : ValueId) {w : Walked} → LeadsTo (b .next) (held τ S (record { 0 = at }) (p .projections) (many - 1)) w → w ≡ Walked.Operand v → (j : Step) → asStep j ≡ getElem? (p .projections) (many - 1) → ((q : Projection) → v .0 < b .next → asStep j ≡ some q → Forwards (b .next) s S (storeLast τ S (Value.Operand v) q y) tracked firsts pool o) → Forwards (b .next) s S (forwardStore τ S p y) tracked firsts pool o
+    pub store-ends : {s : List ℕ} {tracked : Marks} {rows : List ℕ} {o : Forwarded} (v : ValueId) {w : Walked} → LeadsTo (b .next) (held τ S (record { 0 = at }) (p .projections) (many - 1)) w → w ≡ Walked.Operand v → (j : Step) → asStep j ≡ getElem? (p .projections) (many - 1) → ((q : Projection) → v .0 < b .next → asStep j ≡ some q → Forwards (b .next) s S (storeLast τ S (Value.Operand v) q y) tracked rows o) → Forwards (b .next) s S (forwardStore τ S p y) tracked rows o
     unfolding onSome
     store-ends v to f j look step =
         let l = last-long (p .projections) (r .long) h in
@@ -150,5 +136,5 @@ module _ {b : Bounds} {t : List ℕ} (τ : Types) (S : AggStates) (p : Place) (y
         ]
 
 -- both facts of a Store's answer
-pub both-facts : {next : ℕ} {s : List ℕ} {tracked : Marks} {firsts pool : List ℕ} {S : AggStates} {o : Option AggStates} {r : Forwarded} → Forwards next s S o tracked firsts pool r → (r .forwarded ≡ isSome o) × Rep next s tracked firsts pool (r .used) (statesAfter S o)
+pub both-facts : {next : ℕ} {s : List ℕ} {tracked : Marks} {rows : List ℕ} {S : AggStates} {o : Option AggStates} {r : Forwarded} → Forwards next s S o tracked rows r → (r .forwarded ≡ isSome o) × Rep next s tracked rows (r .used) (statesAfter S o)
 both-facts f = (f .told, f .rep)

@@ -72,19 +72,19 @@ next-of (p ∷ ps) (suc k) (suc i) h l =
     ]
 
 -- i of k projections are behind, and v is the operand that they lead to
-pub record Going (b : Bounds) (s t types recorded : List ℕ) (tracked : Marks) (firsts pool : List ℕ) (base : ValueId) (k v i : ℕ) : Type 0 where
+pub record Going (b : Bounds) (s t facts : List ℕ) (tracked : Marks) (rows : List ℕ) (base : ValueId) (k v i : ℕ) : Type 0 where
   pub under : i ≤ k
-  pub below : (τ : Types) (S : AggStates) (ps : List Projection) → Walking b s types recorded tracked firsts pool τ S → StepsAt b t ps → base .0 < b .next → k ≤ length ps → v < b .next
-  pub left : (τ : Types) (S : AggStates) (ps : List Projection) → Walking b s types recorded tracked firsts pool τ S → StepsAt b t ps → base .0 < b .next → k ≤ length ps → chain τ S (Value.Operand base) (take k ps) ≡ chain τ S (Value.Operand (record { 0 = v })) (take (k - i) (drop i ps))
+  pub below : (τ : Types) (S : AggStates) (ps : List Projection) → Walking b s facts tracked rows τ S → StepsAt b t ps → base .0 < b .next → k ≤ length ps → v < b .next
+  pub left : (τ : Types) (S : AggStates) (ps : List Projection) → Walking b s facts tracked rows τ S → StepsAt b t ps → base .0 < b .next → k ≤ length ps → chain τ S (Value.Operand base) (take k ps) ≡ chain τ S (Value.Operand (record { 0 = v })) (take (k - i) (drop i ps))
 
-module _ {b : Bounds} {s t types recorded : List ℕ} {tracked : Marks} {firsts pool : List ℕ} {base : ValueId} {k : ℕ} where
+module _ {b : Bounds} {s t facts : List ℕ} {tracked : Marks} {rows : List ℕ} {base : ValueId} {k : ℕ} where
   -- none is yet
-  pub going : Going b s t types recorded tracked firsts pool base k (base .0) 0
+  pub going : Going b s t facts tracked rows base k (base .0) 0
   going = record { under = zero-le; below = λ τ S ps w a h l. h; left = λ τ S ps w a h l. rw sub-zero }
 
-  module _ {v i : ℕ} (o : Going b s t types recorded tracked firsts pool base k v i) (h : i < k) (p : Step) (look : (ps : List Projection) → StepsAt b t ps → asStep p ≡ getElem? ps i) {r : Walked} (step : (τ : Types) (S : AggStates) (q : Projection) → Walking b s types recorded tracked firsts pool τ S → v < b .next → asStep p ≡ some q → LeadsTo (b .next) (stepPart τ S (Value.Operand (record { 0 = v })) q) r) where
+  module _ {v i : ℕ} (o : Going b s t facts tracked rows base k v i) (h : i < k) (p : Step) (look : (ps : List Projection) → StepsAt b t ps → asStep p ≡ getElem? ps i) {r : Walked} (step : (τ : Types) (S : AggStates) (q : Projection) → Walking b s facts tracked rows τ S → v < b .next → asStep p ≡ some q → LeadsTo (b .next) (stepPart τ S (Value.Operand (record { 0 = v })) q) r) where
     -- one more
-    pub going-more : (w : ValueId) → r ≡ Walked.Operand w → Going b s t types recorded tracked firsts pool base k (w .0) (i + 1)
+    pub going-more : (w : ValueId) → r ≡ Walked.Operand w → Going b s t facts tracked rows base k (w .0) (i + 1)
     unfolding chain onSome
     going-more w e =
         record {
@@ -100,7 +100,7 @@ module _ {b : Bounds} {s t types recorded : List ℕ} {tracked : Marks} {firsts 
         }
 
     -- no operand
-    pub going-ends : r ≡ Walked.Nothing → (τ : Types) (S : AggStates) (ps : List Projection) → Walking b s types recorded tracked firsts pool τ S → StepsAt b t ps → base .0 < b .next → k ≤ length ps → LeadsTo (b .next) (chain τ S (Value.Operand base) (take k ps)) Walked.Nothing
+    pub going-ends : r ≡ Walked.Nothing → (τ : Types) (S : AggStates) (ps : List Projection) → Walking b s facts tracked rows τ S → StepsAt b t ps → base .0 < b .next → k ≤ length ps → LeadsTo (b .next) (chain τ S (Value.Operand base) (take k ps)) Walked.Nothing
     unfolding chain
     going-ends e τ S ps a c d l =
         elim (next-of ps k i h l) [
@@ -114,7 +114,7 @@ module _ {b : Bounds} {s t types recorded : List ℕ} {tracked : Marks} {firsts 
         ]
 
   -- all are behind
-  pub going-done : {v i : ℕ} → Going b s t types recorded tracked firsts pool base k v i → k ≤ i → (τ : Types) (S : AggStates) (ps : List Projection) → Walking b s types recorded tracked firsts pool τ S → StepsAt b t ps → base .0 < b .next → k ≤ length ps → LeadsTo (b .next) (chain τ S (Value.Operand base) (take k ps)) (Walked.Operand (record { 0 = v }))
+  pub going-done : {v i : ℕ} → Going b s t facts tracked rows base k v i → k ≤ i → (τ : Types) (S : AggStates) (ps : List Projection) → Walking b s facts tracked rows τ S → StepsAt b t ps → base .0 < b .next → k ≤ length ps → LeadsTo (b .next) (chain τ S (Value.Operand base) (take k ps)) (Walked.Operand (record { 0 = v }))
   unfolding chain
   going-done {v} {i} o h τ S ps a c d l =
       let n : k - i ≡ 0 = omega arith in

@@ -10,16 +10,21 @@ use Rattle.wire.specs.Parse.{ok}
 use Rattle.wire.specs.declared.Literal.{Literal}
 use Rattle.wire.specs.declared.Value.{Value}
 use Rattle.wire.specs.declared.ValueId.{ValueId}
-use Rattle.form.specs.Syntax.{Projection, Index, Field, Tuple, Place, Instruction}
+use Rattle.wire.specs.declared.TypeId.{TypeId}
+use Rattle.form.specs.Syntax.{Projection, Index, Field, Tuple, Place, Instruction, InstructionKind}
 use Rattle.form.specs.Decode.{instructionOf}
 use Rattle.form.specs.declared.Bounds.{Bounds}
-use Rattle.lookup.specs.Fields.{placeSteps}
+use Rattle.index.specs.Table.{recordedIn}
+use Rattle.lookup.specs.Fields.{placeSteps, asStep}
+use Rattle.lookup.specs.declared.Step.{Step}
 use Rattle.eligibility.specs.Climb.{isSome}
 use Rattle.eligibility.specs.Lookup.{Types}
 use Rattle.eligibility.specs.Family.{Marks}
-use Rattle.rewriting.specs.State.{AggStates, onSome, chain, firstInteger}
-use Rattle.parts.specs.Rows.{Rep}
-use Rattle.progress.specs.Ground.{Ground}
+use Rattle.eligibility.specs.Tables.{Ground}
+use Rattle.rewriting.specs.State.{AggStates, onSome, chain, firstInteger, stepPart, storePart, storeLast, forwardStore}
+use Rattle.parts.specs.Rows.{ValueAt, Rep, Room, InitAt}
+use Rattle.parts.specs.Here.{Here}
+use Rattle.parts.specs.declared.Init.{Init}
 use Rattle.chains.specs.declared.Position.{Position}
 use Rattle.chains.specs.declared.Walked.{Walked}
 use Rattle.chains.specs.declared.Forwarded.{Forwarded}
@@ -53,15 +58,34 @@ abbrev pub hasPart : Option (List Value) → ℕ → Bool
 hasPart none k = false
 hasPart (some xs) k = ltb k (length xs)
 
--- what a walk looks at: the bytes, the tables beside them and the tables of tracked values
-pub record Walking (b : Bounds) (s types recorded : List ℕ) (tracked : Marks) (firsts pool : List ℕ) (τ : Types) (S : AggStates) : Type 0 where
-  pub ground : Ground b s types recorded τ
+-- what a walk looks at: the bytes, the table of facts and the tables of tracked values
+pub record Walking (b : Bounds) (s facts : List ℕ) (tracked : Marks) (rows : List ℕ) (τ : Types) (S : AggStates) : Type 0 where
+  pub ground : Ground b s facts (recordedIn facts) τ
   pub used : ℕ
-  pub rep : Rep (b .next) s tracked firsts pool used S
+  pub rep : Rep (b .next) s tracked rows used S
 
 -- an accepted instruction stands at the head of t, and ps are its projections
 pub data StepsAt (b : Bounds) (t : List ℕ) (ps : List Projection) : Type 0 where
   steps-at : (i : Instruction) (n : ℕ) → instructionOf b [] false t ≡ ok i n → placeSteps (i .kind) ≡ ps → StepsAt b t ps
+
+-- so it is with the part of v that a projection names
+abbrev pub OfStep : Bounds → List ℕ → List ℕ → Marks → List ℕ → ValueId → Step → (Option Value → Type 0) → Type 0
+OfStep b s facts tracked rows v p So =
+    (τ : Types) (S : AggStates) (q : Projection)
+    → Walking b s facts tracked rows τ S
+    → v .0 < b .next
+    → asStep p ≡ some q
+    → So (stepPart τ S (Value.Operand v) q)
+
+-- a walk from `base` on, by the projections ps of the instruction t, of which there are enough, comes to `end`
+abbrev pub OfSteps : Bounds → List ℕ → List ℕ → List ℕ → Marks → List ℕ → ValueId → Walked → (List Projection → Type 0) → (Types → AggStates → List Projection → Option Value) → Type 0
+OfSteps b s facts t tracked rows base r Enough end =
+    (τ : Types) (S : AggStates) (ps : List Projection)
+    → Walking b s facts tracked rows τ S
+    → StepsAt b t ps
+    → base .0 < b .next
+    → Enough ps
+    → LeadsTo (b .next) (end τ S ps) r
 
 -- an Index by an Integer literal
 abbrev pub integerStep : Option Projection → Bool
@@ -88,6 +112,45 @@ statesAfter S none = S
 statesAfter S (some S′) = S′
 
 -- a Store's answer: whether it is forwarded, and the tables hold the states behind it
-pub record Forwards (next : ℕ) (s : List ℕ) (S : AggStates) (o : Option AggStates) (tracked : Marks) (firsts pool : List ℕ) (r : Forwarded) : Type 0 where
+pub record Forwards (next : ℕ) (s : List ℕ) (S : AggStates) (o : Option AggStates) (tracked : Marks) (rows : List ℕ) (r : Forwarded) : Type 0 where
   pub told : r .forwarded ≡ isSome o
-  pub rep : Rep next s tracked firsts pool (r .used) (statesAfter S o)
+  pub rep : Rep next s tracked rows (r .used) (statesAfter S o)
+
+-- the Load in a slot: the part that it takes
+abbrev pub PartLoaded : Bounds → List ℕ → List ℕ → ℕ → Marks → List ℕ → Init → Type 0
+PartLoaded b s facts slot tracked rows r =
+    (τ : Types) (S : AggStates) (used : ℕ) (i : Instruction) (d : ValueId) (p : Place) (y : TypeId)
+    → Here b s facts slot tracked rows used τ S i
+    → i .kind ≡ InstructionKind.Load d p y
+    → InitAt (b .next) s (loadedPart τ S p) r
+
+-- part k of v is the value at a place
+abbrev pub PartStored : ValueId → ℕ → ℕ → Marks → List ℕ → ℕ → Marks → List ℕ → Forwarded → Type 0
+PartStored v k place tracked rows used tracked′ rows′ r =
+    (next : ℕ) (s : List ℕ) (S : AggStates) (y : Value)
+    → Rep next s tracked rows used S
+    → Room rows used
+    → v .0 < 256
+    → ValueAt next s place y
+    → Forwards next s S (storePart S v k y) tracked′ rows′ r
+
+-- the part of v that a projection names is the value at a place
+abbrev pub LastStored : Bounds → List ℕ → List ℕ → ValueId → Step → ℕ → Marks → List ℕ → ℕ → Marks → List ℕ → Forwarded → Type 0
+LastStored b s facts v p place tracked rows used tracked′ rows′ r =
+    (τ : Types) (S : AggStates) (q : Projection) (y : Value)
+    → Ground b s facts (recordedIn facts) τ
+    → Rep (b .next) s tracked rows used S
+    → Room rows used
+    → v .0 < b .next
+    → asStep p ≡ some q
+    → ValueAt (b .next) s place y
+    → Forwards (b .next) s S (storeLast τ S (Value.Operand v) q y) tracked′ rows′ r
+
+-- the Store in a slot: whether it is forwarded, and the states behind it
+abbrev pub StoreForwarded : Bounds → List ℕ → List ℕ → ℕ → Marks → List ℕ → ℕ → Marks → List ℕ → Forwarded → Type 0
+StoreForwarded b s facts slot tracked rows used tracked′ rows′ r =
+    (τ : Types) (S : AggStates) (i : Instruction) (p : Place) (x : Value) (y : TypeId)
+    → Here b s facts slot tracked rows used τ S i
+    → Room rows used
+    → i .kind ≡ InstructionKind.Store p x y
+    → (r .forwarded ≡ isSome (forwardStore τ S p x)) × Rep (b .next) s tracked′ rows′ (r .used) (statesAfter S (forwardStore τ S p x))

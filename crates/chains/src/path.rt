@@ -18,10 +18,10 @@ ghost use Rattle.wire.specs.declared.Value.{Value as AnyValue};
 ghost use Rattle.form.specs.Syntax.{Projection};
 ghost use Rattle.lookup.specs.Fields.{asStep};
 ghost use Rattle.eligibility.specs.Lookup.{Types, asConstInteger};
-ghost use Rattle.rewriting.specs.State.{AggStates, stepIndex, stepPart, chain};
+ghost use Rattle.eligibility.specs.Tables.{Ground};
+ghost use Rattle.rewriting.specs.State.{AggStates, stepIndex, chain};
 ghost use Rattle.parts.specs.Rows.{ValueAt, Rep, InitAt};
-ghost use Rattle.progress.specs.Ground.{Ground};
-ghost use Rattle.chains.specs.Chained.{asPosition, LeadsTo, hasPart, partAt, Walking, StepsAt, integerStep, held};
+ghost use Rattle.chains.specs.Chained.{asPosition, LeadsTo, hasPart, partAt, OfStep, OfSteps, integerStep, held};
 
 // value.rs, `as_const_integer`.
 fn const_integer(x: Value) -> Position
@@ -42,12 +42,13 @@ fn const_integer(x: Value) -> Position
 pub fn step_index(
     s: &[u8],
     b: Bounds,
-    types: &[usize],
+    types: &[u16],
     recorded: &[u16],
     v: ValueId,
     p: Step,
 ) -> Position
-    ensures { λ r. ⌜ ((τ : Types) (q : Projection) → Ground b (now (s .entry)) (now (types .entry)) (now (recorded .entry)) τ → v .0 < b .next → asStep p ≡ some q → asPosition r ≡ stepIndex τ v q) ⌝ }
+    ensures { λ r. ⌜ ((τ : Types) (q : Projection) → Ground b (now (s .entry)) (now (types .entry)) (now (recorded .entry)) τ → v .0 < b .next
+        → asStep p ≡ some q → asPosition r ≡ stepIndex τ v q) ⌝ }
 {
     match p {
         Step::Index(x) => const_integer(x),
@@ -58,18 +59,20 @@ pub fn step_index(
 }
 
 // A value is tracked and has part `k`.
-pub fn has_part(tracked: &[bool], firsts: &[u16], pool: &[usize], v: ValueId, k: u32) -> bool
-    ensures { λ r. ⌜ ((next : ℕ) (s : List ℕ) (used : ℕ) (S : AggStates) → Rep next s (now (tracked .entry)) (now (firsts .entry)) (now (pool .entry)) used S → r ≡ hasPart (S (v .0)) k) ⌝ }
+pub fn has_part(tracked: &[bool], rows: &[u16], v: ValueId, k: u32) -> bool
+    ensures { λ r. ⌜ ((next : ℕ) (s : List ℕ) (used : ℕ) (S : AggStates) → Rep next s (now (tracked .entry)) (now (rows .entry)) used S
+        → r ≡ hasPart (S (v .0)) k) ⌝ }
 {
     if !parts::tracked(tracked, v) {
         return false;
     }
-    k < parts::part_count(firsts, pool, v) as u32
+    k < parts::part_count(rows, v) as u32
 }
 
 // A value's part at a position, where it is tracked and has that part.
-fn part_at(tracked: &[bool], firsts: &[u16], pool: &[usize], v: ValueId, q: Position) -> Init
-    ensures { λ r. ⌜ ((next : ℕ) (s : List ℕ) (used : ℕ) (S : AggStates) → Rep next s (now (tracked .entry)) (now (firsts .entry)) (now (pool .entry)) used S → InitAt next s (partAt S v (asPosition q)) r) ⌝ }
+fn part_at(tracked: &[bool], rows: &[u16], v: ValueId, q: Position) -> Init
+    ensures { λ r. ⌜ ((next : ℕ) (s : List ℕ) (used : ℕ) (S : AggStates) → Rep next s (now (tracked .entry)) (now (rows .entry)) used S
+        → InitAt next s (partAt S v (asPosition q)) r) ⌝ }
 {
     match q {
         Position::Nothing => Init {
@@ -77,10 +80,10 @@ fn part_at(tracked: &[bool], firsts: &[u16], pool: &[usize], v: ValueId, q: Posi
             place: 0,
         },
         Position::At(k) => {
-            if has_part(tracked, firsts, pool, v, k) {
+            if has_part(tracked, rows, v, k) {
                 return Init {
                     given: true,
-                    place: parts::part_place(firsts, pool, v, k),
+                    place: parts::part_place(rows, v, k),
                 };
             }
             Init {
@@ -95,22 +98,20 @@ fn part_at(tracked: &[bool], firsts: &[u16], pool: &[usize], v: ValueId, q: Posi
 pub fn step_part(
     s: &[u8],
     b: Bounds,
-    types: &[usize],
-    recorded: &[u16],
+    facts: &[u16],
     tracked: &[bool],
-    firsts: &[u16],
-    pool: &[usize],
+    rows: &[u16],
     v: ValueId,
     p: Step,
 ) -> Init
-    ensures { λ r. ⌜ ((τ : Types) (S : AggStates) (q : Projection) → Walking b (now (s .entry)) (now (types .entry)) (now (recorded .entry)) (now (tracked .entry)) (now (firsts .entry)) (now (pool .entry)) τ S → v .0 < b .next → asStep p ≡ some q → InitAt (b .next) (now (s .entry)) (stepPart τ S (AnyValue.Operand v) q) r) ⌝ }
+    ensures { λ r. ⌜ OfStep b (now (s .entry)) (now (facts .entry)) (now (tracked .entry)) (now (rows .entry)) v p
+        (λ x. InitAt (b .next) (now (s .entry)) x r) ⌝ }
 {
     part_at(
         tracked,
-        firsts,
-        pool,
+        rows,
         v,
-        step_index(s, b, types, recorded, v, p),
+        step_index(s, b, facts, index::recorded(facts), v, p),
     )
 }
 
@@ -132,17 +133,15 @@ fn operand_at(s: &[u8], at: usize, next: u16) -> Walked
 fn step_operand(
     s: &[u8],
     b: Bounds,
-    types: &[usize],
-    recorded: &[u16],
+    facts: &[u16],
     tracked: &[bool],
-    firsts: &[u16],
-    pool: &[usize],
+    rows: &[u16],
     v: ValueId,
     p: Step,
 ) -> Walked
-    ensures { λ r. ⌜ ((τ : Types) (S : AggStates) (q : Projection) → Walking b (now (s .entry)) (now (types .entry)) (now (recorded .entry)) (now (tracked .entry)) (now (firsts .entry)) (now (pool .entry)) τ S → v .0 < b .next → asStep p ≡ some q → LeadsTo (b .next) (stepPart τ S (AnyValue.Operand v) q) r) ⌝ }
+    ensures { λ r. ⌜ OfStep b (now (s .entry)) (now (facts .entry)) (now (tracked .entry)) (now (rows .entry)) v p (λ x. LeadsTo (b .next) x r) ⌝ }
 {
-    let part = step_part(s, b, types, recorded, tracked, firsts, pool, v, p);
+    let part = step_part(s, b, facts, tracked, rows, v, p);
     if !part.given {
         return Walked::Nothing;
     }
@@ -154,21 +153,20 @@ fn walk(
     s: &[u8],
     t: &[u8],
     b: Bounds,
-    types: &[usize],
-    recorded: &[u16],
+    facts: &[u16],
     tracked: &[bool],
-    firsts: &[u16],
-    pool: &[usize],
+    rows: &[u16],
     base: ValueId,
     k: u8,
 ) -> Walked
-    ensures { λ r. ⌜ ((τ : Types) (S : AggStates) (ps : List Projection) → Walking b (now (s .entry)) (now (types .entry)) (now (recorded .entry)) (now (tracked .entry)) (now (firsts .entry)) (now (pool .entry)) τ S → StepsAt b (now (t .entry)) ps → base .0 < b .next → k ≤ length ps → LeadsTo (b .next) (chain τ S (AnyValue.Operand base) (take k ps)) r) ⌝ }
+    ensures { λ r. ⌜ OfSteps b (now (s .entry)) (now (facts .entry)) (now (t .entry)) (now (tracked .entry)) (now (rows .entry)) base r
+        (λ ps. k ≤ length ps) (λ τ S ps. chain τ S (AnyValue.Operand base) (take k ps)) ⌝ }
 {
     let mut v = base.0;
     let mut i: u8 = 0;
     while i < k {
         let p = lookup::projection(t, b, i);
-        match step_operand(s, b, types, recorded, tracked, firsts, pool, ValueId(v), p) {
+        match step_operand(s, b, facts, tracked, rows, ValueId(v), p) {
             Walked::Nothing => return Walked::Nothing,
             Walked::Operand(w) => {
                 v = w.0;
@@ -204,18 +202,17 @@ pub fn holder(
     s: &[u8],
     t: &[u8],
     b: Bounds,
-    types: &[usize],
-    recorded: &[u16],
+    facts: &[u16],
     tracked: &[bool],
-    firsts: &[u16],
-    pool: &[usize],
+    rows: &[u16],
     base: ValueId,
     last: u8,
 ) -> Walked
-    ensures { λ r. ⌜ ((τ : Types) (S : AggStates) (ps : List Projection) → Walking b (now (s .entry)) (now (types .entry)) (now (recorded .entry)) (now (tracked .entry)) (now (firsts .entry)) (now (pool .entry)) τ S → StepsAt b (now (t .entry)) ps → base .0 < b .next → length ps ≡ last + 1 → LeadsTo (b .next) (held τ S base ps last) r) ⌝ }
+    ensures { λ r. ⌜ OfSteps b (now (s .entry)) (now (facts .entry)) (now (t .entry)) (now (tracked .entry)) (now (rows .entry)) base r
+        (λ ps. length ps ≡ last + 1) (λ τ S ps. held τ S base ps last) ⌝ }
 {
     if is_integer(lookup::projection(t, b, 0)) {
-        return walk(s, t, b, types, recorded, tracked, firsts, pool, base, last);
+        return walk(s, t, b, facts, tracked, rows, base, last);
     }
     Walked::Nothing
 }

@@ -1,74 +1,76 @@
--- A block without builds: the loop that looks for one.
-use Prim.Native.Nat.{ℕ, suc, _+_, _-_, _≤_, _<_}
-use mathlib.Core.Path.{_≡_, refl, sym}
+-- Slots without builds: the loop that looks for one, and what it says of blocks.
+use Prim.Native.Nat.{ℕ, zero, suc, _+_, _≤_, _<_}
+use mathlib.Core.Path.{_≡_, refl, _∙_, sym}
 use mathlib.Core.List.{List}
-use mathlib.Core.Bool.{Bool, true, false, _||_}
+use mathlib.Core.Bool.{Bool, true, false}
 use mathlib.Core.Option.{some}
+use native.Mathlib.Nat.{le-refl, le-trans}
 use native.Mathlib.Omega.{arith}
 use borrow.Author.Tests.{eqb-true, eqb-false}
-use lib.ListN.{length, getD, drop}
+use lib.ListN.{length, getD}
 use lib.Dec.{eqb}
 use Rattle.wire.specs.declared.ValueId.{ValueId}
 use Rattle.form.specs.Syntax.{Instruction, Block}
 use Rattle.form.specs.declared.Bounds.{Bounds}
-use Rattle.routine.specs.Index.{noBlock}
-use Rattle.places.specs.Places.{noInstruction, InstructionsAt}
-use Rattle.index.specs.Code.{BlockStands, standing, CodeAt}
-use Rattle.eligibility.specs.Family.{buildDest}
-use Rattle.choosing.specs.Chosen.{Buildless}
+use Rattle.index.specs.Table.{startsIn, kindIn}
+use Rattle.index.specs.Code.{noInstruction, noBlock, InstructionsIn, CodeIn}
+use Rattle.choosing.specs.declared.Slots.{Slots}
+use Rattle.choosing.specs.Chosen.{SlotsOf, buildKind, NoneBuilds, Buildless, AllBuildless}
 use Rattle.choosing.proofs.Folding.{no-build}
 
--- ## The instructions of a block
+module _ {b : Bounds} {s facts : List ℕ} {ks : List Block} (code : CodeIn b s facts ks) where
+  -- a later block begins later
+  rises : (j k : ℕ) → j ≤ k → k ≤ length ks → getD (startsIn facts) j 0 ≤ getD (startsIn facts) k 0
+  rises j zero h l = let z : j ≡ 0 = omega arith in rw z (le-refl _)
+  rises j (suc k) h l = go (λ m. rises j k m (omega arith)) (eqb j (suc k)) refl
+    where
+      go : (j ≤ k → getD (startsIn facts) j 0 ≤ getD (startsIn facts) k 0) → (c : Bool) → eqb j (suc k) ≡ c → getD (startsIn facts) j 0 ≤ getD (startsIn facts) (suc k) 0
+      go ih true e = let z : j ≡ suc k = eqb-true j (suc k) e in rw z (le-refl _)
+      go ih false e =
+          let n : j ≡ suc k → ⊥ = λ z. eqb-false j (suc k) e z in
+          let m : j ≤ k = omega (arith, n) in
+          le-trans (ih m) (omega (arith, code .next k (omega arith)))
 
--- none of the first k instructions is a build
-pub record Seeking (s places : List ℕ) (count k : ℕ) : Type 0 where
-  pub low : k ≤ count
-  pub none : (b : Bounds) (is : List Instruction) → InstructionsAt b s places is → length is ≡ count → (j : ℕ) (d : ValueId) → j < k → buildDest (getD is j noInstruction .kind) ≡ some d → ⊥
+  -- the slots of a block stand before those of a later one
+  pub before : (j k i : ℕ) → j < k → k ≤ length ks → i < length (getD ks j noBlock .instructions) → getD (startsIn facts) j 0 + i < getD (startsIn facts) k 0
+  before j k i h l m = omega (arith, code .next j (omega arith), rises (suc j) k (omega arith) l)
 
-module _ {s places : List ℕ} {count : ℕ} where
-  pub seeking : Seeking s places count 0
-  seeking = record { low = omega arith; none = λ b is a l j d h. absurd (omega arith) }
+  pub roomy : (k : ℕ) → k < length ks → getD (startsIn facts) k 0 + length (getD ks k noBlock .instructions) < 288
+  roomy k h = omega (arith, code .next k h, rises (suc k) (length ks) (omega arith) (le-refl _), code .within)
 
-  module _ {k : ℕ} (inv : Seeking s places count k) where
-    pub seek-on : k < count → (place : ℕ) → place ≡ getD places k 0 → (t : List ℕ) → t ≡ drop place s → (kind : ℕ) → kind ≡ getD t 1 0 → (build : Bool) → build ≡ (eqb kind 10 || (eqb kind 12 || eqb kind 16)) → build ≡ false → Seeking s places count (k + 1)
-    seek-on h place p t q kind z build bs f = record { low = omega arith; none = λ b is a l j d m e. go b is a l j d m e (eqb j k) refl }
-      where
-        go : (b : Bounds) (is : List Instruction) → InstructionsAt b s places is → length is ≡ count → (j : ℕ) (d : ValueId) → j < k + 1 → buildDest (getD is j noInstruction .kind) ≡ some d → (c : Bool) → eqb j k ≡ c → ⊥
-        go b is a l j d m e true y =
-            let w : j ≡ k = eqb-true j k y in
-            let g : k < length is = omega (arith, l) in
-            no-build b t kind z build bs f (getD is k noInstruction) (getD places (suc k) 0 - getD places k 0) d (rw (q, p) (a .each k g)) (rw w at e)
-        go b is a l j d m e false y = let n : j ≡ k → ⊥ = λ w. eqb-false j k y w in inv .none b is a l j d (omega (arith, n)) e
+-- the slots of a block
+module _ (facts : List ℕ) (k first count : ℕ) (f : first ≡ getD (startsIn facts) k 0)
+    (c : (b : Bounds) (s : List ℕ) (ks : List Block) → CodeIn b s facts ks → k < length ks → count ≡ length (getD ks k noBlock .instructions))
+  where
+    pub slots-here : first + count ≤ 288 → SlotsOf facts k (record { first = first; count = count })
+    slots-here h = record { low = h; so = λ b s ks code l. (f, c b s ks code l) }
 
-    pub seek-all : count ≤ k → (b : Bounds) (is : List Instruction) → InstructionsAt b s places is → length is ≡ count → Buildless is
-    seek-all h b is a l j d m e = inv .none b is a l j d (omega (arith, l)) e
+    pub slots-none : 288 < first + count → SlotsOf facts k (record { first = 0; count = 0 })
+    slots-none h = record { low = omega arith; so = λ b s ks code l. absurd (omega (arith, roomy code k l, c b s ks code l)) }
 
--- ## The blocks
+-- none of the slots from `from` on is a build
+pub record Seeking (facts : List ℕ) (from to slot : ℕ) : Type 0 where
+  pub small : to < 65536
+  pub none : NoneBuilds facts from slot
 
--- a block's instructions stand where the block does
-block-at : {b : Bounds} {s own : List ℕ} {x : Block} → BlockStands b s own x → InstructionsAt b s own (x .instructions)
-block-at (standing size p) = p .instructions
+pub seeking : (facts : List ℕ) (from to : ℕ) → to < 65536 → Seeking facts from to from
+seeking facts from to h = record { small = h; none = λ slot l m. absurd (omega arith) }
 
--- none of the first k blocks has a build
-pub record SeekingAll (s places starts : List ℕ) (many k : ℕ) : Type 0 where
-  pub low : k ≤ many
-  pub none : (b : Bounds) (ks : List Block) → CodeAt b s places starts ks → length ks ≡ many → (i : ℕ) → i < k → Buildless (getD ks i noBlock .instructions)
+pub seek-on : {facts : List ℕ} {from to slot : ℕ} → Seeking facts from to slot → (kind : ℕ) → kind ≡ kindIn facts slot → (build : Bool) → build ≡ buildKind kind → build ≡ false → Seeking facts from to (slot + 1)
+seek-on {facts} {from} {to} {slot} inv kind k build e f = record { small = inv .small; none = λ j l m. go j l m (eqb j slot) refl }
+  where
+    go : (j : ℕ) → from ≤ j → j < slot + 1 → (c : Bool) → eqb j slot ≡ c → buildKind (kindIn facts j) ≡ false
+    go j l m true y = let z : j ≡ slot = eqb-true j slot y in rw (z, sym k, sym e) f
+    go j l m false y = let n : j ≡ slot → ⊥ = λ w. eqb-false j slot y w in inv .none j l (omega (arith, n))
 
-module _ {s places starts : List ℕ} {many : ℕ} where
-  pub seeking-all : SeekingAll s places starts many 0
-  seeking-all = record { low = omega arith; none = λ b ks a l i h. absurd (omega arith) }
+pub seek-all : {facts : List ℕ} {from to slot : ℕ} → Seeking facts from to slot → to ≤ slot → NoneBuilds facts from to
+seek-all inv h j l m = inv .none j l (omega arith)
 
-  module _ {k : ℕ} (inv : SeekingAll s places starts many k) where
-    pub seek-block : k < many → (own : List ℕ) → own ≡ drop (getD starts k 0) places → (count : ℕ) → ((b : Bounds) (s places : List ℕ) (ks : List Block) → CodeAt b s places starts ks → k < length ks → count ≡ length (getD ks k noBlock .instructions))
-        → ((b : Bounds) (is : List Instruction) → InstructionsAt b s own is → length is ≡ count → Buildless is) → SeekingAll s places starts many (k + 1)
-    seek-block h own o count counted says = record { low = omega arith; none = λ b ks a l i m. go b ks a l i m (eqb i k) refl }
-      where
-        go : (b : Bounds) (ks : List Block) → CodeAt b s places starts ks → length ks ≡ many → (i : ℕ) → i < k + 1 → (c : Bool) → eqb i k ≡ c → Buildless (getD ks i noBlock .instructions)
-        go b ks a l i m true y =
-            let w : i ≡ k = eqb-true i k y in
-            let g : k < length ks = omega (arith, l) in
-            rw w (says b (getD ks k noBlock .instructions) (rw o (block-at (a .each k g))) (sym (counted b s places ks a g)))
-        go b ks a l i m false y = let n : i ≡ k → ⊥ = λ w. eqb-false i k y w in inv .none b ks a l i (omega (arith, n))
+-- what that says of a block, and of all
+pub none-built : (b : Bounds) (s facts : List ℕ) (first to : ℕ) (is : List Instruction) → NoneBuilds facts first to → InstructionsIn b s facts first is → first + length is ≤ to → Buildless is
+none-built b s facts first to is none code l j d h e = no-build (getD is j noInstruction .kind) d (kindIn facts (first + j)) (code j h .kind) (none (first + j) (omega arith) (omega arith)) e
 
-    pub seek-blocks : many ≤ k → (b : Bounds) (ks : List Block) → CodeAt b s places starts ks → length ks ≡ many → (i : ℕ) → i < length ks → Buildless (getD ks i noBlock .instructions)
-    seek-blocks h b ks a l i m = inv .none b ks a l i (omega (arith, l))
+pub all-built : (facts : List ℕ) (many to : ℕ) → to ≡ getD (startsIn facts) many 0 → NoneBuilds facts 0 to → AllBuildless facts many
+all-built facts many to e none b s ks code l k h j d m x =
+    no-build (getD (getD ks k noBlock .instructions) j noInstruction .kind) d (kindIn facts (getD (startsIn facts) k 0 + j)) (code .each k h .instructions j m .kind)
+    (none (getD (startsIn facts) k 0 + j) (omega arith) (omega (arith, before code k (length ks) j h (le-refl _) m, rw (sym l) at e))) x

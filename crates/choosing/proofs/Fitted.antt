@@ -12,7 +12,7 @@ use Rattle.block.specs.Decode.{marks, blockMarks}
 use Rattle.block.specs.declared.Mosts.{Mosts}
 use Rattle.block.proofs.Marks.{marks-length, block-length}
 use Rattle.routine.specs.Routine.{Routine}
-use Rattle.routine.specs.Index.{noBlock}
+use Rattle.index.specs.Code.{noBlock}
 use Rattle.whole.specs.WellFormed.{FitBlocks, WellFormed, bounds, unmarked}
 use Rattle.choosing.specs.Chosen.{Fitting, fitting, Fits}
 

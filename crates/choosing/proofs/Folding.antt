@@ -1,35 +1,33 @@
 -- What is decided of one build.
-use Prim.Native.Nat.{ℕ, _≤_, _<_}
+use Prim.Native.Nat.{ℕ, _<_}
 use mathlib.Core.Path.{_≡_, refl, ap, _∙_, sym}
 use mathlib.Core.List.{List, [], _∷_}
 use mathlib.Core.Bool.{Bool, true, false, cond, _||_}
 use mathlib.Core.Option.{none, some, Option·none-ne-some}
 use borrow.Author.Tests.{eq-eqb}
 use lib.Dec.{eqb}
-use lib.ListN.{length, getD, drop, replicate}
-use Rattle.wire.specs.Parse.{ok}
-use Rattle.wire.specs.Number.{at16}
+use lib.ListN.{length, getD, drop}
 use Rattle.wire.specs.declared.ValueId.{ValueId}
 use Rattle.form.specs.Syntax.{Instruction, InstructionKind}
 use Rattle.form.specs.Syntax.{Assign, UnaryOp, BinaryOp, Call, Cast, Load, Store, Debug, Nop, Phi}
 use Rattle.form.specs.Syntax.{MakeTuple, ExtractTupleElement, MakeStruct, ExtractStructField, InsertField, InsertTuple, MakeFixedArray, AssertEq, HeapAllocCells}
 use Rattle.form.specs.Reads.{kindNumber, isPhi}
-use Rattle.form.specs.Decode.{instructionOf}
 use Rattle.form.specs.declared.Bounds.{Bounds}
 use Rattle.canon.proofs.Bits.{true-false}
 use Rattle.lookup.specs.Fields.{fieldsPlace}
+use Rattle.index.specs.Table.{placeIn, kindIn}
+use Rattle.index.specs.Code.{InstructionIn}
 use Rattle.eligibility.specs.declared.Settings.{Settings}
-use Rattle.eligibility.specs.Lookup.{Types, valueRow, shape}
+use Rattle.eligibility.specs.Lookup.{Types}
 use Rattle.eligibility.specs.Family.{Marks, buildDest, placeOf, hasDynamicIndex}
 use Rattle.eligibility.specs.Climb.{buildOf}
 use Rattle.eligibility.specs.Fold.{behindPhis}
-use Rattle.eligibility.specs.Tables.{FactsAt}
 use Rattle.rewriting.specs.Run.{foldsBuild}
-use Rattle.family.specs.Copies.{copyOf, copies, CopiesAt, dynamics}
-use Rattle.climb.specs.Scanned.{Scanned}
-use Rattle.climb.specs.Decided.{Decided}
-use Rattle.climb.proofs.Found.{DestAt, dest, kind-at, tuple-place, struct-place, array-place}
-use Rattle.choosing.specs.Chosen.{Seen}
+use Rattle.family.specs.Copies.{copyOf, copies, dynamics}
+use Rattle.climb.specs.Decided.{Decided, FoldsBy}
+use Rattle.climb.proofs.Found.{DestAt, dest, tuple-place, struct-place, array-place}
+use Rattle.scanning.specs.Noted.{destIn}
+use Rattle.choosing.specs.Chosen.{buildKind, LooksInto, Answers}
 
 neither : (t u : Bool) → (t || u) ≡ false → (t ≡ false) × (u ≡ false)
 neither true u h = absurd (true-false h)
@@ -82,27 +80,26 @@ build-kind (AssertEq x y) v e h10 h12 h16 = absurd (Option·none-ne-some _ e)
 build-kind (HeapAllocCells d x) v e h10 h12 h16 = absurd (Option·none-ne-some _ e)
 
 -- its dest is its first field
-data BuildAt (b : Bounds) (t : List ℕ) (v : ValueId) : Type 0 where
-  build-at : v .0 ≡ at16 (drop (fieldsPlace t) t) 0 → v .0 < b .next → BuildAt b t v
+data BuildAt (b : Bounds) (s facts : List ℕ) (slot : ℕ) (v : ValueId) : Type 0 where
+  build-at : v .0 ≡ destIn s facts slot → v .0 < b .next → BuildAt b s facts slot v
 
-from-place : (b : Bounds) (t : List ℕ) (i : InstructionKind) (v : ValueId) → buildDest i ≡ some v → DestAt (b .next) (drop (fieldsPlace t) t) i → BuildAt b t v
-from-place b t i v h (dest w g a low) = let z : w ≡ v = cc in build-at (rw z at a) (rw z at low)
+from-place : (b : Bounds) (s facts : List ℕ) (slot : ℕ) (i : InstructionKind) (v : ValueId) → buildDest i ≡ some v → DestAt (b .next) (drop (fieldsPlace (drop (placeIn facts slot) s)) (drop (placeIn facts slot) s)) i → BuildAt b s facts slot v
+from-place b s facts slot i v h (dest w g a low) = let z : w ≡ v = cc in build-at (rw z at a) (rw z at low)
 
-build-place : (b : Bounds) (t : List ℕ) (i : Instruction) (n : ℕ) (v : ValueId) → instructionOf b [] false t ≡ ok i n → buildDest (i .kind) ≡ some v → BuildAt b t v
-build-place b t i n v e h =
-    let k = sym (kind-at b [] false t i n e) in
+build-place : (b : Bounds) (s facts : List ℕ) (slot : ℕ) (i : Instruction) (v : ValueId) → InstructionIn b s facts slot i → buildDest (i .kind) ≡ some v → BuildAt b s facts slot v
+build-place b s facts slot i v at h =
+    let t = drop (placeIn facts slot) s in
     build-kind (i .kind) v h
-    (λ z. from-place b t (i .kind) v h (tuple-place b [] false t i n e (k ∙ z)))
-    (λ z. from-place b t (i .kind) v h (struct-place b [] false t i n e (k ∙ z)))
-    (λ z. from-place b t (i .kind) v h (array-place b [] false t i n e (k ∙ z)))
+    (λ z. from-place b s facts slot (i .kind) v h (tuple-place b [] false t i _ (at .read) z))
+    (λ z. from-place b s facts slot (i .kind) v h (struct-place b [] false t i _ (at .read) z))
+    (λ z. from-place b s facts slot (i .kind) v h (array-place b [] false t i _ (at .read) z))
 
 -- an instruction of another kind is no build
-pub no-build : (b : Bounds) (t : List ℕ) (kind : ℕ) → kind ≡ getD t 1 0 → (build : Bool) → build ≡ (eqb kind 10 || (eqb kind 12 || eqb kind 16)) → build ≡ false → (i : Instruction) (n : ℕ) (v : ValueId) → instructionOf b [] false t ≡ ok i n → buildDest (i .kind) ≡ some v → ⊥
-no-build b t kind ks build bs f i n v e h =
-    let k = ks ∙ sym (kind-at b [] false t i n e) in
-    let w = neither (eqb kind 10) (eqb kind 12 || eqb kind 16) (sym bs ∙ f) in
+pub no-build : (i : InstructionKind) (v : ValueId) (kind : ℕ) → kind ≡ kindNumber i → buildKind kind ≡ false → buildDest i ≡ some v → ⊥
+no-build i v kind k f h =
+    let w = neither (eqb kind 10) (eqb kind 12 || eqb kind 16) f in
     let u = neither (eqb kind 12) (eqb kind 16) (w .1) in
-    build-kind (i .kind) v h (λ z. true-false (sym (eq-eqb kind 10 (k ∙ z)) ∙ w .0)) (λ z. true-false (sym (eq-eqb kind 12 (k ∙ z)) ∙ u .0)) (λ z. true-false (sym (eq-eqb kind 16 (k ∙ z)) ∙ u .1))
+    build-kind i v h (λ z. true-false (sym (eq-eqb kind 10 (k ∙ z)) ∙ w .0)) (λ z. true-false (sym (eq-eqb kind 12 (k ∙ z)) ∙ u .0)) (λ z. true-false (sym (eq-eqb kind 16 (k ∙ z)) ∙ u .1))
 
 -- a phi copies nothing and looks into nothing
 phi-plain : (τ : Types) (i : InstructionKind) → isPhi i ≡ true → (copyOf τ i ≡ none) × (placeOf i ≡ none)
@@ -145,36 +142,18 @@ dynamics-behind τ m (i ∷ is) = go (dynamics-behind τ m is) (isPhi (i .kind))
     go ih true e = rw (phi-plain τ (i .kind) e .1) ih
     go ih false e = refl
 
-module _ (σ : Settings) (shapes children parents : List ℕ) (tuples : List Bool) (edges : ℕ) (built blocked : List Bool) (sources dests asked : List ℕ) (many instructions : ℕ) (dynamic : List Bool) where
-  -- what the code says of a build
-  abbrev pub Answers : Bounds → List ℕ → Bool → Type 0
-  Answers b t r =
-      (τ : Types) (cross : Marks) (is : List Instruction) (i : Instruction) (n : ℕ) (d : ValueId) → Seen σ τ cross is shapes children parents tuples edges built blocked sources dests asked many instructions dynamic
-      → length (τ .recorded) ≡ b .next → b .next ≤ 256 → instructionOf b [] false t ≡ ok i n → buildDest (i .kind) ≡ some d → buildOf σ τ cross d is ≡ some (i .kind) → r ≡ foldsBuild σ τ cross is (some (i .kind))
+module _ (σ : Settings) (shapes graph copied : List ℕ) (instructions : ℕ) (dynamic : List Bool) (s : List ℕ) (b : Bounds) (facts : List ℕ) (slot kind : ℕ) (ks : kind ≡ kindIn facts slot) where
+  pub decided : (d : ℕ) → d ≡ destIn s facts slot → (shp : ℕ) → shp ≡ getD shapes d 0 → (looked : Bool) → (kind ≡ 16 → LooksInto (b .next) copied instructions shp (record { 0 = d }) dynamic looked) → (r : Bool) → FoldsBy σ shapes graph (record { 0 = d }) kind looked r → Answers σ shapes graph copied instructions dynamic s b facts slot r
+  decided d ds shp ss looked looks r folds τ cross is i v seen many l few at h o =
+      elim (build-place b s facts slot i v at h) [
+        | build-at a low ↦
+            let q : d ≡ v .0 = ds ∙ sym a in
+            let z : record { 0 = d } ≡ v = ap (λ (x : ℕ). record { 0 = x }) q in
+            let x : d < length (τ .recorded) = rw (q, l) low in
+            let dec = rw z at (folds τ cross is (seen .eligible) (seen .facts) (seen .scanned) (rw l few) x) in
+            fold-any σ τ cross is (i .kind) v kind looked r (ks ∙ at .kind) h o dec
+            (λ k. rw z at (looks k τ is l few (seen .copied-all) many (ss ∙ seen .facts .shaped d x) (seen .looked)))
+      ]
 
-  -- what the climb says of a value
-  abbrev pub Folds : ℕ → ℕ → Bool → Bool → Type 0
-  Folds d kind looked r =
-      (τ : Types) (cross : Marks) (is : List Instruction) (eligible : List Bool) → FactsAt σ τ shapes eligible → Scanned σ τ cross is children parents tuples edges built blocked
-      → length (τ .recorded) ≤ 256 → d < length (τ .recorded) → Decided σ τ cross is (record { 0 = d }) kind looked r
-
-  abbrev pub LooksInto : Bounds → ℕ → ℕ → Bool → Type 0
-  LooksInto b d shp r =
-      (τ : Types) (is : List Instruction) → length (τ .recorded) ≡ b .next → b .next ≤ 256 → CopiesAt sources dests asked many (copies τ is) → length is ≡ instructions
-      → shp ≡ shape (valueRow τ (record { 0 = d })) → dynamic ≡ dynamics (replicate (length (τ .recorded)) false) is → r ≡ hasDynamicIndex τ (record { 0 = d }) is
-
-  module _ (b : Bounds) (t : List ℕ) (kind : ℕ) (ks : kind ≡ getD t 1 0) where
-    pub decided : (u : List ℕ) → u ≡ drop (fieldsPlace t) t → (d : ℕ) → d ≡ at16 u 0 → (shp : ℕ) → shp ≡ getD shapes d 0 → (looked : Bool) → (kind ≡ 16 → LooksInto b d shp looked) → (r : Bool) → Folds d kind looked r → Answers b t r
-    decided u us d ds shp ss looked looks r folds τ cross is i n v seen l few e h o =
-        elim (build-place b t i n v e h) [
-          | build-at a low ↦
-              let q : d ≡ v .0 = ds ∙ ap (λ c. at16 c 0) us ∙ sym a in
-              let z : record { 0 = d } ≡ v = ap (λ (x : ℕ). record { 0 = x }) q in
-              let x : d < length (τ .recorded) = rw (q, l) low in
-              let dec = rw z at (folds τ cross is (seen .eligible) (seen .facts) (seen .scanned) (rw l few) x) in
-              fold-any σ τ cross is (i .kind) v kind looked r (ks ∙ sym (kind-at b [] false t i n e)) h o dec
-              (λ k. rw z at (looks k τ is l few (seen .copied) (seen .counted) (ss ∙ seen .facts .shaped d x) (seen .looked)))
-        ]
-
-    pub decided-none : (build : Bool) → build ≡ (eqb kind 10 || (eqb kind 12 || eqb kind 16)) → build ≡ false → Answers b t false
-    decided-none build bs f τ cross is i n v seen l few e h o = absurd (no-build b t kind ks build bs f i n v e h)
+  pub decided-none : (build : Bool) → build ≡ buildKind kind → build ≡ false → Answers σ shapes graph copied instructions dynamic s b facts slot false
+  decided-none build bs f τ cross is i v seen many l few at h o = absurd (no-build (i .kind) v kind (ks ∙ at .kind) (sym bs ∙ f) h)

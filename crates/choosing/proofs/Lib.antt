@@ -1,7 +1,4 @@
-pub mod FrontPhis
 pub mod Once
-pub mod Given
-pub mod Conditions
 pub mod Folding
 pub mod Flags
 pub mod Buildless

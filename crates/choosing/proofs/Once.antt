@@ -23,7 +23,7 @@ use Rattle.block.proofs.Marks.{marks-stay, marks-length}
 use Rattle.block.specs.WellFormed.{FitInstructions}
 use Rattle.block.specs.declared.Mosts.{Mosts}
 use Rattle.lookup.specs.Fields.{listValues}
-use Rattle.places.specs.Places.{noInstruction, InstructionsAt}
+use Rattle.index.specs.Code.{noInstruction, InstructionsIn}
 use Rattle.eligibility.specs.declared.Settings.{Settings}
 use Rattle.eligibility.specs.Lookup.{Types}
 use Rattle.eligibility.specs.Family.{Marks, buildDest}
@@ -163,10 +163,10 @@ module _ (σ : Settings) (τ : Types) (cross : Marks) where
       go ih false e = refl
 
   -- what the code asks of a block
-  pub stands-once : (m : Mosts) (b : Bounds) (x : Block) (s places : List ℕ) (count : ℕ) → Fitting m b x → m .block ≤ 128 → b .list ≤ 16 → InstructionsAt b s places (x .instructions) → length (x .instructions) ≡ count → Standing σ τ cross b s places count (x .instructions)
-  stands-once m b x s places count (fitting total seen l f) short listed a c =
+  pub stands-once : (m : Mosts) (b : Bounds) (x : Block) (s facts : List ℕ) (first count : ℕ) → Fitting m b x → m .block ≤ 128 → b .list ≤ 16 → InstructionsIn b s facts first (x .instructions) → length (x .instructions) ≡ count → Standing σ τ cross b s facts first count (x .instructions)
+  stands-once m b x s facts first count (fitting total seen l f) short listed a c =
       record {
-        places-known = a;
+        code = a;
         counted = c;
         few = omega (arith, f .own);
         listed = λ k h. le-trans (lists-fit b seen false (x .instructions) (f .instructions) k h) listed;

@@ -1,219 +1,279 @@
-// Which builds are folded, and which blocks are skipped: a flag for each place and for each block.
-mod builds;
-mod phis;
-mod structs;
-
+// Which builds are folded, and which blocks are skipped: flags by slot, and from 288 on by block.
 use eligibility::Settings;
 use form::Bounds;
+use wire::ValueId;
 ghost use mathlib.Core.Path.{_≡_};
-ghost use mathlib.Core.List.{List};
-ghost use mathlib.Core.Bool.{Bool, false};
-ghost use Prim.Native.Nat.{ℕ, _+_, _≤_, _<_};
-ghost use lib.ListN.{length, getD, replicate};
-ghost use Rattle.form.specs.Syntax.{Instruction, Block};
-ghost use Rattle.form.specs.declared.Bounds.{Bounds as DeclaredBounds};
-ghost use Rattle.routine.specs.Index.{noBlock};
-ghost use Rattle.index.specs.Code.{CodeAt};
-ghost use Rattle.eligibility.specs.Lookup.{Types};
-ghost use Rattle.eligibility.specs.Tables.{FactsAt};
-ghost use Rattle.eligibility.specs.Family.{Marks};
-ghost use Rattle.eligibility.specs.Fold.{behindPhis};
-ghost use Rattle.climb.specs.Noted.{StructsAt};
-ghost use Rattle.climb.specs.Scanned.{Scanned};
-ghost use Rattle.progress.specs.Ground.{Ground};
-ghost use Rattle.progress.specs.Chosen.{Follows};
-ghost use Rattle.choosing.specs.Chosen.{chosenBy, Fits, Buildless, FoldedAt, Flagged, BlockChosen, Standing};
+ghost use mathlib.Core.Bool.{false};
+ghost use Prim.Native.Nat.{_+_, _≤_};
+ghost use lib.ListN.{length};
+ghost use Rattle.choosing.specs.Chosen.{SlotsOf, buildKind, NoneBuilds, AllBuildless, FamilyMeets, LooksInto, Answers, Flagged};
+ghost use Rattle.choosing.specs.Chosen.{DecidesAll, DecidesCopies, FillsGraph, DecidesBlock, ChoosesBlock, Chooses};
 
-// Decides the builds of a block whose tables for the climb stand: notes its copies first. `dynamic` is clear, one for each value.
-fn choose_copies(
-    s: &[u8],
-    b: Bounds,
-    types: &[usize],
-    places: &[usize],
-    count: u16,
-    settings: Settings,
-    shapes: &[u8],
-    children: &[u16],
-    parents: &[u16],
-    tuples: &[bool],
-    edges: u16,
-    buildable: &[bool],
-    blocked: &[bool],
-    dynamic: &mut [bool],
-    folded: &mut [bool],
-    start: u16,
-)
-    ensures { λ _. ⌜ Flagged start (now (folded .entry)) (now (folded .exit)) ⌝ }
-    ensures { λ _. ⌜ ((τ : Types) (cross : Marks) (recorded : List ℕ) (eligible : List Bool) (all : List Instruction) → Ground b (now (s .entry)) (now (types .entry)) recorded τ → FactsAt settings τ (now (shapes .entry)) eligible → Standing settings τ cross b (now (s .entry)) (now (places .entry)) count all → Scanned settings τ cross (behindPhis all) (now (children .entry)) (now (parents .entry)) (now (tuples .entry)) edges (now (buildable .entry)) (now (blocked .entry)) → now (dynamic .entry) ≡ replicate (length (τ .recorded)) false → start + count ≤ length (now (folded .entry)) → FoldedAt settings τ cross start all (now (folded .exit))) ⌝ }
-{
-    let mut sources: [u16; 128] = [0; 128];
-    let mut dests: [u16; 128] = [0; 128];
-    let mut asked: [u8; 128] = [0; 128];
-    let copies = family::scan_copies(
-        s,
-        types,
-        b.types,
-        b,
-        places,
-        count,
-        &mut sources,
-        &mut dests,
-        &mut asked,
-        dynamic,
-    );
-    let instructions = count - places::phi_count(s, places, count);
-    builds::decide_all(
-        s,
-        b,
-        settings,
-        places,
-        count,
-        shapes,
-        children,
-        parents,
-        tuples,
-        edges,
-        buildable,
-        blocked,
-        &sources,
-        &dests,
-        &asked,
-        copies,
-        instructions,
-        dynamic,
-        folded,
-        start,
-    );
+// Where the blocks' flags begin.
+const SKIPS: usize = 288;
+
+// The slots of a block's instructions.
+pub struct Slots {
+    pub first: u16,
+    pub count: u16,
 }
 
-// Decides the builds of a block by the marks of its MakeStructs: fills the tables for the climb first.
-fn choose_tables(
-    s: &[u8],
-    b: Bounds,
-    types: &[usize],
-    places: &[usize],
-    count: u16,
-    settings: Settings,
-    shapes: &[u8],
-    eligible: &[bool],
-    cross: &[bool],
-    marks: &[bool],
-    dynamic: &mut [bool],
-    folded: &mut [bool],
-    start: u16,
-)
-    ensures { λ _. ⌜ Flagged start (now (folded .entry)) (now (folded .exit)) ⌝ }
-    ensures { λ _. ⌜ ((τ : Types) (recorded : List ℕ) (all : List Instruction) → Ground b (now (s .entry)) (now (types .entry)) recorded τ → FactsAt settings τ (now (shapes .entry)) (now (eligible .entry)) → Standing settings τ (now (cross .entry)) b (now (s .entry)) (now (places .entry)) count all → StructsAt settings τ (now (cross .entry)) (now (marks .entry)) all → now (dynamic .entry) ≡ replicate (length (τ .recorded)) false → start + count ≤ length (now (folded .entry)) → FoldedAt settings τ (now (cross .entry)) start all (now (folded .exit))) ⌝ }
+// The slots of block `k`.
+fn find_slots(facts: &[u16], k: u16) -> Slots
+    ensures { λ r. ⌜ SlotsOf (now (facts .entry)) k r ⌝ }
 {
-    let mut children: [u16; 2048] = [0; 2048];
-    let mut parents: [u16; 2048] = [0; 2048];
-    let mut tuples: [bool; 2048] = [false; 2048];
-    let mut buildable: [bool; 256] = [false; 256];
-    let mut blocked: [bool; 256] = [false; 256];
-    let edges = scanning::scan_block(
-        s,
-        b,
-        places,
-        count,
-        shapes,
-        eligible,
-        cross,
-        marks,
-        &mut children,
-        &mut parents,
-        &mut tuples,
-        &mut buildable,
-        &mut blocked,
-    );
-    choose_copies(
-        s,
-        b,
-        types,
-        places,
-        count,
-        settings,
-        shapes,
-        &children,
-        &parents,
-        &tuples,
-        edges,
-        &buildable,
-        &blocked,
-        dynamic,
-        folded,
-        start,
-    );
+    let first = index::first_slot(facts, k);
+    let count = index::instruction_count(facts, k);
+    if SKIPS < first as usize + count as usize {
+        return Slots { first: 0, count: 0 };
+    }
+    Slots { first, count }
 }
 
-// Whether an instruction of any block is a build. Only the answer that none is says something: the other is left free, as
-// the whole rewriting is run then, and one answer too many costs time alone.
-pub fn any_builds(s: &[u8], places: &[usize], starts: &[u16], many: u16) -> bool
-    ensures { λ r. ⌜ (r ≡ false → (b : DeclaredBounds) (ks : List Block) → CodeAt b (now (s .entry)) (now (places .entry)) (now (starts .entry)) ks → length ks ≡ many → (k : ℕ) → k < length ks → Buildless (getD ks k noBlock .instructions)) ⌝ }
+// MakeTuple, MakeStruct and MakeFixedArray.
+fn is_build(kind: u16) -> bool
+    ensures { λ r. ⌜ r ≡ buildKind kind ⌝ }
 {
-    let mut k: u16 = 0;
-    while k < many {
-        let here = index::block_places(places, starts, k);
-        let count = index::instruction_count(starts, k);
-        if builds::any_build(s, here, count) {
+    if kind == 10 {
+        return true;
+    }
+    if kind == 12 {
+        return true;
+    }
+    kind == 16
+}
+
+// Whether a slot of those from one to another holds a build. Only the answer that none does says something: the other is
+// left free, as each build is looked at then, and one answer too many costs time alone.
+fn any_build(facts: &[u16], from: u16, to: u16) -> bool
+    ensures { λ r. ⌜ (r ≡ false → NoneBuilds (now (facts .entry)) from to) ⌝ }
+{
+    let mut slot = from;
+    while slot < to {
+        if is_build(index::kind(facts, slot)) {
             return true;
         }
-        k = k + 1;
+        slot = slot + 1;
     }
     false
 }
 
-// Decides the builds of a block that is not skipped: gives the places from `start` on their flags.
-fn choose_block(
+// Whether an instruction of any block is a build; the same holds of the two answers.
+pub fn any_builds(facts: &[u16], many: u16) -> bool
+    ensures { λ r. ⌜ (r ≡ false → AllBuildless (now (facts .entry)) many) ⌝ }
+{
+    any_build(facts, 0, index::first_slot(facts, many))
+}
+
+// Whether the family of `v` is looked into by an index that is not known; `marks` are clear, one for each value.
+fn family_meets(
+    copies: &[u16],
+    instructions: u16,
+    shape: u8,
+    v: ValueId,
+    dynamic: &[bool],
+    marks: &mut [bool],
+) -> bool
+    ensures { λ r. ⌜ FamilyMeets (now (copies .entry)) instructions shape v (now (dynamic .entry)) (now (marks .entry)) r ⌝ }
+{
+    family::family(copies, instructions, shape, v, marks);
+    family::dynamic_index(marks, dynamic)
+}
+
+// The same of an array's build, with marks of its own for the `next` values.
+fn looked_into(
+    kind: u16,
+    next: u16,
+    copies: &[u16],
+    instructions: u16,
+    shape: u8,
+    v: ValueId,
+    dynamic: &[bool],
+) -> bool
+    ensures { λ r. ⌜ (kind ≡ 16 → LooksInto next (now (copies .entry)) instructions shape v (now (dynamic .entry)) r) ⌝ }
+{
+    if kind != 16 {
+        return false;
+    }
+    let n = next as usize;
+    if 256 < n {
+        return false;
+    }
+    let mut marks: [bool; 256] = [false; 256];
+    family_meets(copies, instructions, shape, v, dynamic, &mut marks[..n])
+}
+
+// Whether the build in a slot is folded; `instructions`: how many the block has behind its phis.
+fn decide_one(
     s: &[u8],
     b: Bounds,
-    types: &[usize],
-    recorded: &[u16],
-    places: &[usize],
-    count: u16,
     settings: Settings,
+    facts: &[u16],
+    slot: u16,
+    shapes: &[u8],
+    graph: &[u16],
+    copies: &[u16],
+    instructions: u16,
+    dynamic: &[bool],
+) -> bool
+    ensures { λ r. ⌜ Answers settings (now (shapes .entry)) (now (graph .entry)) (now (copies .entry)) instructions (now (dynamic .entry))
+        (now (s .entry)) b (now (facts .entry)) slot r ⌝ }
+{
+    let kind = index::kind(facts, slot);
+    if !is_build(kind) {
+        return false;
+    }
+    let v = ValueId(scanning::dest(s, facts, slot));
+    let shape = wire::byte_at(shapes, v.0 as usize);
+    let looked = looked_into(kind, b.next, copies, instructions, shape, v, dynamic);
+    climb::folds(v, kind, looked, settings, graph, shapes)
+}
+
+// Gives each instruction of a block a flag, at its slot: whether it is a build that is folded.
+fn decide_all(
+    s: &[u8],
+    b: Bounds,
+    settings: Settings,
+    facts: &[u16],
+    at: Slots,
+    shapes: &[u8],
+    graph: &[u16],
+    copies: &[u16],
+    dynamic: &[bool],
+    choice: &mut [bool],
+)
+    requires { ⌜ at .first + at .count ≤ 288 ⌝ }
+    ensures { λ _. ⌜ Flagged (at .first) (now (choice .entry)) (now (choice .exit)) ⌝ }
+    ensures { λ _. ⌜ DecidesAll settings (now (shapes .entry)) (now (graph .entry)) (now (copies .entry)) (now (dynamic .entry))
+        (now (s .entry)) b (now (facts .entry)) at (now (choice .entry)) (now (choice .exit)) ⌝ }
+{
+    let first = at.first;
+    let count = at.count;
+    let instructions = count - phis::phi_count(facts, first, count);
+    let mut j: u16 = 0;
+    while j < count {
+        let slot = first + j;
+        let yes = decide_one(
+            s,
+            b,
+            settings,
+            facts,
+            slot,
+            shapes,
+            graph,
+            copies,
+            instructions,
+            dynamic,
+        );
+        table::set_flag(choice, slot as usize, yes);
+        j = j + 1;
+    }
+}
+
+// Decides the builds of a block whose graph stands: notes its copies first. `dynamic` is clear, one for each value.
+fn choose_copies(
+    s: &[u8],
+    b: Bounds,
+    settings: Settings,
+    facts: &[u16],
+    at: Slots,
+    shapes: &[u8],
+    graph: &[u16],
+    dynamic: &mut [bool],
+    choice: &mut [bool],
+)
+    requires { ⌜ at .first + at .count ≤ 288 ⌝ }
+    ensures { λ _. ⌜ Flagged (at .first) (now (choice .entry)) (now (choice .exit)) ⌝ }
+    ensures { λ _. ⌜ DecidesCopies settings (now (shapes .entry)) (now (graph .entry)) (now (dynamic .entry))
+        (now (s .entry)) b (now (facts .entry)) at (now (choice .entry)) (now (choice .exit)) ⌝ }
+{
+    let mut copies: [u16; 385] = [0; 385];
+    family::scan_copies(s, b, facts, at.first, at.count, &mut copies, dynamic);
+    decide_all(
+        s,
+        b,
+        settings,
+        facts,
+        at,
+        shapes,
+        graph,
+        &copies,
+        dynamic,
+        choice,
+    );
+}
+
+// Fills the graph of a block: finds first which of its MakeStructs pass their conditions.
+fn fill_graph(
+    s: &[u8],
+    b: Bounds,
+    settings: Settings,
+    facts: &[u16],
+    at: Slots,
     shapes: &[u8],
     eligible: &[bool],
     cross: &[bool],
-    folded: &mut [bool],
-    start: u16,
+    graph: &mut [u16],
 )
-    ensures { λ _. ⌜ Flagged start (now (folded .entry)) (now (folded .exit)) ⌝ }
-    ensures { λ _. ⌜ ((τ : Types) (all : List Instruction) → Ground b (now (s .entry)) (now (types .entry)) (now (recorded .entry)) τ → FactsAt settings τ (now (shapes .entry)) (now (eligible .entry)) → Standing settings τ (now (cross .entry)) b (now (s .entry)) (now (places .entry)) count all → start + count ≤ length (now (folded .entry)) → FoldedAt settings τ (now (cross .entry)) start all (now (folded .exit))) ⌝ }
+    requires { ⌜ at .first + at .count ≤ 288 ⌝ }
+    ensures { λ _. ⌜ FillsGraph settings (now (shapes .entry)) (now (eligible .entry)) (now (cross .entry)) (now (s .entry)) b (now (facts .entry)) at
+        (now (graph .entry)) (now (graph .exit)) ⌝ }
 {
-    if !builds::any_build(s, places, count) {
-        return;
-    }
-    let n = b.next as usize;
-    if 256 < n {
-        return;
-    }
+    let first = at.first;
+    let count = at.count;
     let mut marks: [bool; 128] = [false; 128];
-    structs::fill_structs(
+    structs::fill_structs(s, b, facts, first, count, settings, cross, &mut marks);
+    scanning::scan_block(
         s,
         b,
-        types,
-        recorded,
-        settings,
-        places,
+        facts,
+        first,
         count,
-        cross,
-        &mut marks,
-    );
-    let mut dynamic: [bool; 256] = [false; 256];
-    choose_tables(
-        s,
-        b,
-        types,
-        places,
-        count,
-        settings,
         shapes,
         eligible,
         cross,
         &marks,
+        graph,
+    );
+}
+
+// Decides the builds of a block that is not skipped: fills its graph first.
+fn choose_block(
+    s: &[u8],
+    b: Bounds,
+    settings: Settings,
+    facts: &[u16],
+    at: Slots,
+    shapes: &[u8],
+    eligible: &[bool],
+    cross: &[bool],
+    graph: &mut [u16],
+    choice: &mut [bool],
+)
+    requires { ⌜ at .first + at .count ≤ 288 ⌝ }
+    ensures { λ _. ⌜ Flagged (at .first) (now (choice .entry)) (now (choice .exit)) ⌝ }
+    ensures { λ _. ⌜ DecidesBlock settings (now (shapes .entry)) (now (eligible .entry)) (now (cross .entry)) (length (now (graph .entry)))
+        (now (s .entry)) b (now (facts .entry)) at (now (choice .entry)) (now (choice .exit)) ⌝ }
+{
+    let n = b.next as usize;
+    if 256 < n {
+        return;
+    }
+    if !any_build(facts, at.first, at.first + at.count) {
+        return;
+    }
+    fill_graph(s, b, settings, facts, at, shapes, eligible, cross, graph);
+    let mut dynamic: [bool; 256] = [false; 256];
+    choose_copies(
+        s,
+        b,
+        settings,
+        facts,
+        at,
+        shapes,
+        graph,
         &mut dynamic[..n],
-        folded,
-        start,
+        choice,
     );
 }
 
@@ -221,80 +281,66 @@ fn choose_block(
 fn choose_one(
     s: &[u8],
     b: Bounds,
-    types: &[usize],
-    recorded: &[u16],
-    places: &[usize],
-    starts: &[u16],
-    k: u16,
     settings: Settings,
+    facts: &[u16],
+    k: u16,
     shapes: &[u8],
     eligible: &[bool],
     cross: &[bool],
-    folded: &mut [bool],
-    skips: &mut [bool],
+    graph: &mut [u16],
+    choice: &mut [bool],
 )
-    ensures { λ _. ⌜ (Flagged (getD (now (starts .entry)) k 0) (now (folded .entry)) (now (folded .exit))) × (length (now (skips .exit)) ≡ length (now (skips .entry))) ⌝ }
-    ensures { λ _. ⌜ ((τ : Types) (ks : List Block) → Ground b (now (s .entry)) (now (types .entry)) (now (recorded .entry)) τ → FactsAt settings τ (now (shapes .entry)) (now (eligible .entry)) → CodeAt b (now (s .entry)) (now (places .entry)) (now (starts .entry)) ks → Fits b ks → k < length ks → length (now (places .entry)) ≤ length (now (folded .entry)) → BlockChosen (chosenBy settings τ (now (cross .entry))) k (getD (now (starts .entry)) k 0) (getD ks k noBlock) (now (skips .entry)) (now (folded .exit)) (now (skips .exit))) ⌝ }
+    ensures { λ _. ⌜ ChoosesBlock settings (now (shapes .entry)) (now (eligible .entry)) (now (cross .entry)) (length (now (graph .entry)))
+        (now (s .entry)) b (now (facts .entry)) k (now (choice .entry)) (now (choice .exit)) ⌝ }
 {
-    let here = index::block_places(places, starts, k);
-    let count = index::instruction_count(starts, k);
-    let skip = phis::is_skipped(s, here, count, shapes);
-    table::set_flag(skips, k as usize, skip);
+    let at = find_slots(facts, k);
+    let skip = phis::is_skipped(s, facts, at.first, at.count, shapes);
+    table::set_flag(choice, SKIPS + k as usize, skip);
     if skip {
         return;
     }
-    let start = table::number(starts, k as usize);
     choose_block(
         s,
         b,
-        types,
-        recorded,
-        here,
-        count,
         settings,
+        facts,
+        at,
         shapes,
         eligible,
         cross,
-        folded,
-        start,
+        graph,
+        choice,
     );
 }
 
-// All blocks: `folded` is given, for each build, at its place, whether it is folded, and `skips`, for each block,
-// whether it is skipped.
+// All blocks: each build is given, at its slot, whether it is folded, and each block, from 288 on, whether it is skipped.
 pub fn choose(
     s: &[u8],
     b: Bounds,
-    types: &[usize],
-    recorded: &[u16],
-    places: &[usize],
-    starts: &[u16],
-    many: u16,
     settings: Settings,
+    facts: &[u16],
     shapes: &[u8],
     eligible: &[bool],
     cross: &[bool],
-    folded: &mut [bool],
-    skips: &mut [bool],
+    choice: &mut [bool],
 )
-    ensures { λ _. ⌜ ((τ : Types) (ks : List Block) → Ground b (now (s .entry)) (now (types .entry)) (now (recorded .entry)) τ → FactsAt settings τ (now (shapes .entry)) (now (eligible .entry)) → CodeAt b (now (s .entry)) (now (places .entry)) (now (starts .entry)) ks → Fits b ks → length ks ≡ many → many ≤ length (now (skips .entry)) → length (now (places .entry)) ≤ length (now (folded .entry)) → Follows (chosenBy settings τ (now (cross .entry))) (now (starts .entry)) (now (folded .exit)) (now (skips .exit)) ks) ⌝ }
+    ensures { λ _. ⌜ Chooses settings (now (shapes .entry)) (now (eligible .entry)) (now (cross .entry))
+        (now (s .entry)) b (now (facts .entry)) (now (choice .entry)) (now (choice .exit)) ⌝ }
 {
+    let mut graph: [u16; 6657] = [0; 6657];
     let mut k: u16 = 0;
-    while k < many {
+    while k < b.blocks {
         choose_one(
             s,
             b,
-            types,
-            recorded,
-            places,
-            starts,
-            k,
             settings,
+            facts,
+            k,
             shapes,
             eligible,
             cross,
-            folded,
-            skips,
+            &mut graph,
+            choice,
         );
         k = k + 1;
     }

@@ -6,23 +6,22 @@ use mathlib.Core.Bool.{Bool, true, false, cond, not, _&&_}
 use mathlib.Core.Option.{Option, none, some}
 use native.Mathlib.Omega.{arith}
 use borrow.Author.Tests.{eq-eqb, ne-eqb}
-use lib.ListN.{length, getD}
+use lib.ListN.{length}
 use lib.Dec.{eqb}
 use Rattle.wire.specs.declared.ValueId.{ValueId}
 use Rattle.wire.specs.declared.Value.{Value}
 use Rattle.form.specs.Syntax.{Instruction, MakeTuple}
-use Rattle.form.specs.Reads.{kindNumber}
-use Rattle.lookup.specs.Fields.{listValues}
+use Rattle.form.specs.Reads.{kindNumber, reads}
 use Rattle.eligibility.specs.declared.Settings.{Settings}
 use Rattle.eligibility.specs.Lookup.{Types}
 use Rattle.eligibility.specs.Family.{Marks, buildDest, hasDynamicIndex}
 use Rattle.eligibility.specs.Tables.{FactsAt}
 use Rattle.eligibility.specs.Climb.{isSome, buildOf, buildable, buildableOf, canScalarize}
 use Rattle.eligibility.specs.Fold.{foldsTuple, foldsStruct, foldsArray}
-use Rattle.climb.specs.Edges.{Edge, edge, partEdge, partEdges, buildEdges, edgesOf, tupleEdgesOf, tuplesClimb, Sight, asClimbed}
+use Rattle.climb.specs.Edges.{Edge, edge, partEdges, buildEdges, edgesOf, tupleEdgesOf, tuplesClimb, Sight, asClimbed}
 use Rattle.climb.specs.declared.Climbed.{Climbed}
-use Rattle.climb.specs.Scanned.{Each, Scanned, sightOf, tuplesDown}
-use Rattle.climb.specs.Decided.{climbs, Decided}
+use Rattle.climb.specs.Scanned.{builtIn, childIn, parentIn, edgeIn, ofTuple, tuplesDown, Each, Scanned, sightOf}
+use Rattle.climb.specs.Decided.{climbs, tuplesPass, Decided}
 use Rattle.climb.proofs.Whole.{decides}
 use Rattle.climb.proofs.Tuples.{over-tuples}
 
@@ -53,28 +52,24 @@ module _ (Q : ℕ → Type 0) where
   one-front true e es fs h k = k
   one-front false e es fs h k = (h .0, k)
 
-  parts-behind : (d : ℕ) (xs : List Value) (es : List Edge) → Each Q (partEdges d xs es) → Each Q es
-  unfolding partEdges partEdge
+  parts-behind : (d : ℕ) (ws : List ValueId) (es : List Edge) → Each Q (partEdges d ws es) → Each Q es
+  unfolding partEdges
   parts-behind d [] es h = h
-  parts-behind d (Value.Literal l ∷ xs) es h = parts-behind d xs es h
-  parts-behind d (Value.Operand w ∷ xs) es h = parts-behind d xs es (one-behind (eqb (w .0) d) (edge (w .0) d) (partEdges d xs es) h)
-  parts-behind d (Value.Error ∷ xs) es h = parts-behind d xs es h
+  parts-behind d (w ∷ ws) es h = parts-behind d ws es (one-behind (eqb (w .0) d) (edge (w .0) d) (partEdges d ws es) h)
 
-  parts-front : (d : ℕ) (xs : List Value) (es fs : List Edge) → Each Q (partEdges d xs es) → Each Q fs → Each Q (partEdges d xs fs)
-  unfolding partEdges partEdge
+  parts-front : (d : ℕ) (ws : List ValueId) (es fs : List Edge) → Each Q (partEdges d ws es) → Each Q fs → Each Q (partEdges d ws fs)
+  unfolding partEdges
   parts-front d [] es fs h k = k
-  parts-front d (Value.Literal l ∷ xs) es fs h k = parts-front d xs es fs h k
-  parts-front d (Value.Operand w ∷ xs) es fs h k =
-      one-front (eqb (w .0) d) (edge (w .0) d) (partEdges d xs es) (partEdges d xs fs) h
-      (parts-front d xs es fs (one-behind (eqb (w .0) d) (edge (w .0) d) (partEdges d xs es) h) k)
-  parts-front d (Value.Error ∷ xs) es fs h k = parts-front d xs es fs h k
+  parts-front d (w ∷ ws) es fs h k =
+      one-front (eqb (w .0) d) (edge (w .0) d) (partEdges d ws es) (partEdges d ws fs) h
+      (parts-front d ws es fs (one-behind (eqb (w .0) d) (edge (w .0) d) (partEdges d ws es) h) k)
 
-  build-behind : (d : Option ValueId) (xs : List Value) (es : List Edge) → Each Q (buildEdges d xs es) → Each Q es
+  build-behind : (d : Option ValueId) (xs : List ValueId) (es : List Edge) → Each Q (buildEdges d xs es) → Each Q es
   unfolding buildEdges
   build-behind none xs es h = h
   build-behind (some d) xs es h = parts-behind (d .0) xs es h
 
-  build-front : (d : Option ValueId) (xs : List Value) (es fs : List Edge) (b : Bool) → Each Q (buildEdges d xs es) → Each Q fs → Each Q (cond b (buildEdges d xs fs) fs)
+  build-front : (d : Option ValueId) (xs : List ValueId) (es fs : List Edge) (b : Bool) → Each Q (buildEdges d xs es) → Each Q fs → Each Q (cond b (buildEdges d xs fs) fs)
   unfolding buildEdges
   build-front d xs es fs false h k = k
   build-front none xs es fs true h k = k
@@ -86,7 +81,7 @@ module _ (Q : ℕ → Type 0) where
   each-tuple [] h = tt
   each-tuple (i ∷ is) h =
       let d = buildDest (i .kind) in
-      let xs = listValues (i .kind) in
+      let xs = reads (i .kind) in
       build-front d xs (edgesOf is) (tupleEdgesOf is) (eqb (kindNumber (i .kind)) 10) h (each-tuple is (build-behind d xs (edgesOf is) h))
 
   tuples-same : (f g : ℕ → Bool) → ((p : ℕ) → Q p → f p ≡ g p) → (v : ℕ) (es : List Edge) → Each Q es → tuplesClimb f v es ≡ tuplesClimb g v es
@@ -94,12 +89,12 @@ module _ (Q : ℕ → Type 0) where
   tuples-same f g same v [] h = refl
   tuples-same f g same v (e ∷ es) h = rw (same (e .parent) (h .0), tuples-same f g same v es (h .1))
 
-module _ {σ : Settings} {τ : Types} {cross : Marks} {is : List Instruction} {shapes : List ℕ} {eligible : List Bool} {children parents : List ℕ} {tuples : List Bool} {many : ℕ} {buildable′ blocked : List Bool}
-    (facts : FactsAt σ τ shapes eligible) (scanned : Scanned σ τ cross is children parents tuples many buildable′ blocked) (few : length (τ .recorded) ≤ 256)
+module _ {σ : Settings} {τ : Types} {cross : Marks} {is : List Instruction} {shapes : List ℕ} {eligible : List Bool} {graph : List ℕ}
+    (facts : FactsAt σ τ shapes eligible) (scanned : Scanned σ τ cross is graph) (few : length (τ .recorded) ≤ 256)
     (v : ValueId) (low : v .0 < length (τ .recorded))
   where
     abbrev sight : Sight
-    sight = sightOf shapes buildable′ blocked children parents many
+    sight = sightOf shapes graph
 
     pub struct-decided : foldsStruct σ τ cross is v ≡ (σ .structs && climbs sight (v .0))
     unfolding foldsStruct
@@ -109,10 +104,10 @@ module _ {σ : Settings} {τ : Types} {cross : Marks} {is : List Instruction} {s
     unfolding foldsArray
     array-decided dynamic e = rw (decides facts scanned (v .0) low few, e)
 
-    pub tuple-decided : (xs : List Value) → buildOf σ τ cross v is ≡ some (MakeTuple v xs) → foldsTuple σ τ cross is v xs ≡ (σ .tuples && (getD buildable′ (v .0) false && tuplesClimb (climbs sight) (v .0) (tuplesDown tuples children parents many)))
+    pub tuple-decided : (xs : List Value) → buildOf σ τ cross v is ≡ some (MakeTuple v xs) → foldsTuple σ τ cross is v xs ≡ (σ .tuples && (builtIn graph (v .0) && tuplesPass shapes graph (v .0)))
     unfolding foldsTuple buildableOf
     tuple-decided xs e =
-        let b : getD buildable′ (v .0) false ≡ buildable σ τ cross (MakeTuple v xs) = scanned .built (v .0) low ∙ ap (buildableOf σ τ cross) e in
+        let b : builtIn graph (v .0) ≡ buildable σ τ cross (MakeTuple v xs) = scanned .built (v .0) low ∙ ap (buildableOf σ τ cross) e in
         let n = length (τ .recorded) in
         let can : ℕ → Bool = λ p. canScalarize σ τ cross is (record { 0 = p }) in
         let t : tuplesClimb can (v .0) (tupleEdgesOf is) ≡ tuplesClimb (climbs sight) (v .0) (tupleEdgesOf is) = tuples-same (λ p. p < n) can (climbs sight) (λ p h. decides facts scanned p h few) (v .0) (tupleEdgesOf is) (each-tuple (λ p. p < n) is (scanned .below)) in
@@ -135,7 +130,7 @@ module _ {σ : Settings} {τ : Types} {cross : Marks} {is : List Instruction} {s
             array = λ n d. e ∙ sym (array-decided dynamic d);
           }
 
-      pub for-tuple : (r : Bool) → (kind ≡ 12 → ⊥) → (kind ≡ 16 → ⊥) → r ≡ (σ .tuples && (getD buildable′ (v .0) false && tuplesClimb (climbs sight) (v .0) (tuplesDown tuples children parents many))) → Decided σ τ cross is v kind dynamic r
+      pub for-tuple : (r : Bool) → (kind ≡ 12 → ⊥) → (kind ≡ 16 → ⊥) → r ≡ (σ .tuples && (builtIn graph (v .0) && tuplesPass shapes graph (v .0))) → Decided σ τ cross is v kind dynamic r
       for-tuple r s a e =
           record {
             tuple = λ xs n b. e ∙ sym (tuple-decided xs b);
@@ -152,17 +147,17 @@ module _ {σ : Settings} {τ : Types} {cross : Marks} {is : List Instruction} {s
           }
 
 -- the loop over the tuples that take the value as a part
-tuple-down : (fs : List Bool) (cs ps : List ℕ) (i : ℕ) → 0 < i → tuplesDown fs cs ps i ≡ cond (getD fs (i - 1) false) (edge (getD cs (i - 1) 0) (getD ps (i - 1) 0) ∷ tuplesDown fs cs ps (i - 1)) (tuplesDown fs cs ps (i - 1))
+tuple-down : (g : List ℕ) (i : ℕ) → 0 < i → tuplesDown g i ≡ cond (ofTuple g (i - 1)) (edgeIn g (i - 1) ∷ tuplesDown g (i - 1)) (tuplesDown g (i - 1))
 unfolding tuplesDown
-tuple-down fs cs ps zero h = absurd (omega arith)
-tuple-down fs cs ps (suc k) h = let e : suc k - 1 ≡ k = omega arith in rw e
+tuple-down g zero h = absurd (omega arith)
+tuple-down g (suc k) h = let e : suc k - 1 ≡ k = omega arith in rw e
 
-pub record Testing (can : ℕ → Bool) (v : ℕ) (fs : List Bool) (cs ps : List ℕ) (many i : ℕ) : Type 0 where
+pub record Testing (can : ℕ → Bool) (v : ℕ) (g : List ℕ) (many i : ℕ) : Type 0 where
   pub small : i < 65536
-  pub left : tuplesClimb can v (tuplesDown fs cs ps many) ≡ tuplesClimb can v (tuplesDown fs cs ps i)
+  pub left : tuplesClimb can v (tuplesDown g many) ≡ tuplesClimb can v (tuplesDown g i)
 
-module _ (can : ℕ → Bool) (v : ℕ) (fs : List Bool) (cs ps : List ℕ) (many i : ℕ) (inv : Testing can v fs cs ps many i) where
-  pub test-done : i ≤ 0 → true ≡ tuplesClimb can v (tuplesDown fs cs ps many)
+module _ (can : ℕ → Bool) (v : ℕ) (g : List ℕ) (many i : ℕ) (inv : Testing can v g many i) where
+  pub test-done : i ≤ 0 → true ≡ tuplesClimb can v (tuplesDown g many)
   unfolding tuplesDown tuplesClimb
   test-done h = let z : i ≡ 0 = omega arith in sym (inv .left ∙ rw z)
 
@@ -170,18 +165,18 @@ module _ (can : ℕ → Bool) (v : ℕ) (fs : List Bool) (cs ps : List ℕ) (man
     smaller : i - 1 < 65536
     smaller = omega (arith, inv .small)
 
-    pub test-kind : getD fs (i - 1) false ≡ false → Testing can v fs cs ps many (i - 1)
-    test-kind e = record { small = smaller; left = inv .left ∙ simp (tuple-down fs cs ps i more, e) }
+    pub test-kind : ofTuple g (i - 1) ≡ false → Testing can v g many (i - 1)
+    test-kind e = record { small = smaller; left = inv .left ∙ simp (tuple-down g i more, e) }
 
-    module _ (kind : getD fs (i - 1) false ≡ true) where
-      pub test-other : (getD cs (i - 1) 0 ≡ v → ⊥) → Testing can v fs cs ps many (i - 1)
+    module _ (kind : ofTuple g (i - 1) ≡ true) where
+      pub test-other : (childIn g (i - 1) ≡ v → ⊥) → Testing can v g many (i - 1)
       unfolding tuplesClimb
-      test-other e = record { small = smaller; left = inv .left ∙ simp (tuple-down fs cs ps i more, kind, ne-eqb _ _ e) }
+      test-other e = record { small = smaller; left = inv .left ∙ simp (tuple-down g i more, kind, ne-eqb _ _ e) }
 
-      pub test-on : getD cs (i - 1) 0 ≡ v → (p : ℕ) → p ≡ getD ps (i - 1) 0 → (r : Bool) → r ≡ can p → r ≡ true → Testing can v fs cs ps many (i - 1)
+      pub test-on : childIn g (i - 1) ≡ v → (p : ℕ) → p ≡ parentIn g (i - 1) → (r : Bool) → r ≡ can p → r ≡ true → Testing can v g many (i - 1)
       unfolding tuplesClimb
-      test-on e p q r k t = let z : can (getD ps (i - 1) 0) ≡ true = sym (rw q at k) ∙ t in record { small = smaller; left = inv .left ∙ simp (tuple-down fs cs ps i more, kind, eq-eqb _ _ e, z) }
+      test-on e p q r k t = let z : can (parentIn g (i - 1)) ≡ true = sym (rw q at k) ∙ t in record { small = smaller; left = inv .left ∙ simp (tuple-down g i more, kind, eq-eqb _ _ e, z) }
 
-      pub test-stop : getD cs (i - 1) 0 ≡ v → (p : ℕ) → p ≡ getD ps (i - 1) 0 → (r : Bool) → r ≡ can p → r ≡ false → false ≡ tuplesClimb can v (tuplesDown fs cs ps many)
+      pub test-stop : childIn g (i - 1) ≡ v → (p : ℕ) → p ≡ parentIn g (i - 1) → (r : Bool) → r ≡ can p → r ≡ false → false ≡ tuplesClimb can v (tuplesDown g many)
       unfolding tuplesClimb
-      test-stop e p q r k t = let z : can (getD ps (i - 1) 0) ≡ false = sym (rw q at k) ∙ t in sym (inv .left ∙ simp (tuple-down fs cs ps i more, kind, eq-eqb _ _ e, z))
+      test-stop e p q r k t = let z : can (parentIn g (i - 1)) ≡ false = sym (rw q at k) ∙ t in sym (inv .left ∙ simp (tuple-down g i more, kind, eq-eqb _ _ e, z))

@@ -1,10 +1,10 @@
--- Where the numbers that the scan reads stand in an accepted instruction: a build's dest, a place's base.
+-- Where a build's dest stands in an accepted instruction.
 use Prim.Native.Nat.{ℕ, _<_}
-use mathlib.Core.Path.{_≡_, refl, ap, _∙_}
+use mathlib.Core.Path.{_≡_, refl, ap, _∙_, sym}
 use mathlib.Core.List.{List}
 use mathlib.Core.Bool.{Bool, false, not}
 use mathlib.Core.Option.{some}
-use lib.ListN.{length, getD, drop}
+use lib.ListN.{getD, drop}
 use Rattle.wire.specs.Parse.{ok}
 use Rattle.wire.specs.Number.{at16, below}
 use Rattle.wire.specs.Value.{valueIdOf, valueOf}
@@ -12,15 +12,14 @@ use Rattle.wire.specs.declared.Cause.{Cause}
 use Rattle.wire.specs.declared.ValueId.{ValueId}
 use Rattle.wire.proofs.Laws.{from-16}
 use Rattle.wire.proofs.Inv.{both, image, and-inv, map-inv, checked-inv, number-inv, below-inv}
-use Rattle.form.specs.Syntax.{Place, Instruction, InstructionKind}
-use Rattle.form.specs.Syntax.{Load, Store, MakeTuple, MakeStruct, MakeFixedArray}
+use Rattle.form.specs.Syntax.{Instruction, InstructionKind}
+use Rattle.form.specs.Syntax.{MakeTuple, MakeStruct, MakeFixedArray}
 use Rattle.form.specs.Reads.{kindNumber}
-use Rattle.form.specs.Decode as D
-use Rattle.form.specs.Decode.{bit, definedOf, listOf, fieldInitOf, typeIdOf, projectionOf, instructionOf, loadOf, storeOf, makeTupleOf, makeStructOf, makeArrayOf}
+use Rattle.form.specs.Decode.{bit, definedOf, listOf, fieldInitOf, typeIdOf, instructionOf, makeTupleOf, makeStructOf, makeArrayOf}
 use Rattle.form.specs.declared.Bounds.{Bounds}
-use Rattle.lookup.specs.Fields.{listValues, placeSteps, fieldsPlace, listCount}
-use Rattle.lookup.proofs.Instruction.{chosen, instruction-fields, instruction-stands}
-use Rattle.eligibility.specs.Family.{buildDest, placeOf}
+use Rattle.lookup.specs.Fields.{fieldsPlace}
+use Rattle.lookup.proofs.Instruction.{chosen, instruction-fields}
+use Rattle.eligibility.specs.Family.{buildDest}
 
 -- a value's number at a place
 pub id-at : (next : ℕ) (t : List ℕ) (p : ℕ) {d : ValueId} {n : ℕ} → valueIdOf next (drop p t) ≡ ok d n → (d .0 ≡ at16 t p) × (d .0 < next) × (n ≡ 2)
@@ -39,10 +38,6 @@ dest-at next seen t e = id-at next t 0 (checked-inv Cause.Redefined (λ d. not (
 -- a build's dest is its first field
 pub data DestAt (next : ℕ) (t : List ℕ) (i : InstructionKind) : Type 0 where
   dest : (d : ValueId) → buildDest i ≡ some d → d .0 ≡ at16 t 0 → d .0 < next → DestAt next t i
-
--- a place's base stands at p
-pub data BaseAt (next : ℕ) (t : List ℕ) (p : ℕ) (i : InstructionKind) : Type 0 where
-  base : (x : Place) → placeOf i ≡ some x → placeSteps i ≡ x .projections → x .base .0 ≡ at16 t p → x .base .0 < next → BaseAt next t p i
 
 module _ (b : Bounds) (seen : List Bool) (t : List ℕ) (i : InstructionKind) (n : ℕ) where
   tuple-dest : makeTupleOf b seen t ≡ ok i n → DestAt (b .next) t i
@@ -81,73 +76,20 @@ module _ (b : Bounds) (seen : List Bool) (t : List ℕ) (i : InstructionKind) (n
             ]
       ]
 
-  -- the base of the place that stands at p
-  place-base : (p : ℕ) (x : Place) (m : ℕ) → D.placeOf b (drop p t) ≡ ok x m → (x .base .0 ≡ at16 t p) × (x .base .0 < b .next)
-  place-base p x m e =
-      elim (and-inv (drop p t) (valueIdOf (b .next) (drop p t)) _ e) [
-        | both v m′ k q r s ↦
-            elim (map-inv (λ ps. record { base = v; projections = ps }) (listOf (b .projections) (projectionOf (b .next)) (drop m′ (drop p t))) r) [
-              | image ps f g ↦
-                  let h = id-at (b .next) t p q in
-                  let v′ : x .base .0 ≡ v .0 = ap (λ (a : Place). a .base .0) g in
-                  (v′ ∙ h .0, rw v′ (h .1))
-            ]
-      ]
-
-  load-base : loadOf b seen t ≡ ok i n → BaseAt (b .next) t 2 i
-  unfolding loadOf placeOf
-  load-base e =
-      elim (and-inv t (definedOf (b .next) seen t) _ e) [
-        | both d m k p q r ↦
-            elim (and-inv (drop m t) (D.placeOf b (drop m t)) _ q) [
-              | both x m′ k′ p′ q′ r′ ↦
-                  elim (map-inv (λ u. Load d x u) (typeIdOf (b .types) (drop m′ (drop m t))) q′) [
-                    | image u f g ↦
-                        let h = dest-at (b .next) seen t p in
-                        let at : D.placeOf b (drop 2 t) ≡ ok x m′ = rw (h .2) at p′ in
-                        let o = place-base 2 x m′ at in
-                        base x (rw g refl) (rw g refl) (o .0) (o .1)
-                  ]
-            ]
-      ]
-
-  store-base : storeOf b seen t ≡ ok i n → BaseAt (b .next) t 0 i
-  unfolding storeOf placeOf
-  store-base e =
-      elim (and-inv t (D.placeOf b t) _ e) [
-        | both x m k p q r ↦
-            elim (and-inv (drop m t) (valueOf (b .next) (drop m t)) _ q) [
-              | both y m′ k′ p′ q′ r′ ↦
-                  elim (map-inv (λ u. Store x y u) (typeIdOf (b .types) (drop m′ (drop m t))) q′) [
-                    | image u f g ↦ let o = place-base 0 x m p in base x (rw g refl) (rw g refl) (o .0) (o .1)
-                  ]
-            ]
-      ]
-
 -- of an instruction: t are its own fields
 module _ (b : Bounds) (seen : List Bool) (late : Bool) (s : List ℕ) (i : Instruction) (n : ℕ) (e : instructionOf b seen late s ≡ ok i n) where
   -- its kind is its second byte
   pub kind-at : kindNumber (i .kind) ≡ getD s 1 0
   kind-at = instruction-fields b seen late s i n e .numbered
 
-  read-as : (k : ℕ) → getD s 1 0 ≡ k → chosen b seen (getD s 0 0) k (drop (fieldsPlace s) s) ≡ ok (i .kind) (instruction-fields b seen late s i n e .size)
-  read-as k h = rw h at (instruction-fields b seen late s i n e .read)
+  read-as : (k : ℕ) → kindNumber (i .kind) ≡ k → chosen b seen (getD s 0 0) k (drop (fieldsPlace s) s) ≡ ok (i .kind) (instruction-fields b seen late s i n e .size)
+  read-as k h = rw (sym kind-at ∙ h) at (instruction-fields b seen late s i n e .read)
 
-  pub tuple-place : getD s 1 0 ≡ 10 → DestAt (b .next) (drop (fieldsPlace s) s) (i .kind)
+  pub tuple-place : kindNumber (i .kind) ≡ 10 → DestAt (b .next) (drop (fieldsPlace s) s) (i .kind)
   tuple-place h = tuple-dest b seen (drop (fieldsPlace s) s) (i .kind) _ (read-as 10 h)
 
-  pub struct-place : getD s 1 0 ≡ 12 → DestAt (b .next) (drop (fieldsPlace s) s) (i .kind)
+  pub struct-place : kindNumber (i .kind) ≡ 12 → DestAt (b .next) (drop (fieldsPlace s) s) (i .kind)
   struct-place h = struct-dest b seen (drop (fieldsPlace s) s) (i .kind) _ (read-as 12 h)
 
-  pub array-place : getD s 1 0 ≡ 16 → DestAt (b .next) (drop (fieldsPlace s) s) (i .kind)
+  pub array-place : kindNumber (i .kind) ≡ 16 → DestAt (b .next) (drop (fieldsPlace s) s) (i .kind)
   array-place h = array-dest b seen (drop (fieldsPlace s) s) (i .kind) _ (bit 3 (getD s 0 0)) (read-as 16 h)
-
-  pub load-place : getD s 1 0 ≡ 5 → BaseAt (b .next) (drop (fieldsPlace s) s) 2 (i .kind)
-  load-place h = load-base b seen (drop (fieldsPlace s) s) (i .kind) _ (read-as 5 h)
-
-  pub store-place : getD s 1 0 ≡ 6 → BaseAt (b .next) (drop (fieldsPlace s) s) 0 (i .kind)
-  store-place h = store-base b seen (drop (fieldsPlace s) s) (i .kind) _ (read-as 6 h)
-
-  -- how many values its list has
-  pub list-count : length (listValues (i .kind)) ≡ listCount (drop (fieldsPlace s) s) (getD s 1 0)
-  list-count = instruction-stands b seen late s i n e .listed

@@ -5,9 +5,3 @@ pub mod Tuples
 pub mod Turn
 pub mod Decide
 pub mod Found
-pub mod Sorts
-pub mod Noting
-pub mod Room
-pub mod Extend
-pub mod One
-pub mod Blocks

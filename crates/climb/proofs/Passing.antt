@@ -12,13 +12,12 @@ use Rattle.wire.specs.declared.Value.{Value}
 use Rattle.form.specs.Syntax.{Projection, Index, Field, Tuple, Place, Instruction, InstructionKind}
 use Rattle.form.specs.Syntax.{Assign, UnaryOp, BinaryOp, Call, Cast, Load, Store, Debug, Nop, Phi}
 use Rattle.form.specs.Syntax.{MakeTuple, ExtractTupleElement, MakeStruct, ExtractStructField, InsertField, InsertTuple, MakeFixedArray, AssertEq, HeapAllocCells}
-use Rattle.form.specs.Reads.{initValues}
-use Rattle.lookup.specs.Fields.{listValues}
+use Rattle.form.specs.Reads.{operands, initValues, reads}
 use Rattle.eligibility.specs.declared.Settings.{Settings}
 use Rattle.eligibility.specs.Lookup.{Types, valueRow, isArray, isOperand, isInteger, any}
 use Rattle.eligibility.specs.Family.{Marks, buildDest, placeOf}
 use Rattle.eligibility.specs.Climb.{constantFirst, onBase, onward, climbParts, climbBuild, climbOne, climbAll}
-use Rattle.climb.specs.Edges.{Edge, edge, partEdge, partEdges, buildEdges, edgesOf, arguments, variesFirst, variesAt, blocks, blockedIn, onto, parents}
+use Rattle.climb.specs.Edges.{Edge, edge, partEdges, buildEdges, edgesOf, arguments, variesFirst, variesAt, blocks, blockedIn, onto, parents}
 use Rattle.climb.proofs.Depth.{both-arms}
 
 module _ (up : ℕ → Marks → Option Marks) (a : Bool) (v : ℕ) where
@@ -36,12 +35,10 @@ module _ (up : ℕ → Marks → Option Marks) (a : Bool) (v : ℕ) where
   own-part d w es m k true h = refl
   own-part d w es m k false h = other-edge (edge w d) es m (rw k at h)
 
-  own-edges : (d : ℕ) (xs : List Value) (es : List Edge) (m : Marks) → d ≡ v → parents up a v (partEdges d xs es) m ≡ parents up a v es m
-  unfolding partEdges partEdge
+  own-edges : (d : ℕ) (ws : List ValueId) (es : List Edge) (m : Marks) → d ≡ v → parents up a v (partEdges d ws es) m ≡ parents up a v es m
+  unfolding partEdges
   own-edges d [] es m k = refl
-  own-edges d (Value.Literal l ∷ xs) es m k = own-edges d xs es m k
-  own-edges d (Value.Operand w ∷ xs) es m k = own-part d (w .0) (partEdges d xs es) m k (eqb (w .0) d) refl ∙ own-edges d xs es m k
-  own-edges d (Value.Error ∷ xs) es m k = own-edges d xs es m k
+  own-edges d (w ∷ ws) es m k = own-part d (w .0) (partEdges d ws es) m k (eqb (w .0) d) refl ∙ own-edges d ws es m k
 
 module _ (σ : Settings) (τ : Types) (cross : Marks) (up : ValueId → Marks → Option Marks) (v : ValueId) where
   abbrev walk : List Edge → Marks → Option Marks
@@ -59,26 +56,26 @@ module _ (σ : Settings) (τ : Types) (cross : Marks) (up : ValueId → Marks �
   met f g b es h false (some w) = h w
 
   module _ (f : Marks → Option Marks) (b : Bool) (es : List Edge) (behind : Behind f b es) (d : ValueId) where
-    parts : eqb (d .0) (v .0) ≡ false → (xs : List Value) (m : Marks) → onward σ τ cross f (climbParts σ τ cross up v d xs m) ≡ cond b none (walk (partEdges (d .0) xs es) m)
-    unfolding climbParts onward partEdges partEdge isOperand parents
+    parts : eqb (d .0) (v .0) ≡ false → (xs : List Value) (m : Marks) → onward σ τ cross f (climbParts σ τ cross up v d xs m) ≡ cond b none (walk (partEdges (d .0) (operands xs) es) m)
+    unfolding climbParts onward partEdges isOperand parents
     parts differs [] m = behind m
     parts differs (Value.Literal l ∷ xs) m = parts differs xs m
     parts differs (Value.Error ∷ xs) m = parts differs xs m
     parts differs (Value.Operand w ∷ xs) m = go (λ m. parts differs xs m) (eqb (w .0) (v .0)) refl
       where
-        go : ((m : Marks) → onward σ τ cross f (climbParts σ τ cross up v d xs m) ≡ cond b none (walk (partEdges (d .0) xs es) m)) → (t : Bool) → eqb (w .0) (v .0) ≡ t → onward σ τ cross f (climbParts σ τ cross up v d (Value.Operand w ∷ xs) m) ≡ cond b none (walk (partEdges (d .0) (Value.Operand w ∷ xs) es) m)
+        go : ((m : Marks) → onward σ τ cross f (climbParts σ τ cross up v d xs m) ≡ cond b none (walk (partEdges (d .0) (operands xs) es) m)) → (t : Bool) → eqb (w .0) (v .0) ≡ t → onward σ τ cross f (climbParts σ τ cross up v d (Value.Operand w ∷ xs) m) ≡ cond b none (walk (partEdges (d .0) (w ∷ operands xs) es) m)
         go ih true e =
             let k : eqb (w .0) (d .0) ≡ false = ne-eqb (w .0) (d .0) (λ q. eqb-false (d .0) (v .0) differs (sym q ∙ eqb-true (w .0) (v .0) e)) in
-            simp (e, k) (met f (climbParts σ τ cross up v d xs) b (partEdges (d .0) xs es) ih (isArray (valueRow τ v)) (up d m))
+            simp (e, k) (met f (climbParts σ τ cross up v d xs) b (partEdges (d .0) (operands xs) es) ih (isArray (valueRow τ v)) (up d m))
         go ih false e =
-            rw e (ih m ∙ ap (λ r. cond b none r) (sym (other-part (λ p. up (record { 0 = p })) (isArray (valueRow τ v)) (v .0) (d .0) (w .0) (partEdges (d .0) xs es) m e (eqb (w .0) (d .0)))))
+            rw e (ih m ∙ ap (λ r. cond b none r) (sym (other-part (λ p. up (record { 0 = p })) (isArray (valueRow τ v)) (v .0) (d .0) (w .0) (partEdges (d .0) (operands xs) es) m e (eqb (w .0) (d .0)))))
 
-    build : (xs : List Value) (m : Marks) → onward σ τ cross f (climbBuild σ τ cross up v d xs m) ≡ cond b none (walk (partEdges (d .0) xs es) m)
+    build : (xs : List Value) (m : Marks) → onward σ τ cross f (climbBuild σ τ cross up v d xs m) ≡ cond b none (walk (partEdges (d .0) (operands xs) es) m)
     unfolding climbBuild onward
     build xs m = go (eqb (d .0) (v .0)) refl
       where
-        go : (t : Bool) → eqb (d .0) (v .0) ≡ t → onward σ τ cross f (climbBuild σ τ cross up v d xs m) ≡ cond b none (walk (partEdges (d .0) xs es) m)
-        go true e = rw e (behind m ∙ ap (λ r. cond b none r) (sym (own-edges (λ p. up (record { 0 = p })) (isArray (valueRow τ v)) (v .0) (d .0) xs es m (eqb-true (d .0) (v .0) e))))
+        go : (t : Bool) → eqb (d .0) (v .0) ≡ t → onward σ τ cross f (climbBuild σ τ cross up v d xs m) ≡ cond b none (walk (partEdges (d .0) (operands xs) es) m)
+        go true e = rw e (behind m ∙ ap (λ r. cond b none r) (sym (own-edges (λ p. up (record { 0 = p })) (isArray (valueRow τ v)) (v .0) (d .0) (operands xs) es m (eqb-true (d .0) (v .0) e))))
         go false e = rw e (parts e xs m)
 
   -- a Call, or a Load or Store
@@ -102,7 +99,7 @@ module _ (σ : Settings) (τ : Types) (cross : Marks) (up : ValueId → Marks �
       go true (Field n ∷ ps) = refl
       go true (Tuple k ∷ ps) = refl
 
-  one : (f : Marks → Option Marks) (b : Bool) (es : List Edge) → Behind f b es → (i : InstructionKind) (m : Marks) → onward σ τ cross f (climbOne σ τ cross up v i m) ≡ cond (blocks (v .0) i || b) none (walk (buildEdges (buildDest i) (listValues i) es) m)
+  one : (f : Marks → Option Marks) (b : Bool) (es : List Edge) → Behind f b es → (i : InstructionKind) (m : Marks) → onward σ τ cross f (climbOne σ τ cross up v i m) ≡ cond (blocks (v .0) i || b) none (walk (buildEdges (buildDest i) (reads i) es) m)
   unfolding climbOne onward blocks arguments variesAt placeOf buildEdges buildDest any
   one f b es h (Assign d x t) m = h m
   one f b es h (UnaryOp op d x) m = h m

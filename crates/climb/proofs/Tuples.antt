@@ -9,14 +9,13 @@ use Rattle.wire.specs.declared.Value.{Value}
 use Rattle.form.specs.Syntax.{Instruction, InstructionKind}
 use Rattle.form.specs.Syntax.{Assign, UnaryOp, BinaryOp, Call, Cast, Load, Store, Debug, Nop, Phi}
 use Rattle.form.specs.Syntax.{MakeTuple, ExtractTupleElement, MakeStruct, ExtractStructField, InsertField, InsertTuple, MakeFixedArray, AssertEq, HeapAllocCells}
-use Rattle.form.specs.Reads.{kindNumber}
-use Rattle.lookup.specs.Fields.{listValues}
+use Rattle.form.specs.Reads.{kindNumber, operands, reads}
 use Rattle.eligibility.specs.declared.Settings.{Settings}
 use Rattle.eligibility.specs.Lookup.{Types, isOperand, any, every}
 use Rattle.eligibility.specs.Family.{Marks, buildDest}
 use Rattle.eligibility.specs.Climb.{canScalarize}
 use Rattle.eligibility.specs.Fold.{tupleParent}
-use Rattle.climb.specs.Edges.{Edge, edge, partEdge, partEdges, buildEdges, tupleEdgesOf, tuplesClimb}
+use Rattle.climb.specs.Edges.{Edge, edge, partEdges, buildEdges, tupleEdgesOf, tuplesClimb}
 
 module _ (can : ℕ → Bool) (v : ℕ) where
   -- one part of a tuple d: the part is its own dest, or the value, or another
@@ -33,19 +32,19 @@ module _ (can : ℕ → Bool) (v : ℕ) where
   part d w es false false any c rest false o m s k ih = rw m ih
 
   -- a tuple d in front of others
-  tuple : (d : ℕ) (xs : List Value) (es : List Edge) → tuplesClimb can v (partEdges d xs es) ≡ ((eqb d v || (not (any (isOperand (record { 0 = v })) xs) || can d)) && tuplesClimb can v es)
-  unfolding partEdges partEdge any isOperand
+  tuple : (d : ℕ) (xs : List Value) (es : List Edge) → tuplesClimb can v (partEdges d (operands xs) es) ≡ ((eqb d v || (not (any (isOperand (record { 0 = v })) xs) || can d)) && tuplesClimb can v es)
+  unfolding partEdges any isOperand
   tuple d [] es = rw (or-true (eqb d v))
   tuple d (Value.Literal l ∷ xs) es = tuple d xs es
   tuple d (Value.Operand w ∷ xs) es =
-      part d (w .0) (partEdges d xs es) (eqb d v) (eqb (w .0) v) (any (isOperand (record { 0 = v })) xs) (can d) (tuplesClimb can v es) (eqb (w .0) d) refl refl refl refl (tuple d xs es)
+      part d (w .0) (partEdges d (operands xs) es) (eqb d v) (eqb (w .0) v) (any (isOperand (record { 0 = v })) xs) (can d) (tuplesClimb can v es) (eqb (w .0) d) refl refl refl refl (tuple d xs es)
   tuple d (Value.Error ∷ xs) es = tuple d xs es
 
 module _ (σ : Settings) (τ : Types) (cross : Marks) (is : List Instruction) (v : ℕ) where
   abbrev can : ℕ → Bool
   can p = canScalarize σ τ cross is (record { 0 = p })
 
-  one : (i : InstructionKind) (es : List Edge) → (tupleParent σ τ cross is (record { 0 = v }) i && tuplesClimb can v es) ≡ tuplesClimb can v (cond (eqb (kindNumber i) 10) (buildEdges (buildDest i) (listValues i) es) es)
+  one : (i : InstructionKind) (es : List Edge) → (tupleParent σ τ cross is (record { 0 = v }) i && tuplesClimb can v es) ≡ tuplesClimb can v (cond (eqb (kindNumber i) 10) (buildEdges (buildDest i) (reads i) es) es)
   unfolding tupleParent buildEdges buildDest
   one (Assign d x t) es = refl
   one (UnaryOp op d x) es = refl

@@ -53,8 +53,8 @@ both false false d x y e = refl
 
 module _ (σ : Settings) (τ : Types) (cross : Marks) (is : List Instruction) (t : Sight) (edges : t .edges ≡ edgesOf is)
     (shaped : (v : ℕ) → v < length (τ .recorded) → getD (t .shapes) v 0 ≡ shape (valueRow τ (record { 0 = v })))
-    (built : (v : ℕ) → v < length (τ .recorded) → getD (t .buildable) v false ≡ buildableOf σ τ cross (buildOf σ τ cross (record { 0 = v }) is))
-    (barred : (v : ℕ) → v < length (τ .recorded) → getD (t .blocked) v false ≡ blockedIn v is)
+    (built : (v : ℕ) → v < length (τ .recorded) → t .built v ≡ buildableOf σ τ cross (buildOf σ τ cross (record { 0 = v }) is))
+    (barred : (v : ℕ) → v < length (τ .recorded) → t .barred v ≡ blockedIn v is)
     (below : Each (λ p. p < length (τ .recorded)) (edgesOf is))
   where
     abbrev Counts : Marks → Type 0
@@ -83,13 +83,13 @@ some-through g none = refl
 some-through g (some m) = refl
 
 -- the tables decide: the climb from a value, with nothing visited
-module _ {σ : Settings} {τ : Types} {cross : Marks} {is : List Instruction} {shapes : List ℕ} {eligible : List Bool} {children parents : List ℕ} {tuples : List Bool} {many : ℕ} {buildable blocked : List Bool}
-    (facts : FactsAt σ τ shapes eligible) (scanned : Scanned σ τ cross is children parents tuples many buildable blocked)
+module _ {σ : Settings} {τ : Types} {cross : Marks} {is : List Instruction} {shapes : List ℕ} {eligible : List Bool} {graph : List ℕ}
+    (facts : FactsAt σ τ shapes eligible) (scanned : Scanned σ τ cross is graph)
   where
-    pub decides : (v : ℕ) → v < length (τ .recorded) → length (τ .recorded) ≤ 256 → canScalarize σ τ cross is (record { 0 = v }) ≡ isSome (climbOf (sightOf shapes buildable blocked children parents many) v fresh)
+    pub decides : (v : ℕ) → v < length (τ .recorded) → length (τ .recorded) ≤ 256 → canScalarize σ τ cross is (record { 0 = v }) ≡ isSome (climbOf (sightOf shapes graph) v fresh)
     unfolding canScalarize climbOf
     decides v h l =
-        let t = sightOf shapes buildable blocked children parents many in
+        let t = sightOf shapes graph in
         let n = length (τ .recorded) in
         let low : Each (λ p. p < n) (t .edges) = rw (scanned .edges) (scanned .below) in
         let a = same-climb σ τ cross is t (scanned .edges) (facts .shaped) (scanned .built) (scanned .barred) (scanned .below) (suc n) v (replicate n false) h (length-replicate n false) in

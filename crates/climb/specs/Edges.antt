@@ -8,7 +8,7 @@ use lib.Dec.{eqb}
 use Rattle.wire.specs.declared.ValueId.{ValueId}
 use Rattle.wire.specs.declared.Value.{Value}
 use Rattle.form.specs.Syntax.{Projection, Index, Field, Tuple, Place, Instruction, InstructionKind}
-use Rattle.form.specs.Reads.{kindNumber}
+use Rattle.form.specs.Reads.{kindNumber, reads}
 use Rattle.lookup.specs.Fields.{listValues}
 use Rattle.eligibility.specs.Lookup.{isOperand, isInteger, any}
 use Rattle.eligibility.specs.Family.{Marks, buildDest, placeOf}
@@ -22,30 +22,25 @@ pub record Edge : Type 0 where
 abbrev pub edge : ℕ → ℕ → Edge
 edge c p = record { child = c; parent = p }
 
--- a part that is an operand other than the build's own dest, in front of others
-unfoldable pub partEdge : ℕ → Value → List Edge → List Edge
-partEdge d (Value.Literal l) es = es
-partEdge d (Value.Operand w) es = cond (eqb (w .0) d) es (edge (w .0) d ∷ es)
-partEdge d Value.Error es = es
-
-unfoldable pub partEdges : ℕ → List Value → List Edge → List Edge
+-- the parts of a build d, each other than d itself, in front of others
+unfoldable pub partEdges : ℕ → List ValueId → List Edge → List Edge
 partEdges d [] es = es
-partEdges d (x ∷ xs) es = partEdge d x (partEdges d xs es)
+partEdges d (w ∷ ws) es = cond (eqb (w .0) d) (partEdges d ws es) (edge (w .0) d ∷ partEdges d ws es)
 
-unfoldable pub buildEdges : Option ValueId → List Value → List Edge → List Edge
-buildEdges none xs es = es
-buildEdges (some d) xs es = partEdges (d .0) xs es
+unfoldable pub buildEdges : Option ValueId → List ValueId → List Edge → List Edge
+buildEdges none ws es = es
+buildEdges (some d) ws es = partEdges (d .0) ws es
 
--- a block's edges, in order
+-- a block's edges, in order: a build reads its parts
 unfoldable pub edgesOf : List Instruction → List Edge
 edgesOf [] = []
-edgesOf (i ∷ is) = buildEdges (buildDest (i .kind)) (listValues (i .kind)) (edgesOf is)
+edgesOf (i ∷ is) = buildEdges (buildDest (i .kind)) (reads (i .kind)) (edgesOf is)
 
 -- those of its MakeTuples
 unfoldable pub tupleEdgesOf : List Instruction → List Edge
 tupleEdgesOf [] = []
 tupleEdgesOf (i ∷ is) =
-    cond (eqb (kindNumber (i .kind)) 10) (buildEdges (buildDest (i .kind)) (listValues (i .kind)) (tupleEdgesOf is)) (tupleEdgesOf is)
+    cond (eqb (kindNumber (i .kind)) 10) (buildEdges (buildDest (i .kind)) (reads (i .kind)) (tupleEdgesOf is)) (tupleEdgesOf is)
 
 -- the arguments of a Call
 unfoldable pub arguments : InstructionKind → List Value
@@ -70,18 +65,18 @@ unfoldable pub blockedIn : ℕ → List Instruction → Bool
 blockedIn v [] = false
 blockedIn v (i ∷ is) = blocks v (i .kind) || blockedIn v is
 
--- what the climb looks at, by value
+-- what the climb looks at: by value its shape, whether its build passes its own conditions, whether it is wanted whole
 pub record Sight : Type 0 where
   pub shapes : List ℕ
-  pub buildable : List Bool
-  pub blocked : List Bool
+  pub built : ℕ → Bool
+  pub barred : ℕ → Bool
   pub edges : List Edge
 
 abbrev pub arrayIn : Sight → ℕ → Bool
 arrayIn t v = eqb (getD (t .shapes) v 0) 3
 
 abbrev pub allowedIn : Sight → ℕ → Bool
-allowedIn t v = getD (t .buildable) v false && not (getD (t .blocked) v false)
+allowedIn t v = t .built v && not (t .barred v)
 
 abbrev pub onto : Option Marks → (Marks → Option Marks) → Option Marks
 onto none f = none

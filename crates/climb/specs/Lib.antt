@@ -1,4 +1,3 @@
 pub mod Edges
 pub mod Scanned
 pub mod Decided
-pub mod Noted

@@ -1,9 +1,13 @@
--- A block's edges, blocked and buildable values as the code keeps them, in tables.
-use Prim.Native.Nat.{ℕ, zero, suc, _<_}
+-- A block's edges, blocked and buildable values as the code keeps them: one table of numbers, the graph.
+-- At 0 how many edges there are; from 1 by value 1 where its build passes its own conditions; from 257 by value 1 where it is
+-- wanted whole; from 513 three numbers for each edge: the child, the parent, the kind of the parent's build.
+-- (src/lib.rt has the same numbers.)
+use Prim.Native.Nat.{ℕ, zero, suc, _+_, _*_, _<_}
 use mathlib.Core.Path.{_≡_}
 use mathlib.Core.List.{List, [], _∷_}
 use mathlib.Core.Bool.{Bool, false, cond}
 use lib.ListN.{length, getD, replicate}
+use lib.Dec.{eqb}
 use Rattle.form.specs.Syntax.{Instruction}
 use Rattle.eligibility.specs.declared.Settings.{Settings}
 use Rattle.eligibility.specs.Lookup.{Types}
@@ -11,32 +15,53 @@ use Rattle.eligibility.specs.Family.{Marks}
 use Rattle.eligibility.specs.Climb.{buildOf, buildableOf}
 use Rattle.climb.specs.Edges.{Edge, edge, edgesOf, tupleEdgesOf, blockedIn, Sight}
 
--- the first k edges of the tables: the one that was noted last comes first
-unfoldable pub edgesDown : List ℕ → List ℕ → ℕ → List Edge
-edgesDown cs ps zero = []
-edgesDown cs ps (suc k) = edge (getD cs k 0) (getD ps k 0) ∷ edgesDown cs ps k
+abbrev pub manyIn : List ℕ → ℕ
+manyIn graph = getD graph 0 0
+
+abbrev pub builtIn : List ℕ → ℕ → Bool
+builtIn graph v = eqb (getD graph (1 + v) 0) 1
+
+abbrev pub barredIn : List ℕ → ℕ → Bool
+barredIn graph v = eqb (getD graph (257 + v) 0) 1
+
+-- edge k, and whether its parent is built by a MakeTuple
+abbrev pub childIn : List ℕ → ℕ → ℕ
+childIn graph k = getD graph (513 + 3 * k) 0
+
+abbrev pub parentIn : List ℕ → ℕ → ℕ
+parentIn graph k = getD graph (513 + 3 * k + 1) 0
+
+abbrev pub edgeIn : List ℕ → ℕ → Edge
+edgeIn graph k = edge (childIn graph k) (parentIn graph k)
+
+abbrev pub ofTuple : List ℕ → ℕ → Bool
+ofTuple graph k = eqb (getD graph (513 + 3 * k + 2) 0) 10
+
+-- the first k edges of the graph: the one that was noted last comes first
+unfoldable pub edgesDown : List ℕ → ℕ → List Edge
+edgesDown graph zero = []
+edgesDown graph (suc k) = edgeIn graph k ∷ edgesDown graph k
 
 -- those that are noted as a MakeTuple's
-unfoldable pub tuplesDown : List Bool → List ℕ → List ℕ → ℕ → List Edge
-tuplesDown fs cs ps zero = []
-tuplesDown fs cs ps (suc k) = cond (getD fs k false) (edge (getD cs k 0) (getD ps k 0) ∷ tuplesDown fs cs ps k) (tuplesDown fs cs ps k)
+unfoldable pub tuplesDown : List ℕ → ℕ → List Edge
+tuplesDown graph zero = []
+tuplesDown graph (suc k) = cond (ofTuple graph k) (edgeIn graph k ∷ tuplesDown graph k) (tuplesDown graph k)
 
 -- what holds of each parent
 abbrev pub Each : (ℕ → Type 0) → List Edge → Type 0
 Each Q [] = Unit {0}
 Each Q (e ∷ es) = Q (e .parent) × Each Q es
 
--- what the tables hold of a block's instructions
-pub record Scanned (σ : Settings) (τ : Types) (cross : Marks) (is : List Instruction) (children parents : List ℕ) (tuples : List Bool) (many : ℕ) (buildable blocked : List Bool) : Type 0 where
-  pub edges : edgesDown children parents many ≡ edgesOf is
-  pub tuple-edges : tuplesDown tuples children parents many ≡ tupleEdgesOf is
-  pub built : (v : ℕ) → v < length (τ .recorded) → getD buildable v false ≡ buildableOf σ τ cross (buildOf σ τ cross (record { 0 = v }) is)
-  pub barred : (v : ℕ) → v < length (τ .recorded) → getD blocked v false ≡ blockedIn v is
+-- what the graph holds of a block's instructions
+pub record Scanned (σ : Settings) (τ : Types) (cross : Marks) (is : List Instruction) (graph : List ℕ) : Type 0 where
+  pub edges : edgesDown graph (manyIn graph) ≡ edgesOf is
+  pub tuple-edges : tuplesDown graph (manyIn graph) ≡ tupleEdgesOf is
+  pub built : (v : ℕ) → v < length (τ .recorded) → builtIn graph v ≡ buildableOf σ τ cross (buildOf σ τ cross (record { 0 = v }) is)
+  pub barred : (v : ℕ) → v < length (τ .recorded) → barredIn graph v ≡ blockedIn v is
   pub below : Each (λ p. p < length (τ .recorded)) (edgesOf is)
 
-abbrev pub sightOf : List ℕ → List Bool → List Bool → List ℕ → List ℕ → ℕ → Sight
-sightOf shapes buildable blocked children parents many =
-    record { shapes = shapes; buildable = buildable; blocked = blocked; edges = edgesDown children parents many }
+abbrev pub sightOf : List ℕ → List ℕ → Sight
+sightOf shapes graph = record { shapes = shapes; built = builtIn graph; barred = barredIn graph; edges = edgesDown graph (manyIn graph) }
 
 -- nothing visited
 abbrev pub fresh : Marks

@@ -12,7 +12,7 @@ ghost use Rattle.eligibility.specs.Lookup.{Types};
 ghost use Rattle.progress.specs.Ground.{Ground};
 ghost use Rattle.shelf.specs.Agrees.{agrees};
 
-pub fn load(s: &[u8], b: Bounds, types: &[usize], recorded: &[u16], t: &[u8]) -> bool
+pub fn load(s: &[u8], b: Bounds, types: &[u16], recorded: &[u16], t: &[u8]) -> bool
     ensures { λ r. ⌜ ((τ : Types) (seen : List Bool) (i : InstructionKind) (n : ℕ) → Ground b (now (s .entry)) (now (types .entry)) (now (recorded .entry)) τ → loadOf b seen (now (t .entry)) ≡ ok i n → r ≡ agrees τ i) ⌝ }
 {
     let e = lookup::projections_end(t, 5, wire::byte_at(t, 4));
@@ -22,7 +22,7 @@ pub fn load(s: &[u8], b: Bounds, types: &[usize], recorded: &[u16], t: &[u8]) ->
     fields::both(dest, place)
 }
 
-pub fn store(s: &[u8], b: Bounds, types: &[usize], recorded: &[u16], t: &[u8]) -> bool
+pub fn store(s: &[u8], b: Bounds, types: &[u16], recorded: &[u16], t: &[u8]) -> bool
     ensures { λ r. ⌜ ((τ : Types) (seen : List Bool) (i : InstructionKind) (n : ℕ) → Ground b (now (s .entry)) (now (types .entry)) (now (recorded .entry)) τ → storeOf b seen (now (t .entry)) ≡ ok i n → r ≡ agrees τ i) ⌝ }
 {
     let e = lookup::projections_end(t, 3, wire::byte_at(t, 2));
@@ -32,7 +32,7 @@ pub fn store(s: &[u8], b: Bounds, types: &[usize], recorded: &[u16], t: &[u8]) -
     fields::both(value, place)
 }
 
-pub fn phi(s: &[u8], b: Bounds, types: &[usize], recorded: &[u16], t: &[u8]) -> bool
+pub fn phi(s: &[u8], b: Bounds, types: &[u16], recorded: &[u16], t: &[u8]) -> bool
     ensures { λ r. ⌜ ((τ : Types) (seen : List Bool) (i : InstructionKind) (n : ℕ) → Ground b (now (s .entry)) (now (types .entry)) (now (recorded .entry)) τ → phiOf b seen (now (t .entry)) ≡ ok i n → r ≡ agrees τ i) ⌝ }
 {
     let y = fields::type_at(t, b, 2);
@@ -42,7 +42,7 @@ pub fn phi(s: &[u8], b: Bounds, types: &[usize], recorded: &[u16], t: &[u8]) -> 
     fields::both(dest, sources)
 }
 
-pub fn make_tuple(s: &[u8], b: Bounds, types: &[usize], recorded: &[u16], t: &[u8]) -> bool
+pub fn make_tuple(s: &[u8], b: Bounds, types: &[u16], recorded: &[u16], t: &[u8]) -> bool
     ensures { λ r. ⌜ ((τ : Types) (seen : List Bool) (i : InstructionKind) (n : ℕ) → Ground b (now (s .entry)) (now (types .entry)) (now (recorded .entry)) τ → makeTupleOf b seen (now (t .entry)) ≡ ok i n → r ≡ agrees τ i) ⌝ }
 {
     let y = fields::id_type(b, recorded, t, 0);
@@ -52,7 +52,7 @@ pub fn make_tuple(s: &[u8], b: Bounds, types: &[usize], recorded: &[u16], t: &[u
     fields::both(shaped, all)
 }
 
-pub fn make_array(s: &[u8], b: Bounds, types: &[usize], recorded: &[u16], t: &[u8]) -> bool
+pub fn make_array(s: &[u8], b: Bounds, types: &[u16], recorded: &[u16], t: &[u8]) -> bool
     ensures { λ r. ⌜ ((τ : Types) (seen : List Bool) (c : Bool) (i : InstructionKind) (n : ℕ) → Ground b (now (s .entry)) (now (types .entry)) (now (recorded .entry)) τ → makeArrayOf b seen c (now (t .entry)) ≡ ok i n → r ≡ agrees τ i) ⌝ }
 {
     let y = fields::id_type(b, recorded, t, 0);
@@ -65,7 +65,7 @@ pub fn make_array(s: &[u8], b: Bounds, types: &[usize], recorded: &[u16], t: &[u
     fields::both(shaped, fit)
 }
 
-pub fn call(s: &[u8], b: Bounds, types: &[usize], recorded: &[u16], t: &[u8]) -> bool
+pub fn call(s: &[u8], b: Bounds, types: &[u16], recorded: &[u16], t: &[u8]) -> bool
     ensures { λ r. ⌜ ((τ : Types) (seen : List Bool) (i : InstructionKind) (n : ℕ) → Ground b (now (s .entry)) (now (types .entry)) (now (recorded .entry)) τ → callOf b seen (now (t .entry)) ≡ ok i n → r ≡ agrees τ i) ⌝ }
 {
     let dests = wire::byte_at(t, 0);
@@ -81,7 +81,7 @@ pub fn call(s: &[u8], b: Bounds, types: &[usize], recorded: &[u16], t: &[u8]) ->
     fields::both(given, had)
 }
 
-pub fn make_struct(s: &[u8], b: Bounds, types: &[usize], recorded: &[u16], t: &[u8]) -> bool
+pub fn make_struct(s: &[u8], b: Bounds, types: &[u16], recorded: &[u16], t: &[u8]) -> bool
     ensures { λ r. ⌜ ((τ : Types) (seen : List Bool) (i : InstructionKind) (n : ℕ) → Ground b (now (s .entry)) (now (types .entry)) (now (recorded .entry)) τ → makeStructOf b seen (now (t .entry)) ≡ ok i n → r ≡ agrees τ i) ⌝ }
 {
     let n = wire::byte_at(t, 2);

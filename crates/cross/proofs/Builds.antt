@@ -3,10 +3,10 @@ use Prim.Native.Nat.{ℕ, _<_}
 use mathlib.Core.Path.{_≡_, refl, ap, _∙_, sym}
 use mathlib.Core.List.{List, []}
 use mathlib.Core.Bool.{Bool, true, false, not}
-use mathlib.Core.Option.{none, some}
+use mathlib.Core.Logic.{_⊎_, inl, inr, ⊎-elim}
+use mathlib.Core.Option.{Option, none, some}
 use native.Mathlib.Omega.{arith}
-use borrow.Author.Tests.{not-true, not-false}
-use lib.ListN.{length, getD, drop, replicate}
+use lib.ListN.{length, getD, set, drop, replicate, length-set, length-replicate}
 use Rattle.wire.specs.Parse.{ok, andThen, mapParse}
 use Rattle.wire.specs.Number.{below, at16}
 use Rattle.wire.specs.Value.{valueOf, valueIdOf}
@@ -17,18 +17,21 @@ use Rattle.form.specs.Syntax.{Instruction, InstructionKind, Block}
 use Rattle.form.specs.Syntax.{Assign, UnaryOp, BinaryOp, Call, Cast, Load, Store, Debug, Nop, Phi}
 use Rattle.form.specs.Syntax.{MakeTuple, ExtractTupleElement, MakeStruct, ExtractStructField, InsertField, InsertTuple, MakeFixedArray, AssertEq, HeapAllocCells}
 use Rattle.form.specs.Reads.{kindNumber}
-use Rattle.form.specs.Decode.{definedOf, typeIdOf, listOf, fieldInitOf, instructionOf, makeTupleOf, makeStructOf, makeArrayOf, bit}
+use Rattle.form.specs.Decode.{definedOf, typeIdOf, listOf, fieldInitOf, makeTupleOf, makeStructOf, makeArrayOf, bit}
 use Rattle.form.specs.declared.Bounds.{Bounds}
 use Rattle.lookup.specs.Fields.{fieldsPlace}
-use Rattle.lookup.proofs.Instruction.{instruction-fields, fields-read}
 use Rattle.eligibility.specs.Lookup.{Types, valueRow, shape, isScalarizable}
-use Rattle.eligibility.specs.Family.{Marks, family, buildDest, union, readElsewhere, crossFamily, crossBuild}
+use Rattle.eligibility.specs.Tables.{FactsAt}
+use Rattle.eligibility.specs.Family.{Marks, mark, family, buildDest, union, readElsewhere, crossFamily, crossBuild}
 use Rattle.eligibility.specs.declared.Settings.{Settings}
 use Rattle.family.proofs.Sweeps.{family-length}
-use Rattle.family.proofs.Fields.{dest-at}
+use Rattle.family.specs.Copies.{copies, CopiesIn, meets, Headed, FamilyMarks}
+use Rattle.family.proofs.Fields.{dest-at, fields-of}
 use Rattle.cross.specs.declared.BuildRead.{BuildRead}
-use Rattle.readers.specs.Readers.{readBlocks}
-use Rattle.cross.specs.Cross.{asDest, Ready, Built}
+use Rattle.readers.specs.Readers.{foreign, foreigners, ReadElsewhere}
+use Rattle.readers.proofs.Elsewhere.{elsewhere, foreign-of}
+use Rattle.cross.specs.Cross.{Kept, Root, Idle, Built}
+use Rattle.cross.proofs.Uniting.{union-one, one-meets}
 
 -- a dest that is defined is one of the values
 dest-below : (next : ℕ) (seen : List Bool) (u : List ℕ) {d : ValueId} {m : ℕ} → definedOf next seen u ≡ ok d m → d .0 < next
@@ -39,7 +42,7 @@ dest-below next seen u e =
 
 -- a build whose fields are u
 pub record BuildAt (next : ℕ) (u : List ℕ) (k : InstructionKind) : Type 0 where
-  pub dest : some (record { 0 = at16 u 0 }) ≡ buildDest k
+  pub dest : buildDest k ≡ some (record { 0 = at16 u 0 })
   pub low : at16 u 0 < next
 
 tuple-at : (b : Bounds) (u : List ℕ) {k : InstructionKind} {n : ℕ} → makeTupleOf b [] u ≡ ok k n → BuildAt (b .next) u k
@@ -78,91 +81,131 @@ array-at b c u e =
           ]
     ]
 
--- no other kind is a build
-other-build : (i : InstructionKind) → (kindNumber i ≡ 10 → ⊥) → (kindNumber i ≡ 12 → ⊥) → (kindNumber i ≡ 16 → ⊥) → none ≡ buildDest i
-unfolding buildDest
-other-build (MakeTuple e vs) f g h = absurd (f refl)
-other-build (MakeStruct e fs t) f g h = absurd (g refl)
-other-build (MakeFixedArray e vs t c) f g h = absurd (h refl)
-other-build (Assign e v t) f g h = refl
-other-build (UnaryOp op e v) f g h = refl
-other-build (BinaryOp op e v w) f g h = refl
-other-build (Call es c vs ps rs) f g h = refl
-other-build (Cast e v t w) f g h = refl
-other-build (Load e p t) f g h = refl
-other-build (Store p v t) f g h = refl
-other-build (Debug m vs) f g h = refl
-other-build Nop f g h = refl
-other-build (Phi e t ss) f g h = refl
-other-build (ExtractTupleElement e v m t) f g h = refl
-other-build (ExtractStructField e v m t) f g h = refl
-other-build (InsertField e v m w t) f g h = refl
-other-build (InsertTuple e v m w t) f g h = refl
-other-build (AssertEq v w) f g h = refl
-other-build (HeapAllocCells e v) f g h = refl
+-- the kinds of builds
+abbrev BuildKind : ℕ → Type 0
+BuildKind k = (k ≡ 10) ⊎ ((k ≡ 12) ⊎ (k ≡ 16))
 
--- what build_dest finds
-module _ (b : Bounds) (t u : List ℕ) (fp kind dest : ℕ) (ef : fp ≡ fieldsPlace t) (eu : u ≡ drop fp t) (ed : dest ≡ at16 u 0) (ek : kind ≡ getD t 1 0) where
-  built : (k : InstructionKind) → BuildAt (b .next) u k → Built (b .next) (BuildRead.Dest dest) k
-  built k a =
+other-build : (i : InstructionKind) → (BuildKind (kindNumber i) → ⊥) → buildDest i ≡ none
+unfolding buildDest
+other-build (MakeTuple e vs) f = absurd (f (inl refl))
+other-build (MakeStruct e fs t) f = absurd (f (inr (inl refl)))
+other-build (MakeFixedArray e vs t c) f = absurd (f (inr (inr refl)))
+other-build (Assign e v t) f = refl
+other-build (UnaryOp op e v) f = refl
+other-build (BinaryOp op e v w) f = refl
+other-build (Call es c vs ps rs) f = refl
+other-build (Cast e v t w) f = refl
+other-build (Load e p t) f = refl
+other-build (Store p v t) f = refl
+other-build (Debug m vs) f = refl
+other-build Nop f = refl
+other-build (Phi e t ss) f = refl
+other-build (ExtractTupleElement e v m t) f = refl
+other-build (ExtractStructField e v m t) f = refl
+other-build (InsertField e v m w t) f = refl
+other-build (InsertTuple e v m w t) f = refl
+other-build (AssertEq v w) f = refl
+other-build (HeapAllocCells e v) f = refl
+
+-- what eligible_build finds: another kind,
+pub found-none : (b : Bounds) (t : List ℕ) (kind : ℕ) (eligible : List Bool) → (BuildKind kind → ⊥) → (i : Instruction) → Headed b t kind i → Built eligible (b .next) BuildRead.Nothing (i .kind)
+found-none b t kind eligible f i a =
+    record {
+      dest = λ v e. absurd (let z : _≡_ {A = ℕ} 0 1 = cc in omega arith);
+      idle = λ e. record { each = λ v g. absurd (let y : none ≡ some v = sym (other-build (i .kind) (λ k. f (rw (a .numbered) k))) ∙ g in let z : _≡_ {A = ℕ} 0 1 = cc in omega arith) };
+    }
+
+-- or a build, whose fields are u
+module _ (b : Bounds) (t u : List ℕ) (fp kind dest : ℕ) (eligible : List Bool) (on : Bool) (ef : fp ≡ fieldsPlace t) (eu : u ≡ drop fp t) (ed : dest ≡ at16 u 0) (eo : on ≡ getD eligible dest false) (k : BuildKind kind) (i : Instruction) (a : Headed b t kind i) where
+  build-at : BuildAt (b .next) u (i .kind)
+  build-at =
+      ⊎-elim (λ h. tuple-at b u (fields-of b t 10 ef eu i a h .read))
+      (⊎-elim (λ h. struct-at b u (fields-of b t 12 ef eu i a h .read)) (λ h. array-at b (bit 3 (getD t 0 0)) u (fields-of b t 16 ef eu i a h .read))) k
+
+  root : Root eligible (b .next) dest on (i .kind)
+  root = record { dest = build-at .dest ∙ ap (λ x. some (record { 0 = x })) (sym ed); low = omega (arith, build-at .low); fits = sym eo }
+
+  pub found-root : on ≡ true → Built eligible (b .next) (BuildRead.Dest dest) (i .kind)
+  found-root h =
       record {
-        dest = ap (λ x. some (record { 0 = x })) ed ∙ a .dest;
-        low = λ v e. let z : dest ≡ v = cc in omega (arith, a .low);
+        dest = λ v e. let z : dest ≡ v = cc in rw (← z, ← h) root;
+        idle = λ e. absurd (let z : _≡_ {A = ℕ} 0 1 = cc in omega arith);
       }
 
-  pub found-tuple : kind ≡ 10 → (i : Instruction) (n : ℕ) → instructionOf b [] false t ≡ ok i n → Built (b .next) (BuildRead.Dest dest) (i .kind)
-  found-tuple h i n e = built (i .kind) (tuple-at b u (fields-read b t ef eu ek i n e 10 h))
-
-  pub found-struct : kind ≡ 12 → (i : Instruction) (n : ℕ) → instructionOf b [] false t ≡ ok i n → Built (b .next) (BuildRead.Dest dest) (i .kind)
-  found-struct h i n e = built (i .kind) (struct-at b u (fields-read b t ef eu ek i n e 12 h))
-
-  pub found-array : kind ≡ 16 → (i : Instruction) (n : ℕ) → instructionOf b [] false t ≡ ok i n → Built (b .next) (BuildRead.Dest dest) (i .kind)
-  found-array h i n e = built (i .kind) (array-at b (bit 3 (getD t 0 0)) u (fields-read b t ef eu ek i n e 16 h))
-
-  pub found-none : (kind ≡ 10 → ⊥) → (kind ≡ 12 → ⊥) → (kind ≡ 16 → ⊥) → (i : Instruction) (n : ℕ) → instructionOf b [] false t ≡ ok i n → Built (b .next) BuildRead.Nothing (i .kind)
-  found-none f g h i n e =
-      let k : kindNumber (i .kind) ≡ kind = instruction-fields b [] false t i n e .numbered ∙ sym ek in
+  pub found-idle : on ≡ false → Built eligible (b .next) BuildRead.Nothing (i .kind)
+  found-idle h =
       record {
-        dest = other-build (i .kind) (λ z. f (sym k ∙ z)) (λ z. g (sym k ∙ z)) (λ z. h (sym k ∙ z));
-        low = λ v q. absurd (let z : _≡_ {A = ℕ} 0 1 = cc in omega arith);
+        dest = λ v e. absurd (let z : _≡_ {A = ℕ} 0 1 = cc in omega arith);
+        idle = λ e.
+            record {
+              each = λ v g.
+                  let y : some (record { 0 = dest }) ≡ some v = sym (root .dest) ∙ g in
+                  let z : record { 0 = dest } ≡ v = cc in
+                  let q : dest ≡ v .0 = ap (λ x. x .0) z in
+                  rw (← q, ← h) root;
+            };
       }
 
 -- a family that is found, and whether it is read elsewhere
-module _ (own : ℕ) (v : ValueId) (m c : Marks) (reader : List ℕ) (r : Bool) (er : (n : ℕ) (ks : List Block) → reader ≡ readBlocks 0 (replicate n 0) ks → length m ≡ n → r ≡ readElsewhere m own 0 ks) where
-  read-there : (τ : Types) (ks : List Block) (x : Block) → m ≡ family τ v (x .instructions) → reader ≡ readBlocks 0 (replicate (length (τ .recorded)) 0) ks → readElsewhere (family τ v (x .instructions)) own 0 ks ≡ r
-  read-there τ ks x e f =
-      sym (er (length (τ .recorded)) ks f (ap (λ q. length q) e ∙ family-length τ v (x .instructions)) ∙ ap (λ q. readElsewhere q own 0 ks) e)
+module _ (own : ℕ) (v : ValueId) (table : List ℕ) (count root : ℕ) (clear m c : Marks) (reader : List ℕ) (r : Bool) (em : FamilyMarks table count root v clear m) (er : ReadElsewhere m own reader r) (τ : Types) (ks : List Block) (x : Block) (next : ℕ) (a : Kept τ ks x table count reader next) (s : root ≡ shape (valueRow τ v)) (e : clear ≡ replicate next false) where
+  members : m ≡ family τ v (x .instructions)
+  members = em τ (x .instructions) (a .copied) (a .many) s (e ∙ ap (λ y. replicate y false) (sym (a .values)))
 
-  pub family-apart : r ≡ false → (τ : Types) (ks : List Block) (x : Block) → m ≡ family τ v (x .instructions) → reader ≡ readBlocks 0 (replicate (length (τ .recorded)) 0) ks → c ≡ crossFamily τ ks own x v c
+  long : length m ≡ next
+  long = ap (λ q. length q) members ∙ family-length τ v (x .instructions) ∙ a .values
+
+  read-there : readElsewhere (family τ v (x .instructions)) own 0 ks ≡ r
+  read-there = sym (er next ks (a .readers) long ∙ ap (λ q. readElsewhere q own 0 ks) members)
+
+  pub family-apart : r ≡ false → c ≡ crossFamily τ ks own x v c
   unfolding crossFamily
-  family-apart h τ ks x e f = rw (read-there τ ks x e f ∙ h)
+  family-apart h = rw (read-there ∙ h)
 
-  pub family-crosses : r ≡ true → (c′ : Marks) → (length m ≡ length c → c′ ≡ union m c) → (τ : Types) (ks : List Block) (x : Block) → m ≡ family τ v (x .instructions) → reader ≡ readBlocks 0 (replicate (length (τ .recorded)) 0) ks → length c ≡ length (τ .recorded) → c′ ≡ crossFamily τ ks own x v c
+  pub family-crosses : r ≡ true → (c′ : Marks) → (length m ≡ length c → c′ ≡ union m c) → length c ≡ next → c′ ≡ crossFamily τ ks own x v c
   unfolding crossFamily
-  family-crosses h c′ g τ ks x e f k =
-      let z : length m ≡ length c = ap (λ q. length q) e ∙ family-length τ v (x .instructions) ∙ sym k in
-      rw (read-there τ ks x e f ∙ h) (g z ∙ ap (λ q. union q c) e)
+  family-crosses h c′ g k = rw (read-there ∙ h) (g (long ∙ sym k) ∙ ap (λ q. union q c) members)
 
--- a build
-pub build-none : (σ : Settings) (τ : Types) (ks : List Block) (own next : ℕ) (x : Block) (c : Marks) {d : BuildRead} (i : InstructionKind) → Built next d i → d ≡ BuildRead.Nothing → c ≡ crossBuild σ τ ks own x (buildDest i) c
-unfolding crossBuild
-build-none σ τ ks own next x c i a e = ap (λ q. crossBuild σ τ ks own x q c) (sym (ap asDest e) ∙ a .dest)
+-- a root that is its whole family
+module _ (own next : ℕ) (v : ValueId) (table : List ℕ) (count : ℕ) (c : Marks) (reader : List ℕ) (low : own < 254) (τ : Types) (ks : List Block) (x : Block) (a : Kept τ ks x table count reader next) (alone : (τ : Types) (is : List Instruction) → CopiesIn table (copies τ is) → family τ v is ≡ mark (replicate (length (τ .recorded)) false) v) (h : v .0 < next) {r : Bool} {y : ℕ} (er : r ≡ foreign own y) (ey : y ≡ getD reader (v .0) 0) where
+  abbrev one : Marks
+  one = set (replicate next false) (v .0) true
 
-module _ (σ : Settings) (τ : Types) (ks : List Block) (shapes : List ℕ) (eligible : List Bool) (reader : List ℕ) (next own : ℕ) (x : Block) (c : Marks) (d : BuildRead) (i : InstructionKind) (a : Ready σ τ ks shapes eligible reader next) (k : Built next d i) (v : ℕ) (e : d ≡ BuildRead.Dest v) (r : Bool) (er : r ≡ getD eligible v false) where
-  fits : isScalarizable σ (valueRow τ (record { 0 = v })) ≡ r
-  fits = sym (er ∙ a .facts .fits v (omega (arith, k .low v e, a .values)))
+  whole : family τ v (x .instructions) ≡ one
+  whole = alone τ (x .instructions) (a .copied) ∙ ap (λ n. set (replicate n false) (v .0) true) (a .values)
 
-  pub build-kept : not r ≡ true → c ≡ crossBuild σ τ ks own x (buildDest i) c
+  read-alone : readElsewhere one own 0 ks ≡ r
+  read-alone =
+      sym (elsewhere one own next ks low (length-set (replicate next false) (v .0) true ∙ length-replicate next false))
+      ∙ ap (λ q. meets one (foreigners own q)) (sym (a .readers))
+      ∙ one-meets next (v .0) (foreigners own reader) h
+      ∙ foreign-of own reader (v .0)
+      ∙ sym (er ∙ ap (λ q. foreign own q) ey)
+
+  pub alone-apart : r ≡ false → c ≡ crossFamily τ ks own x v c
+  unfolding crossFamily
+  alone-apart e = rw (whole, read-alone ∙ e)
+
+  pub alone-crosses : r ≡ true → {c′ : Marks} → c′ ≡ set c (v .0) true → length c ≡ next → c′ ≡ crossFamily τ ks own x v c
+  unfolding crossFamily
+  alone-crosses e g l = rw (whole, read-alone ∙ e) (g ∙ sym (union-one next (v .0) c l))
+
+-- what was read of an instruction: no root, or one
+module _ (σ : Settings) (τ : Types) (shapes : List ℕ) (eligible : List Bool) (next : ℕ) (a : FactsAt σ τ shapes eligible) (m : length (τ .recorded) ≡ next) (ks : List Block) (own : ℕ) (x : Block) (c : Marks) where
+  pub idle-build : (i : InstructionKind) → Idle eligible next i → crossBuild σ τ ks own x (buildDest i) c ≡ c
   unfolding crossBuild
-  build-kept h =
-      let z : crossBuild σ τ ks own x (some (record { 0 = v })) c ≡ c = rw (fits ∙ not-true r h) in
-      sym (ap (λ q. crossBuild σ τ ks own x q c) (sym (k .dest) ∙ ap asDest e) ∙ z)
+  idle-build i h = go (buildDest i) (λ v e. let r = h .each v e in sym (a .fits (v .0) (omega (arith, r .low))) ∙ r .fits)
+    where
+      go : (d : Option ValueId) → ((v : ValueId) → d ≡ some v → isScalarizable σ (valueRow τ v) ≡ false) → crossBuild σ τ ks own x d c ≡ c
+      go none f = refl
+      go (some v) f = rw (f v refl)
 
-  pub build-crossed : not r ≡ false → (c′ : Marks) → c′ ≡ crossFamily τ ks own x (record { 0 = v }) c → c′ ≡ crossBuild σ τ ks own x (buildDest i) c
-  unfolding crossBuild
-  build-crossed h c′ f =
-      let z : crossBuild σ τ ks own x (some (record { 0 = v })) c ≡ crossFamily τ ks own x (record { 0 = v }) c = rw (fits ∙ not-false r h) in
-      sym (ap (λ q. crossBuild σ τ ks own x q c) (sym (k .dest) ∙ ap asDest e) ∙ z ∙ sym f)
+  module _ (i : InstructionKind) (v : ℕ) (r : Root eligible next v true i) where
+    pub build-crossed : (c′ : Marks) → c′ ≡ crossFamily τ ks own x (record { 0 = v }) c → c′ ≡ crossBuild σ τ ks own x (buildDest i) c
+    unfolding crossBuild
+    build-crossed c′ f =
+        let e : isScalarizable σ (valueRow τ (record { 0 = v })) ≡ true = sym (a .fits v (omega (arith, r .low))) ∙ r .fits in
+        let z : crossBuild σ τ ks own x (some (record { 0 = v })) c ≡ crossFamily τ ks own x (record { 0 = v }) c = rw e in
+        f ∙ sym (ap (λ q. crossBuild σ τ ks own x q c) (r .dest) ∙ z)
 
-  pub build-shape : {q : ℕ} → q ≡ getD shapes v 0 → q ≡ shape (valueRow τ (record { 0 = v }))
-  build-shape f = f ∙ a .facts .shaped v (omega (arith, k .low v e, a .values))
+    pub build-shape : {q : ℕ} → q ≡ getD shapes v 0 → q ≡ shape (valueRow τ (record { 0 = v }))
+    build-shape f = f ∙ a .shaped v (omega (arith, r .low))

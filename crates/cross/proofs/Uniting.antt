@@ -2,13 +2,14 @@
 use Prim.Native.Nat.{ℕ, zero, suc, _+_, _-_, _≤_, _<_, zero-le}
 use mathlib.Core.Path.{_≡_, refl, ap, _∙_, sym}
 use mathlib.Core.List.{[], _∷_}
-use mathlib.Core.Bool.{Bool, true, false, cond, _||_}
+use mathlib.Core.Bool.{Bool, true, false, cond, _||_, or-false}
 use mathlib.Core.Logic.{⊎-elim}
 use native.Mathlib.Nat.{eq-or-lt-of-le, sub-zero}
 use native.Mathlib.Omega.{arith}
 use lib.ListN.{length, getD, set, replicate, take, length-set, List·getD-eq-default}
 use lib.Seq.{getD-set-same, getD-set-other, ext-getD}
 use Rattle.eligibility.specs.Family.{Marks, union}
+use Rattle.family.specs.Copies.{meets}
 
 -- the union of as many marks
 union-length : (m c : Marks) → length m ≡ length c → length (union m c) ≡ length c
@@ -23,6 +24,35 @@ union-at [] c j h = refl
 union-at (a ∷ m) [] j h = absurd (omega arith)
 union-at (a ∷ m) (b ∷ c) zero h = refl
 union-at (a ∷ m) (b ∷ c) (suc j) h = union-at m c j (omega arith)
+
+-- one mark, united with others and held against others
+union-clear : (n : ℕ) (c : Marks) → length c ≡ n → union (replicate n false) c ≡ c
+unfolding union
+union-clear zero c h = refl
+union-clear (suc n) [] h = absurd (omega arith)
+union-clear (suc n) (b ∷ c) h = ap (λ x. b ∷ x) (union-clear n c (omega arith))
+
+pub union-one : (n v : ℕ) (c : Marks) → length c ≡ n → union (set (replicate n false) v true) c ≡ set c v true
+unfolding union
+union-one zero v [] h = refl
+union-one zero v (b ∷ c) h = absurd (omega arith)
+union-one (suc n) v [] h = absurd (omega arith)
+union-one (suc n) zero (b ∷ c) h = ap (λ x. true ∷ x) (union-clear n c (omega arith))
+union-one (suc n) (suc v) (b ∷ c) h = ap (λ x. b ∷ x) (union-one n v c (omega arith))
+
+clear-meets : (n : ℕ) (d : Marks) → meets (replicate n false) d ≡ false
+unfolding meets
+clear-meets zero d = refl
+clear-meets (suc n) [] = refl
+clear-meets (suc n) (b ∷ d) = clear-meets n d
+
+pub one-meets : (n v : ℕ) (d : Marks) → v < n → meets (set (replicate n false) v true) d ≡ getD d v false
+unfolding meets
+one-meets zero v d h = absurd (omega arith)
+one-meets (suc n) zero [] h = refl
+one-meets (suc n) zero (b ∷ d) h = ap (λ x. b || x) (clear-meets n d) ∙ or-false b
+one-meets (suc n) (suc v) [] h = refl
+one-meets (suc n) (suc v) (b ∷ d) h = one-meets n v d (omega arith)
 
 -- k marks are united
 pub record Uniting (m c₀ c : Marks) (k : ℕ) : Type 0 where

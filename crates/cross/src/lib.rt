@@ -2,67 +2,58 @@
 use form::Bounds;
 use wire::ValueId;
 ghost use mathlib.Core.Path.{_≡_};
-ghost use mathlib.Core.List.{List, []};
+ghost use mathlib.Core.List.{List};
 ghost use mathlib.Core.Bool.{true, false, cond};
-ghost use Prim.Native.Nat.{ℕ, _+_, _≤_, _<_};
+ghost use Prim.Native.Nat.{ℕ, _+_, _*_, _<_};
 ghost use lib.ListN.{length, getD, set, replicate};
-ghost use Rattle.wire.specs.Parse.{ok};
 ghost use Rattle.form.specs.Syntax.{Instruction, Block};
-ghost use Rattle.form.specs.Decode.{instructionOf};
 ghost use Rattle.form.specs.declared.Bounds.{Bounds as DeclaredBounds};
-ghost use Rattle.typetable.specs.Index.{TypesAt};
-ghost use Rattle.routine.specs.Index.{noBlock};
-ghost use Rattle.places.specs.Places.{InstructionsAt};
-ghost use Rattle.index.specs.Code.{CodeAt};
-ghost use Rattle.eligibility.specs.Lookup.{Types, valueRow, shape as shapeOf};
-ghost use Rattle.eligibility.specs.Tables.{FactsAt};
-ghost use Rattle.eligibility.specs.Family.{buildDest, union, crossFamily, crossBuild, crossBuilds, crossBlocks, crossBlockAggregates};
-ghost use Rattle.eligibility.specs.declared.Settings.{Settings};
-ghost use Rattle.family.specs.Copies.{copies, CopiesAt};
-ghost use Rattle.readers.specs.Readers.{readBlocks};
-ghost use Rattle.cross.specs.Cross.{Ready, Built, Idle, IdleAll};
+ghost use Rattle.index.specs.Code.{noBlock, InstructionIn, InstructionsIn};
+ghost use Rattle.eligibility.specs.Lookup.{Types};
+ghost use Rattle.eligibility.specs.Family.{union, crossBlocks};
+ghost use Rattle.family.specs.Copies.{copies as copiesOf, CopiesIn};
+ghost use Rattle.cross.specs.Cross.{Built, IdleAll, crossBlock, FamilyCrossed, BuildCrossed, Crossed, CrossMarks};
 
-// The dest of a build, or no build.
+// The dest of a build of an eligible type, or no such build.
 pub enum BuildRead {
     Dest(u16),
     Nothing,
 }
 
-// The dest of the build at the head of `t`.
-fn build_dest(t: &[u8]) -> BuildRead
-    ensures { λ r. ⌜ ((b : DeclaredBounds) (i : Instruction) (n : ℕ) → instructionOf b [] false (now (t .entry)) ≡ ok i n → Built (b .next) r (i .kind)) ⌝ }
+// The dest of the build in the slot whose row begins at `row`, where its type is eligible.
+fn eligible_build(s: &[u8], facts: &[u16], row: usize, eligible: &[bool]) -> BuildRead
+    requires { ⌜ row < 16777216 ⌝ }
+    ensures { λ r. ⌜ ((b : DeclaredBounds) (slot : ℕ) (i : Instruction) → row ≡ 387 + 20 * slot
+        → InstructionIn b (now (s .entry)) (now (facts .entry)) slot i → Built (now (eligible .entry)) (b .next) r (i .kind)) ⌝ }
 {
-    let u = form::tail(t, lookup::fields_place(t));
-    let dest = wire::u16_at(u, 0);
-    let kind = wire::byte_at(t, 1);
+    let kind = table::number(facts, row + index::KIND);
     match kind {
-        10 => BuildRead::Dest(dest),
-        12 => BuildRead::Dest(dest),
-        16 => BuildRead::Dest(dest),
+        10 | 12 | 16 => {
+            let t = form::tail(s, table::place(facts, row));
+            let dest = wire::u16_at(form::tail(t, lookup::fields_place(t)), 0);
+            if table::flag(eligible, dest as usize) {
+                return BuildRead::Dest(dest);
+            }
+            BuildRead::Nothing
+        }
         _ => BuildRead::Nothing,
     }
 }
 
-// Whether the instruction at the head of `t` is a build of an eligible type. Only the answer that it is not says
-// something: the other is left free, as `cross_build` looks again, and one answer too many costs time alone.
-fn eligible_build(t: &[u8], eligible: &[bool]) -> bool
-    ensures { λ r. ⌜ (r ≡ false → (b : DeclaredBounds) (i : Instruction) (n : ℕ) → instructionOf b [] false (now (t .entry)) ≡ ok i n → Idle (now (eligible .entry)) (b .next) (i .kind)) ⌝ }
+// Whether a block has such a build, its `count` instructions standing in the slots from `first` on. Only the answer that it
+// has none says something: the other is left free, as one too many costs time alone.
+fn has_build(s: &[u8], facts: &[u16], first: u16, count: u16, eligible: &[bool]) -> bool
+    ensures { λ r. ⌜ (r ≡ false → (b : DeclaredBounds) (is : List Instruction) → InstructionsIn b (now (s .entry)) (now (facts .entry)) first is
+        → length is ≡ count → IdleAll (now (eligible .entry)) (b .next) is) ⌝ }
 {
-    match build_dest(t) {
-        BuildRead::Nothing => false,
-        BuildRead::Dest(v) => family::is_marked(eligible, v),
-    }
-}
-
-// Whether a block has such a build, its `count` instructions standing at `places`. The other answer is left free likewise.
-fn has_build(s: &[u8], places: &[usize], count: u16, eligible: &[bool]) -> bool
-    ensures { λ r. ⌜ (r ≡ false → (b : DeclaredBounds) (is : List Instruction) → InstructionsAt b (now (s .entry)) (now (places .entry)) is → length is ≡ count → IdleAll (now (eligible .entry)) (b .next) is) ⌝ }
-{
+    let rows = index::row_place(first, 0);
     let mut k: u16 = 0;
     while k < count {
-        let t = form::tail(s, places::place_at(places, k));
-        if eligible_build(t, eligible) {
-            return true;
+        match eligible_build(s, facts, rows + index::WIDTH * k as usize, eligible) {
+            BuildRead::Dest(_) => {
+                return true;
+            }
+            BuildRead::Nothing => {}
         }
         k = k + 1;
     }
@@ -70,7 +61,8 @@ fn has_build(s: &[u8], places: &[usize], count: u16, eligible: &[bool]) -> bool
 }
 
 fn unite_one(members: &[bool], marks: &mut [bool], k: usize)
-    ensures { λ _. ⌜ now (marks .exit) ≡ cond (getD (now (members .entry)) k false) (set (now (marks .entry)) k true) (now (marks .entry)) ⌝ }
+    ensures { λ _. ⌜ now (marks .exit)
+        ≡ cond (getD (now (members .entry)) k false) (set (now (marks .entry)) k true) (now (marks .entry)) ⌝ }
 {
     if members.len() <= k {
         return;
@@ -82,7 +74,8 @@ fn unite_one(members: &[bool], marks: &mut [bool], k: usize)
 
 // Marks all members.
 fn unite(members: &[bool], marks: &mut [bool])
-    ensures { λ _. ⌜ (length (now (members .entry)) ≡ length (now (marks .entry)) → now (marks .exit) ≡ union (now (members .entry)) (now (marks .entry))) ⌝ }
+    ensures { λ _. ⌜ (length (now (members .entry)) ≡ length (now (marks .entry))
+        → now (marks .exit) ≡ union (now (members .entry)) (now (marks .entry))) ⌝ }
 {
     let mut k = 0;
     while k < members.len() {
@@ -92,13 +85,10 @@ fn unite(members: &[bool], marks: &mut [bool])
 }
 
 // Finds the family of `v` in `members`, which are clear, and marks it where another block than `own` reads a member.
-// The block has `count` instructions, and its `copied` copies stand in the three tables.
+// The block has `count` instructions, and its copies stand in `copies`.
 fn cross_members(
     own: u8,
-    sources: &[u16],
-    dests: &[u16],
-    asked: &[u8],
-    copied: u16,
+    copies: &[u16],
     count: u16,
     shape: u8,
     v: ValueId,
@@ -107,21 +97,19 @@ fn cross_members(
     marks: &mut [bool],
 )
     requires { ⌜ own < 254 ⌝ }
-    ensures { λ _. ⌜ ((τ : Types) (ks : List Block) (x : Block) → CopiesAt (now (sources .entry)) (now (dests .entry)) (now (asked .entry)) copied (copies τ (x .instructions)) → length (x .instructions) ≡ count → shape ≡ shapeOf (valueRow τ v) → now (members .entry) ≡ replicate (length (τ .recorded)) false → now (readers .entry) ≡ readBlocks 0 (replicate (length (τ .recorded)) 0) ks → length (now (marks .entry)) ≡ length (τ .recorded) → now (marks .exit) ≡ crossFamily τ ks own x v (now (marks .entry))) ⌝ }
+    ensures { λ _. ⌜ ((next : ℕ) → now (members .entry) ≡ replicate next false
+        → FamilyCrossed own (now (copies .entry)) count shape v (now (readers .entry)) next (now (marks .entry)) (now (marks .exit))) ⌝ }
 {
-    family::family(sources, dests, asked, copied, count, shape, v, members);
+    family::family(copies, count, shape, v, members);
     if readers::read_elsewhere(members, own, readers) {
         unite(members, marks);
     }
 }
 
-// The same, with members of its own for `next` values.
+// The same, with members of its own for `next` values; without any where `v` is its whole family.
 fn cross_family(
     own: u8,
-    sources: &[u16],
-    dests: &[u16],
-    asked: &[u8],
-    copied: u16,
+    copies: &[u16],
     count: u16,
     shape: u8,
     v: ValueId,
@@ -130,8 +118,14 @@ fn cross_family(
     marks: &mut [bool],
 )
     requires { ⌜ own < 254 ⌝ }
-    ensures { λ _. ⌜ ((τ : Types) (ks : List Block) (x : Block) → CopiesAt (now (sources .entry)) (now (dests .entry)) (now (asked .entry)) copied (copies τ (x .instructions)) → length (x .instructions) ≡ count → shape ≡ shapeOf (valueRow τ v) → length (τ .recorded) ≡ next → next ≤ 256 → now (readers .entry) ≡ readBlocks 0 (replicate next 0) ks → length (now (marks .entry)) ≡ next → now (marks .exit) ≡ crossFamily τ ks own x v (now (marks .entry))) ⌝ }
+    ensures { λ _. ⌜ FamilyCrossed own (now (copies .entry)) count shape v (now (readers .entry)) next (now (marks .entry)) (now (marks .exit)) ⌝ }
 {
+    if family::is_alone(copies, v) {
+        if readers::is_foreign(own, wire::byte_at(readers, v.0 as usize)) {
+            table::set_flag(marks, v.0 as usize, true);
+        }
+        return;
+    }
     if 256 < next {
         return;
     }
@@ -139,10 +133,7 @@ fn cross_family(
     let mut members: [bool; 256] = [false; 256];
     cross_members(
         own,
-        sources,
-        dests,
-        asked,
-        copied,
+        copies,
         count,
         shape,
         v,
@@ -152,172 +143,99 @@ fn cross_family(
     );
 }
 
-// The same for the instruction at the head of `t`, where that is a build of an eligible type.
+// The same for what was read of an instruction.
 fn cross_build(
     own: u8,
-    t: &[u8],
-    b: Bounds,
-    sources: &[u16],
-    dests: &[u16],
-    asked: &[u8],
-    copied: u16,
+    d: BuildRead,
+    copies: &[u16],
     count: u16,
+    next: u16,
     shapes: &[u8],
-    eligible: &[bool],
     readers: &[u8],
     marks: &mut [bool],
 )
     requires { ⌜ own < 254 ⌝ }
-    ensures { λ _. ⌜ ((σ : Settings) (τ : Types) (ks : List Block) (x : Block) (i : Instruction) (n : ℕ) → Ready σ τ ks (now (shapes .entry)) (now (eligible .entry)) (now (readers .entry)) (b .next) → CopiesAt (now (sources .entry)) (now (dests .entry)) (now (asked .entry)) copied (copies τ (x .instructions)) → length (x .instructions) ≡ count → instructionOf b [] false (now (t .entry)) ≡ ok i n → length (now (marks .entry)) ≡ b .next → now (marks .exit) ≡ crossBuild σ τ ks own x (buildDest (i .kind)) (now (marks .entry))) ⌝ }
+    ensures { λ _. ⌜ BuildCrossed own d (now (copies .entry)) count next
+        (now (shapes .entry)) (now (readers .entry)) (now (marks .entry)) (now (marks .exit)) ⌝ }
 {
-    match build_dest(t) {
+    match d {
         BuildRead::Nothing => {}
         BuildRead::Dest(v) => {
-            if !family::is_marked(eligible, v) {
-                return;
-            }
-            let shape = family::shape_at(shapes, v);
-            cross_family(
-                own,
-                sources,
-                dests,
-                asked,
-                copied,
-                count,
-                shape,
-                ValueId(v),
-                b.next,
-                readers,
-                marks,
-            );
+            let shape = wire::byte_at(shapes, v as usize);
+            cross_family(own, copies, count, shape, ValueId(v), next, readers, marks);
         }
     }
 }
 
-// The same for all `count` instructions of a block, which stand at `places`.
+// The same for all instructions of block `k`, whose copies stand in `copies`.
 fn cross_builds(
-    own: u8,
+    k: u16,
     s: &[u8],
     b: Bounds,
-    places: &[usize],
-    count: u16,
-    sources: &[u16],
-    dests: &[u16],
-    asked: &[u8],
-    copied: u16,
+    facts: &[u16],
+    copies: &[u16],
     shapes: &[u8],
     eligible: &[bool],
     readers: &[u8],
     marks: &mut [bool],
 )
-    requires { ⌜ own < 254 ⌝ }
-    ensures { λ _. ⌜ ((σ : Settings) (τ : Types) (ks : List Block) (x : Block) → Ready σ τ ks (now (shapes .entry)) (now (eligible .entry)) (now (readers .entry)) (b .next) → CopiesAt (now (sources .entry)) (now (dests .entry)) (now (asked .entry)) copied (copies τ (x .instructions)) → InstructionsAt b (now (s .entry)) (now (places .entry)) (x .instructions) → length (x .instructions) ≡ count → length (now (marks .entry)) ≡ b .next → now (marks .exit) ≡ crossBuilds σ τ ks own x (x .instructions) (now (marks .entry))) ⌝ }
+    ensures { λ _. ⌜ ((τ : Types) (ks : List Block) → k < length ks → CopiesIn (now (copies .entry)) (copiesOf τ (getD ks k noBlock .instructions))
+        → Crossed τ ks (λ σ m. crossBlock σ τ ks k m) (now (s .entry)) b
+        (now (facts .entry)) (now (shapes .entry)) (now (eligible .entry)) (now (readers .entry)) (now (marks .entry)) (now (marks .exit))) ⌝ }
 {
-    let mut k: u16 = 0;
-    while k < count {
-        let t = form::tail(s, places::place_at(places, k));
-        cross_build(
-            own,
-            t,
-            b,
-            sources,
-            dests,
-            asked,
-            copied,
-            count,
-            shapes,
-            eligible,
-            readers,
-            marks,
-        );
-        k = k + 1;
+    let own = readers::block_number(k);
+    let count = index::instruction_count(facts, k);
+    let rows = index::row_place(index::first_slot(facts, k), 0);
+    let mut j: u16 = 0;
+    while j < count {
+        let d = eligible_build(s, facts, rows + index::WIDTH * j as usize, eligible);
+        cross_build(own, d, copies, count, b.next, shapes, readers, marks);
+        j = j + 1;
     }
 }
 
 // The same for a block; its copies are looked for only where it has a build of an eligible type.
 fn cross_block(
-    own: u8,
+    k: u16,
     s: &[u8],
     b: Bounds,
-    types: &[usize],
-    places: &[usize],
-    count: u16,
+    facts: &[u16],
     shapes: &[u8],
     eligible: &[bool],
     readers: &[u8],
     marks: &mut [bool],
 )
-    requires { ⌜ own < 254 ⌝ }
-    ensures { λ _. ⌜ ((most : ℕ) (σ : Settings) (τ : Types) (ks : List Block) (x : Block) → Ready σ τ ks (now (shapes .entry)) (now (eligible .entry)) (now (readers .entry)) (b .next) → TypesAt most (now (s .entry)) (now (types .entry)) (τ .rows) → length (τ .rows) ≡ b .types → InstructionsAt b (now (s .entry)) (now (places .entry)) (x .instructions) → length (x .instructions) ≡ count → count ≤ 128 → length (now (marks .entry)) ≡ b .next → now (marks .exit) ≡ crossBuilds σ τ ks own x (x .instructions) (now (marks .entry))) ⌝ }
+    ensures { λ _. ⌜ ((τ : Types) (ks : List Block) → k < length ks → Crossed τ ks (λ σ m. crossBlock σ τ ks k m) (now (s .entry)) b
+        (now (facts .entry)) (now (shapes .entry)) (now (eligible .entry)) (now (readers .entry)) (now (marks .entry)) (now (marks .exit))) ⌝ }
 {
-    if !has_build(s, places, count, eligible) {
+    let first = index::first_slot(facts, k);
+    let count = index::instruction_count(facts, k);
+    if !has_build(s, facts, first, count, eligible) {
         return;
     }
-    let mut sources: [u16; 128] = [0; 128];
-    let mut dests: [u16; 128] = [0; 128];
-    let mut asked: [u8; 128] = [0; 128];
+    let mut copies: [u16; 385] = [0; 385];
     let mut none: [bool; 0] = [false; 0];
-    let copied = family::scan_copies(
-        s,
-        types,
-        b.types,
-        b,
-        places,
-        count,
-        &mut sources,
-        &mut dests,
-        &mut asked,
-        &mut none,
-    );
-    cross_builds(
-        own,
-        s,
-        b,
-        places,
-        count,
-        &sources,
-        &dests,
-        &asked,
-        copied,
-        shapes,
-        eligible,
-        readers,
-        marks,
-    );
+    family::scan_copies(s, b, facts, first, count, &mut copies, &mut none);
+    cross_builds(k, s, b, facts, &copies, shapes, eligible, readers, marks);
 }
 
-// The same for all blocks, with the readers of all values.
+// The same for all blocks.
 fn cross_read(
     s: &[u8],
     b: Bounds,
-    types: &[usize],
-    places: &[usize],
-    starts: &[u16],
-    many: u16,
+    facts: &[u16],
     shapes: &[u8],
     eligible: &[bool],
     readers: &[u8],
     marks: &mut [bool],
 )
-    ensures { λ _. ⌜ ((most : ℕ) (σ : Settings) (τ : Types) (ks : List Block) → Ready σ τ ks (now (shapes .entry)) (now (eligible .entry)) (now (readers .entry)) (b .next) → TypesAt most (now (s .entry)) (now (types .entry)) (τ .rows) → length (τ .rows) ≡ b .types → CodeAt b (now (s .entry)) (now (places .entry)) (now (starts .entry)) ks → length ks ≡ many → many < 254 → ((k : ℕ) → k < length ks → length (getD ks k noBlock .instructions) ≤ 128) → length (now (marks .entry)) ≡ b .next → now (marks .exit) ≡ crossBlocks σ τ ks 0 ks (now (marks .entry))) ⌝ }
+    ensures { λ _. ⌜ ((τ : Types) (ks : List Block) → Crossed τ ks (λ σ m. crossBlocks σ τ ks 0 ks m) (now (s .entry)) b
+        (now (facts .entry)) (now (shapes .entry)) (now (eligible .entry)) (now (readers .entry)) (now (marks .entry)) (now (marks .exit))) ⌝ }
 {
+    let many = b.blocks;
     let mut k: u16 = 0;
     while k < many {
-        let mine = index::block_places(places, starts, k);
-        let count = index::instruction_count(starts, k);
-        let own = readers::block_number(k);
-        cross_block(
-            own,
-            s,
-            b,
-            types,
-            mine,
-            count,
-            shapes,
-            eligible,
-            readers,
-            marks,
-        );
+        cross_block(k, s, b, facts, shapes, eligible, readers, marks);
         k = k + 1;
     }
 }
@@ -326,61 +244,35 @@ fn cross_read(
 fn cross_blocks(
     s: &[u8],
     b: Bounds,
-    types: &[usize],
-    places: &[usize],
-    starts: &[u16],
-    many: u16,
+    facts: &[u16],
     shapes: &[u8],
     eligible: &[bool],
     readers: &mut [u8],
     marks: &mut [bool],
 )
-    ensures { λ _. ⌜ ((most : ℕ) (σ : Settings) (τ : Types) (ks : List Block) → TypesAt most (now (s .entry)) (now (types .entry)) (τ .rows) → length (τ .rows) ≡ b .types → length (τ .recorded) ≡ b .next → b .next ≤ 256 → FactsAt σ τ (now (shapes .entry)) (now (eligible .entry)) → CodeAt b (now (s .entry)) (now (places .entry)) (now (starts .entry)) ks → length ks ≡ many → many ≤ 32 → ((k : ℕ) → k < length ks → length (getD ks k noBlock .instructions) ≤ 128) → b .list + b .projections ≤ 30 → now (readers .entry) ≡ replicate (b .next) 0 → now (marks .entry) ≡ replicate (length (τ .recorded)) false → now (marks .exit) ≡ crossBlockAggregates σ τ ks) ⌝ }
+    ensures { λ _. ⌜ (now (readers .entry) ≡ replicate (b .next) 0 → CrossMarks (now (s .entry)) b (now (facts .entry))
+        (now (shapes .entry)) (now (eligible .entry)) (now (marks .entry)) (now (marks .exit))) ⌝ }
 {
-    readers::note_readers(s, b, places, starts, many, readers);
-    cross_read(
-        s,
-        b,
-        types,
-        places,
-        starts,
-        many,
-        shapes,
-        eligible,
-        readers,
-        marks,
-    );
+    readers::note_readers(facts, b.blocks, readers);
+    cross_read(s, b, facts, shapes, eligible, readers, marks);
 }
 
-// Marks in `marks`, which are clear, one for each value, the aggregates that are used across the `many` blocks.
+// Marks in `marks`, which are clear, one for each value, the aggregates that are used across blocks.
 pub fn cross_marks(
     s: &[u8],
     b: Bounds,
-    types: &[usize],
-    places: &[usize],
-    starts: &[u16],
-    many: u16,
+    facts: &[u16],
     shapes: &[u8],
     eligible: &[bool],
     marks: &mut [bool],
 )
-    ensures { λ _. ⌜ ((σ : Settings) (τ : Types) (ks : List Block) → TypesAt (b .list) (now (s .entry)) (now (types .entry)) (τ .rows) → length (τ .rows) ≡ b .types → length (τ .recorded) ≡ b .next → b .next ≤ 256 → FactsAt σ τ (now (shapes .entry)) (now (eligible .entry)) → CodeAt b (now (s .entry)) (now (places .entry)) (now (starts .entry)) ks → length ks ≡ many → many ≤ 32 → ((k : ℕ) → k < length ks → length (getD ks k noBlock .instructions) ≤ 128) → b .list + b .projections ≤ 30 → now (marks .entry) ≡ replicate (length (τ .recorded)) false → now (marks .exit) ≡ crossBlockAggregates σ τ ks) ⌝ }
+    ensures { λ _. ⌜ CrossMarks (now (s .entry)) b (now (facts .entry))
+        (now (shapes .entry)) (now (eligible .entry)) (now (marks .entry)) (now (marks .exit)) ⌝ }
 {
     if 256 < b.next {
         return;
     }
     let n = b.next as usize;
     let mut table: [u8; 256] = [0; 256];
-    cross_blocks(
-        s,
-        b,
-        types,
-        places,
-        starts,
-        many,
-        shapes,
-        eligible,
-        &mut table[0..n],
-        marks,
-    );
+    cross_blocks(s, b, facts, shapes, eligible, &mut table[0..n], marks);
 }

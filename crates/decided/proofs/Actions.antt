@@ -14,19 +14,21 @@ use Rattle.form.specs.Syntax.{Instruction}
 use Rattle.eligibility.specs.Climb.{isSome}
 use Rattle.eligibility.specs.Family.{Marks}
 use Rattle.rewriting.specs.State.{AggStates, insertState, stateOf, onSome, replaced}
-use Rattle.rewriting.specs.Step.{Piece, kept, left, tracked, assigned, stepBuild, foldedParts, stepInsert, handOn, stepAssign}
+use Rattle.rewriting.specs.Step.{Piece, kept, left, tracked, stepBuild, stepInsert, handOn, stepAssign}
 use Rattle.parts.specs.Rows.{ValueAt, Rep, InitAt, givenParts}
 use Rattle.parts.specs.declared.Init.{Init}
 use Rattle.parts.proofs.Tables.{element-some, replaced-set, replaced-past}
 use Rattle.lookup.proofs.Places.{listed-past}
-use Rattle.decided.specs.Decided.{countedAs, assigned-from, Decided, SourceOf, rows, nothing, stepTaken, builtAs}
+use Rattle.decided.specs.Decided.{countedAs, assigned-from, Decided, Planned, SourceOf, found, nothing, stepTaken, builtAs}
 use Rattle.decided.specs.declared.Source.{Source}
 use Rattle.decided.specs.declared.Counted.{Counted}
 use Rattle.decided.specs.declared.Action.{Action}
+use Rattle.decided.specs.declared.Plan.{Plan}
+use Rattle.decided.specs.declared.Spot.{Spot}
 
 -- an untracked value has no parts
 pub no-parts : {S : AggStates} {o : Option (List Value)} {r : Source} → SourceOf S o r → r ≡ Source.Untracked → o ≡ none
-no-parts (rows v xs f g) e = absurd (let u : _≡_ {A = ℕ} 0 1 = cc in omega arith)
+no-parts (found v xs f g) e = absurd (let u : _≡_ {A = ℕ} 0 1 = cc in omega arith)
 no-parts (nothing f) e = f
 
 -- a tracked one has those of v
@@ -34,79 +36,79 @@ pub data Has (S : AggStates) (o : Option (List Value)) (v : ValueId) : Type 0 wh
   has : (xs : List Value) → o ≡ some xs → S (v .0) ≡ some xs → Has S o v
 
 pub has-parts : {S : AggStates} {o : Option (List Value)} {r : Source} {v : ValueId} → SourceOf S o r → r ≡ Source.Tracked v → Has S o v
-has-parts {S} {o} {r} {v} (rows w xs f g) e = let z : v ≡ w = cc in rw z (has xs f g)
+has-parts {S} {o} {r} {v} (found w xs f g) e = let z : v ≡ w = cc in rw z (has xs f g)
 has-parts (nothing f) e = absurd (let u : _≡_ {A = ℕ} 0 1 = cc in omega arith)
 
-module _ {next : ℕ} {s : List ℕ} {marks : Marks} {firsts pool : List ℕ} {S : AggStates} {i : Instruction} where
-  -- an instruction that stays
-  pub stays : {used : ℕ} {p : Piece} → p ≡ kept S i → Rep next s marks firsts pool used S → Decided next s marks firsts pool S i p (record { action = Action.Keep; used = used })
-  unfolding kept
-  stays e r = record { rep = rw e r; does = e }
+-- an instruction that stays
+pub stays : {next : ℕ} {s : List ℕ} {marks : Marks} {rows : List ℕ} {used : ℕ} {S : AggStates} {i : Instruction} {p : Piece} → p ≡ kept S i → Rep next s marks rows used S → Decided next s marks rows S i p (record { action = Action.Keep; used = used })
+unfolding kept
+stays e r = record { rep = rw e r; does = e }
 
-  -- one whose dest is tracked
-  pub tracks : {used : ℕ} (c : Counted) (d : ValueId) (xs : List Value) {p : Piece} → p ≡ tracked (countedAs c) S d xs → Rep next s marks firsts pool used (insertState S d xs) → Decided next s marks firsts pool S i p (record { action = Action.Track d c; used = used })
-  unfolding tracked left
-  tracks c d xs e r = record { rep = rw e r; does = rw e refl }
+-- one whose dest is tracked
+pub tracks : {next : ℕ} {s : List ℕ} {marks : Marks} {rows : List ℕ} {used : ℕ} {S : AggStates} {i : Instruction} (c : Counted) (d : ValueId) (xs : List Value) {p : Piece} → p ≡ tracked (countedAs c) S d xs → Rep next s marks rows used (insertState S d xs) → Decided next s marks rows S i p (record { action = Action.Track d c; used = used })
+unfolding tracked left
+tracks c d xs e r = record { rep = rw e r; does = rw e refl }
 
-  -- a build
-  pub build-stays : {used : ℕ} (fold : B.Bool) (d : ValueId) (o : Option (List Value)) → fold ≡ false → Rep next s marks firsts pool used S → Decided next s marks firsts pool S i (stepBuild S i d (foldedParts fold o)) (record { action = Action.Keep; used = used })
-  unfolding stepBuild foldedParts
-  build-stays fold d o e r = stays (rw e refl) r
+-- a struct's build, by whether its parts were found
+pub struct-built : {next : ℕ} {s : List ℕ} {marks : Marks} {rows : List ℕ} {used : ℕ} {S : AggStates} {i : Instruction} {x : Piece} {a : Action} (d : ValueId) (o : Option (List Value)) (all : B.Bool) → x ≡ stepBuild S i d o → a ≡ builtAs all d → all ≡ isSome o → Rep next s marks rows used (givenParts S d o) → Decided next s marks rows S i x (record { action = a; used = used })
+unfolding stepBuild givenParts isSome
+struct-built d none all e f g r = rw (f, g) (stays e r)
+struct-built d (some xs) all e f g r = rw (f, g) (tracks Counted.Build d xs e r)
 
-  pub build-tracks : {used : ℕ} (fold : B.Bool) (d : ValueId) (xs : List Value) → fold ≡ true → Rep next s marks firsts pool used (insertState S d xs) → Decided next s marks firsts pool S i (stepBuild S i d (foldedParts fold (some xs))) (record { action = Action.Track d Counted.Build; used = used })
-  unfolding stepBuild foldedParts
-  build-tracks fold d xs e r = tracks Counted.Build d xs (rw e refl) r
+module _ {next : ℕ} {s facts : List ℕ} {S : AggStates} {i : Instruction} {p : Spot} where
+  -- nothing is planned
+  pub plans-keep : {x : Piece} → x ≡ kept S i → Planned next s facts S i p x Plan.Keep
+  plans-keep e = record { goes = e; dest = λ f. absurd (f refl) }
 
-  pub build-none : {used : ℕ} (fold : B.Bool) (d : ValueId) (o : Option (List Value)) → o ≡ none → Rep next s marks firsts pool used S → Decided next s marks firsts pool S i (stepBuild S i d (foldedParts fold o)) (record { action = Action.Keep; used = used })
-  unfolding stepBuild foldedParts
-  build-none true d o e r = stays (rw e refl) r
-  build-none false d o e r = stays refl r
-
-  -- a struct's build, by whether its parts were found
-  struct-built : {used : ℕ} (d : ValueId) (o : Option (List Value)) (all : B.Bool) → all ≡ isSome o → Rep next s marks firsts pool used (givenParts S d o) → Decided next s marks firsts pool S i (stepBuild S i d o) (record { action = builtAs all d; used = used })
-  unfolding stepBuild givenParts isSome
-  struct-built d none all e r = rw e (stays refl r)
-  struct-built d (some xs) all e r = rw e (tracks Counted.Build d xs refl r)
-
-  pub struct-tracks : {used : ℕ} (fold all : B.Bool) {a : Action} (d : ValueId) (o o′ : Option (List Value)) → fold ≡ true → o ≡ o′ → a ≡ builtAs all d → all ≡ isSome o′ → Rep next s marks firsts pool used (givenParts S d o′) → Decided next s marks firsts pool S i (stepBuild S i d (foldedParts fold o)) (record { action = a; used = used })
-  unfolding foldedParts
-  struct-tracks fold all d o o′ e f g h r = rw (e, f, g) (struct-built d o′ all h r)
+  -- the build of a struct
+  pub struct-keeps : (o : Option (List Value)) → o ≡ none → Planned next s facts S i p (stepBuild S i (p .dest) o) Plan.Keep
+  unfolding stepBuild
+  struct-keeps o e = plans-keep (rw e refl)
 
   -- an insert
-  pub insert-stays : {used : ℕ} (k : ℕ) (d : ValueId) (x y : Value) → stateOf S x ≡ none → Rep next s marks firsts pool used S → Decided next s marks firsts pool S i (stepInsert S i d (onSome (stateOf S x) (λ xs. replaced xs k y))) (record { action = Action.Keep; used = used })
+  pub insert-stays : (k : ℕ) (x y : Value) → stateOf S x ≡ none → Planned next s facts S i p (stepInsert S i (p .dest) (onSome (stateOf S x) (λ xs. replaced xs k y))) Plan.Keep
   unfolding stepInsert onSome
-  insert-stays k d x y e r = stays (rw e refl) r
+  insert-stays k x y e = plans-keep (rw e refl)
 
-  pub insert-past : {used : ℕ} (k : ℕ) (d : ValueId) (x y : Value) (xs : List Value) → stateOf S x ≡ some xs → length xs ≤ k → Rep next s marks firsts pool used S → Decided next s marks firsts pool S i (stepInsert S i d (onSome (stateOf S x) (λ xs. replaced xs k y))) (record { action = Action.Keep; used = used })
+  pub insert-past : (k : ℕ) (x y : Value) (xs : List Value) → stateOf S x ≡ some xs → length xs ≤ k → Planned next s facts S i p (stepInsert S i (p .dest) (onSome (stateOf S x) (λ xs. replaced xs k y))) Plan.Keep
   unfolding stepInsert onSome
-  insert-past k d x y xs e h r = stays (rw (e, replaced-past xs k y h) refl) r
+  insert-past k x y xs e h = plans-keep (rw (e, replaced-past xs k y h) refl)
 
-  pub insert-tracks : {used : ℕ} (k : ℕ) (d : ValueId) (x y : Value) (xs : List Value) → stateOf S x ≡ some xs → k < length xs → Rep next s marks firsts pool used (insertState S d (set xs k y)) → Decided next s marks firsts pool S i (stepInsert S i d (onSome (stateOf S x) (λ xs. replaced xs k y))) (record { action = Action.Track d Counted.Insert; used = used })
-  unfolding stepInsert onSome
-  insert-tracks k d x y xs e h r = tracks Counted.Insert d (set xs k y) (rw (e, replaced-set xs k y h) refl) r
+  module _ (d : p .dest .0 < next) where
+    pub insert-replaces : {place : ℕ} (k : ℕ) (x y : Value) (v : ValueId) (xs : List Value) → stateOf S x ≡ some xs → S (v .0) ≡ some xs → k < length xs → ValueAt next s place y → Planned next s facts S i p (stepInsert S i (p .dest) (onSome (stateOf S x) (λ xs. replaced xs k y))) (Plan.Replace v k place)
+    unfolding stepInsert onSome
+    insert-replaces k x y v xs e f h w =
+        record {
+          goes = record { parts = xs; own = f; new = set xs k y; part = y; stands = w; changed = replaced-set xs k y h; piece = rw (e, replaced-set xs k y h) refl };
+          dest = λ q. d;
+        }
 
-  -- an Assign
-  pub assign-stays : {used : ℕ} (d : ValueId) (o : Option (List Value)) → o ≡ none → Rep next s marks firsts pool used S → Decided next s marks firsts pool S i (stepAssign S i d o) (record { action = Action.Keep; used = used })
+    -- a value's row is shared
+    plans-share : {x : Piece} (v : ValueId) (c : Counted) (xs : List Value) → S (v .0) ≡ some xs → x ≡ tracked (countedAs c) S (p .dest) xs → Planned next s facts S i p x (Plan.Share v c)
+    plans-share v c xs f e = record { goes = record { parts = xs; own = f; piece = e }; dest = λ q. d }
+
+    -- an Assign
+    pub assign-shares : (v : ValueId) (o : Option (List Value)) (xs : List Value) → o ≡ some xs → S (v .0) ≡ some xs → Planned next s facts S i p (stepAssign S i (p .dest) o) (Plan.Share v Counted.Assign)
+    unfolding stepAssign
+    assign-shares v o xs e f = plans-share v Counted.Assign xs f (rw e refl)
+
+    -- a part that is there
+    pub take-assigns : {place : ℕ} (whole : B.Bool) (t : TypeId) (o : Option Value) (x : Value) → o ≡ some x → cond whole (stateOf S x) none ≡ none → ValueAt next s place x → Planned next s facts S i p (stepTaken whole S i (p .dest) t o) (Plan.Assign place t)
+    unfolding stepTaken handOn
+    take-assigns whole t o x e f v = record { goes = assigned-from x v (rw (e, f) refl); dest = λ q. d }
+
+    pub take-shares : (whole : B.Bool) (t : TypeId) (o : Option Value) (x : Value) (v : ValueId) (xs : List Value) → o ≡ some x → cond whole (stateOf S x) none ≡ some xs → S (v .0) ≡ some xs → Planned next s facts S i p (stepTaken whole S i (p .dest) t o) (Plan.Share v Counted.Extract)
+    unfolding stepTaken handOn
+    take-shares whole t o x v xs e f g = plans-share v Counted.Extract xs g (rw (e, f) refl)
+
+  -- an Assign of an untracked value, and a part that is not there
+  pub assign-stays : (o : Option (List Value)) → o ≡ none → Planned next s facts S i p (stepAssign S i (p .dest) o) Plan.Keep
   unfolding stepAssign
-  assign-stays d o e r = stays (rw e refl) r
+  assign-stays o e = plans-keep (rw e refl)
 
-  pub assign-tracks : {used : ℕ} (d : ValueId) (o : Option (List Value)) (xs : List Value) → o ≡ some xs → Rep next s marks firsts pool used (insertState S d xs) → Decided next s marks firsts pool S i (stepAssign S i d o) (record { action = Action.Track d Counted.Assign; used = used })
-  unfolding stepAssign
-  assign-tracks d o xs e r = tracks Counted.Assign d xs (rw e refl) r
-
-  -- a part that is not there
-  pub take-stays : {used : ℕ} (whole : B.Bool) (d : ValueId) (t : TypeId) (o : Option Value) → o ≡ none → Rep next s marks firsts pool used S → Decided next s marks firsts pool S i (stepTaken whole S i d t o) (record { action = Action.Keep; used = used })
+  pub take-stays : (whole : B.Bool) (t : TypeId) (o : Option Value) → o ≡ none → Planned next s facts S i p (stepTaken whole S i (p .dest) t o) Plan.Keep
   unfolding stepTaken
-  take-stays whole d t o e r = stays (rw e refl) r
-
-  -- one that is
-  pub take-assigns : {used place : ℕ} (whole : B.Bool) (d : ValueId) (t : TypeId) (o : Option Value) (x : Value) → o ≡ some x → cond whole (stateOf S x) none ≡ none → ValueAt next s place x → Rep next s marks firsts pool used S → Decided next s marks firsts pool S i (stepTaken whole S i d t o) (record { action = Action.Assign d place t; used = used })
-  unfolding stepTaken handOn assigned
-  take-assigns whole d t o x e f v r = record { rep = rw (e, f) r; does = assigned-from x v (rw (e, f) refl) }
-
-  pub take-tracks : {used : ℕ} (whole : B.Bool) (d : ValueId) (t : TypeId) (o : Option Value) (x : Value) (xs : List Value) → o ≡ some x → cond whole (stateOf S x) none ≡ some xs → Rep next s marks firsts pool used (insertState S d xs) → Decided next s marks firsts pool S i (stepTaken whole S i d t o) (record { action = Action.Track d Counted.Extract; used = used })
-  unfolding stepTaken handOn
-  take-tracks whole d t o x xs e f r = tracks Counted.Extract d xs (rw (e, f) refl) r
+  take-stays whole t o e = plans-keep (rw e refl)
 
 -- parts, found or not
 pub init-none : {next place : ℕ} {s : List ℕ} {o : Option Value} → o ≡ none → InitAt next s o (record { given = false; place = place })

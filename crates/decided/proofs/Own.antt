@@ -1,7 +1,7 @@
 -- What stands where in the instructions that are rewritten.
-use Prim.Native.Nat.{ℕ, zero, suc, _+_, _≤_, _<_}
+use Prim.Native.Nat.{ℕ, _+_, _≤_, _<_}
 use mathlib.Core.Path.{_≡_, refl, ap, _∙_}
-use mathlib.Core.List.{List, [], _∷_}
+use mathlib.Core.List.{List, []}
 use mathlib.Core.Bool.{Bool, false, not}
 use native.Mathlib.Omega.{arith}
 use borrow.Author.Tests.{leb-true}
@@ -17,7 +17,7 @@ use Rattle.wire.specs.declared.ValueId.{ValueId}
 use Rattle.wire.specs.declared.TypeId.{TypeId}
 use Rattle.wire.specs.declared.NameId.{NameId}
 use Rattle.wire.proofs.Laws.{from-16, from-32}
-use Rattle.wire.proofs.Inv.{both, image, and-inv, map-inv, checked-inv, number-inv, below-inv}
+use Rattle.wire.proofs.Inv.{both, image, and-inv, map-inv, checked-inv, number-inv, below-inv, seq-length}
 use Rattle.form.specs.Syntax.{Place, FieldInit, InstructionKind}
 use Rattle.form.specs.Decode.{typeIdOf, nameIdOf, countOf, listOf, definedOf, placeOf, fieldInitOf, assignOf, loadOf, makeTupleOf, makeArrayOf, makeStructOf, extractTupleOf, extractFieldOf, insertFieldOf, insertTupleOf}
 use Rattle.form.specs.declared.Bounds.{Bounds}
@@ -43,15 +43,7 @@ any {A} {B} {t} {from} {dec} {f} {Q} {P} x y =
 free : {A : Type 0} {t : List ℕ} {from : ℕ} (dec : List ℕ → Parse A) → Stand t from dec (λ a e. Unit {0})
 free dec = record { each = λ a n e. tt }
 
--- a sequence has as many as are asked for, a list at most as many as it may
-seq-length : {A : Type 0} (dec : List ℕ → Parse A) (k : ℕ) (s : List ℕ) {xs : List A} {n : ℕ} → seqOf dec k s ≡ ok xs n → length xs ≡ k
-unfolding seqOf
-seq-length dec zero s {xs} e = let p : xs ≡ [] = cc in ap length p
-seq-length dec (suc k) s e =
-    elim (and-inv s (dec s) (λ a t. mapParse (λ xs. a ∷ xs) (seqOf dec k t)) e) [
-      | both a m j p q r ↦ elim (map-inv (λ xs. a ∷ xs) (seqOf dec k (drop m s)) q) [ image xs f g ↦ ap length g ∙ ap suc (seq-length dec k (drop m s) f) ]
-    ]
-
+-- a list has at most as many as it may
 few : {A : Type 0} (most : ℕ) (dec : List ℕ → Parse A) {t : List ℕ} {p : ℕ} → Stand t p (listOf most dec) (λ xs e. length xs ≤ most)
 unfolding listOf
 few most dec {t} {p} =
@@ -124,11 +116,11 @@ module _ (b : Bounds) (t : List ℕ) where
 
   -- the kinds
   pub data IsAssign : InstructionKind → ℕ → Type 0 where
-    is-assign : {end : ℕ} (d : ValueId) (x : Value) (y : TypeId) → Dest 0 d → Named t y end → IsAssign (InstructionKind.Assign d x y) end
+    is-assign : {end : ℕ} (d : ValueId) (x : Value) (y : TypeId) → Dest 0 d → At (valueOf (b .next)) t 2 x → Named t y end → IsAssign (InstructionKind.Assign d x y) end
 
   pub assign-stands : Stand t 0 (assignOf b []) IsAssign
   unfolding assignOf
-  assign-stands = then dest (λ d e. then value (λ x v. last _ type (λ y u. is-assign d x y e u)))
+  assign-stands = then dest (λ d e. then value (λ x v. last _ type (λ y u. is-assign d x y e v u)))
 
   pub data IsLoad : InstructionKind → ℕ → Type 0 where
     is-load : {end : ℕ} (d : ValueId) (p : Place) (y : TypeId) → Dest 0 d → Named t y end → IsLoad (InstructionKind.Load d p y) end
@@ -159,11 +151,11 @@ module _ (b : Bounds) (t : List ℕ) where
   struct-stands = then dest (λ d e. any (few (b .list) (fieldInitOf b)) (λ fs end w. last _ type (λ y u. is-struct d fs y e u)))
 
   pub data IsElement : InstructionKind → ℕ → Type 0 where
-    is-element : {end : ℕ} (d : ValueId) (x : Value) (k : ℕ) (y : TypeId) → Dest 0 d → k ≡ at32 t (valueEnd t 2) → Named t y end → IsElement (InstructionKind.ExtractTupleElement d x k y) end
+    is-element : {end : ℕ} (d : ValueId) (x : Value) (k : ℕ) (y : TypeId) → Dest 0 d → At (valueOf (b .next)) t 2 x → k ≡ at32 t (valueEnd t 2) → Named t y end → IsElement (InstructionKind.ExtractTupleElement d x k y) end
 
   pub element-stands : Stand t 0 (extractTupleOf b []) IsElement
   unfolding extractTupleOf
-  element-stands = then dest (λ d e. then value (λ x v. then index (λ k q. last _ type (λ y u. is-element d x k y e q u))))
+  element-stands = then dest (λ d e. then value (λ x v. then index (λ k q. last _ type (λ y u. is-element d x k y e v q u))))
 
   pub data IsField : InstructionKind → ℕ → Type 0 where
     is-field : {end : ℕ} (d : ValueId) (x : Value) (f : NameId) (y : TypeId) → Dest 0 d → At (valueOf (b .next)) t 2 x → f .0 ≡ at16 t (valueEnd t 2) → Named t y end → IsField (InstructionKind.ExtractStructField d x f y) end
@@ -173,15 +165,15 @@ module _ (b : Bounds) (t : List ℕ) where
   field-stands = then dest (λ d e. then value (λ x v. then name (λ f q. last _ type (λ y u. is-field d x f y e v q u))))
 
   pub data IsInsertField : InstructionKind → ℕ → Type 0 where
-    is-insert-field : {end : ℕ} (d : ValueId) (x : Value) (f : NameId) (z : Value) (y : TypeId) → Dest 0 d → f .0 ≡ at16 t (valueEnd t 2) → At (valueOf (b .next)) t (valueEnd t 2 + 2) z → Named t y end → IsInsertField (InstructionKind.InsertField d x f z y) end
+    is-insert-field : {end : ℕ} (d : ValueId) (x : Value) (f : NameId) (z : Value) (y : TypeId) → Dest 0 d → At (valueOf (b .next)) t 2 x → f .0 ≡ at16 t (valueEnd t 2) → At (valueOf (b .next)) t (valueEnd t 2 + 2) z → Named t y end → IsInsertField (InstructionKind.InsertField d x f z y) end
 
   pub insert-field-stands : Stand t 0 (insertFieldOf b []) IsInsertField
   unfolding insertFieldOf
-  insert-field-stands = then dest (λ d e. then value (λ x v. then name (λ f q. then value (λ z w. last _ type (λ y u. is-insert-field d x f z y e q w u)))))
+  insert-field-stands = then dest (λ d e. then value (λ x v. then name (λ f q. then value (λ z w. last _ type (λ y u. is-insert-field d x f z y e v q w u)))))
 
   pub data IsInsertElement : InstructionKind → ℕ → Type 0 where
-    is-insert-element : {end : ℕ} (d : ValueId) (x : Value) (k : ℕ) (z : Value) (y : TypeId) → Dest 0 d → k ≡ at32 t (valueEnd t 2) → At (valueOf (b .next)) t (valueEnd t 2 + 4) z → IsInsertElement (InstructionKind.InsertTuple d x k z y) end
+    is-insert-element : {end : ℕ} (d : ValueId) (x : Value) (k : ℕ) (z : Value) (y : TypeId) → Dest 0 d → At (valueOf (b .next)) t 2 x → k ≡ at32 t (valueEnd t 2) → At (valueOf (b .next)) t (valueEnd t 2 + 4) z → IsInsertElement (InstructionKind.InsertTuple d x k z y) end
 
   pub insert-element-stands : Stand t 0 (insertTupleOf b []) IsInsertElement
   unfolding insertTupleOf
-  insert-element-stands = then dest (λ d e. then value (λ x v. then index (λ k q. then value (λ z w. last _ type (λ y u. is-insert-element d x k z y e q w)))))
+  insert-element-stands = then dest (λ d e. then value (λ x v. then index (λ k q. then value (λ z w. last _ type (λ y u. is-insert-element d x k z y e v q w)))))

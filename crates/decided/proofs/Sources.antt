@@ -14,23 +14,14 @@ use Rattle.wire.specs.declared.ValueId.{ValueId}
 use Rattle.wire.specs.declared.TypeId.{TypeId}
 use Rattle.typetable.specs.Syntax.{MirType, Felt, Bool, U32, Tuple, Struct, FixedArray, Pointer, Function, Unit, Error, Unknown}
 use Rattle.form.specs.declared.Bounds.{Bounds}
-use Rattle.lookup.specs.declared.Found.{Found}
-use Rattle.lookup.specs.Fields.{asFound}
 use Rattle.routine.specs.declared.Recorded.{Recorded}
 use Rattle.routine.specs.Index.{recordedNumber, recordedFrom, asRecorded}
 use Rattle.eligibility.specs.Lookup.{Types, rowOf, recordedType, valueRow, shape, isTuple, isStruct, isArray, isAggregate}
 use Rattle.eligibility.specs.Climb.{isSome, orElse, structRow}
 use Rattle.rewriting.specs.State.{AggStates, stateOf}
-use Rattle.progress.specs.Ground.{Ground}
-use Rattle.decided.specs.Decided.{SourceOf, rows, nothing}
+use Rattle.eligibility.specs.Tables.{Ground}
+use Rattle.decided.specs.Decided.{SourceOf, found, nothing}
 use Rattle.decided.specs.declared.Source.{Source}
-
--- what a lookup has found
-pub found-value : {r : Found} {o : Option Value} {y x : Value} → r ≡ Found.Value y → asFound r ≡ o → o ≡ some x → y ≡ x
-found-value {r} {o} {y} {x} e f g = let z : some y ≡ some x = sym (ap asFound e) ∙ f ∙ g in cc
-
-pub found-nothing : {r : Found} {o : Option Value} {x : Value} → r ≡ Found.Nothing → asFound r ≡ o → o ≡ some x → Value.Error ≡ x
-found-nothing {r} {o} {x} e f g = let z : none ≡ some x = sym (ap asFound e) ∙ f ∙ g in absurd (let u : _≡_ {A = ℕ} 0 1 = cc in omega arith)
 
 -- a literal, and Error, have no parts
 pub literal-source : (S : AggStates) {x : Value} {l : Literal} → x ≡ Value.Literal l → SourceOf S (stateOf S x) Source.Untracked
@@ -45,7 +36,7 @@ error-source S e = nothing (ap (stateOf S) e)
 marked-source : (S : AggStates) (v : ValueId) (o : Option (List Value)) → S (v .0) ≡ o → isSome o ≡ B.true → SourceOf S (S (v .0)) (Source.Tracked v)
 unfolding isSome
 marked-source S v none f e = absurd (let z : _≡_ {A = ℕ} 0 1 = cc in omega arith)
-marked-source S v (some xs) f e = rows v xs f f
+marked-source S v (some xs) f e = found v xs f f
 
 pub operand-source : (S : AggStates) {x : Value} {v : ValueId} {m : B.Bool} → x ≡ Value.Operand v → m ≡ isSome (S (v .0)) → m ≡ B.true → SourceOf S (stateOf S x) (Source.Tracked v)
 unfolding stateOf

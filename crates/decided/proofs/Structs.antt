@@ -1,5 +1,5 @@
 -- A field's part by its name, and the parts of a struct's build by its type.
-use Prim.Native.Nat.{ℕ, zero, suc, _-_, _≤_, _<_}
+use Prim.Native.Nat.{ℕ, zero, suc, _+_, _-_, _≤_, _<_}
 use mathlib.Core.Path.{_≡_, refl, ap, _∙_, sym}
 use mathlib.Core.List.{List, [], _∷_}
 use mathlib.Core.Option.{Option, none, some}
@@ -16,19 +16,23 @@ use Rattle.wire.proofs.Canon.{bytes-drop}
 use Rattle.typetable.specs.Syntax.{StructField, MirType, Felt, Bool, U32, Tuple, Struct, FixedArray, Pointer, Function, Unit, Error, Unknown}
 use Rattle.typetable.specs.Decode.{typeOf}
 use Rattle.typetable.proofs.Canon.{type-fit}
-use Rattle.form.specs.Syntax.{FieldInit}
+use Rattle.form.specs.Syntax.{FieldInit, Instruction}
 use Rattle.form.specs.declared.Bounds.{Bounds}
 use Rattle.facts.proofs.Rows.{type-said}
 use Rattle.eligibility.specs.Lookup.{Types, rowOf, valueRow, shape, isStruct, structFieldsOf, fieldIndex}
 use Rattle.eligibility.specs.Climb.{fromStructFields, structRow, structParts}
 use Rattle.rewriting.specs.State.{AggStates, stateOf, onSome}
-use Rattle.rewriting.specs.Step.{extractIndex}
-use Rattle.parts.specs.Rows.{Names, InitAt}
+use Rattle.rewriting.specs.Step.{stepBuild, extractIndex}
+use Rattle.index.specs.Table.{recordedIn}
+use Rattle.parts.specs.Rows.{Inits, Names, InitAt}
 use Rattle.parts.specs.declared.Init.{Init}
 use Rattle.parts.proofs.Builds.{type-names}
-use Rattle.progress.specs.Ground.{Ground}
+use Rattle.eligibility.specs.Tables.{Ground}
 use Rattle.chains.specs.Chained.{asPosition}
 use Rattle.chains.specs.declared.Position.{Position}
+use Rattle.decided.specs.Decided.{Planned}
+use Rattle.decided.specs.declared.Plan.{Plan}
+use Rattle.decided.specs.declared.Spot.{Spot}
 use Rattle.decided.proofs.Actions.{init-same}
 
 module _ (τ : Types) (x : Value) (f : NameId) (g : ℕ → Option Value) where
@@ -90,10 +94,10 @@ element-there (x ∷ xs) zero d a e = (omega arith, let z : x ≡ a = cc in z)
 element-there (x ∷ xs) (suc k) d a e = let h = element-there xs k d a e in (omega (arith, h .0), h .1)
 
 -- the fields of a struct type, and where their names stand in its row
-pub data FieldsIn (row : List ℕ) (o : Option MirType) : Type 0 where
+data FieldsIn (row : List ℕ) (o : Option MirType) : Type 0 where
   fields-in : (n : NameId) (ts : List StructField) → o ≡ some (Struct n ts) → Names row 4 ts → length ts ≡ getD row 3 0 → length ts ≤ 16 → FieldsIn row o
 
-pub struct-fields : {b : Bounds} {s types recorded : List ℕ} {τ : Types} (t : TypeId) (row : List ℕ) (at n : ℕ) → Ground b s types recorded τ → n ≡ shape (getElem? (τ .rows) (t .0)) → n ≡ 2 → at ≡ getD types (t .0) 0 → row ≡ drop at s → FieldsIn row (getElem? (τ .rows) (t .0))
+struct-fields : {b : Bounds} {s types recorded : List ℕ} {τ : Types} (t : TypeId) (row : List ℕ) (at n : ℕ) → Ground b s types recorded τ → n ≡ shape (getElem? (τ .rows) (t .0)) → n ≡ 2 → at ≡ getD types (t .0) 0 → row ≡ drop at s → FieldsIn row (getElem? (τ .rows) (t .0))
 unfolding shape
 struct-fields {b} {s} {types} {recorded} {τ} t row at n g e two h f =
     elim (shape-struct (getElem? (τ .rows) (t .0)) (sym e ∙ two)) [
@@ -109,10 +113,22 @@ struct-fields {b} {s} {types} {recorded} {τ} t row at n g e two h f =
     ]
 
 -- a struct's parts, where its type is one
-pub parts-struct : (τ : Types) (d : ValueId) (fs : List FieldInit) (named t : TypeId) {n : NameId} {ts : List StructField} → structRow τ d named ≡ rowOf τ (some t) → getElem? (τ .rows) (t .0) ≡ some (Struct n ts) → structParts τ d fs named ≡ fromStructFields fs ts
+parts-struct : (τ : Types) (d : ValueId) (fs : List FieldInit) (named t : TypeId) {n : NameId} {ts : List StructField} → structRow τ d named ≡ rowOf τ (some t) → getElem? (τ .rows) (t .0) ≡ some (Struct n ts) → structParts τ d fs named ≡ fromStructFields fs ts
 unfolding structParts rowOf isStruct shape structFieldsOf
 parts-struct τ d fs named t e f = rw (e, f) refl
 
 pub parts-other : (τ : Types) (d : ValueId) (fs : List FieldInit) (named t : TypeId) (n : ℕ) → structRow τ d named ≡ rowOf τ (some t) → n ≡ shape (getElem? (τ .rows) (t .0)) → (n ≡ 2 → ⊥) → structParts τ d fs named ≡ none
 unfolding structParts rowOf isStruct
 parts-other τ d fs named t n e f h = rw (e, ← f, ne-eqb n 2 h) refl
+
+-- the plan of a struct's build, by the type that its parts go by
+pub struct-planned : {b : Bounds} {s facts : List ℕ} {τ : Types} {S : AggStates} {i : Instruction} {p : Spot} (named t : TypeId) (fs : List FieldInit) (n : ℕ) → Ground b s facts (recordedIn facts) τ → p .dest .0 < b .next → Inits (b .next) s (p .off + 3) fs → length fs ≡ getD s (p .off + 2) 0 → structRow τ (p .dest) named ≡ rowOf τ (some t) → n ≡ shape (getElem? (τ .rows) (t .0)) → n ≡ 2
+    → Planned (b .next) s facts S i p (stepBuild S i (p .dest) (structParts τ (p .dest) fs named)) (Plan.Fields t)
+struct-planned {b} {s} {facts} {τ} {S} {i} {p} named t fs n g d v l e f two =
+    elim (struct-fields t (drop (getD facts (t .0) 0) s) (getD facts (t .0) 0) n g f two refl refl) [
+      | fields-in name ts q names count few ↦
+          record {
+            goes = record { inits = fs; stand = v; many = l; fields = ts; named = names; count = count; few = few; piece = ap (stepBuild S i (p .dest)) (parts-struct τ (p .dest) fs named t e q) };
+            dest = λ z. d;
+          }
+    ]

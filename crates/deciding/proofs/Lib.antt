@@ -1,2 +1,3 @@
-pub mod Stepping
 pub mod Rest
+pub mod Stepping
+pub mod Carried

@@ -1,74 +1,73 @@
--- The kinds that stay as they are; and an instruction at its place.
-use Prim.Native.Nat.{ℕ, _+_, _≤_}
-use mathlib.Core.Path.{_≡_, refl, _∙_, sym}
-use mathlib.Core.List.{List, []}
-use mathlib.Core.Bool.{Bool, true, false, cond}
+-- The kinds that stay as they are.
+use Prim.Native.Nat.{ℕ}
+use mathlib.Core.Path.{_≡_, refl, ap, _∙_, sym}
+use mathlib.Core.List.{List}
+use mathlib.Core.Bool.{Bool, true, false}
+use mathlib.Core.Option.{Option, some}
 use native.Mathlib.Omega.{arith}
-use lib.ListN.{getD, drop}
-use Rattle.wire.specs.Parse.{ok}
+use Rattle.wire.specs.declared.Value.{Value}
 use Rattle.wire.specs.declared.ValueId.{ValueId}
 use Rattle.form.specs.Syntax.{Instruction, InstructionKind}
 use Rattle.form.specs.Syntax.{Assign, UnaryOp, BinaryOp, Call, Cast, Load, Store, Debug, Nop, Phi}
 use Rattle.form.specs.Syntax.{MakeTuple, ExtractTupleElement, MakeStruct, ExtractStructField, InsertField, InsertTuple, MakeFixedArray, AssertEq, HeapAllocCells}
 use Rattle.form.specs.Reads.{kindNumber}
-use Rattle.form.specs.Decode.{bit, instructionOf}
-use Rattle.form.specs.declared.Bounds.{Bounds}
-use Rattle.lookup.specs.Fields.{fieldsPlace}
-use Rattle.lookup.proofs.Instruction.{instruction-fields}
 use Rattle.eligibility.specs.declared.Settings.{Settings}
 use Rattle.eligibility.specs.Lookup.{Types}
-use Rattle.eligibility.specs.Family.{Marks}
+use Rattle.eligibility.specs.Family.{buildDest}
 use Rattle.rewriting.specs.State.{AggStates}
-use Rattle.rewriting.specs.Step.{kept, step, stepKind}
-use Rattle.parts.specs.Rows.{Rep}
-use Rattle.progress.specs.Ground.{Ground, Tables}
-use Rattle.decided.specs.Decided.{SpotAt, Here}
-use Rattle.decided.specs.declared.Spot.{Spot}
+use Rattle.rewriting.specs.Step.{Piece, kept, guarded, stepBuild, foldedParts, step, stepKind}
+use Rattle.decided.specs.Decided.{acts}
 
--- what stands beside the kind is short
-small : (a b c : Bool) → cond a 8 0 + (cond b 12 0 + cond c 4 0) ≤ 24
-small true true true = omega arith
-small true true false = omega arith
-small true false true = omega arith
-small true false false = omega arith
-small false true true = omega arith
-small false true false = omega arith
-small false false true = omega arith
-small false false false = omega arith
+-- what is turned off stays
+guard-off : (on : Bool) (S : AggStates) (i : Instruction) (p : Piece) → (on ≡ true → ⊥) → guarded on S i p ≡ kept S i
+unfolding guarded
+guard-off true S i p n = absurd (n refl)
+guard-off false S i p n = refl
 
-pub fields-near : (s : List ℕ) → fieldsPlace s ≤ 26
-fields-near s = let bits = getD s 0 0 in omega (arith, small (bit 0 bits) (bit 1 bits) (bit 2 bits))
+build-off : (on : Bool) {fold : Bool} (S : AggStates) (i : Instruction) (d : ValueId) (o : Option (List Value)) → on ≡ fold → (on ≡ true → ⊥) → stepBuild S i d (foldedParts fold o) ≡ kept S i
+unfolding stepBuild foldedParts
+build-off true S i d o e n = absurd (n refl)
+build-off false S i d o e n = rw (← e) refl
 
--- the instruction at a place
-pub here-of : {b : Bounds} {s types recorded : List ℕ} {tracked : Marks} {firsts pool : List ℕ} {used : ℕ} {τ : Types} {S : AggStates} {p : Spot} {i : Instruction} {n at : ℕ} → SpotAt s at p → Ground b s types recorded τ → Rep (b .next) s tracked firsts pool used S → Tables tracked firsts pool used → instructionOf b [] false (drop at s) ≡ ok i n → Here b s types recorded tracked firsts pool used τ S p i n
-here-of w g r t e = record { ground = g; rep = r; tables = t; spot = record { place = refl; fields = rw (w .place) (w .fields); dest = w .dest; kind = rw (w .place) (w .kind) }; read = rw (w .place) e }
+module _ (σ : Settings) (τ : Types) (fold : Bool) (folds : ValueId → Bool) (S : AggStates) (m : ℕ) (i : Instruction) where
+  -- a kind is met: it is number j, and looked at
+  abbrev Met : ℕ → ℕ → Type 0
+  Met k j = acts (σ .tuples) (σ .structs) fold k ≡ true → k ≡ j → ⊥
 
--- no other kind is rewritten
-module _ (σ : Settings) (τ : Types) (folds : ValueId → Bool) (S : AggStates) (m : ℕ) (i : Instruction) where
-  other : (k : InstructionKind) (j : ℕ) → kindNumber k ≡ j → (j ≡ 0 → ⊥) → (j ≡ 3 → ⊥) → (j ≡ 5 → ⊥) → (j ≡ 6 → ⊥) → (j ≡ 10 → ⊥) → (j ≡ 11 → ⊥) → (j ≡ 12 → ⊥) → (j ≡ 13 → ⊥) → (j ≡ 14 → ⊥) → (j ≡ 15 → ⊥) → (j ≡ 16 → ⊥) → stepKind σ τ folds S m i k ≡ kept S i
-  unfolding stepKind
-  other (Assign d x t) j e n0 n3 n5 n6 n10 n11 n12 n13 n14 n15 n16 = absurd (n0 (sym e))
-  other (UnaryOp op d x) j e n0 n3 n5 n6 n10 n11 n12 n13 n14 n15 n16 = refl
-  other (BinaryOp op d x y) j e n0 n3 n5 n6 n10 n11 n12 n13 n14 n15 n16 = refl
-  other (Call ds c xs ps rs) j e n0 n3 n5 n6 n10 n11 n12 n13 n14 n15 n16 = absurd (n3 (sym e))
-  other (Cast d x t u) j e n0 n3 n5 n6 n10 n11 n12 n13 n14 n15 n16 = refl
-  other (Load d p t) j e n0 n3 n5 n6 n10 n11 n12 n13 n14 n15 n16 = absurd (n5 (sym e))
-  other (Store p x t) j e n0 n3 n5 n6 n10 n11 n12 n13 n14 n15 n16 = absurd (n6 (sym e))
-  other (Debug n xs) j e n0 n3 n5 n6 n10 n11 n12 n13 n14 n15 n16 = refl
-  other Nop j e n0 n3 n5 n6 n10 n11 n12 n13 n14 n15 n16 = refl
-  other (Phi d t ss) j e n0 n3 n5 n6 n10 n11 n12 n13 n14 n15 n16 = refl
-  other (MakeTuple d xs) j e n0 n3 n5 n6 n10 n11 n12 n13 n14 n15 n16 = absurd (n10 (sym e))
-  other (ExtractTupleElement d x k t) j e n0 n3 n5 n6 n10 n11 n12 n13 n14 n15 n16 = absurd (n11 (sym e))
-  other (MakeStruct d fs t) j e n0 n3 n5 n6 n10 n11 n12 n13 n14 n15 n16 = absurd (n12 (sym e))
-  other (ExtractStructField d x n t) j e n0 n3 n5 n6 n10 n11 n12 n13 n14 n15 n16 = absurd (n13 (sym e))
-  other (InsertField d x n y t) j e n0 n3 n5 n6 n10 n11 n12 n13 n14 n15 n16 = absurd (n14 (sym e))
-  other (InsertTuple d x k y t) j e n0 n3 n5 n6 n10 n11 n12 n13 n14 n15 n16 = absurd (n15 (sym e))
-  other (MakeFixedArray d xs t c) j e n0 n3 n5 n6 n10 n11 n12 n13 n14 n15 n16 = absurd (n16 (sym e))
-  other (AssertEq x y) j e n0 n3 n5 n6 n10 n11 n12 n13 n14 n15 n16 = refl
-  other (HeapAllocCells d x) j e n0 n3 n5 n6 n10 n11 n12 n13 n14 n15 n16 = refl
+  idle : (k : InstructionKind) → ((d : ValueId) → buildDest k ≡ some d → fold ≡ folds d) → (kindNumber k ≡ 3 → ⊥) → (kindNumber k ≡ 6 → ⊥)
+      → Met (kindNumber k) 0 → Met (kindNumber k) 5 → Met (kindNumber k) 10 → Met (kindNumber k) 11 → Met (kindNumber k) 12 → Met (kindNumber k) 13 → Met (kindNumber k) 14 → Met (kindNumber k) 15 → Met (kindNumber k) 16 → stepKind σ τ folds S m i k ≡ kept S i
+  unfolding stepKind buildDest
+  idle (Assign d x t) f n3 n6 n0 n5 n10 n11 n12 n13 n14 n15 n16 = absurd (n0 refl refl)
+  idle (UnaryOp op d x) f n3 n6 n0 n5 n10 n11 n12 n13 n14 n15 n16 = refl
+  idle (BinaryOp op d x y) f n3 n6 n0 n5 n10 n11 n12 n13 n14 n15 n16 = refl
+  idle (Call ds c xs ps rs) f n3 n6 n0 n5 n10 n11 n12 n13 n14 n15 n16 = absurd (n3 refl)
+  idle (Cast d x t u) f n3 n6 n0 n5 n10 n11 n12 n13 n14 n15 n16 = refl
+  idle (Load d p t) f n3 n6 n0 n5 n10 n11 n12 n13 n14 n15 n16 = guard-off (σ .tuples) S i _ (λ e. n5 e refl)
+  idle (Store p x t) f n3 n6 n0 n5 n10 n11 n12 n13 n14 n15 n16 = absurd (n6 refl)
+  idle (Debug n xs) f n3 n6 n0 n5 n10 n11 n12 n13 n14 n15 n16 = refl
+  idle Nop f n3 n6 n0 n5 n10 n11 n12 n13 n14 n15 n16 = refl
+  idle (Phi d t ss) f n3 n6 n0 n5 n10 n11 n12 n13 n14 n15 n16 = refl
+  idle (MakeTuple d xs) f n3 n6 n0 n5 n10 n11 n12 n13 n14 n15 n16 = build-off fold S i d _ (f d refl) (λ e. n10 e refl)
+  idle (ExtractTupleElement d x k t) f n3 n6 n0 n5 n10 n11 n12 n13 n14 n15 n16 = guard-off (σ .tuples) S i _ (λ e. n11 e refl)
+  idle (MakeStruct d fs t) f n3 n6 n0 n5 n10 n11 n12 n13 n14 n15 n16 = build-off fold S i d _ (f d refl) (λ e. n12 e refl)
+  idle (ExtractStructField d x n t) f n3 n6 n0 n5 n10 n11 n12 n13 n14 n15 n16 = guard-off (σ .structs) S i _ (λ e. n13 e refl)
+  idle (InsertField d x n y t) f n3 n6 n0 n5 n10 n11 n12 n13 n14 n15 n16 = guard-off (σ .structs) S i _ (λ e. n14 e refl)
+  idle (InsertTuple d x k y t) f n3 n6 n0 n5 n10 n11 n12 n13 n14 n15 n16 = guard-off (σ .tuples) S i _ (λ e. n15 e refl)
+  idle (MakeFixedArray d xs t c) f n3 n6 n0 n5 n10 n11 n12 n13 n14 n15 n16 = build-off fold S i d _ (f d refl) (λ e. n16 e refl)
+  idle (AssertEq x y) f n3 n6 n0 n5 n10 n11 n12 n13 n14 n15 n16 = refl
+  idle (HeapAllocCells d x) f n3 n6 n0 n5 n10 n11 n12 n13 n14 n15 n16 = refl
 
-  pub other-step : (b : Bounds) (s : List ℕ) (at n j : ℕ) → instructionOf b [] false (drop at s) ≡ ok i n → j ≡ getD (drop at s) 1 0 → (kindNumber (i .kind) ≡ 3 → ⊥) → (kindNumber (i .kind) ≡ 6 → ⊥) → (j ≡ 0 → ⊥) → (j ≡ 5 → ⊥) → (j ≡ 10 → ⊥) → (j ≡ 11 → ⊥) → (j ≡ 12 → ⊥) → (j ≡ 13 → ⊥) → (j ≡ 14 → ⊥) → (j ≡ 15 → ⊥) → (j ≡ 16 → ⊥) → step σ τ folds S m i ≡ kept S i
-  unfolding step
-  other-step b s at n j e f n3 n6 n0 n5 n10 n11 n12 n13 n14 n15 n16 =
-      let k : kindNumber (i .kind) ≡ j = instruction-fields b [] false (drop at s) i n e .numbered ∙ sym f in
-      other (i .kind) j k n0 (λ z. n3 (k ∙ z)) n5 (λ z. n6 (k ∙ z)) n10 n11 n12 n13 n14 n15 n16
+  module _ {j : ℕ} (e : j ≡ kindNumber (i .kind)) (f : (d : ValueId) → buildDest (i .kind) ≡ some d → fold ≡ folds d) (n3 : kindNumber (i .kind) ≡ 3 → ⊥) (n6 : kindNumber (i .kind) ≡ 6 → ⊥) where
+    -- no kind that is looked at
+    pub other-kept : (j ≡ 0 → ⊥) → (j ≡ 5 → ⊥) → (j ≡ 10 → ⊥) → (j ≡ 11 → ⊥) → (j ≡ 12 → ⊥) → (j ≡ 13 → ⊥) → (j ≡ 14 → ⊥) → (j ≡ 15 → ⊥) → (j ≡ 16 → ⊥) → step σ τ folds S m i ≡ kept S i
+    unfolding step
+    other-kept n0 n5 n10 n11 n12 n13 n14 n15 n16 =
+        idle (i .kind) f n3 n6 (λ a z. n0 (e ∙ z)) (λ a z. n5 (e ∙ z)) (λ a z. n10 (e ∙ z)) (λ a z. n11 (e ∙ z)) (λ a z. n12 (e ∙ z)) (λ a z. n13 (e ∙ z)) (λ a z. n14 (e ∙ z)) (λ a z. n15 (e ∙ z)) (λ a z. n16 (e ∙ z))
+
+    -- one that is turned off
+    pub off-kept : {on : Bool} → on ≡ acts (σ .tuples) (σ .structs) fold j → on ≡ false → step σ τ folds S m i ≡ kept S i
+    unfolding step
+    off-kept {on} g off = idle (i .kind) f n3 n6 (λ a z. no a) (λ a z. no a) (λ a z. no a) (λ a z. no a) (λ a z. no a) (λ a z. no a) (λ a z. no a) (λ a z. no a) (λ a z. no a)
+      where
+        no : acts (σ .tuples) (σ .structs) fold (kindNumber (i .kind)) ≡ true → ⊥
+        no a = let z : true ≡ false = sym a ∙ sym (ap (acts (σ .tuples) (σ .structs) fold) e) ∙ sym g ∙ off in let u : _≡_ {A = ℕ} 0 1 = cc in omega arith

@@ -3,9 +3,17 @@ use Prim.Native.Nat.{ℕ, _<_, _≤_}
 use mathlib.Core.Path.{_≡_}
 use mathlib.Core.List.{List}
 use mathlib.Core.Bool.{Bool, false}
+use mathlib.Core.Option.{none, some}
 use lib.ListN.{length, getD}
+use Rattle.wire.specs.WellFormed.{Bytes}
+use Rattle.wire.specs.declared.TypeId.{TypeId}
+use Rattle.form.specs.Syntax.{Block}
+use Rattle.form.specs.declared.Bounds.{Bounds}
+use Rattle.index.specs.Table.{recordedIn, blocksIn}
+use Rattle.index.specs.Code.{noBlock, CodeIn}
 use Rattle.typetable.specs.Index.{TypesAt}
-use Rattle.routine.specs.Index.{RecordedAt}
+use Rattle.routine.specs.Decode.{mosts}
+use Rattle.routine.specs.Index.{RecordedAt, BlocksAt}
 use Rattle.eligibility.specs.declared.Settings.{Settings}
 use Rattle.eligibility.specs.Lookup.{Types, valueRow, isScalarizable, shape}
 
@@ -19,3 +27,24 @@ pub record Known (most : ℕ) (s types recorded : List ℕ) (τ : Types) : Type 
 pub record FactsAt (σ : Settings) (τ : Types) (shapes : List ℕ) (eligible : List Bool) : Type 0 where
   pub shaped : (v : ℕ) → v < length (τ .recorded) → getD shapes v 0 ≡ shape (valueRow τ (record { 0 = v }))
   pub fits : (v : ℕ) → v < length (τ .recorded) → getD eligible v false ≡ isScalarizable σ (valueRow τ (record { 0 = v }))
+
+-- what is known of a routine's types: its bytes, and where its types and its recorded types stand
+pub record Ground (b : Bounds) (s types recorded : List ℕ) (τ : Types) : Type 0 where
+  pub bytes : Bytes s
+  pub known : Known (b .list) s types recorded τ
+  pub rows : length (τ .rows) ≡ b .types
+  pub values : length (τ .recorded) ≡ b .next
+  pub typed : (v : ℕ) (t : TypeId) → getD (τ .recorded) v none ≡ some t → t .0 < b .types
+  pub few : b .next ≤ 256
+  pub listed : b .list ≤ 16
+  pub projected : b .projections ≤ 8
+
+-- and of its code: what the table of facts holds of its types τ and its blocks ks
+pub record Coded (b : Bounds) (s facts : List ℕ) (τ : Types) (ks : List Block) : Type 0 where
+  pub ground : Ground b s facts (recordedIn facts) τ
+  pub code : CodeIn b s facts ks
+  pub blocks : BlocksAt mosts b s (blocksIn facts) ks
+  pub many : length ks ≡ b .blocks
+  pub few : b .blocks ≤ 32
+  pub small : (k : ℕ) → k < length ks → length (getD ks k noBlock .instructions) ≤ 128
+  pub short : length s < 65536

@@ -50,7 +50,7 @@ fn row_eligible(t: &[u8], settings: Settings) -> bool
 }
 
 // Where the row of a type begins; the end of the bytes where there is no such type.
-fn row_place(s: &[u8], types: &[usize], many: u16, t: u16) -> usize
+fn row_place(s: &[u8], types: &[u16], many: u16, t: u16) -> usize
     ensures { λ r. ⌜ r ≡ cond (ltb t many) (getD (now (types .entry)) t 0) (length (now (s .entry))) ⌝ }
 {
     if t < many {
@@ -60,21 +60,21 @@ fn row_place(s: &[u8], types: &[usize], many: u16, t: u16) -> usize
 }
 
 // The shape of type `t` of `many`: 1 Tuple, 2 Struct, 3 FixedArray, 0 any other, or none.
-pub fn type_shape(s: &[u8], types: &[usize], many: u16, t: u16) -> u8
+pub fn type_shape(s: &[u8], types: &[u16], many: u16, t: u16) -> u8
     ensures { λ r. ⌜ ((most : ℕ) (ts : List MirType) → TypesAt most (now (s .entry)) (now (types .entry)) ts → length ts ≡ many → r ≡ shape (getElem? ts t)) ⌝ }
 {
     row_shape(form::tail(s, row_place(s, types, many, t)))
 }
 
 // Whether type `t` of `many` is eligible under the settings.
-pub fn type_eligible(s: &[u8], types: &[usize], many: u16, t: u16, settings: Settings) -> bool
+pub fn type_eligible(s: &[u8], types: &[u16], many: u16, t: u16, settings: Settings) -> bool
     ensures { λ r. ⌜ ((most : ℕ) (ts : List MirType) → TypesAt most (now (s .entry)) (now (types .entry)) ts → length ts ≡ many → r ≡ isScalarizable settings (getElem? ts t)) ⌝ }
 {
     row_eligible(form::tail(s, row_place(s, types, many, t)), settings)
 }
 
 // The same of a recorded type, by the number that the table of recorded types has: 0 for none.
-fn recorded_shape(s: &[u8], types: &[usize], many: u16, number: u16) -> u8
+fn recorded_shape(s: &[u8], types: &[u16], many: u16, number: u16) -> u8
     ensures { λ r. ⌜ ((most : ℕ) (τ : Types) (o : Option DeclaredTypeId) → TypesAt most (now (s .entry)) (now (types .entry)) (τ .rows) → length (τ .rows) ≡ many → number ≡ recordedNumber o → r ≡ shape (rowOf τ o)) ⌝ }
 {
     if number == 0 {
@@ -84,7 +84,7 @@ fn recorded_shape(s: &[u8], types: &[usize], many: u16, number: u16) -> u8
 }
 
 // Whether a recorded type is eligible, by that number; none is not.
-fn recorded_eligible(s: &[u8], types: &[usize], many: u16, number: u16, settings: Settings) -> bool
+fn recorded_eligible(s: &[u8], types: &[u16], many: u16, number: u16, settings: Settings) -> bool
     ensures { λ r. ⌜ ((most : ℕ) (τ : Types) (o : Option DeclaredTypeId) → TypesAt most (now (s .entry)) (now (types .entry)) (τ .rows) → length (τ .rows) ≡ many → number ≡ recordedNumber o → r ≡ isScalarizable settings (rowOf τ o)) ⌝ }
 {
     if number == 0 {
@@ -96,7 +96,7 @@ fn recorded_eligible(s: &[u8], types: &[usize], many: u16, number: u16, settings
 // Fills both tables for the `next` values: the shape of each one's recorded type, and whether that type is eligible.
 pub fn value_facts(
     s: &[u8],
-    types: &[usize],
+    types: &[u16],
     many: u16,
     recorded: &[u16],
     next: u16,

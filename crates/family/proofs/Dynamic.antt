@@ -12,7 +12,7 @@ use Rattle.wire.specs.declared.ValueId.{ValueId}
 use Rattle.form.specs.Syntax.{Place, Instruction}
 use Rattle.eligibility.specs.Lookup.{Types, any}
 use Rattle.eligibility.specs.Family.{Marks, marked, family, placeOf, dynamicFirst, dynamicAt, hasDynamicIndex}
-use Rattle.family.specs.Copies.{meets, dynamicPlace, dynamics}
+use Rattle.family.specs.Copies.{meets, dynamicPlace, dynamics, DynamicIndex}
 use Rattle.family.proofs.Sweeps.{family-length}
 
 -- nothing is marked
@@ -111,5 +111,5 @@ meet-done m d k u h =
     sym (u .left ∙ ap (λ x. meets x (drop k d)) e)
 
 -- and so the code's answer is the definition's
-pub dynamic-found : (m d : Marks) {r : Bool} → r ≡ meets m d → (r ≡ meets m d) × ((τ : Types) (v : ValueId) (is : List Instruction) → m ≡ family τ v is → d ≡ dynamics (replicate (length (τ .recorded)) false) is → r ≡ hasDynamicIndex τ v is)
+pub dynamic-found : (m d : Marks) {r : Bool} → r ≡ meets m d → (r ≡ meets m d) × DynamicIndex m d r
 dynamic-found m d e = (e, λ τ v is f g. e ∙ rw (f, g) (dynamic-family τ v is))

@@ -1,11 +1,12 @@
 -- Where a copy's source and dest stand, and the base that a Load or Store looks into.
-use Prim.Native.Nat.{ℕ}
+use Prim.Native.Nat.{ℕ, _≤_, _<_}
 use mathlib.Core.Path.{_≡_, refl, ap, _∙_, sym}
 use mathlib.Core.List.{List, [], _∷_}
-use mathlib.Core.Bool.{Bool, true, false, cond, not}
+use mathlib.Core.Bool.{Bool, true, false, cond, not, true≢false}
+use mathlib.Core.Logic.{_⊎_, inl, inr, ⊎-elim}
 use mathlib.Core.Option.{none, some}
 use native.Mathlib.Omega.{arith}
-use native.Mathlib.Nat.{add-comm}
+use native.Mathlib.Nat.{add-comm, eq-or-lt-of-le}
 use borrow.Author.Tests.{ne-eqb}
 use lib.ListN.{length, getD, getElem?, set, drop}
 use lib.Seq.{drop-drop}
@@ -34,7 +35,7 @@ use Rattle.lookup.proofs.Instruction.{chosen, instruction-fields, fields-read}
 use Rattle.eligibility.specs.Lookup.{Types, rowOf, shape}
 use Rattle.eligibility.specs.Family.{Marks, placeOf, dynamicFirst}
 use Rattle.family.specs.declared.CopyRead.{CopyRead}
-use Rattle.family.specs.Copies.{copied, assigned, copyOf, dynamicStep, dynamicPlace, asCopy}
+use Rattle.family.specs.Copies.{copied, assigned, copyOf, dynamicStep, dynamicPlace, Headed, AssignCopy, asCopy}
 
 -- a value's number takes two bytes
 id-at : (next : ℕ) (u : List ℕ) {d : ValueId} {m : ℕ} → valueIdOf next u ≡ ok d m → (d .0 ≡ at16 u 0) × (m ≡ 2)
@@ -57,6 +58,11 @@ behind-two : (u : List ℕ) (m : ℕ) → at16 (drop m (drop 2 u)) 0 ≡ at16 (d
 behind-two u m =
     let e : drop m (drop 2 u) ≡ drop 2 (drop m u) = rw (drop-drop, drop-drop) (ap (λ n. drop n u) (add-comm 2 m)) in
     sym (from-16 (drop m (drop 2 u)) 0) ∙ rw e (from-16 (drop m u) 2)
+
+-- the fields of kind j stand at u
+pub record FieldsRead (b : Bounds) (t u : List ℕ) (j : ℕ) (k : InstructionKind) : Type 0 where
+  pub size : ℕ
+  pub read : chosen b [] (getD t 0 0) j u ≡ ok k size
 
 -- what stands in an insert, and in an Assign: the value, and the copy
 pub record InsertAt (next : ℕ) (u : List ℕ) (k : InstructionKind) : Type 0 where
@@ -144,38 +150,53 @@ module _ (s types u w : List ℕ) (many : ℕ) (x : ReadValue) (y : Value) (m t 
   unfolding rowOf
   shape-of most τ v n a l e = ek most (τ .rows) a l ∙ ap (λ q. shape (getElem? (τ .rows) q)) (et ∙ ap (λ q. at16 q 2) (ew ∙ ap (λ q. drop q u) (got-size got e)))
 
-  pub assigned-none : k ≡ 0 → (most : ℕ) (τ : Types) (v : Value) (n : ℕ) → TypesAt most s types (τ .rows) → length (τ .rows) ≡ many → asValue x ≡ ok v n → none ≡ assigned (shape (rowOf τ (some (record { 0 = at16 (drop n u) 2 })))) v dest
+  pub assigned-none : k ≡ 0 → AssignCopy s types many u x dest none
   assigned-none h most τ v n a l e = ap (λ q. assigned q v dest) (sym h ∙ shape-of most τ v n a l e)
 
-  pub assigned-copied : (k ≡ 0 → ⊥) → (r : CopyRead) → ((v : Value) (n : ℕ) → asValue x ≡ ok v n → asCopy r ≡ copied k v dest) → (most : ℕ) (τ : Types) (v : Value) (n : ℕ) → TypesAt most s types (τ .rows) → length (τ .rows) ≡ many → asValue x ≡ ok v n → asCopy r ≡ assigned (shape (rowOf τ (some (record { 0 = at16 (drop n u) 2 })))) v dest
+  pub assigned-copied : (k ≡ 0 → ⊥) → (r : CopyRead) → ((v : Value) (n : ℕ) → asValue x ≡ ok v n → asCopy r ≡ copied k v dest) → AssignCopy s types many u x dest (asCopy r)
   assigned-copied h r f most τ v n a l e =
       let z : copied k v dest ≡ assigned k v dest = rw (ne-eqb k 0 h) in
       f v n e ∙ z ∙ ap (λ q. assigned q v dest) (shape-of most τ v n a l e)
 
--- no other kind copies
-other-copy : (τ : Types) (i : InstructionKind) → (kindNumber i ≡ 0 → ⊥) → (kindNumber i ≡ 14 → ⊥) → (kindNumber i ≡ 15 → ⊥) → none ≡ copyOf τ i
-other-copy τ (Assign d x t) f g h = absurd (f refl)
-other-copy τ (UnaryOp op d x) f g h = refl
-other-copy τ (BinaryOp op d x y) f g h = refl
-other-copy τ (Call ds c xs ps rs) f g h = refl
-other-copy τ (Cast d x t u) f g h = refl
-other-copy τ (Load d p t) f g h = refl
-other-copy τ (Store p x t) f g h = refl
-other-copy τ (Debug n xs) f g h = refl
-other-copy τ Nop f g h = refl
-other-copy τ (Phi d t ss) f g h = refl
-other-copy τ (MakeTuple d xs) f g h = refl
-other-copy τ (ExtractTupleElement d x k t) f g h = refl
-other-copy τ (MakeStruct d fs t) f g h = refl
-other-copy τ (ExtractStructField d x n t) f g h = refl
-other-copy τ (InsertField d x n y t) f g h = absurd (g refl)
-other-copy τ (InsertTuple d x k y t) f g h = absurd (h refl)
-other-copy τ (MakeFixedArray d xs t c) f g h = refl
-other-copy τ (AssertEq x y) f g h = refl
-other-copy τ (HeapAllocCells d x) f g h = refl
+-- the kinds that copy
+abbrev CopyKind : ℕ → Type 0
+CopyKind k = (k ≡ 0) ⊎ ((k ≡ 14) ⊎ (k ≡ 15))
+
+pub insert-kind : {k : ℕ} → 14 ≤ k → k < 16 → CopyKind k
+insert-kind {k} f g = let h : k ≤ 15 = omega arith in ⊎-elim (λ h. inr (inr h)) (λ h. inr (inl (omega arith))) (eq-or-lt-of-le h)
+
+other-copy : (τ : Types) (i : InstructionKind) → (CopyKind (kindNumber i) → ⊥) → none ≡ copyOf τ i
+other-copy τ (Assign d x t) h = absurd (h (inl refl))
+other-copy τ (UnaryOp op d x) h = refl
+other-copy τ (BinaryOp op d x y) h = refl
+other-copy τ (Call ds c xs ps rs) h = refl
+other-copy τ (Cast d x t u) h = refl
+other-copy τ (Load d p t) h = refl
+other-copy τ (Store p x t) h = refl
+other-copy τ (Debug n xs) h = refl
+other-copy τ Nop h = refl
+other-copy τ (Phi d t ss) h = refl
+other-copy τ (MakeTuple d xs) h = refl
+other-copy τ (ExtractTupleElement d x k t) h = refl
+other-copy τ (MakeStruct d fs t) h = refl
+other-copy τ (ExtractStructField d x n t) h = refl
+other-copy τ (InsertField d x n y t) h = absurd (h (inr (inl refl)))
+other-copy τ (InsertTuple d x k y t) h = absurd (h (inr (inr refl)))
+other-copy τ (MakeFixedArray d xs t c) h = refl
+other-copy τ (AssertEq x y) h = refl
+other-copy τ (HeapAllocCells d x) h = refl
+
+pub found-none : (b : Bounds) (t : List ℕ) (kind : ℕ) → (CopyKind kind → ⊥) → (τ : Types) (i : Instruction) → Headed b t kind i → none ≡ copyOf τ (i .kind)
+found-none b t kind h τ i a = other-copy τ (i .kind) (λ k. h (rw (a .numbered) k))
+
+-- the fields of the instruction at the head of t, its kind being known
+pub fields-of : (b : Bounds) (t : List ℕ) {u : List ℕ} {fp kind : ℕ} (j : ℕ) → fp ≡ fieldsPlace t → u ≡ drop fp t → (i : Instruction) → Headed b t kind i → kind ≡ j → FieldsRead b t u j (i .kind)
+fields-of b t j ef eu i a h =
+    let k = instruction-fields b [] false t i (a .size) (a .read) in
+    record { size = _; read = fields-read b t ef eu (a .numbered ∙ k .numbered) i (a .size) (a .read) j h }
 
 -- what copy_at finds: its own fields are u, behind the first of them stands v
-module _ (b : Bounds) (s types : List ℕ) (many : ℕ) (t u v : List ℕ) (fp kind dest : ℕ) (x : ReadValue) (r : CopyRead) (ef : fp ≡ fieldsPlace t) (eu : u ≡ drop fp t) (ed : dest ≡ at16 u 0) (ev : v ≡ drop 2 u) (ex : asValue x ≡ valueOf (b .next) v) (ek : kind ≡ getD t 1 0) where
+module _ (b : Bounds) (s types : List ℕ) (t u v : List ℕ) (fp kind dest : ℕ) (x : ReadValue) (r : CopyRead) (ef : fp ≡ fieldsPlace t) (eu : u ≡ drop fp t) (ed : dest ≡ at16 u 0) (ev : v ≡ drop 2 u) (ex : asValue x ≡ valueOf (b .next) v) where
   -- its value
   value-read : {y : Value} {m : ℕ} → valueOf (b .next) (drop 2 u) ≡ ok y m → asValue x ≡ ok y m
   value-read q = ex ∙ rw ev q
@@ -183,23 +204,18 @@ module _ (b : Bounds) (s types : List ℕ) (many : ℕ) (t u v : List ℕ) (fp k
   found-assigned : (τ : Types) (i : InstructionKind) → ((y : Value) (n : ℕ) → asValue x ≡ ok y n → asCopy r ≡ assigned (shape (rowOf τ (some (record { 0 = at16 (drop n u) 2 })))) y dest) → AssignAt (b .next) u i → asCopy r ≡ copyOf τ i
   found-assigned τ i f k = f (k .value) (k .took) (value-read (k .read)) ∙ rw ed (sym (k .copy τ))
 
-  pub found-assign : kind ≡ 0 → ((most : ℕ) (τ : Types) (y : Value) (n : ℕ) → TypesAt most s types (τ .rows) → length (τ .rows) ≡ many → asValue x ≡ ok y n → asCopy r ≡ assigned (shape (rowOf τ (some (record { 0 = at16 (drop n u) 2 })))) y dest) → (most : ℕ) (τ : Types) (i : Instruction) (n : ℕ) → TypesAt most s types (τ .rows) → length (τ .rows) ≡ many → instructionOf b [] false t ≡ ok i n → asCopy r ≡ copyOf τ (i .kind)
-  found-assign h f most τ i n a m e =
-      found-assigned τ (i .kind) (λ y q. f most τ y q a m) (assign-at b u (fields-read b t ef eu ek i n e 0 h))
+  pub found-assign : kind ≡ 0 → AssignCopy s types (b .types) u x dest (asCopy r) → (most : ℕ) (τ : Types) (i : Instruction) → TypesAt most s types (τ .rows) → length (τ .rows) ≡ b .types → Headed b t kind i → asCopy r ≡ copyOf τ (i .kind)
+  found-assign h f most τ i a m e = found-assigned τ (i .kind) (λ y q. f most τ y q a m) (assign-at b u (fields-of b t 0 ef eu i e h .read))
 
-  found-insert : ((y : Value) (n : ℕ) → asValue x ≡ ok y n → asCopy r ≡ copied 0 y dest) → (τ : Types) (i : InstructionKind) → InsertAt (b .next) u i → asCopy r ≡ copyOf τ i
-  found-insert f τ i k = f (k .value) (k .took) (value-read (k .read)) ∙ rw ed (sym (k .copy τ))
+  found-inserted : ((y : Value) (n : ℕ) → asValue x ≡ ok y n → asCopy r ≡ copied 0 y dest) → (τ : Types) (i : InstructionKind) → InsertAt (b .next) u i → asCopy r ≡ copyOf τ i
+  found-inserted f τ i k = f (k .value) (k .took) (value-read (k .read)) ∙ rw ed (sym (k .copy τ))
 
-  pub found-field : kind ≡ 14 → ((y : Value) (n : ℕ) → asValue x ≡ ok y n → asCopy r ≡ copied 0 y dest) → (most : ℕ) (τ : Types) (i : Instruction) (n : ℕ) → TypesAt most s types (τ .rows) → length (τ .rows) ≡ many → instructionOf b [] false t ≡ ok i n → asCopy r ≡ copyOf τ (i .kind)
-  found-field h f most τ i n a m e = found-insert f τ (i .kind) (insert-field-at b u (fields-read b t ef eu ek i n e 14 h))
-
-  pub found-tuple : kind ≡ 15 → ((y : Value) (n : ℕ) → asValue x ≡ ok y n → asCopy r ≡ copied 0 y dest) → (most : ℕ) (τ : Types) (i : Instruction) (n : ℕ) → TypesAt most s types (τ .rows) → length (τ .rows) ≡ many → instructionOf b [] false t ≡ ok i n → asCopy r ≡ copyOf τ (i .kind)
-  found-tuple h f most τ i n a m e = found-insert f τ (i .kind) (insert-tuple-at b u (fields-read b t ef eu ek i n e 15 h))
-
-  pub found-none : (kind ≡ 0 → ⊥) → (kind ≡ 14 → ⊥) → (kind ≡ 15 → ⊥) → (most : ℕ) (τ : Types) (i : Instruction) (n : ℕ) → TypesAt most s types (τ .rows) → length (τ .rows) ≡ many → instructionOf b [] false t ≡ ok i n → none ≡ copyOf τ (i .kind)
-  found-none f g h most τ i n a m e =
-      let k : kindNumber (i .kind) ≡ kind = instruction-fields b [] false t i n e .numbered ∙ sym ek in
-      other-copy τ (i .kind) (λ z. f (sym k ∙ z)) (λ z. g (sym k ∙ z)) (λ z. h (sym k ∙ z))
+  pub found-insert : CopyKind kind → (kind ≡ 0 → ⊥) → ((y : Value) (n : ℕ) → asValue x ≡ ok y n → asCopy r ≡ copied 0 y dest) → (τ : Types) (i : Instruction) → Headed b t kind i → asCopy r ≡ copyOf τ (i .kind)
+  found-insert k z f τ i a =
+      ⊎-elim (λ h. absurd (z h))
+      (⊎-elim
+      (λ h. found-inserted f τ (i .kind) (insert-field-at b u (fields-of b t 14 ef eu i a h .read)))
+      (λ h. found-inserted f τ (i .kind) (insert-tuple-at b u (fields-of b t 15 ef eu i a h .read)))) k
 
 -- the first step of a place
 first-step : (ps : List Projection) → dynamicStep (getElem? ps 0) ≡ dynamicFirst ps
@@ -250,60 +266,54 @@ store-base b u {p} {x} {t} e =
           ]
     ]
 
--- a kind with such a step is one of the two
-dynamic-kind : (b : Bounds) (d : Marks) (u : List ℕ) (x j : ℕ) (i : InstructionKind) (n : ℕ) → chosen b [] x j u ≡ ok i n → kindNumber i ≡ j → dynamicStep (getElem? (placeSteps i) 0) ≡ true → (base : ℕ) → base ≡ at16 u (cond (eqb j 5) 2 0) → set d base true ≡ dynamicPlace d (placeOf i)
+-- only a Load and a Store have a place
+place-cases : (P : InstructionKind → Type 0) → ((d : ValueId) (p : Place) (t : TypeId) → P (Load d p t)) → ((p : Place) (x : Value) (t : TypeId) → P (Store p x t)) → ((i : InstructionKind) → placeOf i ≡ none → placeSteps i ≡ [] → P i) → (i : InstructionKind) → P i
 unfolding placeOf
-dynamic-kind b d u x j (Load e p t) n r k h base f = let z : chosen b [] x 5 u ≡ ok (Load e p t) n = rw (← k) at r in let y : base ≡ p .base .0 = f ∙ rw (← k) (sym (load-base b u z)) in rw (← first-step (p .projections), h, y)
-dynamic-kind b d u x j (Store p v t) n r k h base f = let z : chosen b [] x 6 u ≡ ok (Store p v t) n = rw (← k) at r in let y : base ≡ p .base .0 = f ∙ rw (← k) (sym (store-base b u z)) in rw (← first-step (p .projections), h, y)
-dynamic-kind b d u x j (Assign e v t) n r k h base f = absurd (let z : _≡_ {A = ℕ} 0 1 = cc in omega arith)
-dynamic-kind b d u x j (UnaryOp op e v) n r k h base f = absurd (let z : _≡_ {A = ℕ} 0 1 = cc in omega arith)
-dynamic-kind b d u x j (BinaryOp op e v w) n r k h base f = absurd (let z : _≡_ {A = ℕ} 0 1 = cc in omega arith)
-dynamic-kind b d u x j (Call es c vs ps rs) n r k h base f = absurd (let z : _≡_ {A = ℕ} 0 1 = cc in omega arith)
-dynamic-kind b d u x j (Cast e v t w) n r k h base f = absurd (let z : _≡_ {A = ℕ} 0 1 = cc in omega arith)
-dynamic-kind b d u x j (Debug m vs) n r k h base f = absurd (let z : _≡_ {A = ℕ} 0 1 = cc in omega arith)
-dynamic-kind b d u x j Nop n r k h base f = absurd (let z : _≡_ {A = ℕ} 0 1 = cc in omega arith)
-dynamic-kind b d u x j (Phi e t ss) n r k h base f = absurd (let z : _≡_ {A = ℕ} 0 1 = cc in omega arith)
-dynamic-kind b d u x j (MakeTuple e vs) n r k h base f = absurd (let z : _≡_ {A = ℕ} 0 1 = cc in omega arith)
-dynamic-kind b d u x j (ExtractTupleElement e v m t) n r k h base f = absurd (let z : _≡_ {A = ℕ} 0 1 = cc in omega arith)
-dynamic-kind b d u x j (MakeStruct e fs t) n r k h base f = absurd (let z : _≡_ {A = ℕ} 0 1 = cc in omega arith)
-dynamic-kind b d u x j (ExtractStructField e v m t) n r k h base f = absurd (let z : _≡_ {A = ℕ} 0 1 = cc in omega arith)
-dynamic-kind b d u x j (InsertField e v m w t) n r k h base f = absurd (let z : _≡_ {A = ℕ} 0 1 = cc in omega arith)
-dynamic-kind b d u x j (InsertTuple e v m w t) n r k h base f = absurd (let z : _≡_ {A = ℕ} 0 1 = cc in omega arith)
-dynamic-kind b d u x j (MakeFixedArray e vs t c) n r k h base f = absurd (let z : _≡_ {A = ℕ} 0 1 = cc in omega arith)
-dynamic-kind b d u x j (AssertEq v w) n r k h base f = absurd (let z : _≡_ {A = ℕ} 0 1 = cc in omega arith)
-dynamic-kind b d u x j (HeapAllocCells e v) n r k h base f = absurd (let z : _≡_ {A = ℕ} 0 1 = cc in omega arith)
-
--- without such a step nothing is noted
-static-kind : (d : Marks) (i : InstructionKind) → dynamicStep (getElem? (placeSteps i) 0) ≡ false → d ≡ dynamicPlace d (placeOf i)
-unfolding placeOf
-static-kind d (Load e p t) h = rw (← first-step (p .projections), h)
-static-kind d (Store p v t) h = rw (← first-step (p .projections), h)
-static-kind d (Assign e v t) h = refl
-static-kind d (UnaryOp op e v) h = refl
-static-kind d (BinaryOp op e v w) h = refl
-static-kind d (Call es c vs ps rs) h = refl
-static-kind d (Cast e v t w) h = refl
-static-kind d (Debug m vs) h = refl
-static-kind d Nop h = refl
-static-kind d (Phi e t ss) h = refl
-static-kind d (MakeTuple e vs) h = refl
-static-kind d (ExtractTupleElement e v m t) h = refl
-static-kind d (MakeStruct e fs t) h = refl
-static-kind d (ExtractStructField e v m t) h = refl
-static-kind d (InsertField e v m w t) h = refl
-static-kind d (InsertTuple e v m w t) h = refl
-static-kind d (MakeFixedArray e vs t c) h = refl
-static-kind d (AssertEq v w) h = refl
-static-kind d (HeapAllocCells e v) h = refl
+place-cases P f g h (Load d p t) = f d p t
+place-cases P f g h (Store p x t) = g p x t
+place-cases P f g h (Assign d x t) = h (Assign d x t) refl refl
+place-cases P f g h (UnaryOp op d x) = h (UnaryOp op d x) refl refl
+place-cases P f g h (BinaryOp op d x y) = h (BinaryOp op d x y) refl refl
+place-cases P f g h (Call ds c xs ps rs) = h (Call ds c xs ps rs) refl refl
+place-cases P f g h (Cast d x t u) = h (Cast d x t u) refl refl
+place-cases P f g h (Debug n xs) = h (Debug n xs) refl refl
+place-cases P f g h Nop = h Nop refl refl
+place-cases P f g h (Phi d t ss) = h (Phi d t ss) refl refl
+place-cases P f g h (MakeTuple d xs) = h (MakeTuple d xs) refl refl
+place-cases P f g h (ExtractTupleElement d x k t) = h (ExtractTupleElement d x k t) refl refl
+place-cases P f g h (MakeStruct d fs t) = h (MakeStruct d fs t) refl refl
+place-cases P f g h (ExtractStructField d x n t) = h (ExtractStructField d x n t) refl refl
+place-cases P f g h (InsertField d x n y t) = h (InsertField d x n y t) refl refl
+place-cases P f g h (InsertTuple d x k y t) = h (InsertTuple d x k y t) refl refl
+place-cases P f g h (MakeFixedArray d xs t c) = h (MakeFixedArray d xs t c) refl refl
+place-cases P f g h (AssertEq x y) = h (AssertEq x y) refl refl
+place-cases P f g h (HeapAllocCells d x) = h (HeapAllocCells d x) refl refl
 
 -- what note_dynamic finds
-module _ (b : Bounds) (t : List ℕ) (d : Marks) (r : Bool) (e : (i : Instruction) (n : ℕ) → instructionOf b [] false t ≡ ok i n → r ≡ dynamicStep (getElem? (placeSteps (i .kind)) 0)) where
-  pub noted-static : r ≡ false → (i : Instruction) (n : ℕ) → instructionOf b [] false t ≡ ok i n → d ≡ dynamicPlace d (placeOf (i .kind))
-  noted-static h i n f = static-kind d (i .kind) (sym (e i n f) ∙ h)
+module _ (b : Bounds) (t : List ℕ) (kind : ℕ) (d : Marks) where
+  -- another kind
+  pub noted-other : (kind ≡ 5 → ⊥) → (kind ≡ 6 → ⊥) → (i : Instruction) → Headed b t kind i → d ≡ dynamicPlace d (placeOf (i .kind))
+  unfolding placeOf
+  noted-other f g i a =
+      place-cases (λ k. kind ≡ kindNumber k → d ≡ dynamicPlace d (placeOf k)) (λ e p t z. absurd (f z)) (λ p x t z. absurd (g z)) (λ k n q z. rw n) (i .kind) (a .numbered)
 
-  pub noted-dynamic : r ≡ true → (u : List ℕ) (fp kind at base : ℕ) → fp ≡ fieldsPlace t → u ≡ drop fp t → kind ≡ getD t 1 0 → at ≡ cond (eqb kind 5) 2 0 → base ≡ at16 u at → {m : Marks} → m ≡ set d base true → (i : Instruction) (n : ℕ) → instructionOf b [] false t ≡ ok i n → m ≡ dynamicPlace d (placeOf (i .kind))
-  noted-dynamic h u fp kind at base ef eu ek ea eb em i n f =
-      let k = instruction-fields b [] false t i n f in
-      let own : u ≡ drop (fieldsPlace t) t = eu ∙ ap (λ a. drop a t) ef in
-      let read = ap (λ a. chosen b [] (getD t 0 0) a u) ek ∙ ap (λ a. chosen b [] (getD t 0 0) (getD t 1 0) a) own ∙ k .read in
-      em ∙ dynamic-kind b d u (getD t 0 0) kind (i .kind) (k .size) read (k .numbered ∙ sym ek) (sym (e i n f) ∙ h) base (eb ∙ ap (λ q. at16 u q) ea)
+  module _ (r : Bool) (e : (i : Instruction) (n : ℕ) → instructionOf b [] false t ≡ ok i n → r ≡ dynamicStep (getElem? (placeSteps (i .kind)) 0)) where
+    -- without such a step nothing is noted
+    pub noted-static : r ≡ false → (i : Instruction) → Headed b t kind i → d ≡ dynamicPlace d (placeOf (i .kind))
+    unfolding placeOf
+    noted-static h i a =
+        place-cases (λ k. dynamicStep (getElem? (placeSteps k) 0) ≡ false → d ≡ dynamicPlace d (placeOf k))
+        (λ e p t z. rw (← first-step (p .projections), z))
+        (λ p x t z. rw (← first-step (p .projections), z))
+        (λ k n q z. rw n)
+        (i .kind) (sym (e i (a .size) (a .read)) ∙ h)
+
+    -- with one, the base
+    pub noted-dynamic : r ≡ true → (u : List ℕ) (fp at base : ℕ) → fp ≡ fieldsPlace t → u ≡ drop fp t → at ≡ cond (eqb kind 5) 2 0 → base ≡ at16 u at → {m : Marks} → m ≡ set d base true → (i : Instruction) → Headed b t kind i → m ≡ dynamicPlace d (placeOf (i .kind))
+    unfolding placeOf
+    noted-dynamic h u fp at base ef eu ea eb {m} em i a =
+        place-cases (λ k. kind ≡ kindNumber k → FieldsRead b t u kind k → dynamicStep (getElem? (placeSteps k) 0) ≡ true → m ≡ dynamicPlace d (placeOf k))
+        (λ e p w z f q. let y : base ≡ p .base .0 = eb ∙ rw (ea, z) (sym (load-base b u (rw z at (f .read)))) in em ∙ rw (← first-step (p .projections), q, y))
+        (λ p x w z f q. let y : base ≡ p .base .0 = eb ∙ rw (ea, z) (sym (store-base b u (rw z at (f .read)))) in em ∙ rw (← first-step (p .projections), q, y))
+        (λ k n s z f q. absurd (let y : dynamicStep (getElem? [] 0) ≡ true = rw s at q in true≢false (sym y)))
+        (i .kind) (a .numbered) (fields-of b t kind ef eu i a refl) (sym (e i (a .size) (a .read)) ∙ h)

@@ -29,7 +29,7 @@ copied-any root m (Value.Operand v) d = refl
 copied-any root m Value.Error d = refl
 
 -- both arms leave the marks
-kept-marks : (b : Bool) (m : Marks) → cond b m m ≡ m
+pub kept-marks : (b : Bool) (m : Marks) → cond b m m ≡ m
 kept-marks true m = refl
 kept-marks false m = refl
 

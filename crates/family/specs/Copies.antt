@@ -1,17 +1,27 @@
 -- The copies of a block: what its families are found by. proofs/Sweeps.antt ties them to the definition.
-use Prim.Native.Nat.{ℕ, zero, suc, _<_}
+use Prim.Native.Nat.{ℕ, zero, suc, _+_, _*_, _≤_, _<_}
 use mathlib.Core.Path.{_≡_}
 use mathlib.Core.List.{List, [], _∷_}
 use mathlib.Core.Bool.{Bool, true, false, cond, not, _&&_, _||_}
 use mathlib.Core.Option.{Option, none, some}
-use lib.ListN.{length, getD, set}
+use lib.ListN.{length, getD, set, drop, replicate}
 use lib.Dec.{eqb}
+use Rattle.wire.specs.Parse.{ok}
+use Rattle.wire.specs.Number.{at16}
+use Rattle.wire.specs.Value.{asValue}
+use Rattle.wire.specs.declared.ReadValue.{ReadValue}
 use Rattle.wire.specs.declared.Value.{Value}
+use Rattle.wire.specs.declared.ValueId.{ValueId}
 use Rattle.form.specs.Syntax.{Projection, Index, Field, Tuple, Place, Instruction, InstructionKind}
 use Rattle.form.specs.Syntax.{Assign, UnaryOp, BinaryOp, Call, Cast, Load, Store, Debug, Nop, Phi}
 use Rattle.form.specs.Syntax.{MakeTuple, ExtractTupleElement, MakeStruct, ExtractStructField, InsertField, InsertTuple, MakeFixedArray, AssertEq, HeapAllocCells}
-use Rattle.eligibility.specs.Lookup.{Types, rowOf, shape, isInteger}
-use Rattle.eligibility.specs.Family.{Marks, placeOf, dynamicFirst}
+use Rattle.form.specs.Reads.{kindNumber}
+use Rattle.form.specs.Decode.{instructionOf}
+use Rattle.form.specs.declared.Bounds.{Bounds}
+use Rattle.index.specs.Code.{InstructionsIn}
+use Rattle.typetable.specs.Index.{TypesAt}
+use Rattle.eligibility.specs.Lookup.{Types, rowOf, valueRow, shape, isInteger}
+use Rattle.eligibility.specs.Family.{Marks, family, placeOf, dynamicFirst, hasDynamicIndex}
 use Rattle.family.specs.declared.CopyRead.{CopyRead}
 
 -- what makes `dest` a member where `source` is one: for a root of the shape asked for, 0 for any
@@ -60,17 +70,21 @@ unfoldable pub copies : Types → List Instruction → List Copy
 copies τ [] = []
 copies τ (i ∷ is) = before (copyOf τ (i .kind)) (copies τ is)
 
--- copy k as the tables have it
-abbrev pub copyAt : List ℕ → List ℕ → List ℕ → ℕ → Copy
-copyAt sources dests asked k = record { source = getD sources k 0; dest = getD dests k 0; asked = getD asked k 0 }
+-- copy k as the table has it: behind the first number, how many copies there are
+abbrev pub copyIn : List ℕ → ℕ → Copy
+copyIn copies k = record { source = getD copies (1 + 3 * k) 0; dest = getD copies (2 + 3 * k) 0; asked = getD copies (3 + 3 * k) 0 }
 
 abbrev pub noCopy : Copy
 noCopy = record { source = 0; dest = 0; asked = 0 }
 
--- the copies stand in the tables
-pub record CopiesAt (sources dests asked : List ℕ) (count : ℕ) (cs : List Copy) : Type 0 where
-  pub many : count ≡ length cs
-  pub each : (k : ℕ) → k < count → copyAt sources dests asked k ≡ getD cs k noCopy
+-- these copies are the first n of the table
+pub record CopiesAt (copies : List ℕ) (n : ℕ) (cs : List Copy) : Type 0 where
+  pub many : n ≡ length cs
+  pub each : (k : ℕ) → k < n → copyIn copies k ≡ getD cs k noCopy
+
+-- and all of it
+abbrev pub CopiesIn : List ℕ → List Copy → Type 0
+CopiesIn copies cs = CopiesAt copies (getD copies 0 0) cs
 
 -- a copy joins where its source is a member and the root has the shape asked for
 unfoldable pub joining : ℕ → Marks → Copy → Marks
@@ -108,10 +122,54 @@ unfoldable pub dynamics : Marks → List Instruction → Marks
 dynamics d [] = d
 dynamics d (i ∷ is) = dynamics (dynamicPlace d (placeOf (i .kind))) is
 
--- what a scan of a block finds: its copies in the tables, and its dynamic bases
-pub record Scanned (sources dests asked : List ℕ) (count : ℕ) (before after : Marks) (τ : Types) (is : List Instruction) : Type 0 where
-  pub copied-all : CopiesAt sources dests asked count (copies τ is)
+-- the instruction at the head of t, and its kind
+pub record Headed (b : Bounds) (t : List ℕ) (kind : ℕ) (i : Instruction) : Type 0 where
+  pub size : ℕ
+  pub read : instructionOf b [] false t ≡ ok i size
+  pub numbered : kind ≡ kindNumber (i .kind)
+
+-- what a scan of a block finds: its copies in the table, and its dynamic bases
+pub record Scanned (table : List ℕ) (before after : Marks) (τ : Types) (is : List Instruction) : Type 0 where
+  pub copied-all : CopiesIn table (copies τ is)
   pub dynamic-all : after ≡ dynamics before is
+
+-- the promises: of an Assign's copy, whose fields are u and whose value was read as x: its type stands behind the value,
+abbrev pub AssignCopy : List ℕ → List ℕ → ℕ → List ℕ → ReadValue → ℕ → Option Copy → Type 0
+AssignCopy s types many u x dest o =
+    (most : ℕ) (τ : Types) (v : Value) (n : ℕ)
+    → TypesAt most s types (τ .rows)
+    → length (τ .rows) ≡ many
+    → asValue x ≡ ok v n
+    → o ≡ assigned (shape (rowOf τ (some (record { 0 = at16 (drop n u) 2 })))) v dest
+
+-- of the scan,
+abbrev pub ScanCopies : List ℕ → Bounds → List ℕ → ℕ → ℕ → List ℕ → List ℕ → Marks → Marks → Type 0
+ScanCopies s b facts first count room table before after =
+    (most : ℕ) (τ : Types) (is : List Instruction)
+    → TypesAt most s facts (τ .rows)
+    → length (τ .rows) ≡ b .types
+    → InstructionsIn b s facts first is
+    → length is ≡ count
+    → 1 + 3 * count ≤ length room
+    → Scanned table before after τ is
+
+-- of the marks of a family,
+abbrev pub FamilyMarks : List ℕ → ℕ → ℕ → ValueId → Marks → Marks → Type 0
+FamilyMarks table count root v clear m =
+    (τ : Types) (is : List Instruction)
+    → CopiesIn table (copies τ is)
+    → length is ≡ count
+    → root ≡ shape (valueRow τ v)
+    → clear ≡ replicate (length (τ .recorded)) false
+    → m ≡ family τ v is
+
+-- and of the answer that a family is looked into so
+abbrev pub DynamicIndex : Marks → Marks → Bool → Type 0
+DynamicIndex m d r =
+    (τ : Types) (v : ValueId) (is : List Instruction)
+    → m ≡ family τ v is
+    → d ≡ dynamics (replicate (length (τ .recorded)) false) is
+    → r ≡ hasDynamicIndex τ v is
 
 -- what the code's answer says
 abbrev pub asCopy : CopyRead → Option Copy

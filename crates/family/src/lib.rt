@@ -8,46 +8,25 @@ use wire::ValueId;
 ghost use mathlib.Core.Path.{_≡_};
 ghost use mathlib.Core.List.{List, [], _++_};
 ghost use mathlib.Core.Bool.{true, false, cond, _&&_, _||_};
-ghost use mathlib.Core.Option.{some};
-ghost use Prim.Native.Nat.{ℕ, _+_, _≤_, _<_};
-ghost use lib.ListN.{length, getD, set, drop, replicate};
+ghost use Prim.Native.Nat.{ℕ, _+_, _*_, _≤_, _<_};
+ghost use lib.ListN.{length, getD, replicate};
 ghost use lib.Dec.{eqb};
 ghost use Rattle.wire.specs.Parse.{ok};
-ghost use Rattle.wire.specs.Number.{at16};
 ghost use Rattle.wire.specs.Value.{asValue};
 ghost use Rattle.wire.specs.declared.Value.{Value as ValueOf};
-ghost use Rattle.wire.specs.declared.ValueId.{ValueId as DeclaredId};
 ghost use Rattle.form.specs.Syntax.{Instruction};
-ghost use Rattle.form.specs.Decode.{instructionOf};
 ghost use Rattle.typetable.specs.Index.{TypesAt};
-ghost use Rattle.places.specs.Places.{InstructionsAt};
 ghost use Rattle.lookup.specs.Fields.{asStep};
-ghost use Rattle.eligibility.specs.Lookup.{Types, rowOf, valueRow, shape as shapeOf, isInteger};
-ghost use Rattle.eligibility.specs.Family.{family as familyOf, hasDynamicIndex, placeOf};
-ghost use Rattle.family.specs.Copies.{Copy, copied as copiedOf, assigned as assignedOf, copyOf, before, copies, copyAt, CopiesAt, joining, joinAll, meets, dynamicStep, dynamicPlace, dynamics, Scanned, asCopy};
+ghost use Rattle.eligibility.specs.Lookup.{Types, isInteger};
+ghost use Rattle.eligibility.specs.Family.{mark, family as familyOf, placeOf};
+ghost use Rattle.family.specs.Copies.{Copy, copied as copiedOf, copyOf, before, copies as copiesOf, asCopy};
+ghost use Rattle.family.specs.Copies.{copyIn, CopiesAt, CopiesIn, joining, joinAll, meets, dynamicStep, dynamicPlace};
+ghost use Rattle.family.specs.Copies.{Headed, AssignCopy, ScanCopies, FamilyMarks, DynamicIndex};
 
 // What makes `dest` a member where `source` is one, for a root of the shape asked for; or nothing.
 pub enum CopyRead {
     Copy(u16, u16, u8),
     Nothing,
-}
-
-pub fn is_marked(marks: &[bool], v: u16) -> bool
-    ensures { λ r. ⌜ r ≡ getD (now (marks .entry)) v false ⌝ }
-{
-    table::flag(marks, v as usize)
-}
-
-pub fn mark(marks: &mut [bool], v: u16)
-    ensures { λ _. ⌜ now (marks .exit) ≡ set (now (marks .entry)) v true ⌝ }
-{
-    table::set_flag(marks, v as usize, true)
-}
-
-pub fn shape_at(shapes: &[u8], k: u16) -> u8
-    ensures { λ r. ⌜ r ≡ getD (now (shapes .entry)) k 0 ⌝ }
-{
-    wire::byte_at(shapes, k as usize)
 }
 
 // The copy of a value that was read.
@@ -65,8 +44,8 @@ fn copied(x: ReadValue, dest: u16, asked: u8) -> CopyRead
 }
 
 // The copy that an Assign makes, whose fields are `u` and whose value is `x`: its type stands behind the value.
-fn assigned(s: &[u8], types: &[usize], many: u16, u: &[u8], x: ReadValue, dest: u16) -> CopyRead
-    ensures { λ r. ⌜ ((most : ℕ) (τ : Types) (v : ValueOf) (n : ℕ) → TypesAt most (now (s .entry)) (now (types .entry)) (τ .rows) → length (τ .rows) ≡ many → asValue x ≡ ok v n → asCopy r ≡ assignedOf (shapeOf (rowOf τ (some (record { 0 = at16 (drop n (now (u .entry))) 2 })))) v dest) ⌝ }
+fn assigned(s: &[u8], types: &[u16], many: u16, u: &[u8], x: ReadValue, dest: u16) -> CopyRead
+    ensures { λ r. ⌜ AssignCopy (now (s .entry)) (now (types .entry)) many (now (u .entry)) x dest (asCopy r) ⌝ }
 {
     match x {
         ReadValue::Refused(_, _) => CopyRead::Nothing,
@@ -81,33 +60,38 @@ fn assigned(s: &[u8], types: &[usize], many: u16, u: &[u8], x: ReadValue, dest: 
     }
 }
 
-// The copy that the instruction at the head of `t` makes.
-fn copy_at(s: &[u8], types: &[usize], many: u16, b: Bounds, t: &[u8]) -> CopyRead
-    ensures { λ r. ⌜ ((most : ℕ) (τ : Types) (i : Instruction) (n : ℕ) → TypesAt most (now (s .entry)) (now (types .entry)) (τ .rows) → length (τ .rows) ≡ many → instructionOf b [] false (now (t .entry)) ≡ ok i n → asCopy r ≡ copyOf τ (i .kind)) ⌝ }
+// The copy that the instruction at the head of `t` makes, whose kind is `kind`.
+fn copy_at(s: &[u8], b: Bounds, types: &[u16], t: &[u8], kind: u16) -> CopyRead
+    ensures { λ r. ⌜ ((most : ℕ) (τ : Types) (i : Instruction) → TypesAt most (now (s .entry)) (now (types .entry)) (τ .rows)
+        → length (τ .rows) ≡ b .types → Headed b (now (t .entry)) kind i → asCopy r ≡ copyOf τ (i .kind)) ⌝ }
 {
-    let u = form::tail(t, lookup::fields_place(t));
-    let dest = wire::u16_at(u, 0);
-    let x = wire::read_value(form::tail(u, 2), b.next);
-    let kind = wire::byte_at(t, 1);
     match kind {
-        0 => assigned(s, types, many, u, x, dest),
-        14 => copied(x, dest, 0),
-        15 => copied(x, dest, 0),
+        0 | 14 | 15 => {
+            let u = form::tail(t, lookup::fields_place(t));
+            let dest = wire::u16_at(u, 0);
+            let x = wire::read_value(form::tail(u, 2), b.next);
+            if kind == 0 {
+                return assigned(s, types, b.types, u, x, dest);
+            }
+            copied(x, dest, 0)
+        }
         _ => CopyRead::Nothing,
     }
 }
 
 // Notes a copy behind `n` others.
-fn note_copy(c: CopyRead, n: u16, sources: &mut [u16], dests: &mut [u16], asked: &mut [u8]) -> u16
+fn note_copy(c: CopyRead, n: u16, copies: &mut [u16]) -> u16
     requires { ⌜ n < 65535 ⌝ }
-    ensures { λ r. ⌜ (r ≤ n + 1) × ((cs : List Copy) → CopiesAt (now (sources .entry)) (now (dests .entry)) (now (asked .entry)) n cs → n < length (now (sources .entry)) → n < length (now (dests .entry)) → n < length (now (asked .entry)) → CopiesAt (now (sources .exit)) (now (dests .exit)) (now (asked .exit)) r (cs ++ before (asCopy c) [])) ⌝ }
+    ensures { λ r. ⌜ (r ≤ n + 1) × ((cs : List Copy) → CopiesAt (now (copies .entry)) n cs → 3 + 3 * n < length (now (copies .entry))
+        → CopiesAt (now (copies .exit)) r (cs ++ before (asCopy c) [])) ⌝ }
 {
     match c {
         CopyRead::Nothing => n,
-        CopyRead::Copy(source, dest, shape) => {
-            table::set_number(sources, n as usize, source);
-            table::set_number(dests, n as usize, dest);
-            table::set_byte(asked, n as usize, shape);
+        CopyRead::Copy(source, dest, asked) => {
+            let at = 3 * n as usize;
+            table::set_number(copies, 1 + at, source);
+            table::set_number(copies, 2 + at, dest);
+            table::set_number(copies, 3 + at, asked as u16);
             n + 1
         }
     }
@@ -140,73 +124,87 @@ fn is_dynamic(p: Step) -> bool
 }
 
 // Where the base of a Load's place stands in its fields, behind its dest; a Store's stands first.
-fn base_place(kind: u8) -> usize
+fn base_place(kind: u16) -> usize
     ensures { λ r. ⌜ r ≡ cond (eqb kind 5) 2 0 ⌝ }
 {
     if kind == 5 { 2 } else { 0 }
 }
 
 // Marks the base of a Load or Store at the head of `t` whose first projection is such an Index.
-fn note_dynamic(t: &[u8], b: Bounds, dynamic: &mut [bool])
-    ensures { λ _. ⌜ ((i : Instruction) (n : ℕ) → instructionOf b [] false (now (t .entry)) ≡ ok i n → now (dynamic .exit) ≡ dynamicPlace (now (dynamic .entry)) (placeOf (i .kind))) ⌝ }
+fn note_dynamic(t: &[u8], b: Bounds, kind: u16, dynamic: &mut [bool])
+    ensures { λ _. ⌜ ((i : Instruction) → Headed b (now (t .entry)) kind i
+        → now (dynamic .exit) ≡ dynamicPlace (now (dynamic .entry)) (placeOf (i .kind))) ⌝ }
 {
+    if kind < 5 {
+        return;
+    }
+    if 6 < kind {
+        return;
+    }
     if is_dynamic(lookup::projection(t, b, 0)) {
         let u = form::tail(t, lookup::fields_place(t));
-        mark(dynamic, wire::u16_at(u, base_place(wire::byte_at(t, 1))));
+        table::set_flag(dynamic, wire::u16_at(u, base_place(kind)) as usize, true);
     }
 }
 
-// Scans a block once, its `count` instructions standing at `places`: notes its copies in the three tables, in order,
-// and marks in `dynamic` each value that a Load or Store looks into by an index that is no Integer literal.
-// Returns how many copies there are. Each table of copies has room for `count`.
+// Scans a block once, its `count` instructions standing in the slots from `first` on: notes its copies in `copies`, in
+// order, which has room for as many, and marks in `dynamic` each value that a Load or Store looks into by an index that is
+// no Integer literal.
 pub fn scan_copies(
     s: &[u8],
-    types: &[usize],
-    many: u16,
     b: Bounds,
-    places: &[usize],
+    facts: &[u16],
+    first: u16,
     count: u16,
-    sources: &mut [u16],
-    dests: &mut [u16],
-    asked: &mut [u8],
+    copies: &mut [u16],
     dynamic: &mut [bool],
-) -> u16
-    ensures { λ r. ⌜ ((most : ℕ) (τ : Types) (is : List Instruction) → TypesAt most (now (s .entry)) (now (types .entry)) (τ .rows) → length (τ .rows) ≡ many → InstructionsAt b (now (s .entry)) (now (places .entry)) is → length is ≡ count → count ≤ length (now (sources .entry)) → count ≤ length (now (dests .entry)) → count ≤ length (now (asked .entry)) → Scanned (now (sources .exit)) (now (dests .exit)) (now (asked .exit)) r (now (dynamic .entry)) (now (dynamic .exit)) τ is) ⌝ }
+)
+    ensures { λ _. ⌜ ScanCopies (now (s .entry)) b (now (facts .entry)) first count
+        (now (copies .entry)) (now (copies .exit)) (now (dynamic .entry)) (now (dynamic .exit)) ⌝ }
 {
     let mut n: u16 = 0;
     let mut k: u16 = 0;
+    let mut row = index::row_place(first, 0);
     while k < count {
-        let t = form::tail(s, places::place_at(places, k));
-        n = note_copy(copy_at(s, types, many, b, t), n, sources, dests, asked);
-        note_dynamic(t, b, dynamic);
+        let kind = table::number(facts, row + index::KIND);
+        let t = form::tail(s, table::place(facts, row));
+        n = note_copy(copy_at(s, b, facts, t, kind), n, copies);
+        note_dynamic(t, b, kind, dynamic);
+        row = row + index::WIDTH;
         k = k + 1;
     }
-    n
+    table::set_number(copies, 0, n);
 }
 
 // The shape asked for is the root's, or none is asked for.
-fn asks(wanted: u8, shape: u8) -> bool
+fn asks(wanted: u16, shape: u8) -> bool
     ensures { λ r. ⌜ r ≡ (eqb wanted 0 || eqb wanted shape) ⌝ }
 {
-    if wanted == 0 { true } else { wanted == shape }
+    if wanted == 0 {
+        true
+    } else {
+        wanted == shape as u16
+    }
 }
 
 // Copy `k` joins where its source is a member; whether it is a new one. Only the answer that it is not says something: the
 // other is left free, as one too many costs a sweep that changes nothing.
-fn join(sources: &[u16], dests: &[u16], asked: &[u8], k: u16, shape: u8, marks: &mut [bool]) -> bool
-    ensures { λ r. ⌜ (now (marks .exit) ≡ joining shape (now (marks .entry)) (copyAt (now (sources .entry)) (now (dests .entry)) (now (asked .entry)) k)) × (r ≡ false → now (marks .exit) ≡ now (marks .entry)) ⌝ }
+fn join(copies: &[u16], k: u16, shape: u8, marks: &mut [bool]) -> bool
+    ensures { λ r. ⌜ (now (marks .exit) ≡ joining shape (now (marks .entry)) (copyIn (now (copies .entry)) k))
+        × (r ≡ false → now (marks .exit) ≡ now (marks .entry)) ⌝ }
 {
-    if !asks(shape_at(asked, k), shape) {
+    let at = 3 * k as usize;
+    if !asks(table::number(copies, 3 + at), shape) {
         return false;
     }
-    if !is_marked(marks, table::number(sources, k as usize)) {
+    if !table::flag(marks, table::place(copies, 1 + at)) {
         return false;
     }
-    let dest = table::number(dests, k as usize);
-    if is_marked(marks, dest) {
+    let dest = table::place(copies, 2 + at);
+    if table::flag(marks, dest) {
         return false;
     }
-    mark(marks, dest);
+    table::set_flag(marks, dest, true);
     true
 }
 
@@ -218,47 +216,50 @@ fn either(a: bool, b: bool) -> bool
 
 // One sweep over the copies; whether it found a new member, which is left free likewise: sweeps are at most as many as the
 // instructions.
-fn sweep(
-    sources: &[u16],
-    dests: &[u16],
-    asked: &[u8],
-    count: u16,
-    shape: u8,
-    marks: &mut [bool],
-) -> bool
-    ensures { λ r. ⌜ ((cs : List Copy) → CopiesAt (now (sources .entry)) (now (dests .entry)) (now (asked .entry)) count cs → now (marks .exit) ≡ joinAll shape (now (marks .entry)) cs) × (r ≡ false → now (marks .exit) ≡ now (marks .entry)) ⌝ }
+fn sweep(copies: &[u16], shape: u8, marks: &mut [bool]) -> bool
+    ensures { λ r. ⌜ ((cs : List Copy) → CopiesIn (now (copies .entry)) cs → now (marks .exit) ≡ joinAll shape (now (marks .entry)) cs)
+        × (r ≡ false → now (marks .exit) ≡ now (marks .entry)) ⌝ }
 {
+    let count = table::number(copies, 0);
     let mut changed = false;
     let mut k: u16 = 0;
     while k < count {
-        changed = either(changed, join(sources, dests, asked, k, shape, marks));
+        changed = either(changed, join(copies, k, shape, marks));
         k = k + 1;
     }
     changed
 }
 
 // Marks the family of `v`, whose recorded type has the shape `shape`, in `marks`, which are clear, one for each value.
-// The block has `instructions` instructions, and its `count` copies stand in the three tables.
-pub fn family(
-    sources: &[u16],
-    dests: &[u16],
-    asked: &[u8],
-    count: u16,
-    instructions: u16,
-    shape: u8,
-    v: ValueId,
-    marks: &mut [bool],
-)
-    ensures { λ _. ⌜ ((τ : Types) (is : List Instruction) → CopiesAt (now (sources .entry)) (now (dests .entry)) (now (asked .entry)) count (copies τ is) → length is ≡ instructions → shape ≡ shapeOf (valueRow τ v) → now (marks .entry) ≡ replicate (length (τ .recorded)) false → now (marks .exit) ≡ familyOf τ v is) ⌝ }
+// The block has `instructions` instructions, and its copies stand in `copies`.
+pub fn family(copies: &[u16], instructions: u16, shape: u8, v: ValueId, marks: &mut [bool])
+    ensures { λ _. ⌜ FamilyMarks (now (copies .entry)) instructions shape v (now (marks .entry)) (now (marks .exit)) ⌝ }
 {
-    mark(marks, v.0);
+    table::set_flag(marks, v.0 as usize, true);
     let mut k: u16 = 0;
     while k < instructions {
-        if !sweep(sources, dests, asked, count, shape, marks) {
+        if !sweep(copies, shape, marks) {
             return;
         }
         k = k + 1;
     }
+}
+
+// Whether no copy has `v` as its source: it is its whole family then. The other answer is left free: it costs time alone.
+pub fn is_alone(copies: &[u16], v: ValueId) -> bool
+    ensures { λ r. ⌜ (r ≡ true → (τ : Types) (is : List Instruction) → CopiesIn (now (copies .entry)) (copiesOf τ is)
+        → familyOf τ v is ≡ mark (replicate (length (τ .recorded)) false) v) ⌝ }
+{
+    let count = table::number(copies, 0);
+    let root = v.0;
+    let mut k: u16 = 0;
+    while k < count {
+        if table::number(copies, 1 + 3 * k as usize) == root {
+            return false;
+        }
+        k = k + 1;
+    }
+    true
 }
 
 // Whether a value has both marks.
@@ -277,7 +278,7 @@ fn both_at(a: &[bool], b: &[bool], k: usize) -> bool
 // Whether a member of the family that `marks` has is looked into by an index that is not known, where `dynamic` are
 // the marks that the scan of the block has set.
 pub fn dynamic_index(marks: &[bool], dynamic: &[bool]) -> bool
-    ensures { λ r. ⌜ (r ≡ meets (now (marks .entry)) (now (dynamic .entry))) × ((τ : Types) (v : DeclaredId) (is : List Instruction) → now (marks .entry) ≡ familyOf τ v is → now (dynamic .entry) ≡ dynamics (replicate (length (τ .recorded)) false) is → r ≡ hasDynamicIndex τ v is) ⌝ }
+    ensures { λ r. ⌜ (r ≡ meets (now (marks .entry)) (now (dynamic .entry))) × DynamicIndex (now (marks .entry)) (now (dynamic .entry)) r ⌝ }
 {
     let mut k = 0;
     while k < marks.len() {

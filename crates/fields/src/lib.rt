@@ -62,14 +62,7 @@ pub fn id_has(b: Bounds, recorded: &[u16], t: &[u8], at: usize, number: u16) -> 
 }
 
 // It is a scalar.
-pub fn id_scalar(
-    s: &[u8],
-    b: Bounds,
-    types: &[usize],
-    recorded: &[u16],
-    t: &[u8],
-    at: usize,
-) -> bool
+pub fn id_scalar(s: &[u8], b: Bounds, types: &[u16], recorded: &[u16], t: &[u8], at: usize) -> bool
     ensures { λ r. ⌜ ((τ : Types) (d : AnyId) → Ground b (now (s .entry)) (now (types .entry)) (now (recorded .entry)) τ → IdAt (b .next) (now (t .entry)) at d → r ≡ isScalarType τ (recordedType τ d)) ⌝ }
 {
     typing::is_scalar_type(s, b, types, id_type(b, recorded, t, at))
@@ -96,7 +89,7 @@ pub fn operand_type(b: Bounds, recorded: &[u16], t: &[u8], at: usize) -> u16
 pub fn value_fits(
     s: &[u8],
     b: Bounds,
-    types: &[usize],
+    types: &[u16],
     recorded: &[u16],
     t: &[u8],
     at: usize,
@@ -111,7 +104,7 @@ pub fn value_fits(
 pub fn value_scalar(
     s: &[u8],
     b: Bounds,
-    types: &[usize],
+    types: &[u16],
     recorded: &[u16],
     t: &[u8],
     at: usize,
@@ -122,7 +115,7 @@ pub fn value_scalar(
 }
 
 // The type is of that shape.
-pub fn has_shape(s: &[u8], b: Bounds, types: &[usize], number: u16, k: u8) -> bool
+pub fn has_shape(s: &[u8], b: Bounds, types: &[u16], number: u16, k: u8) -> bool
     ensures { λ r. ⌜ ((recorded : List ℕ) (τ : Types) (o : Option AnyType) → Ground b (now (s .entry)) (now (types .entry)) recorded τ → number ≡ recordedNumber o → r ≡ eqb (shape (rowOf τ o)) k) ⌝ }
 {
     typing::shape_of(s, b, types, number) == k

@@ -27,7 +27,7 @@ ghost use Rattle.fitting.specs.Lists.{ValuesAt, SourcesAt, TypesIn, IdsA
 fn all_fit(
     s: &[u8],
     b: Bounds,
-    types: &[usize],
+    types: &[u16],
     recorded: &[u16],
     t: &[u8],
     at: usize,
@@ -54,7 +54,7 @@ fn all_fit(
 pub fn parts_fit(
     s: &[u8],
     b: Bounds,
-    types: &[usize],
+    types: &[u16],
     recorded: &[u16],
     t: &[u8],
     at: usize,
@@ -73,7 +73,7 @@ pub fn parts_fit(
 pub fn sources_fit(
     s: &[u8],
     b: Bounds,
-    types: &[usize],
+    types: &[u16],
     recorded: &[u16],
     t: &[u8],
     at: usize,
@@ -99,7 +99,7 @@ pub fn sources_fit(
 pub fn arguments_fit(
     s: &[u8],
     b: Bounds,
-    types: &[usize],
+    types: &[u16],
     recorded: &[u16],
     t: &[u8],
     at: usize,
@@ -148,7 +148,7 @@ pub fn dests_fit(b: Bounds, recorded: &[u16], t: &[u8], at: usize, n: u8, return
 fn given_fits(
     s: &[u8],
     b: Bounds,
-    types: &[usize],
+    types: &[u16],
     recorded: &[u16],
     t: &[u8],
     init: Init,
@@ -166,7 +166,7 @@ fn given_fits(
 pub fn fields_fit(
     s: &[u8],
     b: Bounds,
-    types: &[usize],
+    types: &[u16],
     recorded: &[u16],
     t: &[u8],
     at: usize,

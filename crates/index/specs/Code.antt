@@ -1,23 +1,51 @@
--- Where the instructions of all blocks stand: one table of places, and for each block where its own begin in it.
-use Prim.Native.Nat.{ℕ, suc, _+_, _≤_, _<_}
+-- What the rows of the table say of a routine's code.
+use Prim.Native.Nat.{ℕ, suc, _+_, _-_, _≤_, _<_}
 use mathlib.Core.Path.{_≡_}
-use mathlib.Core.List.{List, [], _∷_}
+use mathlib.Core.List.{List, []}
+use mathlib.Core.Bool.{false}
+use mathlib.Core.Option.{none}
 use lib.ListN.{length, getD, drop}
-use Rattle.form.specs.Syntax.{Block}
+use Rattle.wire.specs.Parse.{ok}
+use Rattle.form.specs.Syntax.{Instruction, InstructionKind, Terminator, Block}
+use Rattle.form.specs.Decode.{instructionOf, terminatorOf}
+use Rattle.form.specs.Reads.{reads, terminatorReads, kindNumber}
 use Rattle.form.specs.declared.Bounds.{Bounds}
-use Rattle.routine.specs.Index.{noBlock}
-use Rattle.places.specs.Places.{BlockPlaces}
+use Rattle.index.specs.Table.{startsIn, placeIn, endIn, kindIn, ReadsIn}
 
--- how many places blocks take: one for each instruction and one for the terminator
-unfoldable pub slots : List Block → ℕ
-slots [] = 0
-slots (k ∷ ks) = suc (length (k .instructions)) + slots ks
+-- what stands past the last instruction, and past the last block
+abbrev pub noInstruction : Instruction
+noInstruction = record { meta = record { span = none; expression = none; comment = none }; kind = InstructionKind.Nop }
 
--- a block whose terminator takes some bytes
-pub data BlockStands (b : Bounds) (s places : List ℕ) (x : Block) : Type 0 where
-  standing : (size : ℕ) → BlockPlaces b s places size x → BlockStands b s places x
+abbrev pub noBlock : Block
+noBlock = record { instructions = []; terminator = Terminator.Unreachable }
 
-pub record CodeAt (b : Bounds) (s places starts : List ℕ) (ks : List Block) : Type 0 where
-  pub each : (k : ℕ) → k < length ks → BlockStands b s (drop (getD starts k 0) places) (getD ks k noBlock)
-  pub next : (k : ℕ) → k < length ks → getD starts (suc k) 0 ≡ getD starts k 0 + suc (length (getD ks k noBlock .instructions))
-  pub within : getD starts (length ks) 0 ≤ length places
+-- an instruction's row: it is read from its place to its end, whatever was defined before
+pub record InstructionIn (b : Bounds) (s facts : List ℕ) (slot : ℕ) (i : Instruction) : Type 0 where
+  pub read : instructionOf b [] false (drop (placeIn facts slot) s) ≡ ok i (endIn facts slot - placeIn facts slot)
+  pub rises : placeIn facts slot ≤ endIn facts slot
+  pub within : endIn facts slot ≤ length s
+  pub kind : kindIn facts slot ≡ kindNumber (i .kind)
+  pub reads-in : ReadsIn facts slot (reads (i .kind))
+
+-- a terminator's row (its kind is not kept)
+pub record TerminatorIn (b : Bounds) (s facts : List ℕ) (slot : ℕ) (t : Terminator) : Type 0 where
+  pub read : terminatorOf b (drop (placeIn facts slot) s) ≡ ok t (endIn facts slot - placeIn facts slot)
+  pub rises : placeIn facts slot ≤ endIn facts slot
+  pub within : endIn facts slot ≤ length s
+  pub reads-in : ReadsIn facts slot (terminatorReads t)
+
+-- instructions in the slots from `first` on
+abbrev pub InstructionsIn : Bounds → List ℕ → List ℕ → ℕ → List Instruction → Type 0
+InstructionsIn b s facts first is = (k : ℕ) → k < length is → InstructionIn b s facts (first + k) (getD is k noInstruction)
+
+-- a block: its instructions, and its terminator in the slot behind them
+pub record BlockIn (b : Bounds) (s facts : List ℕ) (first : ℕ) (x : Block) : Type 0 where
+  pub instructions : InstructionsIn b s facts first (x .instructions)
+  pub terminator : TerminatorIn b s facts (first + length (x .instructions)) (x .terminator)
+
+-- all blocks, one behind another
+pub record CodeIn (b : Bounds) (s facts : List ℕ) (ks : List Block) : Type 0 where
+  pub each : (k : ℕ) → k < length ks → BlockIn b s facts (getD (startsIn facts) k 0) (getD ks k noBlock)
+  pub next : (k : ℕ) → k < length ks → getD (startsIn facts) (suc k) 0 ≡ getD (startsIn facts) k 0 + suc (length (getD ks k noBlock .instructions))
+  pub first : getD (startsIn facts) 0 0 ≡ 0
+  pub within : getD (startsIn facts) (length ks) 0 ≤ 288

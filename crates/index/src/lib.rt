@@ -1,82 +1,116 @@
-// Where the instructions of all blocks stand: one table of places, and for each block where its own begin in it.
-use form::Bounds;
+// The table of facts that the reader leaves of a routine (specs/Table.antt says what stands where), and lookups in it.
 ghost use mathlib.Core.Path.{_≡_};
 ghost use mathlib.Core.List.{List};
-ghost use mathlib.Core.Bool.{Bool};
-ghost use Prim.Native.Nat.{ℕ, suc, _+_, _≤_, _<_};
+ghost use Prim.Native.Nat.{ℕ, _+_, _*_, _<_};
 ghost use lib.ListN.{length, getD, drop};
-ghost use Rattle.wire.specs.Parse.{ok};
 ghost use Rattle.form.specs.Syntax.{Block};
 ghost use Rattle.form.specs.declared.Bounds.{Bounds};
-ghost use Rattle.block.specs.Decode.{blockOf};
-ghost use Rattle.block.specs.declared.Mosts.{Mosts};
-ghost use Rattle.routine.specs.Index.{noBlock, BlocksAt};
-ghost use Rattle.places.specs.Places.{IndexedBlock};
-ghost use Rattle.index.specs.Code.{slots, CodeAt};
+ghost use Rattle.index.specs.Table.{recordedIn, blocksIn, startsIn, rowNumber, placeIn, endIn, kindIn, readCount, readIn};
+ghost use Rattle.index.specs.Code.{noBlock, CodeIn};
 
-// Gives the places of the block that begins at `at` behind the first `here` of the table; returns how many instructions
-// the block has.
-fn index_behind(s: &[u8], at: usize, b: Bounds, places: &mut [usize], here: u16) -> u16
-    ensures { λ r. ⌜ ((j : ℕ) → j < here → getD (now (places .exit)) j 0 ≡ getD (now (places .entry)) j 0) × ((m : Mosts) (total : ℕ) (seen : List Bool) (x : Block) (n : ℕ) → blockOf m b total seen (drop at (now (s .entry))) ≡ ok x n → here + length (x .instructions) < length (now (places .entry)) → IndexedBlock b (now (s .entry)) r (drop here (now (places .exit))) x) ⌝ }
+// Where the sections begin, and how long the table is.
+pub const RECORDED: usize = 65;
+
+pub const BLOCKS: usize = 321;
+
+pub const STARTS: usize = 354;
+
+pub const ROWS: usize = 387;
+
+pub const SIZE: usize = 6147;
+
+// How long a slot's row is, and what stands where in it: from which place to which, the kind, how many reads, the reads.
+pub const WIDTH: usize = 20;
+
+pub const END: usize = 1;
+
+pub const KIND: usize = 2;
+
+pub const COUNT: usize = 3;
+
+pub const READS: usize = 4;
+
+// The part of a table from a place on.
+fn section(facts: &[u16], from: usize) -> &[u16]
+    ensures { λ r. ⌜ now r ≡ drop from (now (facts .entry)) ⌝ }
 {
-    let i = here as usize;
-    if places.len() < i {
-        return 0;
+    let n = facts.len();
+    if from < n {
+        return &facts[from..];
     }
-    places::index_block(s, at, b, &mut places[i..])
+    &facts[n..]
 }
 
-// The place behind a block of `count` instructions and its terminator.
-fn next_start(here: u16, count: u16) -> u16
-    ensures { λ r. ⌜ (here + suc count < 65536 → r ≡ here + suc count) ⌝ }
+// The recorded types, by value: 0 for none, else one more than the type's number.
+pub fn recorded(facts: &[u16]) -> &[u16]
+    ensures { λ r. ⌜ now r ≡ recordedIn (now (facts .entry)) ⌝ }
 {
-    if count < 65535 - here {
-        return here + count + 1;
-    }
-    here
+    section(facts, RECORDED)
 }
 
-// Finds the places of the instructions of all `many` blocks, which begin at `blocks`.
-pub fn index_routine(
-    s: &[u8],
-    blocks: &[usize],
-    many: u16,
-    b: Bounds,
-    places: &mut [usize],
-    starts: &mut [u16],
-)
-    ensures { λ _. ⌜ ((m : Mosts) (ks : List Block) → BlocksAt m b (now (s .entry)) (now (blocks .entry)) ks → length ks ≡ many → slots ks ≤ length (now (places .entry)) → slots ks < 65536 → length ks < length (now (starts .entry)) → CodeAt b (now (s .entry)) (now (places .exit)) (now (starts .exit)) ks) ⌝ }
+// The places of the blocks, and the place behind the last.
+pub fn blocks(facts: &[u16]) -> &[u16]
+    ensures { λ r. ⌜ now r ≡ blocksIn (now (facts .entry)) ⌝ }
 {
-    let mut here: u16 = 0;
-    let mut k: u16 = 0;
-    table::set_number(starts, 0, 0);
-    while k < many {
-        let count = index_behind(s, places::place_at(blocks, k), b, places, here);
-        here = next_start(here, count);
-        k = k + 1;
-        table::set_number(starts, k as usize, here);
-    }
+    section(facts, BLOCKS)
 }
 
-// The places of block `k`.
-pub fn block_places<'a>(places: &'a [usize], starts: &[u16], k: u16) -> &'a [usize]
-    ensures { λ r. ⌜ now r ≡ drop (getD (now (starts .entry)) k 0) (now (places .entry)) ⌝ }
+// Where number `k` of a slot's row stands.
+pub fn row_place(slot: u16, k: usize) -> usize
+    requires { ⌜ k < 1048576 ⌝ }
+    ensures { λ r. ⌜ r ≡ 387 + 20 * slot + k ⌝ }
 {
-    let n = places.len();
-    let at = table::number(starts, k as usize) as usize;
-    if at < n {
-        return &places[at..];
-    }
-    &places[n..]
+    ROWS + WIDTH * slot as usize + k
+}
+
+// The place of a slot's instruction or terminator.
+pub fn place(facts: &[u16], slot: u16) -> usize
+    ensures { λ r. ⌜ (r ≡ placeIn (now (facts .entry)) slot) × (r < 65536) ⌝ }
+{
+    table::number(facts, row_place(slot, 0)) as usize
+}
+
+// The place behind it.
+pub fn end(facts: &[u16], slot: u16) -> usize
+    ensures { λ r. ⌜ (r ≡ endIn (now (facts .entry)) slot) × (r < 65536) ⌝ }
+{
+    table::number(facts, row_place(slot, END)) as usize
+}
+
+// An instruction's kind.
+pub fn kind(facts: &[u16], slot: u16) -> u16
+    ensures { λ r. ⌜ r ≡ kindIn (now (facts .entry)) slot ⌝ }
+{
+    table::number(facts, row_place(slot, KIND))
+}
+
+// How many values a slot's instruction or terminator reads.
+pub fn read_count(facts: &[u16], slot: u16) -> u16
+    ensures { λ r. ⌜ r ≡ readCount (now (facts .entry)) slot ⌝ }
+{
+    table::number(facts, row_place(slot, COUNT))
+}
+
+// Value `k` of those.
+pub fn read(facts: &[u16], slot: u16, k: u16) -> u16
+    ensures { λ r. ⌜ r ≡ readIn (now (facts .entry)) slot k ⌝ }
+{
+    table::number(facts, row_place(slot, READS + k as usize))
+}
+
+// The slot of the first instruction of block `k`; for k the number of blocks, the slot behind the last.
+pub fn first_slot(facts: &[u16], k: u16) -> u16
+    ensures { λ r. ⌜ r ≡ getD (startsIn (now (facts .entry))) k 0 ⌝ }
+{
+    table::number(facts, STARTS + k as usize)
 }
 
 // How many instructions block `k` has.
-pub fn instruction_count(starts: &[u16], k: u16) -> u16
-    ensures { λ r. ⌜ ((b : Bounds) (s places : List ℕ) (ks : List Block) → CodeAt b s places (now (starts .entry)) ks → k < length ks → r ≡ length (getD ks k noBlock .instructions)) ⌝ }
+pub fn instruction_count(facts: &[u16], k: u16) -> u16
+    ensures { λ r. ⌜ ((b : Bounds) (s : List ℕ) (ks : List Block) → CodeIn b s (now (facts .entry)) ks → k < length ks → r ≡ length (getD ks k noBlock .instructions)) ⌝ }
 {
-    let i = k as usize;
-    let from = table::number(starts, i);
-    let to = table::number(starts, i + 1);
+    let from = first_slot(facts, k);
+    let to = table::number(facts, STARTS + 1 + k as usize);
     if to <= from {
         return 0;
     }

@@ -8,6 +8,7 @@ use native.Mathlib.Nat.{add-zero, add-assoc}
 use native.Mathlib.Numerals.{add-one}
 use native.Mathlib.Omega.{arith}
 use lib.ListN.{length, getD, length-append, set}
+use lib.Seq.{drop-set-add}
 use Rattle.wire.specs.declared.ValueId.{ValueId}
 use Rattle.wire.specs.declared.TypeId.{TypeId}
 use Rattle.wire.specs.declared.Value.{Value}
@@ -20,7 +21,7 @@ use Rattle.eligibility.specs.Lookup.{Types, rowOf}
 use Rattle.eligibility.specs.Family.{Marks}
 use Rattle.rewriting.specs.State.{AggStates}
 use Rattle.rewriting.specs.Rebuild.{Rebuilt, untouched, rebuildAt, clashes, rebuildValue, rebuildAll}
-use Rattle.parts.specs.Rows.{ValueAt, RowAt, Rep}
+use Rattle.parts.specs.Rows.{ValueAt, RowAt, Rep, rowsIn, freshIn}
 use Rattle.parts.proofs.Tables.{found-row}
 use Rattle.rebuild.specs.declared.Rebuilt.{Rebuilt as Answer}
 use Rattle.rebuild.specs.Written.{Writes, rebuildBytes, Rebuilds}
@@ -30,8 +31,9 @@ use Rattle.progress.specs.Effect.{Output, outputOf, rebuiltEffect, behind, furt
 use Rattle.progress.proofs.Laws.{behind-then, behind-none}
 use Rattle.wanting.specs.declared.Asks.{Asks}
 use Rattle.wanting.specs.declared.Wants.{Wants}
-use Rattle.wanting.specs.Asked.{askedAt, askedList, Told}
-use Rattle.listing.specs.Lists.{Few, PutFew, Roomy, Setting, Lies, _&_, lineCount, oneAsked}
+use Rattle.wanting.specs.Asked.{Setting, askedAt, askedList, Told}
+use Rattle.listing.specs.declared.ValueList.{ValueList}
+use Rattle.listing.specs.Lists.{Few, PutFew, Roomy, Lies, _&_, lineCount, oneWanted, OfList, BuildsPut, TrackedPut, WantedPut, AllPut}
 use Rattle.listing.proofs.Copying.{line-none, line-one}
 use Rattle.listing.proofs.Joining.{joined, join-first, join-effect, built, one-built}
 
@@ -66,9 +68,12 @@ lines-of d xs t (some Unit) a b e = line-none a b (omega arith)
 lines-of d xs t (some Error) a b e = line-none a b (omega arith)
 lines-of d xs t (some Unknown) a b e = line-none a b (omega arith)
 
--- the row of a tracked value
-pub row-from : (next : ℕ) (s : List ℕ) (tracked : Marks) (firsts pool : List ℕ) (used : ℕ) (S : AggStates) (v : ValueId) (from : ℕ) (xs : List Value) → Rep next s tracked firsts pool used S → S (v .0) ≡ some xs → from ≡ getD firsts (v .0) 0 → RowAt next s pool (from + 1) xs
-row-from next s tracked firsts pool used S v from xs r e f = rw f (found-row r (v .0) e .parts)
+-- the rows under another name, and the row of a tracked value
+pub rep-held : {next : ℕ} {s : List ℕ} {tracked : Marks} {rows held : List ℕ} {used : ℕ} {S : AggStates} → held ≡ rows → Rep next s tracked rows used S → Rep next s tracked held used S
+rep-held e r = rw e r
+
+pub row-from : {next : ℕ} {s : List ℕ} {tracked : Marks} {rows : List ℕ} {used : ℕ} {S : AggStates} {from : ℕ} {xs : List Value} (v : ValueId) → Rep next s tracked rows used S → S (v .0) ≡ some xs → from ≡ getD rows (v .0) 0 → RowAt next s rows (from + 1) xs
+row-from v r e f = rw f (found-row r (v .0) e .parts)
 
 -- one rebuild, under the number n
 module _ (τ : Types) (n : ℕ) (t : TypeId) (xs : List Value) (out out′ : List ℕ) (p : Progress) (r : Answer) (d : ℕ) (e : d ≡ n) (w : Rebuilds τ (record { 0 = d }) xs t out out′ (p .to) r) where
@@ -117,7 +122,7 @@ module _ (next : ℕ) (t : List ℕ) (asks : Asks) (τ : Types) (S : AggStates) 
   module _ (o : Output) (here i : ℕ) (c : Left next t asks τ S many o₀ R₀ o here i) where
     -- one more is done
     pub left-again : (o′ : Output) (there : ℕ) → i < many → there ≡ valueEnd t here → next + o₀ .progress .fresh + length (R₀ .fresh) < 65536
-        → ((x : Value) → ValueAt next t here x → next + o .progress .fresh + length (oneAsked τ S t asks i (next + o .progress .fresh) x .fresh) < 65536 → (oneAsked τ S t asks i (next + o .progress .fresh) x .clash ≡ false) × (o′ ≡ behind o (rebuiltEffect (oneAsked τ S t asks i (next + o .progress .fresh) x))))
+        → ((x : Value) → ValueAt next t here x → next + o .progress .fresh + length (oneWanted τ S (next + o .progress .fresh) x (askedAt τ t asks i x) .fresh) < 65536 → (oneWanted τ S (next + o .progress .fresh) x (askedAt τ t asks i x) .clash ≡ false) × (o′ ≡ behind o (rebuiltEffect (oneWanted τ S (next + o .progress .fresh) x (askedAt τ t asks i x)))))
         → Left next t asks τ S many o₀ R₀ o′ there (i + 1)
     unfolding askedList
     left-again o′ there h e small f = go (c .rest) (c .lies) (c .left) (c .clash) (c .effect) (c .number)
@@ -126,7 +131,7 @@ module _ (next : ℕ) (t : List ℕ) (asks : Asks) (τ : Types) (S : AggStates) 
         go [] l m k b u = absurd (omega arith)
         go (x ∷ ys) (v & l) m k b u =
             let n = next + o .progress .fresh in
-            let A = oneAsked τ S t asks i n x in
+            let A = oneWanted τ S n x (askedAt τ t asks i x) in
             let B = rebuildAll τ S (n + length (A .fresh)) (askedList τ t asks (suc i) ys) in
             let j : rebuildAll τ S n (askedList τ t asks i (x ∷ ys)) ≡ joined A B = join-first τ S n (record { value = x; at = askedAt τ t asks i x }) (askedList τ t asks (suc i) ys) in
             let u′ : o .progress .fresh + length (A .fresh ++ B .fresh) ≡ o₀ .progress .fresh + length (R₀ .fresh) = rw j at u in
@@ -144,7 +149,7 @@ module _ (next : ℕ) (t : List ℕ) (asks : Asks) (τ : Types) (S : AggStates) 
 
     -- a clash now is one of the whole
     pub left-clash : i < many → next + o₀ .progress .fresh + length (R₀ .fresh) < 65536
-        → ((x : Value) → ValueAt next t here x → next + o .progress .fresh + length (oneAsked τ S t asks i (next + o .progress .fresh) x .fresh) < 65536 → oneAsked τ S t asks i (next + o .progress .fresh) x .clash ≡ true)
+        → ((x : Value) → ValueAt next t here x → next + o .progress .fresh + length (oneWanted τ S (next + o .progress .fresh) x (askedAt τ t asks i x) .fresh) < 65536 → oneWanted τ S (next + o .progress .fresh) x (askedAt τ t asks i x) .clash ≡ true)
         → R₀ .clash ≡ true
     unfolding askedList
     left-clash h small f = go (c .rest) (c .lies) (c .left) (c .clash) (c .number)
@@ -153,7 +158,7 @@ module _ (next : ℕ) (t : List ℕ) (asks : Asks) (τ : Types) (S : AggStates) 
         go [] l m k u = absurd (omega arith)
         go (x ∷ ys) (v & l) m k u =
             let n = next + o .progress .fresh in
-            let A = oneAsked τ S t asks i n x in
+            let A = oneWanted τ S n x (askedAt τ t asks i x) in
             let B = rebuildAll τ S (n + length (A .fresh)) (askedList τ t asks (suc i) ys) in
             let j : rebuildAll τ S n (askedList τ t asks i (x ∷ ys)) ≡ joined A B = join-first τ S n (record { value = x; at = askedAt τ t asks i x }) (askedList τ t asks (suc i) ys) in
             let u′ : o .progress .fresh + length (A .fresh ++ B .fresh) ≡ o₀ .progress .fresh + length (R₀ .fresh) = rw j at u in
@@ -169,20 +174,20 @@ module _ (next : ℕ) (t : List ℕ) (asks : Asks) (τ : Types) (S : AggStates) 
         go (x ∷ ys) m k b = absurd (omega arith)
 
 -- the loop over the values
-pub record Building (b : Bounds) (s t types recorded : List ℕ) (tracked : Marks) (firsts pool : List ℕ) (asks : Asks) (first many : ℕ) (out₀ fresh₀ : List ℕ) (p₀ : Progress) (out fresh : List ℕ) (p : Progress) (here i : ℕ) : Type 0 where
-  pub under : i ≤ many
+pub record Building (b : Bounds) (s facts t : List ℕ) (tracked : Marks) (l : ValueList) (out₀ work₀ : List ℕ) (p₀ : Progress) (out work : List ℕ) (p : Progress) (here i : ℕ) : Type 0 where
+  pub under : i ≤ l .many
   pub few : Few p₀ i p
-  pub near : here ≤ first + 5 * i
+  pub near : here ≤ l .first + 5 * i
   pub len : length out ≡ length out₀
-  pub len-fresh : length fresh ≡ length fresh₀
-  pub left : (τ : Types) (S : AggStates) (xs : List Value) (dropped : Marks) → Setting b s types recorded tracked firsts pool asks τ S → Lies (b .next) t first xs → length xs ≡ many → b .next + p₀ .fresh + length (rebuildAll τ S (b .next + p₀ .fresh) (askedList τ t asks 0 xs) .fresh) < 65536
-      → Left (b .next) t asks τ S many (outputOf out₀ fresh₀ dropped p₀) (rebuildAll τ S (b .next + p₀ .fresh) (askedList τ t asks 0 xs)) (outputOf out fresh dropped p) here i
+  pub len-work : length work ≡ length work₀
+  pub rows : rowsIn work ≡ rowsIn work₀
+  pub left : (dropped : Marks) → OfList b s facts t tracked (rowsIn work₀) l (p₀ .fresh) (λ τ S R. Left (b .next) t (l .asks) τ S (l .many) (outputOf out₀ (freshIn work₀) dropped p₀) R (outputOf out (freshIn work) dropped p) here i)
 
 -- one more, behind some
 few-more : (p q r : Progress) (i : ℕ) → Few p i q → Few q 1 r → Few p (i + 1) r
 few-more p q r i a b = record { to = omega (arith, a .to, b .to); lines = omega (arith, a .lines, b .lines); fresh = omega (arith, a .fresh, b .fresh); taken = omega (arith, a .taken, b .taken); counts = b .counts ∙ a .counts }
 
-few-all : (p q : Progress) (i many : ℕ) → i ≤ many → Few p i q → Few p many q
+pub few-all : (p q : Progress) (i many : ℕ) → i ≤ many → Few p i q → Few p many q
 few-all p q i many h a = record { to = omega (arith, a .to); lines = omega (arith, a .lines); fresh = omega (arith, a .fresh); taken = a .taken; counts = a .counts }
 
 -- there is room for one more behind fewer than 255
@@ -196,60 +201,68 @@ few-put p q k (Put.Went z) f e = let y : q ≡ z = cc in rw y f
 pub few-none : (p : Progress) (k : ℕ) → Few p k p
 few-none p k = record { to = omega arith; lines = omega arith; fresh = omega arith; taken = omega arith; counts = refl }
 
--- what put_one promises of value i
-abbrev pub OnePut : (b : Bounds) (s t types recorded : List ℕ) (tracked : Marks) (firsts pool : List ℕ) (asks : Asks) (out fresh : List ℕ) (p : Progress) (here i : ℕ) (out′ fresh′ : List ℕ) (r : Put) → Type 0
-OnePut b s t types recorded tracked firsts pool asks out fresh p here i out′ fresh′ r =
-    (τ : Types) (S : AggStates) (x : Value) (dropped : Marks) → Setting b s types recorded tracked firsts pool asks τ S → ValueAt (b .next) t here x → b .next + p .fresh + length (oneAsked τ S t asks i (b .next + p .fresh) x .fresh) < 65536 → Puts (outputOf out fresh dropped p) (rebuiltEffect (oneAsked τ S t asks i (b .next + p .fresh) x)) (oneAsked τ S t asks i (b .next + p .fresh) x .clash) out′ fresh′ dropped r
+module _ (b : Bounds) (s facts t : List ℕ) (tracked : Marks) (l : ValueList) (out₀ work₀ : List ℕ) (p₀ : Progress) where
+  pub building : Building b s facts t tracked l out₀ work₀ p₀ out₀ work₀ p₀ (l .first) 0
+  building =
+      record {
+        under = omega arith;
+        few = few-none p₀ 0;
+        near = omega arith;
+        len = refl;
+        len-work = refl;
+        rows = refl;
+        left = λ dropped τ S xs e y m h. left-start (b .next) t (l .asks) τ S (l .many) (outputOf out₀ (freshIn work₀) dropped p₀) _ (l .first) xs y m refl;
+      }
 
--- and put_builds of all of them
-abbrev pub AllPut : (b : Bounds) (s t types recorded : List ℕ) (tracked : Marks) (firsts pool : List ℕ) (asks : Asks) (first many : ℕ) (out fresh : List ℕ) (p : Progress) (out′ fresh′ : List ℕ) (r : Put) → Type 0
-AllPut b s t types recorded tracked firsts pool asks first many out fresh p out′ fresh′ r =
-    (τ : Types) (S : AggStates) (xs : List Value) (dropped : Marks) → Setting b s types recorded tracked firsts pool asks τ S → Lies (b .next) t first xs → length xs ≡ many → b .next + p .fresh + length (rebuildAll τ S (b .next + p .fresh) (askedList τ t asks 0 xs) .fresh) < 65536 → Puts (outputOf out fresh dropped p) (rebuiltEffect (rebuildAll τ S (b .next + p .fresh) (askedList τ t asks 0 xs))) (rebuildAll τ S (b .next + p .fresh) (askedList τ t asks 0 xs) .clash) out′ fresh′ dropped r
+  module _ (out work : List ℕ) (p : Progress) (here i : ℕ) (c : Building b s facts t tracked l out₀ work₀ p₀ out work p here i) (wants : Wants) (out′ work′ : List ℕ) (r : Put) (h : i < l .many)
+      (d : (τ : Types) (S : AggStates) (rows : List ℕ) (x : Value) → Setting b s facts tracked rows τ S → ValueAt (b .next) t here x → Told τ S x (askedAt τ t (l .asks) i x) wants) (f : WantedPut b s facts wants out work p out′ work′ r) where
+    -- of the value that stands here
+    one : (dropped : Marks) (τ : Types) (S : AggStates) → Setting b s facts tracked (rowsIn work₀) τ S → (x : Value) → ValueAt (b .next) t here x → b .next + p .fresh + length (oneWanted τ S (b .next + p .fresh) x (askedAt τ t (l .asks) i x) .fresh) < 65536
+        → Puts (outputOf out (freshIn work) dropped p) (rebuiltEffect (oneWanted τ S (b .next + p .fresh) x (askedAt τ t (l .asks) i x))) (oneWanted τ S (b .next + p .fresh) x (askedAt τ t (l .asks) i x) .clash) out′ (freshIn work′) dropped r
+    one dropped τ S g x y w = f tracked τ S x (askedAt τ t (l .asks) i x) (d τ S (rowsIn work₀) x g y) w (rw (c .rows) g) dropped
 
-module _ (b : Bounds) (s t types recorded : List ℕ) (tracked : Marks) (firsts pool : List ℕ) (asks : Asks) (first many : ℕ) (out₀ fresh₀ : List ℕ) (p₀ : Progress) where
-  pub building : Building b s t types recorded tracked firsts pool asks first many out₀ fresh₀ p₀ out₀ fresh₀ p₀ first 0
-  building = record { under = omega arith; few = few-none p₀ 0; near = omega arith; len = refl; len-fresh = refl; left = λ τ S xs dropped e l m h. left-start (b .next) t asks τ S many (outputOf out₀ fresh₀ dropped p₀) _ first xs l m refl }
-
-  module _ (out fresh : List ℕ) (p : Progress) (here i : ℕ) (c : Building b s t types recorded tracked firsts pool asks first many out₀ fresh₀ p₀ out fresh p here i) (out′ fresh′ : List ℕ) (r : Put) (h : i < many) (f : OnePut b s t types recorded tracked firsts pool asks out fresh p here i out′ fresh′ r) where
-    pub building-again : (q : Progress) (there : ℕ) → r ≡ Put.Went q → Few p 1 q → length out′ ≡ length out → length fresh′ ≡ length fresh → there ≡ valueEnd t here → there ≤ here + 5
-        → Building b s t types recorded tracked firsts pool asks first many out₀ fresh₀ p₀ out′ fresh′ q there (i + 1)
-    building-again q there e few k l v n = record {
+    pub building-again : (q : Progress) (there : ℕ) → r ≡ Put.Went q → Few p 1 q → length out′ ≡ length out → length work′ ≡ length work → rowsIn work′ ≡ rowsIn work → there ≡ valueEnd t here → there ≤ here + 5
+        → Building b s facts t tracked l out₀ work₀ p₀ out′ work′ q there (i + 1)
+    building-again q there e few k j u v n = record {
       under = omega arith;
       few = few-more p₀ p q i (c .few) few;
       near = omega (arith, c .near);
       len = k ∙ c .len;
-      len-fresh = l ∙ c .len-fresh;
-      left = λ τ S xs dropped g a m small. left-again (b .next) t asks τ S many (outputOf out₀ fresh₀ dropped p₀) _ (outputOf out fresh dropped p) here i (c .left τ S xs dropped g a m small) (outputOf out′ fresh′ dropped q) there h v small (λ x y w. f τ S x dropped g y w .went q e);
+      len-work = j ∙ c .len-work;
+      rows = u ∙ c .rows;
+      left = λ dropped τ S xs g a m small. left-again (b .next) t (l .asks) τ S (l .many) (outputOf out₀ (freshIn work₀) dropped p₀) _ (outputOf out (freshIn work) dropped p) here i (c .left dropped τ S xs g a m small) (outputOf out′ (freshIn work′) dropped q) there h v small (λ x y w. one dropped τ S g x y w .went q e);
     }
 
-    pub building-clash : r ≡ Put.Clash → AllPut b s t types recorded tracked firsts pool asks first many out₀ fresh₀ p₀ out′ fresh′ Put.Clash
-    building-clash e = λ τ S xs dropped g a m small.
+    pub building-clash : r ≡ Put.Clash → AllPut b s facts t tracked l out₀ work₀ p₀ out′ work′ Put.Clash
+    building-clash e = λ τ S xs g a m small dropped.
         record {
-          clashed = λ _. left-clash (b .next) t asks τ S many (outputOf out₀ fresh₀ dropped p₀) _ (outputOf out fresh dropped p) here i (c .left τ S xs dropped g a m small) h small (λ x y w. f τ S x dropped g y w .clashed e);
+          clashed = λ _. left-clash (b .next) t (l .asks) τ S (l .many) (outputOf out₀ (freshIn work₀) dropped p₀) _ (outputOf out (freshIn work) dropped p) here i (c .left dropped τ S xs g a m small) h small (λ x y w. one dropped τ S g x y w .clashed e);
           went = λ q z. absurd (no-went z);
         }
 
-  pub building-done : (out fresh : List ℕ) (p : Progress) (here i : ℕ) (c : Building b s t types recorded tracked firsts pool asks first many out₀ fresh₀ p₀ out fresh p here i) → many ≤ i → many < 256 → Few p₀ 255 p × AllPut b s t types recorded tracked firsts pool asks first many out₀ fresh₀ p₀ out fresh (Put.Went p)
-  building-done out fresh p here i c h n = (
-    few-all p₀ p i 255 (omega (arith, c .under)) (c .few),
-    λ τ S xs dropped g a m small.
-        record {
-          clashed = λ z. absurd (no-clash z);
-          went = λ q z.
-              let y : q ≡ p = cc in
-              rw y (left-done (b .next) t asks τ S many (outputOf out₀ fresh₀ dropped p₀) _ (outputOf out fresh dropped p) here i (c .left τ S xs dropped g a m small) h);
-        },
-  )
+  pub building-done : (out work : List ℕ) (p : Progress) (here i : ℕ) (c : Building b s facts t tracked l out₀ work₀ p₀ out work p here i) → l .many ≤ i → AllPut b s facts t tracked l out₀ work₀ p₀ out work (Put.Went p)
+  building-done out work p here i c h = λ τ S xs g a m small dropped.
+      record {
+        clashed = λ z. absurd (no-clash z);
+        went = λ q z.
+            let y : q ≡ p = cc in
+            rw y (left-done (b .next) t (l .asks) τ S (l .many) (outputOf out₀ (freshIn work₀) dropped p₀) _ (outputOf out (freshIn work) dropped p) here i (c .left dropped τ S xs g a m small) h);
+      }
 
 -- a value that stays puts nothing out
-pub none-put : (R : Rebuilt) (x : Value) (out fresh : List ℕ) (dropped : Marks) (p : Progress) → R ≡ untouched (x ∷ []) → Puts (outputOf out fresh dropped p) (rebuiltEffect R) (R .clash) out fresh dropped (Put.Went p)
+pub none-put : (R : Rebuilt) (x : Value) (out work : List ℕ) (p : Progress) → R ≡ untouched (x ∷ []) → BuildsPut R out work p out work (Put.Went p)
 unfolding rebuiltEffect
-none-put R x out fresh dropped p e =
-    record { clashed = λ z. absurd (no-clash z); went = λ q z. let y : q ≡ p = cc in rw (e, y) (refl, sym (behind-none (outputOf out fresh dropped p))) }
+none-put R x out work p e dropped =
+    record { clashed = λ z. absurd (no-clash z); went = λ q z. let y : q ≡ p = cc in rw (e, y) (refl, sym (behind-none (outputOf out (freshIn work) dropped p))) }
 
--- one that is rebuilt puts its build out
-pub one-put : (next : ℕ) (τ : Types) (S : AggStates) (t : List ℕ) (asks : Asks) (i : ℕ) (x : Value) (v : ValueId) (u : TypeId) (out out′ fresh fresh′ : List ℕ) (dropped : Marks) (p : Progress) (r : Put) (w : Wants) → Told τ S x (askedAt τ t asks i x) w → w ≡ Wants.Build v u → next + p .fresh + length (oneAsked τ S t asks i (next + p .fresh) x .fresh) < 65536
-    → ((xs : List Value) → S (v .0) ≡ some xs → u .0 < length (τ .rows) → next + p .fresh < 65536 → Puts (outputOf out fresh dropped p) (rebuiltEffect (rebuildValue τ (next + p .fresh) u xs (untouched []))) (rebuildValue τ (next + p .fresh) u xs (untouched []) .clash) out′ fresh′ dropped r)
-    → Puts (outputOf out fresh dropped p) (rebuiltEffect (oneAsked τ S t asks i (next + p .fresh) x)) (oneAsked τ S t asks i (next + p .fresh) x .clash) out′ fresh′ dropped r
-one-put next τ S t asks i x v u out out′ fresh fresh′ dropped p r w a e h f =
-    elim (one-built τ S (next + p .fresh) x (askedAt τ t asks i x) v u a e) [ built xs y l z ↦ rw z (f xs y l (omega arith)) ]
+-- one that is rebuilt puts its build out, or clashes
+module _ (b : Bounds) (s facts work : List ℕ) (v : ValueId) (u : TypeId) (out out′ : List ℕ) (p : Progress) (d : ℕ) (a : Answer) (w : Wants) (e : w ≡ Wants.Build v u) (hd : b .next + p .fresh < 65536 → d ≡ b .next + p .fresh) (g : TrackedPut b s facts work v u (record { 0 = d }) out out′ (p .to) a) where
+  pub wanted-clash : a .clash ≡ true → WantedPut b s facts w out work p out′ work Put.Clash
+  wanted-clash c = λ tracked τ S x o k h y dropped.
+      elim (one-built τ S (b .next + p .fresh) x o v u k e) [ built xs i l z ↦ rw z (build-clash τ _ u xs out out′ p a d (hd (omega arith)) (g τ S tracked xs y i l) _ _ dropped c) ]
+
+  pub wanted-made : (work′ : List ℕ) (lines : ℕ) → a .clash ≡ false → work′ ≡ set work (2432 + p .fresh) (u .0) → lines ≡ lineCount (p .to) (a .to)
+      → WantedPut b s facts w out work p out′ work′ (Put.Went (record { to = a .to; lines = p .lines + lines; fresh = p .fresh + 1; counts = p .counts }))
+  wanted-made work′ lines c f n = λ tracked τ S x o k h y dropped.
+      let f′ : freshIn work′ ≡ set (freshIn work) (p .fresh) (u .0) = ap freshIn f ∙ drop-set-add 2432 work (p .fresh) (u .0) in
+      elim (one-built τ S (b .next + p .fresh) x o v u k e) [ built xs i l z ↦ rw z (build-made τ _ u xs out out′ p a d (hd (omega arith)) (g τ S tracked xs y i l) _ _ dropped lines c f′ n) ]

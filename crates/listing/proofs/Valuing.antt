@@ -25,8 +25,10 @@ use Rattle.rebuild.specs.Written.{Writes}
 use Rattle.progress.proofs.Laws.{each-append}
 use Rattle.wanting.specs.declared.Asks.{Asks}
 use Rattle.wanting.specs.declared.Wants.{Wants}
-use Rattle.wanting.specs.Asked.{askedAt, askedList, Told}
-use Rattle.listing.specs.Lists.{Setting, Lies, _&_, oneAsked}
+use Rattle.wanting.specs.Asked.{Setting, askedAt, askedList, Told}
+use Rattle.listing.specs.declared.ValueList.{ValueList}
+use Rattle.listing.specs.declared.Written.{Written}
+use Rattle.listing.specs.Lists.{Lies, _&_, oneWanted, OfList, WantedWritten, AllWritten}
 use Rattle.listing.proofs.Joining.{joined, join-first, built, one-built}
 
 -- what is left to write: values from number i on, which stand from `here` on
@@ -47,7 +49,7 @@ module _ (next : ℕ) (t : List ℕ) (asks : Asks) (τ : Types) (S : AggStates) 
   module _ (out : List ℕ) (to taken here i : ℕ) (c : Unwritten next t asks τ S many out₀ to₀ taken₀ R₀ out to taken here i) where
     -- one more is written
     pub unwritten-again : (out′ : List ℕ) (to′ taken′ there : ℕ) → i < many → there ≡ valueEnd t here → next + taken₀ + length (R₀ .fresh) < 65536
-        → ((x : Value) → ValueAt next t here x → next + taken + length (oneAsked τ S t asks i (next + taken) x .fresh) < 65536 → Writes (eachBytes valueBytes (oneAsked τ S t asks i (next + taken) x .values)) out out′ to to′ × (taken′ ≡ taken + length (oneAsked τ S t asks i (next + taken) x .fresh)))
+        → ((x : Value) → ValueAt next t here x → next + taken + length (oneWanted τ S (next + taken) x (askedAt τ t asks i x) .fresh) < 65536 → Writes (eachBytes valueBytes (oneWanted τ S (next + taken) x (askedAt τ t asks i x) .values)) out out′ to to′ × (taken′ ≡ taken + length (oneWanted τ S (next + taken) x (askedAt τ t asks i x) .fresh)))
         → Unwritten next t asks τ S many out₀ to₀ taken₀ R₀ out′ to′ taken′ there (i + 1)
     unfolding askedList
     unwritten-again out′ to′ taken′ there h e small f = go (c .rest) (c .lies) (c .left) (c .place) (c .same) (c .number)
@@ -56,7 +58,7 @@ module _ (next : ℕ) (t : List ℕ) (asks : Asks) (τ : Types) (S : AggStates) 
         go [] l m k b u = absurd (omega arith)
         go (x ∷ ys) (v & l) m k b u =
             let n = next + taken in
-            let A = oneAsked τ S t asks i n x in
+            let A = oneWanted τ S n x (askedAt τ t asks i x) in
             let B = rebuildAll τ S (n + length (A .fresh)) (askedList τ t asks (suc i) ys) in
             let j : rebuildAll τ S n (askedList τ t asks i (x ∷ ys)) ≡ joined A B = join-first τ S n (record { value = x; at = askedAt τ t asks i x }) (askedList τ t asks (suc i) ys) in
             let u′ : taken + length (A .fresh ++ B .fresh) ≡ taken₀ + length (R₀ .fresh) = rw j at u in
@@ -84,35 +86,33 @@ module _ (next : ℕ) (t : List ℕ) (asks : Asks) (τ : Types) (S : AggStates) 
         go (x ∷ ys) m k b = absurd (omega arith)
 
 -- the loop over the values
-pub record Valuing (b : Bounds) (s t types recorded : List ℕ) (tracked : Marks) (asks : Asks) (first many : ℕ) (out₀ : List ℕ) (to₀ taken₀ : ℕ) (out : List ℕ) (to taken here i : ℕ) : Type 0 where
-  pub under : i ≤ many
-  pub bound : to ≤ to₀ + 5 * i
-  pub spent : taken ≤ taken₀ + i
-  pub near : here ≤ first + 5 * i
+pub record Valuing (b : Bounds) (s facts t : List ℕ) (tracked : Marks) (l : ValueList) (out₀ : List ℕ) (w₀ : Written) (out : List ℕ) (w : Written) (here i : ℕ) : Type 0 where
+  pub under : i ≤ l .many
+  pub bound : w .to ≤ w₀ .to + 5 * i
+  pub spent : w .fresh ≤ w₀ .fresh + i
+  pub near : here ≤ l .first + 5 * i
   pub len : length out ≡ length out₀
-  pub left : (τ : Types) (S : AggStates) (firsts pool : List ℕ) (xs : List Value) → Setting b s types recorded tracked firsts pool asks τ S → Lies (b .next) t first xs → length xs ≡ many → b .next + taken₀ + length (rebuildAll τ S (b .next + taken₀) (askedList τ t asks 0 xs) .fresh) < 65536
-      → Unwritten (b .next) t asks τ S many out₀ to₀ taken₀ (rebuildAll τ S (b .next + taken₀) (askedList τ t asks 0 xs)) out to taken here i
+  pub left : (rows : List ℕ) → OfList b s facts t tracked rows l (w₀ .fresh) (λ τ S R. Unwritten (b .next) t (l .asks) τ S (l .many) out₀ (w₀ .to) (w₀ .fresh) R out (w .to) (w .fresh) here i)
 
-module _ (b : Bounds) (s t types recorded : List ℕ) (tracked : Marks) (asks : Asks) (first many : ℕ) (out₀ : List ℕ) (to₀ taken₀ : ℕ) where
-  pub valuing : Valuing b s t types recorded tracked asks first many out₀ to₀ taken₀ out₀ to₀ taken₀ first 0
-  valuing = record { under = zero-le; bound = omega arith; spent = omega arith; near = omega arith; len = refl; left = λ τ S firsts pool xs e l m h. unwritten-start (b .next) t asks τ S many out₀ to₀ taken₀ _ first xs l m refl }
+module _ (b : Bounds) (s facts t : List ℕ) (tracked : Marks) (l : ValueList) (out₀ : List ℕ) (w₀ : Written) where
+  pub valuing : Valuing b s facts t tracked l out₀ w₀ out₀ w₀ (l .first) 0
+  valuing = record { under = zero-le; bound = omega arith; spent = omega arith; near = omega arith; len = refl; left = λ rows τ S xs e y m h. unwritten-start (b .next) t (l .asks) τ S (l .many) out₀ (w₀ .to) (w₀ .fresh) _ (l .first) xs y m refl }
 
-  module _ (out : List ℕ) (to taken here i : ℕ) (c : Valuing b s t types recorded tracked asks first many out₀ to₀ taken₀ out to taken here i) where
-    pub valuing-again : (out′ : List ℕ) (to′ taken′ there : ℕ) → i < many → length out′ ≡ length out → to′ ≤ to + 5 → taken′ ≤ taken + 1 → there ≡ valueEnd t here → there ≤ here + 5
-        → ((τ : Types) (S : AggStates) (firsts pool : List ℕ) (x : Value) → Setting b s types recorded tracked firsts pool asks τ S → ValueAt (b .next) t here x → b .next + taken + length (oneAsked τ S t asks i (b .next + taken) x .fresh) < 65536 → Writes (eachBytes valueBytes (oneAsked τ S t asks i (b .next + taken) x .values)) out out′ to to′ × (taken′ ≡ taken + length (oneAsked τ S t asks i (b .next + taken) x .fresh)))
-        → Valuing b s t types recorded tracked asks first many out₀ to₀ taken₀ out′ to′ taken′ there (i + 1)
-    valuing-again out′ to′ taken′ there h k p q e r f = record {
+  module _ (out : List ℕ) (w : Written) (here i : ℕ) (c : Valuing b s facts t tracked l out₀ w₀ out w here i) where
+    pub valuing-again : (wants : Wants) (out′ : List ℕ) (w′ : Written) (there : ℕ) → i < l .many → length out′ ≡ length out → (w′ .to ≤ w .to + 5) × (w′ .fresh ≤ w .fresh + 1) → there ≡ valueEnd t here → there ≤ here + 5
+        → ((τ : Types) (S : AggStates) (rows : List ℕ) (x : Value) → Setting b s facts tracked rows τ S → ValueAt (b .next) t here x → Told τ S x (askedAt τ t (l .asks) i x) wants) → WantedWritten (b .next) t here wants out w out′ w′
+        → Valuing b s facts t tracked l out₀ w₀ out′ w′ there (i + 1)
+    valuing-again wants out′ w′ there h k p e r d f = record {
       under = omega arith;
-      bound = omega (arith, c .bound);
-      spent = omega (arith, c .spent);
+      bound = omega (arith, c .bound, p .0);
+      spent = omega (arith, c .spent, p .1);
       near = omega (arith, c .near);
       len = k ∙ c .len;
-      left = λ τ S firsts pool xs g l m small. unwritten-again (b .next) t asks τ S many out₀ to₀ taken₀ _ out to taken here i (c .left τ S firsts pool xs g l m small) out′ to′ taken′ there h e small (λ x v w. f τ S firsts pool x g v w);
+      left = λ rows τ S xs g y m small. unwritten-again (b .next) t (l .asks) τ S (l .many) out₀ (w₀ .to) (w₀ .fresh) _ out (w .to) (w .fresh) here i (c .left rows τ S xs g y m small) out′ (w′ .to) (w′ .fresh) there h e small (λ x v n. f τ S x (askedAt τ t (l .asks) i x) (d τ S rows x g v) n v);
     }
 
-    pub valuing-done : many ≤ i → (τ : Types) (S : AggStates) (firsts pool : List ℕ) (xs : List Value) → Setting b s types recorded tracked firsts pool asks τ S → Lies (b .next) t first xs → length xs ≡ many → b .next + taken₀ + length (rebuildAll τ S (b .next + taken₀) (askedList τ t asks 0 xs) .fresh) < 65536
-        → Writes (eachBytes valueBytes (rebuildAll τ S (b .next + taken₀) (askedList τ t asks 0 xs) .values)) out₀ out to₀ to
-    valuing-done h τ S firsts pool xs g l m small = unwritten-done (b .next) t asks τ S many out₀ to₀ taken₀ _ out to taken here i (c .left τ S firsts pool xs g l m small) h
+    pub valuing-done : l .many ≤ i → AllWritten b s facts t tracked l (w₀ .fresh) out₀ out (w₀ .to) (w .to)
+    valuing-done h rows τ S xs g y m small = unwritten-done (b .next) t (l .asks) τ S (l .many) out₀ (w₀ .to) (w₀ .fresh) _ out (w .to) (w .fresh) here i (c .left rows τ S xs g y m small) h
 
 -- one value as it stands, and one under a fresh number
 pub value-stays : (R : Rebuilt) (x : Value) (out out′ : List ℕ) (to to′ taken : ℕ) → R ≡ untouched (x ∷ []) → Writes (valueBytes x) out out′ to to′ → Writes (eachBytes valueBytes (R .values)) out out′ to to′ × (taken ≡ taken + length (R .fresh))

@@ -3,5 +3,3 @@ pub mod EachKind
 pub mod Instruction
 pub mod Loops
 pub mod Values
-pub mod Relax
-pub mod Noted

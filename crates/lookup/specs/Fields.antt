@@ -14,7 +14,6 @@ use Rattle.form.specs.Syntax.{Assign, UnaryOp, BinaryOp, Call, Cast, Load, Stor
 use Rattle.form.specs.Syntax.{MakeTuple, ExtractTupleElement, MakeStruct, ExtractStructField, InsertField, InsertTuple, MakeFixedArray, AssertEq, HeapAllocCells}
 use Rattle.form.specs.Reads.{initValues, sourceValues}
 use Rattle.form.specs.Decode.{bit}
-use Rattle.form.specs.Walk.{Walk, usesValue}
 use Rattle.lookup.specs.declared.Operands.{Operands}
 use Rattle.lookup.specs.declared.ListPlace.{ListPlace}
 use Rattle.lookup.specs.declared.Found.{Found}
@@ -112,11 +111,6 @@ asStep (Step.Field n) = some (Projection.Field n)
 asStep (Step.Tuple k) = some (Projection.Tuple k)
 asStep Step.Nothing = none
 
--- a value that was found is noted as a read
-abbrev pub usesFound : Walk → Option Value → Walk
-usesFound w none = w
-usesFound w (some x) = usesValue w x
-
 -- the place behind the value at a place, and behind the projection at a place
 abbrev pub valueEnd : List ℕ → ℕ → ℕ
 valueEnd t at = at + valueSize (getD t at 0)
@@ -175,7 +169,3 @@ stepsAt kind = cond (eqb kind 5) 4 2
 
 abbrev pub stepCount : List ℕ → ℕ → ℕ
 stepCount t kind = cond (eqb kind 5) (getD t 4 0) (cond (eqb kind 6) (getD t 2 0) 0)
-
--- a kind with a list of values or a place reads more than its operand fields
-abbrev pub readsMore : ℕ → Bool
-readsMore kind = eqb kind 5 || (eqb kind 6 || listRow kind .0)

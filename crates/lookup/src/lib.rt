@@ -1,11 +1,10 @@
-// Lookups on an accepted instruction: its operand fields, the values of its list, its projections, its reads.
+// Lookups on an accepted instruction: its operand fields, the values of its list, its projections.
 use form::Bounds;
-use form::Scan;
 use wire::NameId;
 use wire::ReadValue;
 use wire::Value;
 ghost use mathlib.Core.Path.{_≡_};
-ghost use mathlib.Core.List.{List, []};
+ghost use mathlib.Core.List.{List};
 ghost use mathlib.Core.Bool.{Bool, false, cond};
 ghost use mathlib.Core.Option.{some};
 ghost use Prim.Native.Nat.{ℕ, _+_, _*_, _/_, _%_, _≤_, _<_};
@@ -15,10 +14,8 @@ ghost use Rattle.wire.specs.Parse.{ok};
 ghost use Rattle.wire.specs.Value.{valueOf};
 ghost use Rattle.wire.specs.declared.Value.{Value as AnyValue};
 ghost use Rattle.form.specs.Syntax.{Projection, Instruction};
-ghost use Rattle.form.specs.Reads.{reads};
 ghost use Rattle.form.specs.Decode.{projectionOf, instructionOf};
-ghost use Rattle.form.specs.Walk.{walkOf, fold, uses};
-ghost use Rattle.lookup.specs.Fields.{ValueAt, operandFields, listValues, placeSteps, fieldsPlace, valueSize, valueEnd, projectionEnd, after, valueStep, operandRow, operandFirst, listRow, listAt, listCount, stepsAt, stepCount, readsMore, usesFound, asFound, asStep};
+ghost use Rattle.lookup.specs.Fields.{ValueAt, operandFields, listValues, placeSteps, fieldsPlace, valueSize, valueEnd, projectionEnd, after, valueStep, operandRow, operandFirst, listRow, listAt, listCount, stepsAt, stepCount, asFound, asStep};
 
 // A kind's operand fields, lists and places aside: how many, how far the first stands behind the kind's first field,
 // and how far the second stands behind the first. (A Store's one stands behind its place.)
@@ -298,40 +295,4 @@ pub fn projection(s: &[u8], b: Bounds, k: u8) -> Step
         return Step::Nothing;
     }
     step_at(t, projections_end(t, steps_at(kind) + 1, k), b.next)
-}
-
-fn note_found(buffer: &mut [u16], n: usize, f: Found) -> usize
-    ensures { λ r. ⌜ ((seen : List Bool) (late : Bool) → walkOf seen (now (buffer .exit)) r late ≡ usesFound (walkOf seen (now (buffer .entry)) n late) (asFound f)) ⌝ }
-{
-    match f {
-        Found::Nothing => n,
-        Found::Value(x) => form::note_value(buffer, n, x),
-    }
-}
-
-// The kind has a list of values or a place.
-fn reads_more(kind: u8) -> bool
-    ensures { λ r. ⌜ r ≡ readsMore kind ⌝ }
-{
-    match kind {
-        5 => true,
-        6 => true,
-        _ => list_of(kind).0,
-    }
-}
-
-// Notes the values that an instruction reads, in the order of its bytes, and says how many. A kind without a list or a
-// place reads its operand fields alone.
-pub fn reads_of(s: &[u8], b: Bounds, buffer: &mut [u16]) -> usize
-    ensures { λ r. ⌜ ((late : Bool) (i : Instruction) (n : ℕ) → instructionOf b [] late (now (s .entry)) ≡ ok i n → walkOf [] (now (buffer .exit)) r false ≡ fold uses (walkOf [] (now (buffer .entry)) 0 false) (reads (i .kind))) ⌝ }
-{
-    if reads_more(wire::byte_at(s, 1)) {
-        let mut none: [bool; 0] = [false; 0];
-        return match block::read_instruction(s, b, 0, false, &mut none, buffer) {
-            Scan::Used(_, n, _) => n,
-            Scan::Refused(_, _) => 0,
-        };
-    }
-    let first = note_found(buffer, 0, operand(s, b, 0));
-    note_found(buffer, first, operand(s, b, 1))
 }

@@ -6,25 +6,25 @@ use mathlib.Core.Bool.{Bool, true, false, not, _&&_, _||_}
 use native.Mathlib.Omega.{arith}
 use borrow.Author.Tests.{eq-eqb, ne-eqb, not-true, not-false}
 use lib.ListN.{length, getD, set, drop, replicate}
-use lib.Seq.{drop-cons, drop-length, drop-drop}
-use Rattle.wire.specs.Parse.{ok}
+use lib.Seq.{drop-drop}
 use Rattle.wire.specs.Number.{at16}
 use Rattle.wire.specs.declared.ValueId.{ValueId}
-use Rattle.form.specs.Syntax.{Instruction}
-use Rattle.form.specs.Reads.{reads, dests, kindNumber}
+use Rattle.form.specs.Syntax.{Instruction, Block}
+use Rattle.form.specs.Reads.{reads, dests, kindNumber, isPhi}
 use Rattle.form.specs.Decode.{instructionOf}
 use Rattle.form.specs.declared.Bounds.{Bounds}
+use Rattle.index.specs.Table.{startsIn, placeIn, kindIn, ReadsIn}
+use Rattle.index.specs.Code.{noInstruction, noBlock, InstructionIn}
 use Rattle.block.specs.Decode.{marks}
-use Rattle.places.specs.Places.{noInstruction, InstructionsAt}
 use Rattle.lookup.specs.Fields.{fieldsPlace}
-use Rattle.lookup.proofs.Instruction.{instruction-fields}
+use Rattle.eligibility.specs.Lookup.{Types}
 use Rattle.eligibility.specs.Fold.{behindPhis}
-use Rattle.readers.proofs.Blocks.{standing-at}
+use Rattle.progress.specs.Ground.{Coded}
 use Rattle.shelf.specs.Lists.{every, All, among}
 use Rattle.shelf.specs.Reads.{countedReads, definedIn, ordered}
-use Rattle.marking.specs.Tests.{clear, orderedBehind, destCount, destFirst, destsAt}
-use Rattle.marking.proofs.Scanning.{every-same}
-use Rattle.marking.proofs.Marking.{marks-are, among-append, clear-at}
+use Rattle.marking.specs.Tests.{LastSlot, OfSlot, OfBlock, BehindPhis, clear, orderedBehind, destCount, destFirst, destsAt, destsOf}
+use Rattle.marking.proofs.Scanning.{next-of, none-of, slot-holds, Slots, slots-start, slots-again, every-same}
+use Rattle.marking.proofs.Bases.{marks-are, among-append, clear-at}
 use Rattle.marking.proofs.Dests.{dests-in}
 
 -- the code's tables
@@ -72,24 +72,49 @@ module _ (u : List ℕ) (first n : ℕ) where
   putting-done m₀ m at j w h = let z : n - j ≡ 0 = omega arith in sym (w .left ∙ ap (λ q. marks m (destsAt u at q)) z)
 
 -- what mark_dests marks
-pub dests-marked : (t u : List ℕ) (fp kind first count : ℕ) (m m′ : List Bool) → fp ≡ fieldsPlace t → u ≡ drop fp t → kind ≡ getD t 1 0 → first ≡ destFirst kind → count ≡ destCount u kind → m′ ≡ marks m (destsAt u first count) → m′ ≡ marks m (destsAt (drop (fieldsPlace t) t) (destFirst (getD t 1 0)) (destCount (drop (fieldsPlace t) t) (getD t 1 0)))
-dests-marked t u fp kind first count m m′ ef eu ek e1 ec em =
+pub dests-marked : (t : List ℕ) (kind : ℕ) (m : List Bool) {u : List ℕ} {fp first count : ℕ} {m′ : List Bool} → fp ≡ fieldsPlace t → u ≡ drop fp t → first ≡ destFirst kind → count ≡ destCount u kind → m′ ≡ marks m (destsAt u first count) → m′ ≡ marks m (destsOf t kind)
+dests-marked t kind m {u} {fp} {first} {count} ef eu e1 ec em =
     let own : u ≡ drop (fieldsPlace t) t = eu ∙ ap (λ q. drop q t) ef in
-    let c : count ≡ destCount (drop (fieldsPlace t) t) (getD t 1 0) = ec ∙ ap (λ q. destCount q kind) own ∙ ap (λ q. destCount (drop (fieldsPlace t) t) q) ek in
-    let f : first ≡ destFirst (getD t 1 0) = e1 ∙ ap (λ q. destFirst q) ek in
-    em ∙ ap (λ q. marks m (destsAt q first count)) own ∙ ap (λ q. marks m (destsAt (drop (fieldsPlace t) t) q count)) f ∙ ap (λ q. marks m (destsAt (drop (fieldsPlace t) t) (destFirst (getD t 1 0)) q)) c
+    em ∙ ap (λ q. marks m (destsAt u q count)) e1 ∙ ap (λ q. marks m (destsAt u (destFirst kind) q)) ec ∙ ap (λ q. marks m (destsAt q (destFirst kind) (destCount q kind))) own
 
 -- a Debug's reads do not count
-module _ (b : Bounds) (t : List ℕ) (m : List Bool) (kind : ℕ) (ek : kind ≡ getD t 1 0) where
-  pub counted-debug : kind ≡ 7 → (i : Instruction) (n : ℕ) → instructionOf b [] false t ≡ ok i n → true ≡ clear m (countedReads false (i .kind))
-  counted-debug h i n e =
-      let z : kindNumber (i .kind) ≡ 7 = instruction-fields b [] false t i n e .numbered ∙ sym ek ∙ h in
-      rw (eq-eqb (kindNumber (i .kind)) 7 z)
+module _ (b : Bounds) (s facts : List ℕ) (slot : ℕ) (m : List Bool) {kind : ℕ} (ek : kind ≡ kindIn facts slot) where
+  pub counted-debug : kind ≡ 7 → OfSlot b s facts slot (λ τ i. clear m (countedReads false i)) true
+  counted-debug h τ i g a = rw (eq-eqb (kindNumber (i .kind)) 7 (sym (a .kind) ∙ sym ek ∙ h))
 
-  pub counted-other : (kind ≡ 7 → ⊥) → (r : Bool) → ((i : Instruction) (n : ℕ) → instructionOf b [] false t ≡ ok i n → b .list + b .projections ≤ 30 → r ≡ clear m (reads (i .kind))) → (i : Instruction) (n : ℕ) → instructionOf b [] false t ≡ ok i n → b .list + b .projections ≤ 30 → r ≡ clear m (countedReads false (i .kind))
-  counted-other h r f i n e w =
-      let z : kindNumber (i .kind) ≡ kind = instruction-fields b [] false t i n e .numbered ∙ sym ek in
-      rw (ne-eqb (kindNumber (i .kind)) 7 (λ y. h (sym z ∙ y))) (f i n e w)
+  pub counted-other : (kind ≡ 7 → ⊥) → {r : Bool} → ((vs : List ValueId) → ReadsIn facts slot vs → r ≡ clear m vs) → OfSlot b s facts slot (λ τ i. clear m (countedReads false i)) r
+  counted-other h f τ i g a = rw (ne-eqb (kindNumber (i .kind)) 7 (λ y. h (ek ∙ a .kind ∙ y))) (f (reads (i .kind)) (a .reads-in))
+
+-- the slots before one of block k are phis
+abbrev pub Fronts : List ℕ → ℕ → ℕ → Type 0
+Fronts facts k slot = (b : Bounds) (s : List ℕ) → Slots {X = Unit {0}} b s facts k (λ τ u is. behindPhis is) tt tt slot
+
+pub fronts-start : (facts : List ℕ) (k : ℕ) {slot : ℕ} → slot ≡ getD (startsIn facts) k 0 → Fronts facts k slot
+fronts-start facts k e b s = slots-start b s facts k (λ τ u is. behindPhis is) tt e
+
+module _ (facts : List ℕ) (k : ℕ) {last slot : ℕ} (el : LastSlot facts k last) (u : Fronts facts k slot) where
+  pub fronts-again : slot < last → {kind : ℕ} → kind ≡ kindIn facts slot → kind ≡ 9 → Fronts facts k (slot + 1)
+  unfolding behindPhis
+  fronts-again g ek h b s =
+      slots-again b s facts k (λ τ u is. behindPhis is) el (u b s) g (λ τ ks i is c a. rw (eq-eqb (kindNumber (i .kind)) 9 (sym (a .kind) ∙ sym ek ∙ h)) refl)
+
+  pub fronts-stop : slot < last → {kind : ℕ} → kind ≡ kindIn facts slot → (kind ≡ 9 → ⊥) → BehindPhis facts k slot
+  unfolding behindPhis
+  fronts-stop g ek h b s τ ks c l =
+      let is = getD ks k noBlock .instructions in
+      let j = slot - getD (startsIn facts) k 0 in
+      let a = slot-holds b s facts k el slot (u b s .from) g τ ks c l in
+      let z : isPhi (getD is j noInstruction .kind) ≡ false = ne-eqb (kindNumber (getD is j noInstruction .kind)) 9 (λ y. h (ek ∙ a .kind ∙ y)) in
+      let d = next-of is j noInstruction (omega (arith, el b s ks (c .code) l, u b s .from)) in
+      record { from = u b s .from; same = u b s .left τ ks c l ∙ ap behindPhis d ∙ rw z (sym d) }
+
+  pub fronts-done : last ≤ slot → BehindPhis facts k slot
+  unfolding behindPhis
+  fronts-done g b s τ ks c l =
+      let is = getD ks k noBlock .instructions in
+      let j = slot - getD (startsIn facts) k 0 in
+      let z : drop j is ≡ [] = none-of is j (omega (arith, el b s ks (c .code) l, u b s .from)) in
+      record { from = u b s .from; same = u b s .left τ ks c l ∙ ap behindPhis z ∙ sym z }
 
 -- an order that fails further on fails
 ordered-fails : (debug : Bool) (d : ℕ) (xs : List Instruction) → ordered debug (drop d xs) ≡ false → ordered debug xs ≡ false
@@ -102,83 +127,112 @@ ordered-fails debug (suc d) (x ∷ xs) e = ap (λ q. every (λ v. not (among (v 
     and-false true = refl
     and-false false = refl
 
+still : (debug : Bool) (d : ℕ) (xs : List Instruction) → ordered debug xs ≡ true → ordered debug (drop d xs) ≡ true
+still debug d xs e = at (ordered debug (drop d xs)) refl
+  where
+    at : (c : Bool) → ordered debug (drop d xs) ≡ c → c ≡ true
+    at true h = refl
+    at false h = sym (ordered-fails debug d xs h) ∙ e
+
 all-below : (a c : ℕ) (xs : List ValueId) → a ≤ c → All (λ d. d .0 < a) xs → All (λ d. d .0 < c) xs
 all-below a c [] h g = tt
 all-below a c (x ∷ xs) h g = (omega (arith, g .0), all-below a c xs h (g .1))
 
--- from instruction k on, the marks are the values defined, and nothing is out of order
-pub record Seen (debug : Bool) (m : List Bool) (is : List Instruction) (k : ℕ) : Type 0 where
-  pub marked : (v : ℕ) → getD m v false ≡ among v (definedIn (drop k is))
-  pub sound : ordered debug (drop k is) ≡ true
+-- from a slot of block k on, the marks are the values defined, and nothing is out of order
+pub record Seen (facts : List ℕ) (k : ℕ) (m : List Bool) (is : List Instruction) (slot : ℕ) : Type 0 where
+  pub over : getD (startsIn facts) k 0 ≤ slot
+  pub under : slot ≤ getD (startsIn facts) k 0 + length is
+  pub marked : (v : ℕ) → getD m v false ≡ among v (definedIn (drop (slot - getD (startsIn facts) k 0) is))
+  pub sound : ordered false (drop (slot - getD (startsIn facts) k 0) is) ≡ true
 
-module _ (debug : Bool) (s : List ℕ) (b : Bounds) (places : List ℕ) (count phis : ℕ) where
-  pub record Backward (m : List Bool) (k : ℕ) : Type 0 where
-    pub over : phis ≤ k
-    pub under : k ≤ count
-    pub long : length m ≡ 256
-    pub left : (is : List Instruction) → InstructionsAt b s places is → length is ≡ count → b .next ≤ 256 → b .list + b .projections ≤ 30 → Seen debug m is k
+pub record Backward (s facts : List ℕ) (k : ℕ) (m : List Bool) (slot : ℕ) : Type 0 where
+  pub long : length m ≡ 256
+  pub left : (b : Bounds) (τ : Types) (ks : List Block) → Coded b s facts τ ks → k < length ks → Seen facts k m (getD ks k noBlock .instructions) slot
 
-  pub backward-start : (m : List Bool) → phis ≤ count → m ≡ replicate 256 false → length m ≡ 256 → Backward m count
+module _ (s facts : List ℕ) (k : ℕ) {front last : ℕ} (el : LastSlot facts k last) (ef : BehindPhis facts k front) where
+  pub backward-start : (m : List Bool) → m ≡ replicate 256 false → length m ≡ 256 → Backward s facts k m last
   unfolding definedIn ordered
-  backward-start m h e l =
+  backward-start m e l =
       record {
-        over = h;
-        under = omega arith;
         long = l;
-        left = λ is a g n w.
-            let z : drop count is ≡ [] = ap (λ q. drop q is) (sym g) ∙ drop-length is in
-            record { marked = λ v. ap (λ q. getD q v false) e ∙ clear-at 256 v ∙ sym (ap (λ q. among v (definedIn q)) z); sound = ap (ordered debug) z };
+        left = λ b τ ks c h.
+            let is = getD ks k noBlock .instructions in
+            let z : drop (last - getD (startsIn facts) k 0) is ≡ [] = none-of is (last - getD (startsIn facts) k 0) (omega (arith, el b s ks (c .code) h)) in
+            record {
+              over = omega (arith, el b s ks (c .code) h);
+              under = omega (arith, el b s ks (c .code) h);
+              marked = λ v. ap (λ q. getD q v false) e ∙ clear-at 256 v ∙ sym (ap (λ q. among v (definedIn q)) z);
+              sound = ap (ordered false) z;
+            };
       }
 
-  module _ (m m′ : List Bool) (k at : ℕ) (t : List ℕ) (r : Bool) (w : Backward m k) (h : phis < k) (ea : at ≡ getD places (k - 1) 0) (et : t ≡ drop at s) (em : m′ ≡ marks m (destsAt (drop (fieldsPlace t) t) (destFirst (getD t 1 0)) (destCount (drop (fieldsPlace t) t) (getD t 1 0)))) (er : (i : Instruction) (n : ℕ) → instructionOf b [] false t ≡ ok i n → b .list + b .projections ≤ 30 → r ≡ clear m′ (countedReads debug (i .kind))) where
-    module _ (is : List Instruction) (a : InstructionsAt b s places is) (l : length is ≡ count) (n : b .next ≤ 256) (f : b .list + b .projections ≤ 30) where
+  module _ {m m′ : List Bool} {slot at kind : ℕ} {t : List ℕ} {r : Bool} (w : Backward s facts k m slot) (g : front < slot) (ek : kind ≡ kindIn facts (slot - 1)) (ea : at ≡ placeIn facts (slot - 1)) (et : t ≡ drop at s) (em : m′ ≡ marks m (destsOf t kind)) (er : (b : Bounds) → OfSlot b s facts (slot - 1) (λ τ i. clear m′ (countedReads false i)) r) where
+    module _ (b : Bounds) (τ : Types) (ks : List Block) (c : Coded b s facts τ ks) (h : k < length ks) where
+      abbrev own : List Instruction
+      own = getD ks k noBlock .instructions
+
+      abbrev j : ℕ
+      j = slot - 1 - getD (startsIn facts) k 0
+
       abbrev here : Instruction
-      here = getD is (k - 1) noInstruction
+      here = getD own j noInstruction
 
-      split-here : drop (k - 1) is ≡ here ∷ drop k is
-      split-here = let p : k - 1 < length is = omega (arith, w .under) in let z : suc (k - 1) ≡ k = omega arith in drop-cons is (k - 1) noInstruction p ∙ ap (λ q. here ∷ drop q is) z
+      split-here : drop j own ≡ here ∷ drop (slot - getD (startsIn facts) k 0) own
+      split-here =
+          let p : j < length own = omega (arith, w .left b τ ks c h .under, ef b s τ ks c h .from) in
+          let z : j + 1 ≡ slot - getD (startsIn facts) k 0 = omega (arith, ef b s τ ks c h .from) in
+          next-of own j noInstruction p ∙ ap (λ q. here ∷ drop q own) z
 
-      stands-here : instructionOf b [] false t ≡ ok here (getD places (suc (k - 1)) 0 - getD places (k - 1) 0)
-      stands-here = let p : k - 1 < length is = omega (arith, w .under) in standing-at b s places is (k - 1) at t a p ea et
+      stands-here : InstructionIn b s facts (slot - 1) here
+      stands-here = slot-holds b s facts k el (slot - 1) (omega (arith, ef b s τ ks c h .from)) (omega (arith, w .left b τ ks c h .under, el b s ks (c .code) h)) τ ks c h
 
-      marked-here : (v : ℕ) → getD m′ v false ≡ among v (definedIn (here ∷ drop k is))
+      marked-here : (v : ℕ) → getD m′ v false ≡ among v (definedIn (here ∷ drop (slot - getD (startsIn facts) k 0) own))
       unfolding definedIn
       marked-here v =
-          let d = dests-in b t here _ stands-here in
-          let low : All (λ x. x .0 < length m) (dests (here .kind)) = all-below (b .next) (length m) (dests (here .kind)) (omega (arith, w .long)) (d .low) in
-          ap (λ q. getD q v false) (em ∙ ap (marks m) (sym (d .same)))
+          let at-here : t ≡ drop (placeIn facts (slot - 1)) s = et ∙ ap (λ q. drop q s) ea in
+          let d = dests-in b t here _ (ap (λ q. instructionOf b [] false q) at-here ∙ stands-here .read) in
+          let low : All (λ x. x .0 < length m) (dests (here .kind)) = all-below (b .next) (length m) (dests (here .kind)) (omega (arith, w .long, c .ground .few)) (d .low) in
+          let same : destsOf t kind ≡ dests (here .kind) = ap (destsOf t) (ek ∙ stands-here .kind) ∙ sym (d .same) in
+          ap (λ q. getD q v false) (em ∙ ap (marks m) same)
           ∙ marks-are m (dests (here .kind)) v low
-          ∙ ap (λ q. among v (dests (here .kind)) || q) (w .left is a l n f .marked v)
-          ∙ sym (among-append v (dests (here .kind)) (definedIn (drop k is)))
+          ∙ ap (λ q. among v (dests (here .kind)) || q) (w .left b τ ks c h .marked v)
+          ∙ sym (among-append v (dests (here .kind)) (definedIn (drop (slot - getD (startsIn facts) k 0) own)))
 
-      order-here : ordered debug (drop (k - 1) is) ≡ (r && ordered debug (drop k is))
+      order-here : ordered false (drop j own) ≡ (r && ordered false (drop (slot - getD (startsIn facts) k 0) own))
       unfolding ordered
       order-here =
-          let z : r ≡ every (λ v. not (among (v .0) (definedIn (here ∷ drop k is)))) (countedReads debug (here .kind)) =
-          er here _ stands-here f ∙ every-same (λ v. not (getD m′ (v .0) false)) (λ v. not (among (v .0) (definedIn (here ∷ drop k is)))) (λ v. ap not (marked-here (v .0))) (countedReads debug (here .kind)) in
-          ap (ordered debug) split-here ∙ ap (λ q. q && ordered debug (drop k is)) (sym z)
+          let rest = drop (slot - getD (startsIn facts) k 0) own in
+          let z : r ≡ every (λ v. not (among (v .0) (definedIn (here ∷ rest)))) (countedReads false (here .kind)) =
+          er b τ here (c .ground) stands-here ∙ every-same (λ v. not (getD m′ (v .0) false)) (λ v. not (among (v .0) (definedIn (here ∷ rest)))) (λ v. ap not (marked-here (v .0))) (countedReads false (here .kind)) in
+          ap (ordered false) split-here ∙ ap (λ q. q && ordered false rest) (sym z)
 
-    pub backward-again : not r ≡ false → length m′ ≡ length m → Backward m′ (k - 1)
-    backward-again g lm =
+    pub backward-again : not r ≡ false → length m′ ≡ length m → Backward s facts k m′ (slot - 1)
+    backward-again n lm =
         record {
-          over = omega arith;
-          under = omega (arith, w .under);
           long = lm ∙ w .long;
-          left = λ is a l n f.
+          left = λ b τ ks c h.
               record {
-                marked = λ v. marked-here is a l n f v ∙ sym (ap (λ q. among v (definedIn q)) (split-here is a l n f));
-                sound = order-here is a l n f ∙ ap (λ q. q && ordered debug (drop k is)) (not-false r g) ∙ w .left is a l n f .sound;
+                over = omega (arith, ef b s τ ks c h .from);
+                under = omega (arith, w .left b τ ks c h .under);
+                marked = λ v. marked-here b τ ks c h v ∙ sym (ap (λ q. among v (definedIn q)) (split-here b τ ks c h));
+                sound = order-here b τ ks c h ∙ ap (λ q. q && ordered false (drop (slot - getD (startsIn facts) k 0) (own b τ ks c h))) (not-false r n) ∙ w .left b τ ks c h .sound;
               };
         }
 
-    pub backward-stop : not r ≡ true → ((b : Bounds) (is : List Instruction) → InstructionsAt b s places is → length is ≡ count → behindPhis is ≡ drop phis is) → (is : List Instruction) → InstructionsAt b s places is → length is ≡ count → b .next ≤ 256 → b .list + b .projections ≤ 30 → false ≡ orderedBehind debug is
-    backward-stop g j is a l n f =
-        let z : ordered debug (drop (k - 1) is) ≡ false = order-here is a l n f ∙ ap (λ q. q && ordered debug (drop k is)) (not-true r g) in
-        let d : phis + (k - 1 - phis) ≡ k - 1 = omega arith in
-        let y : drop (k - 1 - phis) (drop phis is) ≡ drop (k - 1) is = drop-drop (k - 1 - phis) phis is ∙ ap (λ q. drop q is) d in
-        sym (ap (ordered debug) (j b is a l) ∙ ordered-fails debug (k - 1 - phis) (drop phis is) (ap (ordered debug) y ∙ z))
+    pub backward-stop : not r ≡ true → (b : Bounds) → OfBlock b s facts k (λ τ x. orderedBehind false (x .instructions)) false
+    backward-stop n b τ ks c h =
+        let is = getD ks k noBlock .instructions in
+        let first = getD (startsIn facts) k 0 in
+        let z : ordered false (drop (slot - 1 - first) is) ≡ false = order-here b τ ks c h ∙ ap (λ q. q && ordered false (drop (slot - first) is)) (not-true r n) in
+        let d : front - first + (slot - 1 - front) ≡ slot - 1 - first = omega (arith, ef b s τ ks c h .from) in
+        let y : drop (slot - 1 - front) (drop (front - first) is) ≡ drop (slot - 1 - first) is = drop-drop (slot - 1 - front) (front - first) is ∙ ap (λ q. drop q is) d in
+        sym (ap (ordered false) (ef b s τ ks c h .same) ∙ ordered-fails false (slot - 1 - front) (drop (front - first) is) (ap (ordered false) y ∙ z))
 
-  pub backward-done : (m : List Bool) (k : ℕ) → Backward m k → k ≤ phis → ((b : Bounds) (is : List Instruction) → InstructionsAt b s places is → length is ≡ count → behindPhis is ≡ drop phis is) → (is : List Instruction) → InstructionsAt b s places is → length is ≡ count → b .next ≤ 256 → b .list + b .projections ≤ 30 → true ≡ orderedBehind debug is
-  backward-done m k w h j is a l n f =
-      let z : phis ≡ k = omega (arith, w .over) in
-      sym (ap (ordered debug) (j b is a l) ∙ ap (λ q. ordered debug (drop q is)) z ∙ w .left is a l n f .sound)
+  pub backward-done : {m : List Bool} {slot : ℕ} → Backward s facts k m slot → slot ≤ front → (b : Bounds) → OfBlock b s facts k (λ τ x. orderedBehind false (x .instructions)) true
+  backward-done {m} {slot} w g b τ ks c h =
+      let is = getD ks k noBlock .instructions in
+      let first = getD (startsIn facts) k 0 in
+      let d : slot - first + (front - slot) ≡ front - first = omega (arith, w .left b τ ks c h .over) in
+      let y : drop (front - slot) (drop (slot - first) is) ≡ drop (front - first) is = drop-drop (front - slot) (slot - first) is ∙ ap (λ q. drop q is) d in
+      let z : ordered false (drop (front - slot) (drop (slot - first) is)) ≡ true = still false (front - slot) (drop (slot - first) is) (w .left b τ ks c h .sound) in
+      sym (ap (ordered false) (ef b s τ ks c h .same ∙ sym y) ∙ z)

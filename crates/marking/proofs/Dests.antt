@@ -196,7 +196,7 @@ module _ (b : Bounds) (u : List ℕ) where
   fields-dests x j (HeapAllocCells d v) {n} e k = let z : heapAllocOf b [] u ≡ ok (HeapAllocCells d v) n = rw (← k) at e in rw (← k) (heap-alloc z)
 
 -- an accepted instruction's dests
-pub dests-in : (b : Bounds) (t : List ℕ) (i : Instruction) (n : ℕ) → instructionOf b [] false t ≡ ok i n → DestsIn (b .next) (drop (fieldsPlace t) t) (destFirst (getD t 1 0)) (destCount (drop (fieldsPlace t) t) (getD t 1 0)) (i .kind)
+pub dests-in : (b : Bounds) (t : List ℕ) (i : Instruction) (n : ℕ) → instructionOf b [] false t ≡ ok i n → DestsIn (b .next) (drop (fieldsPlace t) t) (destFirst (kindNumber (i .kind))) (destCount (drop (fieldsPlace t) t) (kindNumber (i .kind))) (i .kind)
 dests-in b t i n e =
     let h = instruction-fields b [] false t i n e in
-    fields-dests b (drop (fieldsPlace t) t) (getD t 0 0) (getD t 1 0) (i .kind) (h .read) (h .numbered)
+    rw (h .numbered) (fields-dests b (drop (fieldsPlace t) t) (getD t 0 0) (getD t 1 0) (i .kind) (h .read) (h .numbered))

@@ -1,6 +1,5 @@
 pub mod Scanning
 pub mod Storing
+pub mod Bases
 pub mod Dests
-pub mod Apart
-pub mod Marking
 pub mod Backwards

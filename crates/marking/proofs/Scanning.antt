@@ -1,124 +1,150 @@
--- The loops that look at values, instructions and blocks, one after another, until one fails a test.
-use Prim.Native.Nat.{ℕ, _+_, _≤_, _<_, zero-le}
+-- The loops over the reads of a slot, the slots of a block, and the blocks: what is left to look at.
+use Prim.Native.Nat.{ℕ, suc, _+_, _-_, _≤_, _<_}
 use mathlib.Core.Path.{_≡_, refl, ap, _∙_, sym}
 use mathlib.Core.List.{List, [], _∷_}
 use mathlib.Core.Bool.{Bool, true, false, cond, not, _&&_}
 use native.Mathlib.Numerals.{add-one}
 use native.Mathlib.Omega.{arith}
 use borrow.Author.Tests.{not-true, not-false}
-use lib.ListN.{length, getD, drop}
-use lib.Seq.{drop-cons, drop-length}
-use Rattle.wire.specs.Parse.{ok}
+use lib.ListN.{length, getD, drop, drop-of-length-le}
+use lib.Seq.{drop-cons}
 use Rattle.wire.specs.declared.ValueId.{ValueId}
 use Rattle.form.specs.Syntax.{Instruction, InstructionKind, Block}
 use Rattle.form.specs.Reads.{isPhi}
-use Rattle.form.specs.Decode.{instructionOf}
 use Rattle.form.specs.declared.Bounds.{Bounds}
-use Rattle.routine.specs.Index.{noBlock}
-use Rattle.places.specs.Places.{noInstruction, InstructionsAt}
-use Rattle.index.specs.Code.{CodeAt, standing}
+use Rattle.index.specs.Table.{startsIn, readCount, readIn, ReadsIn}
+use Rattle.index.specs.Code.{noInstruction, noBlock, InstructionIn}
+use Rattle.index.proofs.Laws.{in-section}
+use Rattle.eligibility.specs.Lookup.{Types}
 use Rattle.eligibility.specs.Fold.{behindPhis}
-use Rattle.readers.specs.Readers.{Buffered}
-use Rattle.readers.proofs.Blocks.{standing-at}
+use Rattle.progress.specs.Ground.{Coded}
 use Rattle.shelf.specs.Lists.{every}
-use Rattle.marking.specs.Tests.{clear, eachKind, eachBlock}
+use Rattle.marking.specs.Tests.{LastSlot, OfSlot, OfBlock, OfRoutine, clear, eachKind}
 
 abbrev noValue : ValueId
 noValue = record { 0 = 0 }
 
--- what a test at place k says of the rest
-every-at : {A : Type 0} (p : A → Bool) (xs : List A) (k : ℕ) (d : A) → k < length xs → every p (drop k xs) ≡ (p (getD xs k d) && every p (drop (k + 1) xs))
-every-at p xs k d h = let q : drop k xs ≡ getD xs k d ∷ drop (k + 1) xs = rw (add-one k) (drop-cons xs k d h) in ap (every p) q
+-- the next of a list
+pub next-of : {A : Type 0} (xs : List A) (k : ℕ) (d : A) → k < length xs → drop k xs ≡ getD xs k d ∷ drop (k + 1) xs
+next-of xs k d h = rw (add-one k) (drop-cons xs k d h)
 
-every-passes : {A : Type 0} (p : A → Bool) (xs : List A) (k : ℕ) (d : A) → k < length xs → p (getD xs k d) ≡ true → every p (drop k xs) ≡ every p (drop (k + 1) xs)
-every-passes p xs k d h e = every-at p xs k d h ∙ ap (λ q. q && every p (drop (k + 1) xs)) e
+pub none-of : {A : Type 0} (xs : List A) (k : ℕ) → length xs ≤ k → drop k xs ≡ []
+none-of xs k h = drop-of-length-le xs h
 
-every-fails : {A : Type 0} (p : A → Bool) (xs : List A) (k : ℕ) (d : A) → k < length xs → p (getD xs k d) ≡ false → every p (drop k xs) ≡ false
-every-fails p xs k d h e = every-at p xs k d h ∙ ap (λ q. q && every p (drop (k + 1) xs)) e
+-- the slot of a terminator
+module _ (facts : List ℕ) (k : ℕ) {behind : ℕ} (e : behind ≡ getD facts (354 + 1 + k) 0) where
+  pub last-none : behind ≡ 0 → LastSlot facts k 0
+  last-none z b s ks c h = absurd (omega (arith, in-section 354 (suc k) facts (e ∙ ap (λ j. getD facts j 0) (omega arith)), c .next k h))
 
-every-over : {A : Type 0} (p : A → Bool) (xs : List A) (k : ℕ) → k ≡ length xs → every p (drop k xs) ≡ true
-every-over p xs k h = ap (λ q. every p (drop q xs)) h ∙ ap (every p) (drop-length xs)
+  pub last-found : LastSlot facts k (behind - 1)
+  last-found b s ks c h = omega (arith, in-section 354 (suc k) facts (e ∙ ap (λ j. getD facts j 0) (omega arith)), c .next k h)
 
--- k values of a buffer are not marked
-module _ (buffer : List ℕ) (n : ℕ) (marks : List Bool) where
-  pub record Clearing (k : ℕ) : Type 0 where
-    pub under : k ≤ n
-    pub left : (vs : List ValueId) → Buffered buffer n vs → clear marks vs ≡ clear marks (drop k vs)
+-- k reads of a slot are not marked
+module _ (facts : List ℕ) (slot : ℕ) (marks : List Bool) where
+  abbrev pub Clearing : ℕ → Type 0
+  Clearing k = (vs : List ValueId) → ReadsIn facts slot vs → clear marks vs ≡ clear marks (drop k vs)
 
-  pub clearing-start : Clearing 0
-  clearing-start = record { under = zero-le; left = λ vs a. refl }
+  module _ {n k x : ℕ} {r : Bool} (u : Clearing k) (en : n ≡ readCount facts slot) (h : k < n) (e : x ≡ readIn facts slot k) (f : r ≡ getD marks x false) where
+    clearing-at : (vs : List ValueId) → ReadsIn facts slot vs → clear marks vs ≡ (not r && clear marks (drop (k + 1) vs))
+    clearing-at vs a =
+        let p : k < length vs = omega (arith, a .many) in
+        let z : getD marks (getD vs k noValue .0) false ≡ r = ap (λ y. getD marks y false) (sym (e ∙ a .each k p)) ∙ sym f in
+        u vs a ∙ ap (clear marks) (next-of vs k noValue p) ∙ ap (λ y. not y && clear marks (drop (k + 1) vs)) z
 
-  value-here : (k x : ℕ) (r : Bool) → k < n → x ≡ getD buffer k 0 → r ≡ getD marks x false → (vs : List ValueId) → Buffered buffer n vs → not (getD marks (getD vs k noValue .0) false) ≡ not r
-  value-here k x r h e f vs a = ap (λ y. not (getD marks y false)) (sym (e ∙ a .each k h)) ∙ ap not (sym f)
+    pub clearing-again : r ≡ false → Clearing (k + 1)
+    clearing-again g vs a = clearing-at vs a ∙ ap (λ y. not y && clear marks (drop (k + 1) vs)) g
 
-  pub clearing-again : (k x : ℕ) (r : Bool) → Clearing k → k < n → x ≡ getD buffer k 0 → r ≡ getD marks x false → r ≡ false → Clearing (k + 1)
-  clearing-again k x r u h e f g =
-      record {
-        under = omega arith;
-        left = λ vs a. u .left vs a ∙ every-passes (λ v. not (getD marks (v .0) false)) vs k noValue (omega (arith, a .many)) (value-here k x r h e f vs a ∙ ap not g);
-      }
+    pub clearing-stop : r ≡ true → (vs : List ValueId) → ReadsIn facts slot vs → false ≡ clear marks vs
+    clearing-stop g vs a = sym (clearing-at vs a ∙ ap (λ y. not y && clear marks (drop (k + 1) vs)) g)
 
-  pub clearing-stop : (k x : ℕ) (r : Bool) → Clearing k → k < n → x ≡ getD buffer k 0 → r ≡ getD marks x false → r ≡ true → (vs : List ValueId) → Buffered buffer n vs → false ≡ clear marks vs
-  clearing-stop k x r u h e f g vs a =
-      sym (u .left vs a ∙ every-fails (λ v. not (getD marks (v .0) false)) vs k noValue (omega (arith, a .many)) (value-here k x r h e f vs a ∙ ap not g))
+  pub clearing-done : {n k : ℕ} → Clearing k → n ≡ readCount facts slot → n ≤ k → (vs : List ValueId) → ReadsIn facts slot vs → true ≡ clear marks vs
+  clearing-done {n} {k} u en h vs a = sym (u vs a ∙ ap (clear marks) (none-of vs k (omega (arith, a .many))))
 
-  pub clearing-done : (k : ℕ) → Clearing k → n ≤ k → (vs : List ValueId) → Buffered buffer n vs → true ≡ clear marks vs
-  clearing-done k u h vs a = sym (u .left vs a ∙ every-over (λ v. not (getD marks (v .0) false)) vs k (omega (arith, u .under, a .many)))
+-- the instruction in a slot of block k
+pub slot-holds : (b : Bounds) (s facts : List ℕ) (k : ℕ) {last : ℕ} → LastSlot facts k last → (slot : ℕ) → getD (startsIn facts) k 0 ≤ slot → slot < last → (τ : Types) (ks : List Block) → Coded b s facts τ ks → k < length ks → InstructionIn b s facts slot (getD (getD ks k noBlock .instructions) (slot - getD (startsIn facts) k 0) noInstruction)
+slot-holds b s facts k el slot f g τ ks c h =
+    let z : getD (startsIn facts) k 0 + (slot - getD (startsIn facts) k 0) ≡ slot = omega arith in
+    rw z at (c .code .each k h .instructions (slot - getD (startsIn facts) k 0) (omega (arith, el b s ks (c .code) h)))
 
--- k instructions of a block pass a test
-module _ (s : List ℕ) (b : Bounds) (places : List ℕ) (count : ℕ) (p : InstructionKind → Bool) where
-  pub record Passing (k : ℕ) : Type 0 where
-    pub under : k ≤ count
-    pub left : (is : List Instruction) → InstructionsAt b s places is → length is ≡ count → b .list + b .projections ≤ 30 → eachKind p is ≡ eachKind p (drop k is)
+-- The slots of block k from `slot` on are left of what f asks of its instructions; x stands for what is changed on the way.
+module _ {X A : Type 0} (b : Bounds) (s facts : List ℕ) (k : ℕ) (f : Types → X → List Instruction → A) where
+  pub record Slots (x₀ x : X) (slot : ℕ) : Type 0 where
+    pub from : getD (startsIn facts) k 0 ≤ slot
+    pub left : (τ : Types) (ks : List Block) → Coded b s facts τ ks → k < length ks → f τ x₀ (getD ks k noBlock .instructions) ≡ f τ x (drop (slot - getD (startsIn facts) k 0) (getD ks k noBlock .instructions))
 
-  pub passing-start : Passing 0
-  passing-start = record { under = zero-le; left = λ is a l f. refl }
+  pub slots-start : (x : X) {slot : ℕ} → slot ≡ getD (startsIn facts) k 0 → Slots x x slot
+  slots-start x {slot} e = record { from = omega (arith, e); left = λ τ ks c h. let z : slot - getD (startsIn facts) k 0 ≡ 0 = omega (arith, e) in ap (λ q. f τ x (drop q (getD ks k noBlock .instructions))) (sym z) }
 
-  module _ (k at : ℕ) (t : List ℕ) (r : Bool) (u : Passing k) (h : k < count) (ea : at ≡ getD places k 0) (et : t ≡ drop at s) (er : (i : Instruction) (n : ℕ) → instructionOf b [] false t ≡ ok i n → b .list + b .projections ≤ 30 → r ≡ p (i .kind)) where
-    kind-here : (is : List Instruction) → InstructionsAt b s places is → length is ≡ count → b .list + b .projections ≤ 30 → p (getD is k noInstruction .kind) ≡ r
-    kind-here is a l f = let q : k < length is = omega arith in sym (er _ _ (standing-at b s places is k at t a q ea et) f)
+  module _ {last slot : ℕ} (el : LastSlot facts k last) {x₀ x : X} (u : Slots x₀ x slot) where
+    module _ (g : slot < last) (τ : Types) (ks : List Block) (c : Coded b s facts τ ks) (h : k < length ks) where
+      pub slot-next : f τ x₀ (getD ks k noBlock .instructions) ≡ f τ x (getD (getD ks k noBlock .instructions) (slot - getD (startsIn facts) k 0) noInstruction ∷ drop (slot + 1 - getD (startsIn facts) k 0) (getD ks k noBlock .instructions))
+      slot-next =
+          let is = getD ks k noBlock .instructions in
+          let j = slot - getD (startsIn facts) k 0 in
+          let low : j < length is = omega (arith, el b s ks (c .code) h, u .from) in
+          let z : j + 1 ≡ slot + 1 - getD (startsIn facts) k 0 = omega (arith, u .from) in
+          u .left τ ks c h ∙ ap (f τ x) (next-of is j noInstruction low ∙ ap (λ q. getD is j noInstruction ∷ drop q is) z)
 
-    pub passing-again : not r ≡ false → Passing (k + 1)
-    passing-again g =
-        record {
-          under = omega arith;
-          left = λ is a l f. u .left is a l f ∙ every-passes (λ i. p (i .kind)) is k noInstruction (omega arith) (kind-here is a l f ∙ not-false r g);
-        }
+      pub in-slot : InstructionIn b s facts slot (getD (getD ks k noBlock .instructions) (slot - getD (startsIn facts) k 0) noInstruction)
+      in-slot = slot-holds b s facts k el slot (u .from) g τ ks c h
 
-    pub passing-stop : not r ≡ true → (is : List Instruction) → InstructionsAt b s places is → length is ≡ count → b .list + b .projections ≤ 30 → false ≡ eachKind p is
-    passing-stop g is a l f = sym (u .left is a l f ∙ every-fails (λ i. p (i .kind)) is k noInstruction (omega arith) (kind-here is a l f ∙ not-true r g))
+    -- the next is looked at
+    pub slots-again : slot < last → {x′ : X} → ((τ : Types) (ks : List Block) (i : Instruction) (is : List Instruction) → Coded b s facts τ ks → InstructionIn b s facts slot i → f τ x (i ∷ is) ≡ f τ x′ is) → Slots x₀ x′ (slot + 1)
+    slots-again g e = record { from = omega (arith, u .from); left = λ τ ks c h. slot-next g τ ks c h ∙ e τ ks _ _ c (in-slot g τ ks c h) }
 
-  pub passing-done : (k : ℕ) → Passing k → count ≤ k → (is : List Instruction) → InstructionsAt b s places is → length is ≡ count → b .list + b .projections ≤ 30 → true ≡ eachKind p is
-  passing-done k u h is a l f = sym (u .left is a l f ∙ every-over (λ i. p (i .kind)) is k (omega (arith, u .under)))
+    pub slots-done : last ≤ slot → (τ : Types) (ks : List Block) → Coded b s facts τ ks → k < length ks → f τ x₀ (getD ks k noBlock .instructions) ≡ f τ x []
+    slots-done g τ ks c h =
+        u .left τ ks c h ∙ ap (f τ x) (none-of (getD ks k noBlock .instructions) (slot - getD (startsIn facts) k 0) (omega (arith, el b s ks (c .code) h, u .from)))
 
--- k blocks pass a test, where a condition holds
-module _ (s : List ℕ) (b : Bounds) (places starts : List ℕ) (many : ℕ) (H : Type 0) (q : List Instruction → Bool) where
-  pub record Blocks (k : ℕ) : Type 0 where
-    pub under : k ≤ many
-    pub left : (ks : List Block) → CodeAt b s places starts ks → length ks ≡ many → H → eachBlock q ks ≡ eachBlock q (drop k ks)
+-- a test that each instruction of a block is to pass
+abbrev pub Passing : Bounds → List ℕ → List ℕ → ℕ → (Types → InstructionKind → Bool) → ℕ → Type 0
+Passing b s facts k p slot = Slots {X = Unit {0}} b s facts k (λ τ u is. eachKind (p τ) is) tt tt slot
 
-  pub blocks-start : Blocks 0
-  blocks-start = record { under = zero-le; left = λ ks a l f. refl }
+module _ (b : Bounds) (s facts : List ℕ) (k : ℕ) (p : Types → InstructionKind → Bool) where
+  pub passing-start : {slot : ℕ} → slot ≡ getD (startsIn facts) k 0 → Passing b s facts k p slot
+  passing-start e = slots-start b s facts k (λ τ u is. eachKind (p τ) is) tt e
 
-  module _ (k count : ℕ) (own : List ℕ) (r : Bool) (u : Blocks k) (h : k < many) (eo : own ≡ drop (getD starts k 0) places) (ec : (b : Bounds) (s places : List ℕ) (ks : List Block) → CodeAt b s places starts ks → k < length ks → count ≡ length (getD ks k noBlock .instructions)) (er : (is : List Instruction) → InstructionsAt b s own is → length is ≡ count → H → r ≡ q is) where
-    block-here : (ks : List Block) → CodeAt b s places starts ks → length ks ≡ many → H → q (getD ks k noBlock .instructions) ≡ r
-    block-here ks a l f =
-        let x = getD ks k noBlock in
-        let p : k < length ks = omega arith in
-        elim (a .each k p) [ standing size w ↦ let v : InstructionsAt b s own (x .instructions) = rw eo (w .instructions) in sym (er (x .instructions) v (sym (ec b s places ks a p)) f) ]
+  module _ {last slot : ℕ} (el : LastSlot facts k last) (u : Passing b s facts k p slot) where
+    module _ (g : slot < last) {r : Bool} (e : OfSlot b s facts slot p r) where
+      pub passing-again : not r ≡ false → Passing b s facts k p (slot + 1)
+      passing-again h = slots-again b s facts k (λ τ u is. eachKind (p τ) is) el u g (λ τ ks i is c a. ap (λ q. q && eachKind (p τ) is) (sym (e τ i (c .ground) a) ∙ not-false r h))
 
-    pub blocks-again : not r ≡ false → Blocks (k + 1)
-    blocks-again g =
-        record {
-          under = omega arith;
-          left = λ ks a l f. u .left ks a l f ∙ every-passes (λ x. q (x .instructions)) ks k noBlock (omega arith) (block-here ks a l f ∙ not-false r g);
-        }
+      pub passing-stop : not r ≡ true → OfBlock b s facts k (λ τ y. eachKind (p τ) (y .instructions)) false
+      passing-stop h τ ks c l =
+          let a = in-slot b s facts k (λ τ u is. eachKind (p τ) is) el u g τ ks c l in
+          sym (slot-next b s facts k (λ τ u is. eachKind (p τ) is) el u g τ ks c l ∙ ap (λ q. q && eachKind (p τ) (drop (slot + 1 - getD (startsIn facts) k 0) (getD ks k noBlock .instructions))) (sym (e τ _ (c .ground) a) ∙ not-true r h))
 
-    pub blocks-stop : not r ≡ true → (ks : List Block) → CodeAt b s places starts ks → length ks ≡ many → H → false ≡ eachBlock q ks
-    blocks-stop g ks a l f = sym (u .left ks a l f ∙ every-fails (λ x. q (x .instructions)) ks k noBlock (omega arith) (block-here ks a l f ∙ not-true r g))
+    pub passing-done : last ≤ slot → OfBlock b s facts k (λ τ y. eachKind (p τ) (y .instructions)) true
+    passing-done g τ ks c l = sym (slots-done b s facts k (λ τ u is. eachKind (p τ) is) el u g τ ks c l)
 
-  pub blocks-done : (k : ℕ) → Blocks k → many ≤ k → (ks : List Block) → CodeAt b s places starts ks → length ks ≡ many → H → true ≡ eachBlock q ks
-  blocks-done k u h ks a l f = sym (u .left ks a l f ∙ every-over (λ x. q (x .instructions)) ks k (omega (arith, u .under)))
+-- The blocks from k on are left of what f asks of all.
+abbrev pub Blocks : {X A : Type 0} → Bounds → List ℕ → List ℕ → (Types → X → List Block → A) → X → X → ℕ → Type 0
+Blocks b s facts f x₀ x k = (τ : Types) (ks : List Block) → Coded b s facts τ ks → f τ x₀ ks ≡ f τ x (drop k ks)
+
+module _ {X A : Type 0} (b : Bounds) (s facts : List ℕ) (f : Types → X → List Block → A) {k : ℕ} {x₀ x : X} (u : Blocks b s facts f x₀ x k) where
+  pub blocks-next : k < b .blocks → (τ : Types) (ks : List Block) → Coded b s facts τ ks → f τ x₀ ks ≡ f τ x (getD ks k noBlock ∷ drop (k + 1) ks)
+  blocks-next g τ ks c = u τ ks c ∙ ap (f τ x) (next-of ks k noBlock (omega (arith, c .many)))
+
+  pub blocks-done : b .blocks ≤ k → (τ : Types) (ks : List Block) → Coded b s facts τ ks → f τ x₀ ks ≡ f τ x []
+  blocks-done g τ ks c = u τ ks c ∙ ap (f τ x) (none-of ks k (omega (arith, c .many)))
+
+-- a test that each block is to pass
+abbrev pub Tested : Bounds → List ℕ → List ℕ → (Types → Block → Bool) → ℕ → Type 0
+Tested b s facts q k = Blocks {X = Unit {0}} b s facts (λ τ u ks. every (q τ) ks) tt tt k
+
+module _ (b : Bounds) (s facts : List ℕ) (q : Types → Block → Bool) {k : ℕ} (u : Tested b s facts q k) where
+  module _ (g : k < b .blocks) {r : Bool} (e : OfBlock b s facts k q r) where
+    tested-here : (τ : Types) (ks : List Block) → Coded b s facts τ ks → every (q τ) ks ≡ (r && every (q τ) (drop (k + 1) ks))
+    tested-here τ ks c = blocks-next {X = Unit {0}} b s facts (λ τ u ks. every (q τ) ks) {x₀ = tt} {x = tt} u g τ ks c ∙ ap (λ y. y && every (q τ) (drop (k + 1) ks)) (sym (e τ ks c (omega (arith, c .many))))
+
+    pub tested-again : not r ≡ false → Tested b s facts q (k + 1)
+    tested-again h τ ks c = tested-here τ ks c ∙ ap (λ y. y && every (q τ) (drop (k + 1) ks)) (not-false r h)
+
+    pub tested-stop : not r ≡ true → OfRoutine b s facts (λ τ ks. every (q τ) ks) false
+    tested-stop h τ ks c = sym (tested-here τ ks c ∙ ap (λ y. y && every (q τ) (drop (k + 1) ks)) (not-true r h))
+
+  pub tested-done : b .blocks ≤ k → OfRoutine b s facts (λ τ ks. every (q τ) ks) true
+  tested-done g τ ks c = sym (blocks-done {X = Unit {0}} b s facts (λ τ u ks. every (q τ) ks) {x₀ = tt} {x = tt} u g τ ks c)
 
 -- a test that phis pass says the same behind them
 pub every-behind : (p : InstructionKind → Bool) → ((i : InstructionKind) → isPhi i ≡ true → p i ≡ true) → (is : List Instruction) → eachKind p (behindPhis is) ≡ eachKind p is

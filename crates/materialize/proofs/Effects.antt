@@ -29,7 +29,7 @@ use Rattle.progress.proofs.Laws.{each-append, behind-then}
 use Rattle.wanting.specs.declared.Asks.{Asks}
 use Rattle.wanting.specs.Asked.{askedList}
 use Rattle.listing.specs.Lists.{Few}
-use Rattle.materialize.specs.Onward.{onward}
+use Rattle.materialize.specs.Materialized.{onward}
 
 no-went : {p : Progress} → Put.Clash ≡ Put.Went p → ⊥
 no-went {p} e = let z : _≡_ {A = ℕ} 0 1 = cc in omega arith

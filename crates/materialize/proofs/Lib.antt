@@ -1,5 +1,6 @@
 pub mod Fields
 pub mod Standing
+pub mod Writing
 pub mod Returning
 pub mod Effects
 pub mod Whole

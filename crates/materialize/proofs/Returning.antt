@@ -1,5 +1,5 @@
 -- What stands where in a Return.
-use Prim.Native.Nat.{ℕ, suc, _≤_}
+use Prim.Native.Nat.{ℕ, suc, _-_}
 use mathlib.Core.Path.{_≡_, refl, ap}
 use mathlib.Core.List.{List, [], _∷_, _++_, append-nil}
 use native.Mathlib.Omega.{arith}
@@ -19,6 +19,7 @@ use Rattle.rewriting.specs.Rebuild.{wantedReturns}
 use Rattle.wanting.specs.declared.Asks.{Asks}
 use Rattle.wanting.specs.Asked.{askedList}
 use Rattle.listing.specs.Lists.{Lies}
+use Rattle.materialize.specs.Materialized.{returnList, listEnd, withValues, Around}
 use Rattle.materialize.proofs.Fields.{to-lies, values-field}
 use Rattle.materialize.proofs.Standing.{over}
 
@@ -40,14 +41,15 @@ module _ (b : Bounds) (t : List ℕ) (xs : List Value) (n : ℕ) (h : Bytes t) (
   pub return-many : getD t 1 0 ≡ length xs
   return-many = ap (λ l. getD l 1 0) shown
 
-  pub return-long : 2 ≤ length t
-  return-long = omega (arith, ap length shown)
+  pub return-around : Around t (returnList t) 0
+  return-around = record { before = omega arith; front = omega (arith, ap length shown); behind = omega arith; back = omega arith }
 
-  pub return-bytes : (ys : List Value) → length ys ≡ length xs → take 2 t ++ (eachBytes valueBytes ys ++ []) ≡ terminatorBytes (Return ys)
+  pub return-bytes : (ys : List Value) → length ys ≡ length xs → withValues t (returnList t) 0 ys ≡ terminatorBytes (Return ys)
   unfolding terminatorBytes
   return-bytes ys j =
       let a : take 2 t ≡ 3 ∷ length xs ∷ [] = ap (take 2) shown in
-      rw (a, append-nil, ← j) refl
+      let z : 0 - listEnd t (returnList t) ≡ 0 = omega arith in
+      rw (a, z, append-nil, ← j) refl
 
   pub return-lies : Lies (b .next) t 2 xs
   unfolding terminatorOf returnOf

@@ -9,7 +9,7 @@ use lib.ListN.{length, getD, take, drop, length-append, take-append-drop}
 use lib.Seq.{take-at, drop-at, drop-drop, getD-drop}
 use Rattle.wire.specs.Parse.{ok}
 use Rattle.wire.specs.Number.{toBytes, at16}
-use Rattle.wire.specs.Value.{valueBytes}
+use Rattle.wire.specs.Value.{valueOf, valueBytes}
 use Rattle.wire.specs.WellFormed.{Bytes}
 use Rattle.wire.specs.declared.ValueId.{ValueId}
 use Rattle.wire.specs.declared.TypeId.{TypeId}
@@ -20,7 +20,7 @@ use Rattle.form.specs.Reads.{kindNumber}
 use Rattle.form.specs.Decode.{bit, callOf, storeOf, instructionOf}
 use Rattle.form.specs.Encode.{eachBytes, listBytes, valueIdBytes, typeIdBytes, placeBytes, fieldBytes, metaBytes, bitMap, instructionBytes}
 use Rattle.form.specs.declared.Bounds.{Bounds}
-use Rattle.lookup.specs.Fields.{fieldsPlace, valueEnd, projectionEnd, after}
+use Rattle.lookup.specs.Fields.{fieldsPlace, valueSize, valueEnd, after}
 use Rattle.lookup.proofs.Places.{Listed, _&_, empty}
 use Rattle.lookup.proofs.Instruction.{KindAt, instruction-fields}
 use Rattle.canon.proofs.Exact.{whole}
@@ -28,11 +28,12 @@ use Rattle.canon.proofs.EachKind.{fieldsMost, fields}
 use Rattle.canon.proofs.Instruction.{instruction-canon}
 use Rattle.eligibility.specs.Lookup.{Types}
 use Rattle.rewriting.specs.Rebuild.{plain, aggregateType, wantedArguments}
-use Rattle.parts.specs.Rows.{ValueAt}
+use Rattle.parts.specs.Rows.{ValueAt, stands}
 use Rattle.wanting.specs.declared.Asks.{Asks}
 use Rattle.wanting.specs.Asked.{askedAt, askedList}
 use Rattle.listing.specs.Lists.{Lies}
 use Rattle.listing.specs.Lists as lies
+use Rattle.materialize.specs.Materialized.{callFirst, callBehind, callList, storeFirst}
 use Rattle.materialize.proofs.Fields.{CallAt, call-at, call-stands, StoreAt, store-at, store-stands, to-lies, asked-types}
 
 -- a run before, one in the middle and one behind it, with what follows
@@ -75,14 +76,21 @@ pub record CallKnown (next n : ℕ) (f : List ℕ) (place : ℕ) (ds : List Valu
   pub back-long : n - place - behind ≤ length (drop behind f)
   pub bytes : (ys : List Value) → length ys ≡ length xs → 0 ∷ 3 ∷ (take first f ++ (eachBytes valueBytes ys ++ take (n - place - behind) (drop behind f))) ≡ instructionBytes (plain (Call ds g ys ps rs))
 
--- and of a Store
-pub record StoreKnown (next : ℕ) (t f : List ℕ) (place : ℕ) (i : Instruction) (l : Place) (x : Value) (u : TypeId) (first behind : ℕ) : Type 0 where
-  pub lies : Lies next f first (x ∷ [])
-  pub asked : (τ : Types) → askedAt τ f (Asks.Types behind 1) 0 x ≡ aggregateType τ u
-  pub near : place + first ≤ length (instructionBytes i)
-  pub front-long : place + first ≤ length t
-  pub back-long : 2 ≤ length (drop behind f)
-  pub bytes : (y : Value) → take (place + first) t ++ (eachBytes valueBytes (y ∷ []) ++ take 2 (drop behind f)) ≡ instructionBytes (record { meta = i .meta; kind = Store l y u })
+-- and of a Store of n bytes
+pub record StoreKnown (next n : ℕ) (t : List ℕ) (i : Instruction) (l : Place) (x : Value) (u : TypeId) (first behind : ℕ) : Type 0 where
+  pub lies : Lies next t first (x ∷ [])
+  pub asked : (τ : Types) → askedAt τ t (Asks.Types behind 1) 0 x ≡ aggregateType τ u
+  pub near : first ≤ n
+  pub front-long : first ≤ length t
+  pub back-long : n - behind ≤ length (drop behind t)
+  pub bytes : (y : Value) → take first t ++ (eachBytes valueBytes (y ∷ []) ++ take (n - behind) (drop behind t)) ≡ instructionBytes (record { meta = i .meta; kind = Store l y u })
+
+-- a value that stands in the fields stands in the whole
+value-drop : (next : ℕ) (t : List ℕ) (place at : ℕ) (x : Value) → ValueAt next (drop place t) at x → ValueAt next t (place + at) x
+value-drop next t place at x (stands n e) = stands n (ap (valueOf next) (sym (drop-drop at place t)) ∙ e)
+
+end-drop : (t : List ℕ) (place at : ℕ) → place + valueEnd (drop place t) at ≡ valueEnd t (place + at)
+end-drop t place at = omega (arith, ap valueSize (getD-drop place t at 0))
 
 -- an instruction whose kind is known
 module _ (b : Bounds) (t : List ℕ) (i : Instruction) (n : ℕ) (h : Bytes t) (e : instructionOf b [] false t ≡ ok i n) where
@@ -138,26 +146,28 @@ module _ (b : Bounds) (t : List ℕ) (i : Instruction) (n : ℕ) (h : Bytes t) (
         bytes = λ ys j. rw (lc, x .front, x .back, ← j) (ap (λ k. 0 ∷ 3 ∷ k) (ungroup A (toBytes 2 g) (length ys) (eachBytes valueBytes ys) C));
       }
 
-  pub call-known : (ds : List ValueId) (g : ℕ) (xs : List Value) (ps rs : List TypeId) (first many behind : ℕ) → i .kind ≡ Call ds g xs ps rs → first ≡ 4 + 2 * getD f 0 0 → many ≡ getD f (first - 1) 0 → behind ≡ after (valueEnd f) many first → CallKnown (b .next) n f (fieldsPlace t) ds g xs ps rs first many behind
-  call-known ds g xs ps rs first many behind k p q r =
+  pub call-known : (ds : List ValueId) (g : ℕ) (xs : List Value) (ps rs : List TypeId) → i .kind ≡ Call ds g xs ps rs → CallKnown (b .next) n f (fieldsPlace t) ds g xs ps rs (callFirst f) (callList f .many) (callBehind f)
+  call-known ds g xs ps rs k =
       let j : getD t 1 0 ≡ 3 = sym (known .numbered) ∙ ap kindNumber k in
       let d : callOf b [] f ≡ ok (i .kind) (known .size) = rw j at (known .read) in
-      call-from ds g xs ps rs first many behind p q r (call-stands b [] f f-bytes .each (i .kind) (known .size) d) k field-canon
+      call-from ds g xs ps rs (callFirst f) (callList f .many) (callBehind f) refl refl refl (call-stands b [] f f-bytes .each (i .kind) (known .size) d) k field-canon
 
   meta-long : 2 + length (metaBytes (i .meta)) ≡ fieldsPlace t
   unfolding instructionBytes
   meta-long = omega (arith, whole-canon .size, field-canon .size, known .whole, length-append (metaBytes (i .meta)) (fieldBytes (i .kind)))
 
-  store-from : (l : Place) (x : Value) (u : TypeId) (first behind : ℕ) → first ≡ after (projectionEnd f) (getD f 2 0) 3 → behind ≡ valueEnd f first → {k : InstructionKind} → i ≡ record { meta = i .meta; kind = k } → StoreAt b [] f k → k ≡ Store l x u → StoreKnown (b .next) t f (fieldsPlace t) i l x u first behind
+  store-from : (l : Place) (x : Value) (u : TypeId) {k : InstructionKind} → i ≡ record { meta = i .meta; kind = k } → StoreAt b [] f k → k ≡ Store l x u → StoreKnown (b .next) n t i l x u (storeFirst t) (valueEnd t (storeFirst t))
   unfolding fieldBytes instructionBytes
-  store-from l x u first behind p q {k} ik (store-at l′ x′ u′ first′ a m o v w) z =
+  store-from l x u {k} ik (store-at l′ x′ u′ first a m o v w) z =
       let z1 : l′ ≡ l = cc in
       let z2 : x′ ≡ x = cc in
       let z3 : u′ ≡ u = cc in
-      let e1 : first′ ≡ first = a ∙ sym p in
-      let e2 : valueEnd f first′ ≡ behind = ap (valueEnd f) e1 ∙ sym q in
-      let o′ : ValueAt (b .next) f first x = rw (← z2, ← e1) o in
-      let w′ : at16 f behind ≡ u .0 = ap (at16 f) (sym e2) ∙ w ∙ ap (λ (y : TypeId). y .0) z3 in
+      let P = fieldsPlace t in
+      let behind = valueEnd t (storeFirst t) in
+      let e1 : P + first ≡ storeFirst t = ap (λ y. P + y) a in
+      let e2 : P + valueEnd f first ≡ behind = end-drop t P first ∙ ap (valueEnd t) e1 in
+      let o′ : ValueAt (b .next) t (storeFirst t) x = rw (← z2, ← e1) (value-drop (b .next) t P first x′ o) in
+      let w′ : at16 t behind ≡ u .0 = ap (at16 t) (sym e2) ∙ sym (at16-drop t (P + valueEnd f first)) ∙ ap (λ y. at16 y 0) (sym (drop-drop (valueEnd f first) P t)) ∙ at16-drop f (valueEnd f first) ∙ w ∙ ap (λ (y : TypeId). y .0) z3 in
       let M = metaBytes (i .meta) in
       let H = bitMap (record { meta = i .meta; kind = Store l x u }) ∷ 6 ∷ (M ++ placeBytes l) in
       let T = typeIdBytes u in
@@ -166,33 +176,21 @@ module _ (b : Bounds) (t : List ℕ) (i : Instruction) (n : ℕ) (h : Bytes t) (
       let W = valueBytes x in
       let w0 : instructionBytes i ≡ H ++ (W ++ T) = ap instructionBytes ik′ ∙ ap (λ y. bitMap (record { meta = i .meta; kind = Store l x u }) ∷ 6 ∷ y) (sym (append-assoc M (placeBytes l) (W ++ T))) in
       let s : t ≡ H ++ (W ++ (T ++ D)) = over (instructionBytes i) t n whole-canon ∙ ap (λ y. y ++ D) w0 ∙ append-assoc H (W ++ T) D ∙ ap (λ y. H ++ y) (append-assoc W T D) in
-      let lh : length H ≡ fieldsPlace t + first = omega (arith, meta-long, length-append M (placeBytes l), m, e1, ap (λ y. length (placeBytes y)) z1) in
-      let lv : fieldsPlace t + first + length W ≡ fieldsPlace t + behind = omega (arith, v, e1, e2, ap (λ y. length (valueBytes y)) z2) in
-      let r = cut t H W T D (fieldsPlace t + first) (fieldsPlace t + behind) s lh lv in
-      let dd : drop behind f ≡ drop (fieldsPlace t + behind) t = drop-drop behind (fieldsPlace t) t in
-      let back : take 2 (drop behind f) ≡ T = ap (take 2) dd ∙ r .back in
+      let lh : length H ≡ storeFirst t = omega (arith, meta-long, length-append M (placeBytes l), m, e1, ap (λ y. length (placeBytes y)) z1) in
+      let lv : storeFirst t + length W ≡ behind = omega (arith, v, e1, e2, ap (λ y. length (valueBytes y)) z2) in
+      let r = cut t H W T D (storeFirst t) behind s lh lv in
+      let lt : n - behind ≡ 2 = omega (arith, lh, lv, whole-canon .size, ap length w0, length-append H (W ++ T), length-append W T) in
       record {
         lies = lies._&_ o′ lies.empty;
-        asked = λ τ. ap (λ y. aggregateType τ (record { 0 = y })) (at16-drop f behind ∙ w′);
-        near = omega (arith, lh, ap length w0, length-append H (W ++ T));
+        asked = λ τ. ap (λ y. aggregateType τ (record { 0 = y })) (at16-drop t behind ∙ w′);
+        near = omega (arith, lh, whole-canon .size, ap length w0, length-append H (W ++ T));
         front-long = r .front-long;
-        back-long = rw dd (r .back-long);
-        bytes = λ y. rw (r .front, back, append-nil (valueBytes y)) (ap (λ z. bitMap (record { meta = i .meta; kind = Store l x u }) ∷ 6 ∷ z) (append-assoc M (placeBytes l) (valueBytes y ++ T)));
+        back-long = rw lt (r .back-long);
+        bytes = λ y. rw (lt, r .front, r .back, append-nil (valueBytes y)) (ap (λ z. bitMap (record { meta = i .meta; kind = Store l x u }) ∷ 6 ∷ z) (append-assoc M (placeBytes l) (valueBytes y ++ T)));
       }
 
-  pub store-known : (l : Place) (x : Value) (u : TypeId) (first behind : ℕ) → i .kind ≡ Store l x u → first ≡ after (projectionEnd f) (getD f 2 0) 3 → behind ≡ valueEnd f first → StoreKnown (b .next) t f (fieldsPlace t) i l x u first behind
-  store-known l x u first behind k p q =
+  pub store-known : (l : Place) (x : Value) (u : TypeId) → i .kind ≡ Store l x u → StoreKnown (b .next) n t i l x u (storeFirst t) (valueEnd t (storeFirst t))
+  store-known l x u k =
       let j : getD t 1 0 ≡ 6 = sym (known .numbered) ∙ ap kindNumber k in
       let d : storeOf b [] f ≡ ok (i .kind) (known .size) = rw j at (known .read) in
-      store-from l x u first behind p q {k = i .kind} refl (store-stands b [] f f-bytes .each (i .kind) (known .size) d) k
-
--- the same of fields and a place that are known by equations
-pub call-known-at : (b : Bounds) (t : List ℕ) (i : Instruction) (n : ℕ) → Bytes t → instructionOf b [] false t ≡ ok i n → (f : List ℕ) (place : ℕ) → place ≡ fieldsPlace t → f ≡ drop place t → (ds : List ValueId) (g : ℕ) (xs : List Value) (ps rs : List TypeId) (first many behind : ℕ) → i .kind ≡ Call ds g xs ps rs → first ≡ 4 + 2 * getD f 0 0 → many ≡ getD f (first - 1) 0 → behind ≡ after (valueEnd f) many first → CallKnown (b .next) n f place ds g xs ps rs first many behind
-call-known-at b t i n h e f place hp hf ds g xs ps rs first many behind k p q r =
-    let z : f ≡ drop (fieldsPlace t) t = hf ∙ ap (λ m. drop m t) hp in
-    rw (hp, z) (call-known b t i n h e ds g xs ps rs first many behind k (p ∙ ap (λ l. 4 + 2 * getD l 0 0) z) (q ∙ ap (λ l. getD l (first - 1) 0) z) (r ∙ ap (λ l. after (valueEnd l) many first) z))
-
-pub store-known-at : (b : Bounds) (t : List ℕ) (i : Instruction) (n : ℕ) → Bytes t → instructionOf b [] false t ≡ ok i n → (f : List ℕ) (place : ℕ) → place ≡ fieldsPlace t → f ≡ drop place t → (l : Place) (x : Value) (u : TypeId) (first behind : ℕ) → i .kind ≡ Store l x u → first ≡ after (projectionEnd f) (getD f 2 0) 3 → behind ≡ valueEnd f first → StoreKnown (b .next) t f place i l x u first behind
-store-known-at b t i n h e f place hp hf l x u first behind k p q =
-    let z : f ≡ drop (fieldsPlace t) t = hf ∙ ap (λ m. drop m t) hp in
-    rw (hp, z) (store-known b t i n h e l x u first behind k (p ∙ ap (λ l. after (projectionEnd l) (getD l 2 0) 3) z) (q ∙ ap (λ l. valueEnd l first) z))
+      store-from l x u {k = i .kind} refl (store-stands b [] f f-bytes .each (i .kind) (known .size) d) k

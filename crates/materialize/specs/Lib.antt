@@ -1,1 +1,1 @@
-pub mod Onward
+pub mod Materialized

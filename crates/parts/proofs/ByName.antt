@@ -1,5 +1,5 @@
 -- The loops that find the inits of a struct build by name.
-use Prim.Native.Nat.{ℕ, suc, _+_, _*_, _≤_, _<_, zero-le}
+use Prim.Native.Nat.{ℕ, suc, _+_, _*_, _%_, _≤_, _<_, zero-le}
 use mathlib.Core.Path.{_≡_, refl, ap, _∙_, sym}
 use mathlib.Core.List.{List, [], _∷_}
 use mathlib.Core.Bool.{Bool, true, false}
@@ -115,26 +115,26 @@ no-parts none xs e f = let z : _≡_ {A = ℕ} 0 1 = cc in omega arith
 no-parts (some ys) xs e f = let z : _≡_ {A = ℕ} 0 1 = cc in omega arith
 
 -- the first i of a type's fields are given, and the places of their values written
-pub record Upto (next : ℕ) (s pool : List ℕ) (to : ℕ) (fs : List FieldInit) (ts : List StructField) (i : ℕ) : Type 0 where
+pub record Upto (next : ℕ) (s rows : List ℕ) (to : ℕ) (fs : List FieldInit) (ts : List StructField) (i : ℕ) : Type 0 where
   pub told : isSome (fromStructFields fs ts) ≡ isSome (fromStructFields fs (drop i ts))
-  pub rest : (xs : List Value) → fromStructFields fs ts ≡ some xs → (fromStructFields fs (drop i ts) ≡ some (drop i xs)) × Filled next s pool to xs i
+  pub rest : (xs : List Value) → fromStructFields fs ts ≡ some xs → (fromStructFields fs (drop i ts) ≡ some (drop i xs)) × Filled next s rows to xs i
 
 -- i of a type's m names are done
-pub record Naming (s : List ℕ) (at n : ℕ) (types : List ℕ) (names m : ℕ) (pool₀ : List ℕ) (to : ℕ) (pool : List ℕ) (i : ℕ) : Type 0 where
+pub record Naming (s : List ℕ) (at n : ℕ) (types : List ℕ) (names m : ℕ) (rows₀ : List ℕ) (to : ℕ) (rows : List ℕ) (i : ℕ) : Type 0 where
   pub under : i ≤ m
-  pub grown : Grown pool₀ to pool
-  pub left : (next : ℕ) (fs : List FieldInit) (ts : List StructField) → Inits next s at fs → length fs ≡ n → Names types names ts → length ts ≡ m → to + m ≤ length pool₀ → Upto next s pool to fs ts i
+  pub grown : Grown rows₀ to rows
+  pub left : (next : ℕ) (fs : List FieldInit) (ts : List StructField) → Inits next s at fs → length fs ≡ n → Names types names ts → length ts ≡ m → length s < 65536 → to + m ≤ length rows₀ → Upto next s rows to fs ts i
 
 -- none yet
-pub naming : (s : List ℕ) (at n : ℕ) (types : List ℕ) (names m : ℕ) (pool : List ℕ) (to : ℕ) → Naming s at n types names m pool to pool 0
-naming s at n types names m pool to =
+pub naming : (s : List ℕ) (at n : ℕ) (types : List ℕ) (names m : ℕ) (rows : List ℕ) (to : ℕ) → Naming s at n types names m rows to rows 0
+naming s at n types names m rows to =
     record {
       under = zero-le;
-      grown = grown-none pool to;
-      left = λ next fs ts v l w k r. record { told = refl; rest = λ xs e. (e, record { each = λ j h. absurd (omega arith) }) };
+      grown = grown-none rows to;
+      left = λ next fs ts v l w k short r. record { told = refl; rest = λ xs e. (e, record { each = λ j h. absurd (omega arith) }) };
     }
 
-module _ {s : List ℕ} {at n : ℕ} {types : List ℕ} {names m : ℕ} {pool₀ : List ℕ} {to : ℕ} {pool : List ℕ} {i : ℕ} (o : Naming s at n types names m pool₀ to pool i) where
+module _ {s : List ℕ} {at n : ℕ} {types : List ℕ} {names m : ℕ} {rows₀ : List ℕ} {to : ℕ} {rows : List ℕ} {i : ℕ} (o : Naming s at n types names m rows₀ to rows i) where
   -- the parts from the next field on
   the-field : (name : NameId) (fs : List FieldInit) (ts : List StructField) → Names types names ts → length ts ≡ m → i < m → name .0 ≡ at16 types (names + 4 * i) → fromStructFields fs (drop i ts) ≡ consPart (given name fs) (fromStructFields fs (drop (i + 1) ts))
   unfolding fromStructFields
@@ -145,13 +145,13 @@ module _ {s : List ℕ} {at n : ℕ} {types : List ℕ} {names m : ℕ} {pool₀
       ap (fromStructFields fs) d ∙ ap (λ x. consPart (given x fs) (fromStructFields fs (drop (i + 1) ts))) q
 
   -- one more
-  pub named-more : {pool′ : List ℕ} {f : Init} (name : NameId) → i < m → name .0 ≡ at16 types (names + 4 * i) → ((next : ℕ) (fs : List FieldInit) → Inits next s at fs → length fs ≡ n → InitAt next s (given name fs) f) → f .given ≡ true → pool′ ≡ set pool (to + i) (f .place) → Naming s at n types names m pool₀ to pool′ (i + 1)
-  named-more {pool′} {f} name h e found all p =
+  pub named-more : {rows′ : List ℕ} {f : Init} (name : NameId) → i < m → name .0 ≡ at16 types (names + 4 * i) → ((next : ℕ) (fs : List FieldInit) → Inits next s at fs → length fs ≡ n → InitAt next s (given name fs) f) → f .given ≡ true → rows′ ≡ set rows (to + i) (f .place % 65536) → Naming s at n types names m rows₀ to rows′ (i + 1)
+  named-more {rows′} {f} name h e found all p =
       record {
         under = omega arith;
-        grown = rw p (grown-more (to + i) (f .place) (o .grown) (omega arith));
-        left = λ next fs ts v l w k r.
-            let u = o .left next fs ts v l w k r in
+        grown = rw p (grown-more (to + i) (f .place % 65536) (o .grown) (omega arith));
+        left = λ next fs ts v l w k short r.
+            let u = o .left next fs ts v l w k short r in
             let q = found next fs v l in
             let t = the-field name fs ts w k h e in
             record {
@@ -163,25 +163,25 @@ module _ {s : List ℕ} {at n : ℕ} {types : List ℕ} {names m : ℕ} {pool₀
                         let d : getD xs i Value.Error ≡ x = rw add-zero at (sym (getD-drop i xs 0 Value.Error)) ∙ ap (λ l. getD l 0 Value.Error) c in
                         let g : drop (i + 1) xs ≡ zs = sym (drop-drop 1 i xs) ∙ ap (drop 1) c in (
                           b ∙ ap some (sym g),
-                          rw p (filled-more (f .place) (y .1) (omega (arith, o .grown .size)) (rw d (q .stands x a))),
+                          rw p (filled-more (f .place) short (y .1) (omega (arith, o .grown .size)) (rw d (q .stands x a))),
                         )
                   ];
             };
       }
 
   -- one is missing
-  pub named-missing : {f : Init} (name : NameId) → i < m → name .0 ≡ at16 types (names + 4 * i) → ((next : ℕ) (fs : List FieldInit) → Inits next s at fs → length fs ≡ n → InitAt next s (given name fs) f) → f .given ≡ false → (next : ℕ) (fs : List FieldInit) (ts : List StructField) → Inits next s at fs → length fs ≡ n → Names types names ts → length ts ≡ m → to + m ≤ length pool₀ → NamedRow next s pool to m (fromStructFields fs ts) false
-  named-missing {f} name h e found none-there next fs ts v l w k r =
-      let u = o .left next fs ts v l w k r in
+  pub named-missing : {f : Init} (name : NameId) → i < m → name .0 ≡ at16 types (names + 4 * i) → ((next : ℕ) (fs : List FieldInit) → Inits next s at fs → length fs ≡ n → InitAt next s (given name fs) f) → f .given ≡ false → (next : ℕ) (fs : List FieldInit) (ts : List StructField) → Inits next s at fs → length fs ≡ n → Names types names ts → length ts ≡ m → length s < 65536 → to + m ≤ length rows₀ → NamedRow next s rows to m (fromStructFields fs ts) false
+  named-missing {f} name h e found none-there next fs ts v l w k short r =
+      let u = o .left next fs ts v l w k short r in
       let z : false ≡ isSome (fromStructFields fs ts) =
       sym (u .told ∙ ap isSome (the-field name fs ts w k h e) ∙ part-missing (given name fs) (fromStructFields fs (drop (i + 1) ts)) (sym (found next fs v l .told) ∙ none-there)) in
       record { told = z; row = λ xs g. absurd (no-parts (fromStructFields fs ts) xs z g) }
 
   -- all are given
-  pub named-all : m ≤ i → (next : ℕ) (fs : List FieldInit) (ts : List StructField) → Inits next s at fs → length fs ≡ n → Names types names ts → length ts ≡ m → to + m ≤ length pool₀ → NamedRow next s pool to m (fromStructFields fs ts) true
+  pub named-all : m ≤ i → (next : ℕ) (fs : List FieldInit) (ts : List StructField) → Inits next s at fs → length fs ≡ n → Names types names ts → length ts ≡ m → length s < 65536 → to + m ≤ length rows₀ → NamedRow next s rows to m (fromStructFields fs ts) true
   unfolding fromStructFields isSome
-  named-all h next fs ts v l w k r =
-      let u = o .left next fs ts v l w k r in
+  named-all h next fs ts v l w k short r =
+      let u = o .left next fs ts v l w k short r in
       let g : length ts ≤ i = omega arith in
       record {
         told = sym (u .told ∙ ap (λ us. isSome (fromStructFields fs us)) (drop-of-length-le ts g));
@@ -196,18 +196,18 @@ named-length fs (t ∷ ts) xs e =
     elim (consed-inv (given (t .name) fs) (fromStructFields fs ts) e) [ consed x zs a b c ↦ rw c (ap suc (named-length fs ts zs b)) ]
 
 -- d has a new row where all fields are given, else nothing changes
-pub rep-named : {next : ℕ} {s : List ℕ} {tracked : Marks} {firsts pool pool′ : List ℕ} {used : ℕ} {S : AggStates} (fs : List FieldInit) (ts : List StructField) (m : ℕ) (d : ValueId)
-    → Rep next s tracked firsts pool used S → Room tracked firsts pool used (d .0) → Grown pool used pool′ → length ts ≡ m → m ≤ 16 → getD pool′ used 0 ≡ m → {all : Bool} → all ≡ true → NamedRow next s pool′ (used + 1) m (fromStructFields fs ts) all
-    → (true ≡ isSome (fromStructFields fs ts)) × Rep next s (set tracked (d .0) true) (set firsts (d .0) used) pool′ (used + 1 + m) (givenParts S d (fromStructFields fs ts))
+pub rep-named : {next : ℕ} {s : List ℕ} {tracked : Marks} {rows rows′ : List ℕ} {used : ℕ} {S : AggStates} (fs : List FieldInit) (ts : List StructField) (m : ℕ) (d : ValueId)
+    → Rep next s tracked rows used S → Room rows used → d .0 < 256 → Grown rows used rows′ → length ts ≡ m → m ≤ 16 → getD rows′ used 0 ≡ m → {all : Bool} → all ≡ true → NamedRow next s rows′ (used + 1) m (fromStructFields fs ts) all
+    → (true ≡ isSome (fromStructFields fs ts)) × Rep next s (set tracked (d .0) true) (set rows′ (d .0) used) (used + 1 + m) (givenParts S d (fromStructFields fs ts))
 unfolding givenParts isSome
-rep-named {next} {s} {tracked} {firsts} {pool} {pool′} {used} {S} fs ts m d r q g l h c {all} y w = (sym y ∙ w .told, go (fromStructFields fs ts) refl)
+rep-named {next} {s} {tracked} {rows} {rows′} {used} {S} fs ts m d r q b g l h c {all} y w = (sym y ∙ w .told, go (fromStructFields fs ts) refl)
   where
-    go : (p : Option (List Value)) → fromStructFields fs ts ≡ p → Rep next s (set tracked (d .0) true) (set firsts (d .0) used) pool′ (used + 1 + m) (givenParts S d p)
+    go : (p : Option (List Value)) → fromStructFields fs ts ≡ p → Rep next s (set tracked (d .0) true) (set rows′ (d .0) used) (used + 1 + m) (givenParts S d p)
     go none e = absurd (let z : true ≡ false = sym y ∙ w .told ∙ ap isSome e in let u : _≡_ {A = ℕ} 0 1 = cc in omega arith)
-    go (some xs) e = rep-track xs m d r q g (named-length fs ts xs e ∙ l) h c (w .row xs e)
+    go (some xs) e = rep-track r xs m d q b g (named-length fs ts xs e ∙ l) h c (w .row xs e)
 
 -- some field is missing
-pub rep-missing : {next : ℕ} {s : List ℕ} {tracked : Marks} {firsts pool pool′ : List ℕ} {used : ℕ} {S : AggStates} (o : Option (List Value)) (d : ValueId) → Rep next s tracked firsts pool used S → Grown pool used pool′ → false ≡ isSome o → (false ≡ isSome o) × Rep next s tracked firsts pool′ used (givenParts S d o)
+pub rep-missing : {next : ℕ} {s : List ℕ} {tracked : Marks} {rows rows′ : List ℕ} {used : ℕ} {S : AggStates} (o : Option (List Value)) (d : ValueId) → Rep next s tracked rows used S → Grown rows used rows′ → false ≡ isSome o → (false ≡ isSome o) × Rep next s tracked rows′ used (givenParts S d o)
 unfolding givenParts isSome
 rep-missing none d r g e = (e, rep-old r g)
 rep-missing (some xs) d r g e = absurd (let z : _≡_ {A = ℕ} 0 1 = cc in omega arith)

@@ -1,22 +1,24 @@
 -- The loops that clear the marks and write rows.
-use Prim.Native.Nat.{ℕ, zero, suc, _+_, _*_, _≤_, _<_, zero-le}
+use Prim.Native.Nat.{ℕ, zero, suc, _+_, _*_, _%_, _≤_, _<_, zero-le}
 use mathlib.Core.Path.{_≡_, refl, ap, _∙_, sym}
 use mathlib.Core.Logic.{⊎-elim}
 use mathlib.Core.Bool.{Bool, true, false}
 use mathlib.Core.List.{List}
 use mathlib.Core.Option.{some}
-use native.Mathlib.Nat.{add-zero, add-assoc, eq-or-lt-of-le}
+use native.Mathlib.Nat.{add-zero, add-assoc, eq-or-lt-of-le, mod-eq-of-lt}
 use native.Mathlib.Omega.{arith}
 use borrow.Author.Tests.{eqb-true, eqb-false, ltb-true, ltb-false}
-use lib.ListN.{length, getD, set, length-set, List·getD-eq-default}
+use lib.ListN.{length, getD, set, drop, length-set, length-drop, List·getD-eq-default}
 use lib.Seq.{getD-set-same, getD-set-other}
 use lib.Dec.{eqb, ltb}
+use Rattle.wire.specs.Value.{valueOf, valueKinds}
 use Rattle.wire.specs.declared.Value.{Value}
 use Rattle.wire.specs.declared.ValueId.{ValueId}
+use Rattle.wire.proofs.Inv.{tagged-inv}
 use Rattle.lookup.specs.Fields.{after, valueEnd, valueStep}
 use Rattle.eligibility.specs.Family.{Marks}
 use Rattle.rewriting.specs.State.{AggStates, insertState, replaced}
-use Rattle.parts.specs.Rows.{ValueAt, Rep, Room, placeOf, Values}
+use Rattle.parts.specs.Rows.{ValueAt, stands, Rep, Room, placeOf, Values}
 use Rattle.parts.specs.Filled.{Grown, Filled}
 use Rattle.parts.proofs.Tables.{Held, found-row, rep-track, replaced-set}
 
@@ -52,38 +54,45 @@ cleared-all {tracked₀} {tracked} {i} c h v = go (ltb v (length tracked)) refl
     go true e = let l : v < length tracked = ltb-true v (length tracked) e in c .done v (omega arith)
     go false e = List·getD-eq-default tracked false {n = v} (ltb-false v (length tracked) e)
 
--- a pool that nothing was written to
-pub grown-none : (pool : List ℕ) (to : ℕ) → Grown pool to pool
-grown-none pool to = record { size = refl; old = λ j h. refl }
+-- a table that nothing was written to
+pub grown-none : (rows : List ℕ) (to : ℕ) → Grown rows to rows
+grown-none rows to = record { size = refl; old = λ j h. refl }
 
 -- one more place
-pub grown-more : {pool pool′ : List ℕ} {to : ℕ} (i place : ℕ) → Grown pool to pool′ → to ≤ i → Grown pool to (set pool′ i place)
-grown-more {pool} {pool′} {to} i place g h =
+pub grown-more : {rows rows′ : List ℕ} {to : ℕ} (i place : ℕ) → Grown rows to rows′ → to ≤ i → Grown rows to (set rows′ i place)
+grown-more {rows} {rows′} {to} i place g h =
     record {
-      size = length-set pool′ i place ∙ g .size;
-      old = λ j l. getD-set-other pool′ i j place 0 (λ e. omega arith) ∙ g .old j l;
+      size = length-set rows′ i place ∙ g .size;
+      old = λ j l. getD-set-other rows′ i j place 0 (λ e. omega arith) ∙ g .old j l;
     }
 
 -- a row's number is written, and behind it its places: nothing moves below the row
-pub grown-row : (pool : List ℕ) {pool₁ pool′ : List ℕ} (to n : ℕ) → pool₁ ≡ set pool to n → Grown pool₁ (to + 1) pool′ → Grown pool to pool′
-grown-row pool {pool₁} {pool′} to n e g =
+pub grown-row : (rows : List ℕ) {rows₁ rows′ : List ℕ} (to n : ℕ) → rows₁ ≡ set rows to n → Grown rows₁ (to + 1) rows′ → Grown rows to rows′
+grown-row rows {rows₁} {rows′} to n e g =
     record {
-      size = g .size ∙ ap length e ∙ length-set pool to n;
-      old = λ j l. g .old j (omega arith) ∙ ap (λ p. getD p j 0) e ∙ getD-set-other pool to j n 0 (λ z. omega arith);
+      size = g .size ∙ ap length e ∙ length-set rows to n;
+      old = λ j l. g .old j (omega arith) ∙ ap (λ p. getD p j 0) e ∙ getD-set-other rows to j n 0 (λ z. omega arith);
     }
 
 -- and the number stays
-pub row-number : (pool : List ℕ) {pool₁ pool′ : List ℕ} (to n : ℕ) → to < length pool → pool₁ ≡ set pool to n → Grown pool₁ (to + 1) pool′ → getD pool′ to 0 ≡ n
-row-number pool {pool₁} {pool′} to n h e g = g .old to (omega arith) ∙ ap (λ p. getD p to 0) e ∙ getD-set-same pool to n 0 h
+pub row-number : (rows : List ℕ) {rows₁ rows′ : List ℕ} (to n : ℕ) → to < length rows → rows₁ ≡ set rows to n → Grown rows₁ (to + 1) rows′ → getD rows′ to 0 ≡ n
+row-number rows {rows₁} {rows′} to n h e g = g .old to (omega arith) ∙ ap (λ p. getD p to 0) e ∙ getD-set-same rows to n 0 h
+
+-- a value's place is one of the bytes: its lowest 16 bits are all of it
+pub place-low : {next : ℕ} {s : List ℕ} {place : ℕ} {x : Value} → length s < 65536 → ValueAt next s place x → place % 65536 ≡ place
+unfolding valueOf
+place-low {next} {s} {place} h (stands n e) =
+    mod-eq-of-lt (let l = tagged-inv (valueKinds next) (drop place s) e .0 in omega (arith, length-drop place s))
 
 -- the place of one more value
-pub filled-more : {next : ℕ} {s pool : List ℕ} {to : ℕ} {xs : List Value} {i : ℕ} (place : ℕ) → Filled next s pool to xs i → to + i < length pool → ValueAt next s place (getD xs i Value.Error) → Filled next s (set pool (to + i) place) to xs (i + 1)
-filled-more {next} {s} {pool} {to} {xs} {i} place f h v =
+pub filled-more : {next : ℕ} {s rows : List ℕ} {to : ℕ} {xs : List Value} {i : ℕ} (place : ℕ) → length s < 65536 → Filled next s rows to xs i → to + i < length rows → ValueAt next s place (getD xs i Value.Error) → Filled next s (set rows (to + i) (place % 65536)) to xs (i + 1)
+filled-more {next} {s} {rows} {to} {xs} {i} place short f h v =
     record {
       each =
-          one-more (λ j. ValueAt next s (getD (set pool (to + i) place) (to + j) 0) (getD xs j Value.Error)) i
-          (λ j l. rw (getD-set-other pool (to + i) (to + j) place 0 (λ e. omega arith)) (f .each j l))
-          (rw (getD-set-same pool (to + i) place 0 h) v);
+          rw (place-low short v)
+          (one-more (λ j. ValueAt next s (getD (set rows (to + i) place) (to + j) 0) (getD xs j Value.Error)) i
+          (λ j l. rw (getD-set-other rows (to + i) (to + j) place 0 (λ e. omega arith)) (f .each j l))
+          (rw (getD-set-same rows (to + i) place 0 h) v));
     }
 
 -- the place of the next thing is behind the one before
@@ -98,85 +107,86 @@ place-more s before at i here there e f =
     z ∙ ap (valueStep s before 0) e ∙ sym (after-end (valueStep s before 0) i at)
 
 -- the places of i of n values are written
-pub record Laying (s : List ℕ) (before n at : ℕ) (pool₀ : List ℕ) (to : ℕ) (pool : List ℕ) (here i : ℕ) : Type 0 where
+pub record Laying (s : List ℕ) (before n at : ℕ) (rows₀ : List ℕ) (to : ℕ) (rows : List ℕ) (here i : ℕ) : Type 0 where
   pub under : i ≤ n
   pub near : here ≤ at + 300 * i
   pub place : here ≡ placeOf s before at i
-  pub grown : Grown pool₀ to pool
-  pub filled : (next : ℕ) (xs : List Value) → Values next s before at xs → length xs ≡ n → to + n ≤ length pool₀ → Filled next s pool to xs i
+  pub grown : Grown rows₀ to rows
+  pub filled : (next : ℕ) (xs : List Value) → Values next s before at xs → length xs ≡ n → length s < 65536 → to + n ≤ length rows₀ → Filled next s rows to xs i
 
 -- none yet
-pub laying : (s : List ℕ) (before n at : ℕ) (pool : List ℕ) (to : ℕ) → Laying s before n at pool to pool at 0
+pub laying : (s : List ℕ) (before n at : ℕ) (rows : List ℕ) (to : ℕ) → Laying s before n at rows to rows at 0
 unfolding after
-laying s before n at pool to =
+laying s before n at rows to =
     record {
       under = zero-le;
       near = omega arith;
       place = refl;
-      grown = grown-none pool to;
-      filled = λ next xs v l r. record { each = λ j h. absurd (omega arith) };
+      grown = grown-none rows to;
+      filled = λ next xs v l short r. record { each = λ j h. absurd (omega arith) };
     }
 
 -- one more
-pub laid-more : {s : List ℕ} {before n at : ℕ} {pool₀ : List ℕ} {to : ℕ} {pool : List ℕ} {here i : ℕ} {pool′ : List ℕ} {there : ℕ} → Laying s before n at pool₀ to pool here i → i < n → before < 256 → pool′ ≡ set pool (to + i) (here + before) → there ≡ valueEnd s (here + before) → there ≤ here + before + 5 → Laying s before n at pool₀ to pool′ there (i + 1)
-laid-more {s} {before} {n} {at} {pool₀} {to} {pool} {here} {i} {pool′} {there} o h b e f near =
+pub laid-more : {s : List ℕ} {before n at : ℕ} {rows₀ : List ℕ} {to : ℕ} {rows : List ℕ} {here i : ℕ} {rows′ : List ℕ} {there : ℕ} → Laying s before n at rows₀ to rows here i → i < n → before < 256 → rows′ ≡ set rows (to + i) ((here + before) % 65536) → there ≡ valueEnd s (here + before) → there ≤ here + before + 5 → Laying s before n at rows₀ to rows′ there (i + 1)
+laid-more {s} {before} {n} {at} {rows₀} {to} {rows} {here} {i} {rows′} {there} o h b e f near =
     record {
       under = omega arith;
       near = omega (arith, o .near);
       place = place-more s before at i here there (o .place) f;
-      grown = rw e (grown-more (to + i) (here + before) (o .grown) (omega arith));
-      filled = λ next xs v l r.
-          rw e (filled-more (here + before) (o .filled next xs v l r) (omega (arith, o .grown .size)) (rw (o .place) (v .each i (omega arith))));
+      grown = rw e (grown-more (to + i) ((here + before) % 65536) (o .grown) (omega arith));
+      filled = λ next xs v l short r.
+          rw e (filled-more (here + before) short (o .filled next xs v l short r) (omega (arith, o .grown .size)) (rw (o .place) (v .each i (omega arith))));
     }
 
 -- i of n places are copied
-pub record Copying (pool₀ : List ℕ) (from to n : ℕ) (pool : List ℕ) (i : ℕ) : Type 0 where
+pub record Copying (rows₀ : List ℕ) (from to n : ℕ) (rows : List ℕ) (i : ℕ) : Type 0 where
   pub under : i ≤ n
-  pub grown : Grown pool₀ to pool
-  pub done : from + n ≤ to → to + n ≤ length pool₀ → (j : ℕ) → j < i → getD pool (to + j) 0 ≡ getD pool₀ (from + j) 0
+  pub grown : Grown rows₀ to rows
+  pub done : from + n ≤ to → to + n ≤ length rows₀ → (j : ℕ) → j < i → getD rows (to + j) 0 ≡ getD rows₀ (from + j) 0
 
 -- none yet
-pub copying : (pool : List ℕ) (from to n : ℕ) → Copying pool from to n pool 0
-copying pool from to n = record { under = zero-le; grown = grown-none pool to; done = λ p q j h. absurd (omega arith) }
+pub copying : (rows : List ℕ) (from to n : ℕ) → Copying rows from to n rows 0
+copying rows from to n = record { under = zero-le; grown = grown-none rows to; done = λ p q j h. absurd (omega arith) }
 
 -- one more
-pub copied-more : {pool₀ : List ℕ} {from to n : ℕ} {pool : List ℕ} {i : ℕ} {pool′ : List ℕ} {place : ℕ} → Copying pool₀ from to n pool i → i < n → place ≡ getD pool (from + i) 0 → pool′ ≡ set pool (to + i) place → Copying pool₀ from to n pool′ (i + 1)
-copied-more {pool₀} {from} {to} {n} {pool} {i} {pool′} {place} o h f e =
+pub copied-more : {rows₀ : List ℕ} {from to n : ℕ} {rows : List ℕ} {i : ℕ} {rows′ : List ℕ} {place : ℕ} → Copying rows₀ from to n rows i → i < n → place ≡ getD rows (from + i) 0 → rows′ ≡ set rows (to + i) place → Copying rows₀ from to n rows′ (i + 1)
+copied-more {rows₀} {from} {to} {n} {rows} {i} {rows′} {place} o h f e =
     record {
       under = omega arith;
       grown = rw e (grown-more (to + i) place (o .grown) (omega arith));
       done = λ p q.
           rw e
-          (one-more (λ j. getD (set pool (to + i) place) (to + j) 0 ≡ getD pool₀ (from + j) 0) i
-          (λ j l. getD-set-other pool (to + i) (to + j) place 0 (λ z. omega arith) ∙ o .done p q j l)
-          (getD-set-same pool (to + i) place 0 (omega (arith, o .grown .size)) ∙ f ∙ o .grown .old (from + i) (omega arith)));
+          (one-more (λ j. getD (set rows (to + i) place) (to + j) 0 ≡ getD rows₀ (from + j) 0) i
+          (λ j l. getD-set-other rows (to + i) (to + j) place 0 (λ z. omega arith) ∙ o .done p q j l)
+          (getD-set-same rows (to + i) place 0 (omega (arith, o .grown .size)) ∙ f ∙ o .grown .old (from + i) (omega arith)));
     }
 
 -- d has a copy of the row of v, with part k at another place
-pub rep-replace : {next : ℕ} {s : List ℕ} {tracked : Marks} {firsts pool pool′ : List ℕ} {used : ℕ} {S : AggStates} {xs ys : List Value} {y : Value} (d v : ValueId) (k n place : ℕ)
-    → Rep next s tracked firsts pool used S → Room tracked firsts pool used (d .0) → S (v .0) ≡ some xs → replaced xs k y ≡ some ys → ValueAt next s place y → length xs ≡ n
-    → Grown pool used pool′ → ((j : ℕ) → j < n + 1 → getD pool′ (used + j) 0 ≡ getD pool (getD firsts (v .0) 0 + j) 0)
-    → k < n → Rep next s (set tracked (d .0) true) (set firsts (d .0) used) (set pool′ (used + 1 + k) place) (used + 1 + n) (insertState S d ys)
-rep-replace {next} {s} {tracked} {firsts} {pool} {pool′} {used} {S} {xs} {ys} {y} d v k n place r q e f w l g c h =
+pub rep-replace : {next : ℕ} {s : List ℕ} {tracked : Marks} {rows rows′ : List ℕ} {used : ℕ} {S : AggStates} {xs ys : List Value} {y : Value} (d v : ValueId) (k n place : ℕ)
+    → Rep next s tracked rows used S → Room rows used → d .0 < 256 → S (v .0) ≡ some xs → replaced xs k y ≡ some ys → ValueAt next s place y → length xs ≡ n
+    → Grown rows used rows′ → ((j : ℕ) → j < n + 1 → getD rows′ (used + j) 0 ≡ getD rows (getD rows (v .0) 0 + j) 0)
+    → k < n → Rep next s (set tracked (d .0) true) (set (set rows′ (used + 1 + k) (place % 65536)) (d .0) used) (used + 1 + n) (insertState S d ys)
+rep-replace {next} {s} {tracked} {rows} {rows′} {used} {S} {xs} {ys} {y} d v k n place r q b e f w l g c h =
     let lk : k < length xs = omega arith in
     let ey : ys ≡ set xs k y = (let z : some ys ≡ some (set xs k y) = sym f ∙ replaced-set xs k y lk in cc) in
     let ly : length ys ≡ n = ap length ey ∙ length-set xs k y ∙ l in
-    rep-track ys n d r q (grown-more (used + 1 + k) place g (omega arith)) ly (omega (arith, held .most)) number
-    (record { each = λ j m. rw ey (part j m (eqb j k) refl) })
+    rw (place-low (r .short) w)
+    (rep-track r ys n d q b (grown-more (used + 1 + k) place g (omega arith)) ly (omega (arith, held .most)) number
+    (record { each = λ j m. rw ey (part j m (eqb j k) refl) }))
   where
-    held : Held next s pool (getD firsts (v .0) 0) used xs
+    held : Held next s rows (getD rows (v .0) 0) used xs
     held = found-row r (v .0) e
 
-    number : getD (set pool′ (used + 1 + k) place) used 0 ≡ n
-    number = getD-set-other pool′ (used + 1 + k) used place 0 (λ o. omega arith) ∙ rw (add-zero used, add-zero (getD firsts (v .0) 0)) at (c 0 (omega arith)) ∙ held .many ∙ l
+    number : getD (set rows′ (used + 1 + k) place) used 0 ≡ n
+    number = getD-set-other rows′ (used + 1 + k) used place 0 (λ o. omega arith) ∙ rw (add-zero used, add-zero (getD rows (v .0) 0)) at (c 0 (omega arith)) ∙ held .many ∙ l
 
-    copied : (j : ℕ) → j < n → getD pool′ (used + 1 + j) 0 ≡ getD pool (getD firsts (v .0) 0 + 1 + j) 0
-    copied j m = rw (add-assoc used 1 j, add-assoc (getD firsts (v .0) 0) 1 j) (c (1 + j) (omega arith))
+    copied : (j : ℕ) → j < n → getD rows′ (used + 1 + j) 0 ≡ getD rows (getD rows (v .0) 0 + 1 + j) 0
+    copied j m = rw (add-assoc used 1 j, add-assoc (getD rows (v .0) 0) 1 j) (c (1 + j) (omega arith))
 
-    part : (j : ℕ) → j < n → (b : Bool) → eqb j k ≡ b → ValueAt next s (getD (set pool′ (used + 1 + k) place) (used + 1 + j) 0) (getD (set xs k y) j Value.Error)
+    part : (j : ℕ) → j < n → (b : Bool) → eqb j k ≡ b → ValueAt next s (getD (set rows′ (used + 1 + k) place) (used + 1 + j) 0) (getD (set xs k y) j Value.Error)
     part j m true z =
         let p : j ≡ k = eqb-true j k z in
-        rw (p, getD-set-same pool′ (used + 1 + k) place 0 (omega (arith, q .places, held .most, g .size)), getD-set-same xs k y Value.Error (omega arith)) w
+        rw (p, getD-set-same rows′ (used + 1 + k) place 0 (omega (arith, q, held .most, g .size)), getD-set-same xs k y Value.Error (omega arith)) w
     part j m false z =
         let p : (j ≡ k → ⊥) = eqb-false j k z in
-        rw (getD-set-other pool′ (used + 1 + k) (used + 1 + j) place 0 (λ o. p (omega arith)), copied j m, getD-set-other xs k j y Value.Error p) (held .parts .each j (omega arith))
+        rw (getD-set-other rows′ (used + 1 + k) (used + 1 + j) place 0 (λ o. p (omega arith)), copied j m, getD-set-other xs k j y Value.Error p) (held .parts .each j (omega arith))

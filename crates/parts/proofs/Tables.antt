@@ -6,7 +6,7 @@ use mathlib.Core.Bool.{Bool, true, false}
 use mathlib.Core.Option.{Option, none, some}
 use native.Mathlib.Omega.{arith}
 use borrow.Author.Tests.{eqb-true, eqb-false, ltb-true, ltb-false}
-use lib.ListN.{length, getD, getElem?, set}
+use lib.ListN.{length, getD, getElem?, set, length-set, List·getD-eq-default}
 use lib.Seq.{getD-set-same, getD-set-other}
 use lib.Dec.{eqb, ltb}
 use Rattle.wire.specs.declared.Value.{Value}
@@ -18,31 +18,32 @@ use Rattle.parts.specs.Rows.{RowAt, Entry, untracked, row, Rep, Room}
 use Rattle.parts.specs.Filled.{Grown, Filled}
 
 -- what is known of a tracked value with the parts xs
-pub record Held (next : ℕ) (s pool : List ℕ) (from used : ℕ) (xs : List Value) : Type 0 where
-  pub many : getD pool from 0 ≡ length xs
-  pub parts : RowAt next s pool (from + 1) xs
+pub record Held (next : ℕ) (s rows : List ℕ) (from used : ℕ) (xs : List Value) : Type 0 where
+  pub behind : 256 ≤ from
+  pub many : getD rows from 0 ≡ length xs
+  pub parts : RowAt next s rows (from + 1) xs
   pub below : from + 1 + length xs ≤ used
   pub most : length xs ≤ 16
 
 -- an entry's mark is that of its state
-entry-marked : {next : ℕ} {s pool : List ℕ} {from used : ℕ} {m : Bool} {o : Option (List Value)} → Entry next s pool from used m o → m ≡ isSome o
+entry-marked : {next : ℕ} {s rows : List ℕ} {from used : ℕ} {m : Bool} {o : Option (List Value)} → Entry next s rows from used m o → m ≡ isSome o
 unfolding isSome
 entry-marked untracked = refl
-entry-marked (row xs c r b m) = refl
+entry-marked (row xs f c r b m) = refl
 
 -- the row of an entry
-entry-held : {next : ℕ} {s pool : List ℕ} {from used : ℕ} {m : Bool} {o : Option (List Value)} {xs : List Value} → Entry next s pool from used m o → o ≡ some xs → Held next s pool from used xs
+entry-held : {next : ℕ} {s rows : List ℕ} {from used : ℕ} {m : Bool} {o : Option (List Value)} {xs : List Value} → Entry next s rows from used m o → o ≡ some xs → Held next s rows from used xs
 entry-held {xs} untracked e = absurd (let z : _≡_ {A = ℕ} 0 1 = cc in omega arith)
-entry-held {xs} (row ys c r b m) e =
+entry-held {xs} (row ys f c r b m) e =
     let z : xs ≡ ys = cc in
-    rw z (record { many = c; parts = r; below = b; most = m })
+    rw z (record { behind = f; many = c; parts = r; below = b; most = m })
 
 -- a value is marked where it has a state
-pub found-mark : {next : ℕ} {s : List ℕ} {tracked : Marks} {firsts pool : List ℕ} {used : ℕ} {S : AggStates} → Rep next s tracked firsts pool used S → (v : ℕ) → getD tracked v false ≡ isSome (S v)
+pub found-mark : {next : ℕ} {s : List ℕ} {tracked : Marks} {rows : List ℕ} {used : ℕ} {S : AggStates} → Rep next s tracked rows used S → (v : ℕ) → getD tracked v false ≡ isSome (S v)
 found-mark r v = entry-marked (r .entries v)
 
 -- a tracked value has a row
-pub found-row : {next : ℕ} {s : List ℕ} {tracked : Marks} {firsts pool : List ℕ} {used : ℕ} {S : AggStates} {xs : List Value} → Rep next s tracked firsts pool used S → (v : ℕ) → S v ≡ some xs → Held next s pool (getD firsts v 0) used xs
+pub found-row : {next : ℕ} {s : List ℕ} {tracked : Marks} {rows : List ℕ} {used : ℕ} {S : AggStates} {xs : List Value} → Rep next s tracked rows used S → (v : ℕ) → S v ≡ some xs → Held next s rows (getD rows v 0) used xs
 found-row r v e = entry-held (r .entries v) e
 
 -- part k of a list
@@ -51,61 +52,81 @@ element-some [] k h = absurd (omega arith)
 element-some (x ∷ xs) zero h = refl
 element-some (x ∷ xs) (suc k) h = element-some xs k (omega arith)
 
--- where nothing moves below `used`, a row stays
-pub row-old : {next : ℕ} {s pool pool′ : List ℕ} {from used : ℕ} {xs : List Value} → Grown pool used pool′ → from + length xs ≤ used → RowAt next s pool from xs → RowAt next s pool′ from xs
-row-old {next} {s} {pool} {pool′} {from} {used} {xs} g b r =
-    record { each = λ k h. let e : getD pool′ (from + k) 0 ≡ getD pool (from + k) 0 = g .old (from + k) (omega arith) in rw e (r .each k h) }
+-- nothing moves among the rows
+abbrev Still : List ℕ → ℕ → List ℕ → Type 0
+Still rows used rows′ = (j : ℕ) → 256 ≤ j → j < used → getD rows′ j 0 ≡ getD rows j 0
 
--- and so does an entry
-entry-old : {next : ℕ} {s pool pool′ : List ℕ} {from used used′ : ℕ} {m : Bool} {o : Option (List Value)} → Grown pool used pool′ → used ≤ used′ → Entry next s pool from used m o → Entry next s pool′ from used′ m o
-entry-old g h untracked = untracked
-entry-old {from} g h (row xs c r b m) = row xs (g .old from (omega arith) ∙ c) (row-old g b r) (omega arith) m
+-- then a row stays
+row-old : {next : ℕ} {s rows rows′ : List ℕ} {from used : ℕ} {xs : List Value} → Still rows used rows′ → 256 ≤ from → from + length xs ≤ used → RowAt next s rows from xs → RowAt next s rows′ from xs
+row-old {next} {s} {rows} {rows′} {from} {used} {xs} g f b r =
+    record { each = λ k h. let e : getD rows′ (from + k) 0 ≡ getD rows (from + k) 0 = g (from + k) (omega arith) (omega arith) in rw e (r .each k h) }
 
--- the states stay where the pool grows
-pub rep-old : {next : ℕ} {s : List ℕ} {tracked : Marks} {firsts pool pool′ : List ℕ} {used : ℕ} {S : AggStates} → Rep next s tracked firsts pool used S → Grown pool used pool′ → Rep next s tracked firsts pool′ used S
-rep-old {used} r g = record { entries = λ v. entry-old g (omega arith) (r .entries v); room = omega (arith, r .room, g .size) }
+-- and so does an entry, if its row begins where it began
+entry-old : {next : ℕ} {s rows rows′ : List ℕ} {from from′ used used′ : ℕ} {m : Bool} {o : Option (List Value)} → Still rows used rows′ → used ≤ used′ → (m ≡ true → from′ ≡ from) → Entry next s rows from used m o → Entry next s rows′ from′ used′ m o
+entry-old g h w untracked = untracked
+entry-old {from} g h w (row xs f c r b m) = rw (w refl) (row xs f (g from f (omega arith) ∙ c) (row-old g (omega arith) b r) (omega arith) m)
 
--- a new entry for d: where its row stands, the parts are its state
-pub rep-put : {next : ℕ} {s : List ℕ} {tracked : Marks} {firsts pool pool′ : List ℕ} {used used′ : ℕ} {S : AggStates} {xs : List Value} (from : ℕ) (d : ValueId)
-    → Rep next s tracked firsts pool used S → Grown pool used pool′ → d .0 < length tracked → d .0 < length firsts → length xs ≤ 16
-    → used ≤ used′ → used′ ≤ length pool → from + 1 + length xs ≤ used′ → getD pool′ from 0 ≡ length xs → RowAt next s pool′ (from + 1) xs
-    → Rep next s (set tracked (d .0) true) (set firsts (d .0) from) pool′ used′ (insertState S d xs)
-unfolding insertState
-rep-put {next} {s} {tracked} {firsts} {pool} {pool′} {used} {used′} {S} {xs} from d r g hc hf hm hu hp hb many new =
-    record { entries = λ v. one v (eqb v (d .0)) refl; room = omega (arith, g .size) }
-  where
-    one : (v : ℕ) (b : Bool) → eqb v (d .0) ≡ b → Entry next s pool′ (getD (set firsts (d .0) from) v 0) used′ (getD (set tracked (d .0) true) v false) (insertState S d xs v)
-    one v true e =
-        let z : v ≡ d .0 = eqb-true v (d .0) e in
-        rw (e, z, getD-set-same tracked (d .0) true false hc, getD-set-same firsts (d .0) from 0 hf) (row xs many new hb hm)
-    one v false e =
-        let z : (v ≡ d .0 → ⊥) = eqb-false v (d .0) e in
-        rw (e, getD-set-other tracked (d .0) v true false z, getD-set-other firsts (d .0) v from 0 z) (entry-old g hu (r .entries v))
+module _ {next : ℕ} {s : List ℕ} {tracked : Marks} {rows : List ℕ} {used : ℕ} {S : AggStates} (r : Rep next s tracked rows used S) where
+  -- a marked value is one of the first 256
+  marked-below : (v : ℕ) → getD tracked v false ≡ true → v < 256
+  marked-below v e = go (ltb v (length tracked)) refl
+    where
+      go : (b : Bool) → ltb v (length tracked) ≡ b → v < 256
+      go true z = let l : v < length tracked = ltb-true v (length tracked) z in omega (arith, r .marks)
+      go false z = absurd (let y : false ≡ true = sym (List·getD-eq-default tracked false {n = v} (ltb-false v (length tracked) z)) ∙ e in let u : _≡_ {A = ℕ} 0 1 = cc in omega arith)
 
--- a pool does not change by itself
-same : {pool : List ℕ} {used : ℕ} → Grown pool used pool
-same = record { size = refl; old = λ j h. refl }
+  -- the states stay where rows are written behind the others
+  pub rep-old : {rows′ : List ℕ} → Grown rows used rows′ → Rep next s tracked rows′ used S
+  rep-old {rows′} g =
+      record {
+        entries = λ v. entry-old (λ j l m. g .old j m) (omega arith) (λ e. let l = marked-below v e in g .old v (omega (arith, r .behind))) (r .entries v);
+        room = omega (arith, r .room, g .size);
+        behind = r .behind;
+        marks = r .marks;
+        short = r .short;
+      }
 
--- d takes the row of v
-pub rep-share : {next : ℕ} {s : List ℕ} {tracked : Marks} {firsts pool : List ℕ} {used : ℕ} {S : AggStates} {xs : List Value} (d v : ValueId)
-    → Rep next s tracked firsts pool used S → S (v .0) ≡ some xs → d .0 < length tracked → d .0 < length firsts
-    → Rep next s (set tracked (d .0) true) (set firsts (d .0) (getD firsts (v .0) 0)) pool used (insertState S d xs)
-rep-share {next} {s} {tracked} {firsts} {pool} {used} {S} {xs} d v r e hc hf =
-    let h = found-row r (v .0) e in
-    rep-put (getD firsts (v .0) 0) d r same hc hf (h .most) (omega arith) (r .room) (h .below) (h .many) (h .parts)
+  -- a new entry for d: where its row stands, the parts are its state
+  rep-put : {rows′ : List ℕ} {used′ : ℕ} {xs : List Value} (from : ℕ) (d : ValueId) → Grown rows used rows′ → d .0 < 256 → used ≤ used′ → used′ ≤ length rows → Held next s rows′ from used′ xs
+      → Rep next s (set tracked (d .0) true) (set rows′ (d .0) from) used′ (insertState S d xs)
+  unfolding insertState
+  rep-put {rows′} {used′} {xs} from d g hd hu hp h =
+      record {
+        entries = λ v. one v (eqb v (d .0)) refl;
+        room = omega (arith, g .size, length-set rows′ (d .0) from);
+        behind = omega (arith, r .behind);
+        marks = length-set tracked (d .0) true ∙ r .marks;
+        short = r .short;
+      }
+    where
+      still : {u : ℕ} → Still rows′ u (set rows′ (d .0) from)
+      still j l m = getD-set-other rows′ (d .0) j from 0 (λ e. omega arith)
 
--- d has a new row, written behind the others: the number of its parts, then their places
-pub rep-track : {next : ℕ} {s : List ℕ} {tracked : Marks} {firsts pool pool′ : List ℕ} {used : ℕ} {S : AggStates} (xs : List Value) (n : ℕ) (d : ValueId)
-    → Rep next s tracked firsts pool used S → Room tracked firsts pool used (d .0) → Grown pool used pool′ → length xs ≡ n → n ≤ 16 → getD pool′ used 0 ≡ n → Filled next s pool′ (used + 1) xs n
-    → Rep next s (set tracked (d .0) true) (set firsts (d .0) used) pool′ (used + 1 + n) (insertState S d xs)
-rep-track {next} {s} {tracked} {firsts} {pool} {pool′} {used} {S} xs n d r q g l m c f =
-    rep-put used d r g (q .mark) (q .first) (omega arith) (omega arith) (omega (arith, q .places)) (omega arith) (c ∙ sym l)
-    (record { each = λ k h. f .each k (omega arith) })
+      one : (v : ℕ) (b : Bool) → eqb v (d .0) ≡ b → Entry next s (set rows′ (d .0) from) (getD (set rows′ (d .0) from) v 0) used′ (getD (set tracked (d .0) true) v false) (insertState S d xs v)
+      one v true e =
+          let z : v ≡ d .0 = eqb-true v (d .0) e in
+          rw (e, z, getD-set-same tracked (d .0) true false (omega (arith, r .marks)), getD-set-same rows′ (d .0) from 0 (omega (arith, r .behind, r .room, g .size)))
+          (entry-old {used = used′} still (omega arith) (λ q. refl) (row xs (h .behind) (h .many) (h .parts) (h .below) (h .most)))
+      one v false e =
+          let z : (v ≡ d .0 → ⊥) = eqb-false v (d .0) e in
+          rw (e, getD-set-other tracked (d .0) v true false z)
+          (entry-old (λ j l m. still {u = used} j l m ∙ g .old j m) hu (λ q. let l = marked-below v q in getD-set-other rows′ (d .0) v from 0 z ∙ g .old v (omega (arith, r .behind))) (r .entries v))
+
+  -- d takes the row of v
+  pub rep-share : {xs : List Value} (d v : ValueId) → S (v .0) ≡ some xs → d .0 < 256 → Rep next s (set tracked (d .0) true) (set rows (d .0) (getD rows (v .0) 0)) used (insertState S d xs)
+  rep-share d v e h = rep-put (getD rows (v .0) 0) d (record { size = refl; old = λ j l. refl }) h (omega arith) (r .room) (found-row r (v .0) e)
+
+  -- d has a new row, written behind the others: the number of its parts, then their places
+  pub rep-track : {rows′ : List ℕ} (xs : List Value) (n : ℕ) (d : ValueId) → Room rows used → d .0 < 256 → Grown rows used rows′ → length xs ≡ n → n ≤ 16 → getD rows′ used 0 ≡ n → Filled next s rows′ (used + 1) xs n
+      → Rep next s (set tracked (d .0) true) (set rows′ (d .0) used) (used + 1 + n) (insertState S d xs)
+  rep-track xs n d q h g l m c f =
+      rep-put used d g h (omega arith) (omega (arith, q))
+      (record { behind = r .behind; many = c ∙ sym l; parts = record { each = λ k p. f .each k (omega arith) }; below = omega arith; most = omega arith })
 
 -- nothing is tracked where no mark stands
-pub rep-clear : {next : ℕ} {s : List ℕ} {tracked : Marks} {firsts pool : List ℕ} {used : ℕ} → ((v : ℕ) → getD tracked v false ≡ false) → used ≤ length pool → Rep next s tracked firsts pool used noStates
+pub rep-clear : {next : ℕ} {s : List ℕ} {tracked : Marks} {rows : List ℕ} {used : ℕ} → ((v : ℕ) → getD tracked v false ≡ false) → used ≤ length rows → 256 ≤ used → length tracked ≡ 256 → length s < 65536 → Rep next s tracked rows used noStates
 unfolding noStates
-rep-clear z h = record { entries = λ v. rw (z v) untracked; room = h }
+rep-clear z h b m l = record { entries = λ v. rw (z v) untracked; room = h; behind = b; marks = m; short = l }
 
 -- part k replaced, where there is such a part
 pub replaced-set : (xs : List Value) (k : ℕ) (y : Value) → k < length xs → replaced xs k y ≡ some (set xs k y)

@@ -1,10 +1,10 @@
--- How the code keeps the parts of tracked values: the places of values in the input, in rows of a pool that only grows.
+-- How the code keeps the parts of tracked values: the places of values in the input, in rows of a table.
 use Prim.Native.Nat.{ℕ, _+_, _*_, _≤_, _<_}
 use mathlib.Core.Path.{_≡_}
 use mathlib.Core.List.{List}
 use mathlib.Core.Bool.{Bool, true, false}
 use mathlib.Core.Option.{Option, none, some}
-use lib.ListN.{length, getD}
+use lib.ListN.{length, getD, take, drop}
 use Rattle.wire.specs.Number.{at16}
 use Rattle.wire.specs.declared.Value.{Value}
 use Rattle.wire.specs.declared.ValueId.{ValueId}
@@ -17,26 +17,36 @@ use Rattle.eligibility.specs.Family.{Marks}
 use Rattle.rewriting.specs.State.{AggStates, insertState}
 use Rattle.parts.specs.declared.Init.{Init}
 
--- the places of the values xs stand in the pool from `from` on
-pub record RowAt (next : ℕ) (s pool : List ℕ) (from : ℕ) (xs : List Value) : Type 0 where
-  pub each : (k : ℕ) → k < length xs → ValueAt next s (getD pool (from + k) 0) (getD xs k Value.Error)
+-- the places of the values xs stand in the table from `from` on
+pub record RowAt (next : ℕ) (s rows : List ℕ) (from : ℕ) (xs : List Value) : Type 0 where
+  pub each : (k : ℕ) → k < length xs → ValueAt next s (getD rows (from + k) 0) (getD xs k Value.Error)
 
 -- what the tables say of one value: no mark where it is not tracked, else a mark and its row, which has the number of
 -- its parts at `from` and their places behind it
-pub data Entry (next : ℕ) (s pool : List ℕ) (from used : ℕ) : Bool → Option (List Value) → Type 0 where
-  untracked : Entry next s pool from used false none
-  row : (xs : List Value) → getD pool from 0 ≡ length xs → RowAt next s pool (from + 1) xs → from + 1 + length xs ≤ used → length xs ≤ 16 → Entry next s pool from used true (some xs)
+pub data Entry (next : ℕ) (s rows : List ℕ) (from used : ℕ) : Bool → Option (List Value) → Type 0 where
+  untracked : Entry next s rows from used false none
+  row : (xs : List Value) → 256 ≤ from → getD rows from 0 ≡ length xs → RowAt next s rows (from + 1) xs → from + 1 + length xs ≤ used → length xs ≤ 16 → Entry next s rows from used true (some xs)
 
--- the tables hold the states; the pool is used up to `used`
-pub record Rep (next : ℕ) (s : List ℕ) (tracked : Marks) (firsts pool : List ℕ) (used : ℕ) (S : AggStates) : Type 0 where
-  pub entries : (v : ℕ) → Entry next s pool (getD firsts v 0) used (getD tracked v false) (S v)
-  pub room : used ≤ length pool
+-- the tables hold the states: `tracked` has a mark for each tracked value, `rows` says at its number where its row begins,
+-- and has the rows from 256 on, up to `used`
+pub record Rep (next : ℕ) (s : List ℕ) (tracked : Marks) (rows : List ℕ) (used : ℕ) (S : AggStates) : Type 0 where
+  pub entries : (v : ℕ) → Entry next s rows (getD rows v 0) used (getD tracked v false) (S v)
+  pub room : used ≤ length rows
+  pub behind : 256 ≤ used
+  pub marks : length tracked ≡ 256
+  pub short : length s < 65536
 
--- d is a number of the tables, and the pool has room for one more row: at most 17 numbers
-pub record Room (tracked : Marks) (firsts pool : List ℕ) (used d : ℕ) : Type 0 where
-  pub mark : d < length tracked
-  pub first : d < length firsts
-  pub places : used + 17 ≤ length pool
+-- there is room for one more row: at most 17 numbers
+abbrev pub Room : List ℕ → ℕ → Type 0
+Room rows used = used + 17 ≤ length rows
+
+-- the working table of a run: 2,432 numbers for the rows, a row for each of the 128 instructions of a block, and behind
+-- them the types of the fresh numbers
+abbrev pub rowsIn : List ℕ → List ℕ
+rowsIn work = take 2432 work
+
+abbrev pub freshIn : List ℕ → List ℕ
+freshIn work = drop 2432 work
 
 -- the place of thing k of those that stand one behind another from `at` on, each a value with `before` bytes before it
 abbrev pub placeOf : List ℕ → ℕ → ℕ → ℕ → ℕ

@@ -1,3 +1,1 @@
-pub mod Stored
-pub mod Laws
 pub mod Entry

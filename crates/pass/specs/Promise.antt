@@ -1,23 +1,20 @@
 -- What a call of the entry promises: document 01's three demands, one record for each entry.
 use Prim.Native.Nat.{ℕ}
 use mathlib.Core.Path.{_≡_}
-use mathlib.Core.List.{List, [], _∷_}
+use mathlib.Core.List.{List}
 use mathlib.Core.Bool.{Bool, false}
 use lib.ListN.{length, take}
 use lib.Seq.{sets}
 use Rattle.eligibility.specs.declared.Settings.{Settings}
 use Rattle.rewriting.specs.declared.Counts.{Counts}
 use Rattle.shelf.specs.Answer.{lowered, answer}
-use Rattle.writing.specs.declared.Answer.{Answer}
-use Rattle.writing.specs.Numbers.{Numbers, numbersOf, leaves, Answers}
+use Rattle.numbers.specs.declared.Totals.{Totals}
+use Rattle.numbers.specs.Ten.{tenNumbers}
+use Rattle.answers.specs.declared.Answer.{Answer}
+use Rattle.answers.specs.Numbers.{numbersOf, leaves, Answers}
+use Rattle.answers.specs.Totals.{totalsAfter}
 use Rattle.machine.specs.Meaning.{Meaning}
 use Rattle.claim.specs.Claim.{Indistinguishable}
-use Rattle.pass.specs.declared.Totals.{Totals}
-use Rattle.pass.specs.Totals.{totalsAfter}
-
--- the numbers in the order in which the entry gives them
-abbrev pub tenNumbers : Numbers → List ℕ
-tenNumbers n = n .number ∷ n .offset ∷ n .result ∷ n .builds ∷ n .extracts ∷ n .inserts ∷ n .assigns ∷ n .materializations ∷ n .reason ∷ n .size ∷ []
 
 -- demand 3: with shelf reason 0, whoever runs what now stands in the output cannot tell it from the input. Scalars are numbered here, since
 -- a contract speaks of no collection of all types; `for-every-meaning` (proofs/Entry.antt) has scalars of any type

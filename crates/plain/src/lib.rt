@@ -12,7 +12,7 @@ ghost use Rattle.eligibility.specs.Lookup.{Types};
 ghost use Rattle.progress.specs.Ground.{Ground};
 ghost use Rattle.shelf.specs.Agrees.{agrees};
 
-pub fn assign(s: &[u8], b: Bounds, types: &[usize], recorded: &[u16], t: &[u8]) -> bool
+pub fn assign(s: &[u8], b: Bounds, types: &[u16], recorded: &[u16], t: &[u8]) -> bool
     ensures { λ r. ⌜ ((τ : Types) (seen : List Bool) (i : InstructionKind) (n : ℕ) → Ground b (now (s .entry)) (now (types .entry)) (now (recorded .entry)) τ → assignOf b seen (now (t .entry)) ≡ ok i n → r ≡ agrees τ i) ⌝ }
 {
     let y = fields::type_at(t, b, lookup::value_end(t, 2));
@@ -21,7 +21,7 @@ pub fn assign(s: &[u8], b: Bounds, types: &[usize], recorded: &[u16], t: &[u8]) 
     fields::both(dest, source)
 }
 
-pub fn unary(s: &[u8], b: Bounds, types: &[usize], recorded: &[u16], t: &[u8]) -> bool
+pub fn unary(s: &[u8], b: Bounds, types: &[u16], recorded: &[u16], t: &[u8]) -> bool
     ensures { λ r. ⌜ ((τ : Types) (seen : List Bool) (i : InstructionKind) (n : ℕ) → Ground b (now (s .entry)) (now (types .entry)) (now (recorded .entry)) τ → unaryOf b seen (now (t .entry)) ≡ ok i n → r ≡ agrees τ i) ⌝ }
 {
     let result = fields::id_scalar(s, b, types, recorded, t, 1);
@@ -29,7 +29,7 @@ pub fn unary(s: &[u8], b: Bounds, types: &[usize], recorded: &[u16], t: &[u8]) -
     fields::both(result, operand)
 }
 
-pub fn binary(s: &[u8], b: Bounds, types: &[usize], recorded: &[u16], t: &[u8]) -> bool
+pub fn binary(s: &[u8], b: Bounds, types: &[u16], recorded: &[u16], t: &[u8]) -> bool
     ensures { λ r. ⌜ ((τ : Types) (seen : List Bool) (i : InstructionKind) (n : ℕ) → Ground b (now (s .entry)) (now (types .entry)) (now (recorded .entry)) τ → binaryOf b seen (now (t .entry)) ≡ ok i n → r ≡ agrees τ i) ⌝ }
 {
     let result = fields::id_scalar(s, b, types, recorded, t, 1);
@@ -39,7 +39,7 @@ pub fn binary(s: &[u8], b: Bounds, types: &[usize], recorded: &[u16], t: &[u8]) 
     fields::both(result, operands)
 }
 
-pub fn cast(s: &[u8], b: Bounds, types: &[usize], recorded: &[u16], t: &[u8]) -> bool
+pub fn cast(s: &[u8], b: Bounds, types: &[u16], recorded: &[u16], t: &[u8]) -> bool
     ensures { λ r. ⌜ ((τ : Types) (seen : List Bool) (i : InstructionKind) (n : ℕ) → Ground b (now (s .entry)) (now (types .entry)) (now (recorded .entry)) τ → castOf b seen (now (t .entry)) ≡ ok i n → r ≡ agrees τ i) ⌝ }
 {
     let to = fields::id_scalar(s, b, types, recorded, t, 0);
@@ -47,7 +47,7 @@ pub fn cast(s: &[u8], b: Bounds, types: &[usize], recorded: &[u16], t: &[u8]) ->
     fields::both(to, from)
 }
 
-pub fn heap_alloc(s: &[u8], b: Bounds, types: &[usize], recorded: &[u16], t: &[u8]) -> bool
+pub fn heap_alloc(s: &[u8], b: Bounds, types: &[u16], recorded: &[u16], t: &[u8]) -> bool
     ensures { λ r. ⌜ ((τ : Types) (seen : List Bool) (i : InstructionKind) (n : ℕ) → Ground b (now (s .entry)) (now (types .entry)) (now (recorded .entry)) τ → heapAllocOf b seen (now (t .entry)) ≡ ok i n → r ≡ agrees τ i) ⌝ }
 {
     let pointer = fields::id_scalar(s, b, types, recorded, t, 0);
@@ -55,7 +55,7 @@ pub fn heap_alloc(s: &[u8], b: Bounds, types: &[usize], recorded: &[u16], t: &[u
     fields::both(pointer, cells)
 }
 
-pub fn assert_eq(s: &[u8], b: Bounds, types: &[usize], recorded: &[u16], t: &[u8]) -> bool
+pub fn assert_eq(s: &[u8], b: Bounds, types: &[u16], recorded: &[u16], t: &[u8]) -> bool
     ensures { λ r. ⌜ ((τ : Types) (seen : List Bool) (i : InstructionKind) (n : ℕ) → Ground b (now (s .entry)) (now (types .entry)) (now (recorded .entry)) τ → assertEqOf b seen (now (t .entry)) ≡ ok i n → r ≡ agrees τ i) ⌝ }
 {
     let x = fields::value_at(t, 0, b.next);
@@ -63,7 +63,7 @@ pub fn assert_eq(s: &[u8], b: Bounds, types: &[usize], recorded: &[u16], t: &[u8
     typing::equal_types(s, b, types, recorded, x, y)
 }
 
-pub fn extract_tuple(s: &[u8], b: Bounds, types: &[usize], recorded: &[u16], t: &[u8]) -> bool
+pub fn extract_tuple(s: &[u8], b: Bounds, types: &[u16], recorded: &[u16], t: &[u8]) -> bool
     ensures { λ r. ⌜ ((τ : Types) (seen : List Bool) (i : InstructionKind) (n : ℕ) → Ground b (now (s .entry)) (now (types .entry)) (now (recorded .entry)) τ → extractTupleOf b seen (now (t .entry)) ≡ ok i n → r ≡ agrees τ i) ⌝ }
 {
     let e = lookup::value_end(t, 2);
@@ -77,7 +77,7 @@ pub fn extract_tuple(s: &[u8], b: Bounds, types: &[usize], recorded: &[u16], t: 
     fields::both(same, taken)
 }
 
-pub fn extract_field(s: &[u8], b: Bounds, types: &[usize], recorded: &[u16], t: &[u8]) -> bool
+pub fn extract_field(s: &[u8], b: Bounds, types: &[u16], recorded: &[u16], t: &[u8]) -> bool
     ensures { λ r. ⌜ ((τ : Types) (seen : List Bool) (i : InstructionKind) (n : ℕ) → Ground b (now (s .entry)) (now (types .entry)) (now (recorded .entry)) τ → extractFieldOf b seen (now (t .entry)) ≡ ok i n → r ≡ agrees τ i) ⌝ }
 {
     let e = lookup::value_end(t, 2);
@@ -89,7 +89,7 @@ pub fn extract_field(s: &[u8], b: Bounds, types: &[usize], recorded: &[u16], t: 
     fields::both(same, named)
 }
 
-pub fn insert_field(s: &[u8], b: Bounds, types: &[usize], recorded: &[u16], t: &[u8]) -> bool
+pub fn insert_field(s: &[u8], b: Bounds, types: &[u16], recorded: &[u16], t: &[u8]) -> bool
     ensures { λ r. ⌜ ((τ : Types) (seen : List Bool) (i : InstructionKind) (n : ℕ) → Ground b (now (s .entry)) (now (types .entry)) (now (recorded .entry)) τ → insertFieldOf b seen (now (t .entry)) ≡ ok i n → r ≡ agrees τ i) ⌝ }
 {
     let e = lookup::value_end(t, 2);
@@ -102,7 +102,7 @@ pub fn insert_field(s: &[u8], b: Bounds, types: &[usize], recorded: &[u16], t: &
     fields::both(same, fit)
 }
 
-pub fn insert_tuple(s: &[u8], b: Bounds, types: &[usize], recorded: &[u16], t: &[u8]) -> bool
+pub fn insert_tuple(s: &[u8], b: Bounds, types: &[u16], recorded: &[u16], t: &[u8]) -> bool
     ensures { λ r. ⌜ ((τ : Types) (seen : List Bool) (i : InstructionKind) (n : ℕ) → Ground b (now (s .entry)) (now (types .entry)) (now (recorded .entry)) τ → insertTupleOf b seen (now (t .entry)) ≡ ok i n → r ≡ agrees τ i) ⌝ }
 {
     let e = lookup::value_end(t, 2);

@@ -1,4 +1,4 @@
--- Which builds are folded and which blocks are skipped, as the code keeps it: flags by place and by block.
+-- Which builds are folded and which blocks are skipped, as the code keeps it: flags by slot, and from 288 on by block.
 use Prim.Native.Nat.{ℕ, _+_, _<_}
 use mathlib.Core.Path.{_≡_}
 use mathlib.Core.List.{List}
@@ -7,12 +7,11 @@ use mathlib.Core.Option.{some}
 use lib.ListN.{length, getD}
 use Rattle.wire.specs.declared.ValueId.{ValueId}
 use Rattle.form.specs.Syntax.{Block}
-use Rattle.routine.specs.Index.{noBlock}
-use Rattle.places.specs.Places.{noInstruction}
+use Rattle.index.specs.Table.{startsIn}
+use Rattle.index.specs.Code.{noInstruction, noBlock}
 use Rattle.eligibility.specs.Family.{buildDest}
 use Rattle.rewriting.specs.Run.{Choice}
 
--- instruction j of block k has the flag at place j behind the block's first; `starts` has those first places
-pub record Follows (c : Choice) (starts : List ℕ) (folded skips : List Bool) (ks : List Block) : Type 0 where
-  pub skip : (k : ℕ) → k < length ks → getD skips k false ≡ c .skips (getD ks k noBlock)
-  pub fold : (k j : ℕ) (d : ValueId) → k < length ks → c .skips (getD ks k noBlock) ≡ false → j < length (getD ks k noBlock .instructions) → buildDest (getD (getD ks k noBlock .instructions) j noInstruction .kind) ≡ some d → getD folded (getD starts k 0 + j) false ≡ c .folds (getD ks k noBlock) d
+pub record Follows (c : Choice) (facts : List ℕ) (choice : List Bool) (ks : List Block) : Type 0 where
+  pub skip : (k : ℕ) → k < length ks → getD choice (288 + k) false ≡ c .skips (getD ks k noBlock)
+  pub fold : (k j : ℕ) (d : ValueId) → k < length ks → c .skips (getD ks k noBlock) ≡ false → j < length (getD ks k noBlock .instructions) → buildDest (getD (getD ks k noBlock .instructions) j noInstruction .kind) ≡ some d → getD choice (getD (startsIn facts) k 0 + j) false ≡ c .folds (getD ks k noBlock) d

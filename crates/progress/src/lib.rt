@@ -1,4 +1,6 @@
 // How far the output of a run is written.
+use eligibility::Settings;
+use form::Bounds;
 use rewriting::Counts;
 
 // The place behind what is written, the instructions put out in the present block, the fresh numbers taken, the counts.
@@ -13,4 +15,10 @@ pub struct Progress {
 pub enum Put {
     Clash,
     Went(Progress),
+}
+
+// What the numbers of a routine stay below, and the settings of the pass.
+pub struct Setup {
+    pub bounds: Bounds,
+    pub settings: Settings,
 }

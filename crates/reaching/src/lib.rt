@@ -18,7 +18,7 @@ ghost use Rattle.fields.specs.Fields.{StepAt};
 ghost use Rattle.reaching.specs.Places.{StepsIn, PlaceAt};
 
 // The type at the end of `n` projections.
-fn end_type(s: &[u8], b: Bounds, types: &[usize], t: &[u8], at: usize, n: u8, number: u16) -> u16
+fn end_type(s: &[u8], b: Bounds, types: &[u16], t: &[u8], at: usize, n: u8, number: u16) -> u16
     requires { ⌜ at < 2097152 ⌝ }
     ensures { λ r. ⌜ ((recorded : List ℕ) (τ : Types) (o : Option AnyType) (ps : List Projection) → Ground b (now (s .entry)) (now (types .entry)) recorded τ → number ≡ recordedNumber o → StepsIn (b .next) (now (t .entry)) at ps → length ps ≡ n → r ≡ recordedNumber (placeType τ o ps)) ⌝ }
 {
@@ -34,7 +34,7 @@ fn end_type(s: &[u8], b: Bounds, types: &[usize], t: &[u8], at: usize, n: u8, nu
 }
 
 // A projection's index is one.
-fn index_fits(s: &[u8], b: Bounds, types: &[usize], recorded: &[u16], t: &[u8], at: usize) -> bool
+fn index_fits(s: &[u8], b: Bounds, types: &[u16], recorded: &[u16], t: &[u8], at: usize) -> bool
     ensures { λ r. ⌜ ((τ : Types) (q : Projection) → Ground b (now (s .entry)) (now (types .entry)) (now (recorded .entry)) τ → StepAt (b .next) (now (t .entry)) at q → r ≡ indexFits τ q) ⌝ }
 {
     let u = form::tail(t, at);
@@ -48,7 +48,7 @@ fn index_fits(s: &[u8], b: Bounds, types: &[usize], recorded: &[u16], t: &[u8], 
 fn indexes_fit(
     s: &[u8],
     b: Bounds,
-    types: &[usize],
+    types: &[u16],
     recorded: &[u16],
     t: &[u8],
     at: usize,
@@ -70,15 +70,7 @@ fn indexes_fit(
 }
 
 // Behind a Pointer, whose first step is Index.
-fn pointed_type(
-    s: &[u8],
-    b: Bounds,
-    types: &[usize],
-    t: &[u8],
-    at: usize,
-    n: u8,
-    number: u16,
-) -> u16
+fn pointed_type(s: &[u8], b: Bounds, types: &[u16], t: &[u8], at: usize, n: u8, number: u16) -> u16
     requires { ⌜ at < 1048576 ⌝ }
     ensures { λ r. ⌜ ((recorded : List ℕ) (τ : Types) (o : Option AnyType) (ps : List Projection) → Ground b (now (s .entry)) (now (types .entry)) recorded τ → number ≡ recordedNumber o → StepsIn (b .next) (now (t .entry)) at ps → length ps ≡ n → r ≡ recordedNumber (pointed τ o ps)) ⌝ }
 {
@@ -94,7 +86,7 @@ fn pointed_type(
 }
 
 // The type at the end of the place that stands at `at`.
-fn reached_type(s: &[u8], b: Bounds, types: &[usize], recorded: &[u16], t: &[u8], at: usize) -> u16
+fn reached_type(s: &[u8], b: Bounds, types: &[u16], recorded: &[u16], t: &[u8], at: usize) -> u16
     requires { ⌜ at < 1000 ⌝ }
     ensures { λ r. ⌜ ((τ : Types) (p : Place) → Ground b (now (s .entry)) (now (types .entry)) (now (recorded .entry)) τ → PlaceAt (b .next) (now (t .entry)) at p → r ≡ recordedNumber (reached τ p)) ⌝ }
 {
@@ -111,7 +103,7 @@ fn reached_type(s: &[u8], b: Bounds, types: &[usize], recorded: &[u16], t: &[u8]
 pub fn place_fits(
     s: &[u8],
     b: Bounds,
-    types: &[usize],
+    types: &[u16],
     recorded: &[u16],
     t: &[u8],
     at: usize,

@@ -14,7 +14,7 @@ use Rattle.eligibility.specs.Lookup.{any}
 use Rattle.eligibility.specs.Family.{Marks, marked, readsOne, readElsewhere}
 use Rattle.family.specs.Copies.{meets}
 use Rattle.family.proofs.Dynamic.{meets-clear, meets-set}
-use Rattle.readers.specs.Readers.{seenBy, noteReader, readVia, readInstruction, readInstructions, readBlock, readBlocks, foreign, foreigners}
+use Rattle.readers.specs.Readers.{seenBy, noteReader, readVia, readInstruction, readInstructions, readBlock, readBlocks, foreign, foreigners, ReadElsewhere}
 
 -- what a read in block k makes of a number, as block own sees it
 seen-foreign : (own k x : ℕ) → own < 254 → foreign own (seenBy k x) ≡ cond (eqb k own) (foreign own x) true
@@ -172,7 +172,7 @@ foreign-of own (x ∷ r) zero = refl
 foreign-of own (x ∷ r) (suc k) = foreign-of own r k
 
 -- and so the code's answer is the definition's
-pub elsewhere-found : (m : Marks) (own : ℕ) (reader : List ℕ) {r : Bool} → own < 254 → r ≡ meets m (foreigners own reader) → (r ≡ meets m (foreigners own reader)) × ((n : ℕ) (ks : List Block) → reader ≡ readBlocks 0 (replicate n 0) ks → length m ≡ n → r ≡ readElsewhere m own 0 ks)
+pub elsewhere-found : (m : Marks) (own : ℕ) (reader : List ℕ) {r : Bool} → own < 254 → r ≡ meets m (foreigners own reader) → (r ≡ meets m (foreigners own reader)) × ReadElsewhere m own reader r
 elsewhere-found m own reader l e = (e, λ n ks f h. e ∙ ap (λ q. meets m (foreigners own q)) f ∙ elsewhere m own n ks l h)
 
 -- whether a number says that another block reads, by cases

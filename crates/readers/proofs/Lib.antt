@@ -1,4 +1,3 @@
 pub mod Elsewhere
-pub mod Few
 pub mod Noting
 pub mod Blocks

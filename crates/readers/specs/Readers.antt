@@ -1,14 +1,14 @@
 -- Which block reads each value: one table for all blocks. proofs/Elsewhere.antt ties it to the definition.
-use Prim.Native.Nat.{ℕ, suc, _+_, _<_}
+use Prim.Native.Nat.{ℕ, suc, _+_}
 use mathlib.Core.Path.{_≡_}
 use mathlib.Core.List.{List, [], _∷_, map}
 use mathlib.Core.Bool.{Bool, false, cond, not, _&&_}
-use lib.ListN.{length, getD, set}
+use lib.ListN.{length, getD, set, replicate}
 use lib.Dec.{eqb}
 use Rattle.wire.specs.declared.ValueId.{ValueId}
 use Rattle.form.specs.Syntax.{InstructionKind, Instruction, Block}
 use Rattle.form.specs.Reads.{reads, counted, terminatorReads}
-use Rattle.eligibility.specs.Family.{Marks}
+use Rattle.eligibility.specs.Family.{Marks, readElsewhere}
 
 -- a value's number in the table, behind a read in block own: 0 for none, k + 1 for block k alone, 255 for several
 abbrev pub seenBy : ℕ → ℕ → ℕ
@@ -46,7 +46,10 @@ foreign own x = not (eqb x 0) && not (eqb x (own + 1))
 abbrev pub foreigners : ℕ → List ℕ → Marks
 foreigners own r = map (λ x. foreign own x) r
 
--- the reads that stand in a buffer
-pub record Buffered (buffer : List ℕ) (n : ℕ) (vs : List ValueId) : Type 0 where
-  pub many : n ≡ length vs
-  pub each : (j : ℕ) → j < n → getD buffer j 0 ≡ getD vs j (record { 0 = 0 }) .0
+-- the promise of the answer that another block than own reads a member
+abbrev pub ReadElsewhere : Marks → ℕ → List ℕ → Bool → Type 0
+ReadElsewhere m own reader r =
+    (n : ℕ) (ks : List Block)
+    → reader ≡ readBlocks 0 (replicate n 0) ks
+    → length m ≡ n
+    → r ≡ readElsewhere m own 0 ks

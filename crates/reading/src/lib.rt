@@ -1,33 +1,22 @@
 // The whole reader, and the entry that says whether a byte string is a routine.
-use block::Mosts;
 use form::Bounds;
 use form::Part;
 use routine::Checked;
-use routine::Layout;
 use routine::SizesRead;
 use routine::sections;
-use wire::BlockId;
 use wire::Cause;
 ghost use mathlib.Core.Path.{_≡_};
 ghost use mathlib.Core.Bool.{false};
-ghost use Prim.Native.Nat.{_≤_, _<_};
+ghost use Prim.Native.Nat.{_≤_};
 ghost use lib.ListN.{length, replicate};
 ghost use Rattle.routine.specs.Decode.{mosts, wholeOf};
-ghost use Rattle.routine.specs.Index.{BodyRead, RoutineRead, answered, verdict};
+ghost use Rattle.routine.specs.Facts.{BodyRead, RoutineRead};
+ghost use Rattle.routine.specs.Index.{answered, verdict};
 
 // What stands behind the sizes: parameters, recorded types, blocks, and nothing more. No value is marked in `seen`.
-fn read_marked(
-    s: &[u8],
-    at: usize,
-    m: Mosts,
-    b: Bounds,
-    entry: BlockId,
-    seen: &mut [bool],
-    recorded: &mut [u16],
-    blocks: &mut [usize],
-) -> Checked
-    requires { ⌜ (at ≤ length (now s)) × (now seen ≡ replicate (b .next) false) × (b .blocks < length (now blocks)) ⌝ }
-    ensures { λ r. ⌜ BodyRead m b entry at (now (s .entry)) r (now (recorded .exit)) (now (blocks .exit)) ⌝ }
+fn read_marked(s: &[u8], at: usize, b: Bounds, seen: &mut [bool], facts: &mut [u16]) -> Checked
+    requires { ⌜ (at ≤ length (now s)) × (now seen ≡ replicate (b .next) false) × (b .next ≤ 256) × (b .blocks ≤ 32) × (6147 ≤ length (now facts)) ⌝ }
+    ensures { λ r. ⌜ BodyRead b at (now (s .entry)) r (now (facts .entry)) (now (facts .exit)) ⌝ }
 {
     let map = match sections::parameters_part(&s[at..], b, seen) {
         Part::Used(k) => at + k,
@@ -41,13 +30,13 @@ fn read_marked(
             return Checked::Refused(c, map + o);
         }
     };
-    let code = match sections::recorded_part(s, types_at, map, b.next, b.types, recorded) {
+    let code = match sections::recorded_part(s, types_at, map, b.next, b.types, facts) {
         Part::Used(k) => k,
         Part::Refused(c, o) => {
             return Checked::Refused(c, o);
         }
     };
-    let end = match sections::blocks_part(s, code, m, b, b.blocks, seen, blocks) {
+    let end = match sections::blocks_part(s, code, b, seen, facts) {
         Part::Used(k) => k,
         Part::Refused(c, o) => {
             return Checked::Refused(c, o);
@@ -56,53 +45,30 @@ fn read_marked(
     if end < s.len() {
         return Checked::Refused(Cause::Trailing, end);
     }
-    Checked::Accepted(Layout {
-        types: b.types,
-        next: b.next,
-        blocks: b.blocks,
-        entry: entry.0,
-        parameters: at,
-        map: map,
-        recorded: types_at,
-        code: code,
-    })
+    Checked::Accepted(b)
 }
 
 // The same, with marks of its own.
-fn read_body(
-    s: &[u8],
-    at: usize,
-    m: Mosts,
-    b: Bounds,
-    entry: BlockId,
-    recorded: &mut [u16],
-    blocks: &mut [usize],
-) -> Checked
-    requires { ⌜ (at ≤ length (now s)) × (b .next ≤ 256) × (b .blocks < length (now blocks)) ⌝ }
-    ensures { λ r. ⌜ BodyRead m b entry at (now (s .entry)) r (now (recorded .exit)) (now (blocks .exit)) ⌝ }
+fn read_body(s: &[u8], at: usize, b: Bounds, facts: &mut [u16]) -> Checked
+    requires { ⌜ (at ≤ length (now s)) × (b .next ≤ 256) × (b .blocks ≤ 32) × (6147 ≤ length (now facts)) ⌝ }
+    ensures { λ r. ⌜ BodyRead b at (now (s .entry)) r (now (facts .entry)) (now (facts .exit)) ⌝ }
 {
     let n = b.next as usize;
     let mut marks: [bool; 256] = [false; 256];
-    read_marked(s, at, m, b, entry, &mut marks[0..n], recorded, blocks)
+    read_marked(s, at, b, &mut marks[0..n], facts)
 }
 
-// Reads a whole routine. `types`, `recorded` and `blocks` are given the places of the types, the recorded types by
-// value, and the places of the blocks.
-pub fn read_routine(
-    s: &[u8],
-    m: Mosts,
-    types: &mut [usize],
-    recorded: &mut [u16],
-    blocks: &mut [usize],
-) -> Checked
-    requires { ⌜ (m .types < length (now types)) × (m .next ≤ 256) × (m .blocks < length (now blocks)) ⌝ }
-    ensures { λ r. ⌜ RoutineRead m (now (s .entry)) r (now (types .exit)) (now (recorded .exit)) (now (blocks .exit)) ⌝ }
+// Reads a whole routine, and fills the table with its facts.
+pub fn read_routine(s: &[u8], facts: &mut [u16]) -> Checked
+    requires { ⌜ 6147 ≤ length (now facts) ⌝ }
+    ensures { λ r. ⌜ RoutineRead (now (s .entry)) r (now (facts .exit)) ⌝ }
 {
-    match typetable::read_types(s, m.types, m.list, types) {
+    let m = routine::MOSTS;
+    match typetable::read_types(s, m.types, m.list, facts) {
         Part::Refused(c, o) => Checked::Refused(c, o),
         Part::Used(at) => match sections::read_sizes(&s[at..], m) {
             SizesRead::Refused(c, o) => Checked::Refused(c, at + o),
-            SizesRead::Got(next, many, entry) => {
+            SizesRead::Got(next, many, _) => {
                 let b = Bounds {
                     types: wire::u16_at(s, 0),
                     next: next,
@@ -110,7 +76,7 @@ pub fn read_routine(
                     list: m.list,
                     projections: m.projections,
                 };
-                read_body(s, at + 6, m, b, entry, recorded, blocks)
+                read_body(s, at + 6, b, facts)
             }
         },
     }
@@ -121,16 +87,8 @@ pub fn read_routine(
 pub extern "C" fn check(input: &[u8], offset: &mut u64) -> u8
     ensures { λ r. ⌜ answered r (now (offset .exit)) ≡ verdict (wholeOf mosts (now (input .entry))) ⌝ }
 {
-    let mut types: [usize; 65] = [0; 65];
-    let mut recorded: [u16; 256] = [0; 256];
-    let mut blocks: [usize; 33] = [0; 33];
-    match read_routine(
-        input,
-        routine::MOSTS,
-        &mut types,
-        &mut recorded,
-        &mut blocks,
-    ) {
+    let mut facts: [u16; index::SIZE] = [0; index::SIZE];
+    match read_routine(input, &mut facts) {
         Checked::Accepted(_) => {
             *offset = 0;
             0

@@ -15,7 +15,7 @@ use Rattle.emit.proofs.Sets.{sets-append}
 use Rattle.typetable.specs.Syntax.{StructField}
 use Rattle.rewriting.specs.Rebuild.{fitted, named}
 use Rattle.parts.specs.Rows.{ValueAt, RowAt}
-use Rattle.rebuild.specs.Written.{Writes, noField, NamesIn}
+use Rattle.rebuild.specs.Written.{Writes, noField, OfParts, OfFields}
 
 -- within a list it does not matter what stands behind it
 getD-any : {A : Type 0} (l : List A) (k : ℕ) (a b : A) → k < length l → getD l k a ≡ getD l k b
@@ -24,8 +24,8 @@ getD-any (x ∷ l) zero a b h = refl
 getD-any (x ∷ l) (suc k) a b h = getD-any l k a b (omega arith)
 
 -- a part stands at the place in its slot
-pub part-at : (next : ℕ) (s pool : List ℕ) (from k at : ℕ) (xs : List Value) → RowAt next s pool from xs → at ≡ getD pool (from + k) 0 → k < length xs → ValueAt next s at (getD xs k unit)
-part-at next s pool from k at xs r e h = rw (e, getD-any xs k unit Value.Error h) (r .each k h)
+pub part-at : (next : ℕ) (s rows : List ℕ) (from k at : ℕ) (xs : List Value) → RowAt next s rows from xs → at ≡ getD rows (from + k) 0 → k < length xs → ValueAt next s at (getD xs k unit)
+part-at next s rows from k at xs r e h = rw (e, getD-any xs k unit Value.Error h) (r .each k h)
 
 -- past the parts there are Units
 pub part-none : (xs : List Value) (k : ℕ) → length xs ≤ k → getD xs k unit ≡ unit
@@ -95,19 +95,19 @@ getD-named (f ∷ fs) (suc i) [] z h = getD-named fs i [] z (omega arith)
 getD-named (f ∷ fs) (suc i) (x ∷ xs) z h = getD-named fs i xs z (omega arith)
 
 -- the loop over the parts: those before the i-th are written
-pub record Parts (next : ℕ) (s pool : List ℕ) (from have want : ℕ) (out₀ : List ℕ) (to₀ : ℕ) (out : List ℕ) (to i : ℕ) : Type 0 where
+pub record Parts (next : ℕ) (s rows : List ℕ) (from have want : ℕ) (out₀ : List ℕ) (to₀ : ℕ) (out : List ℕ) (to i : ℕ) : Type 0 where
   pub under : i ≤ want
   pub bound : to ≤ to₀ + 5 * i
   pub len : length out ≡ length out₀
-  pub left : (xs : List Value) → RowAt next s pool from xs → length xs ≡ have → Writing valueBytes (fitted want xs) out₀ to₀ out to i
+  pub left : OfParts next s rows from have (λ xs. Writing valueBytes (fitted want xs) out₀ to₀ out to i)
 
 -- none is written yet
-pub parts-start : (next : ℕ) (s pool : List ℕ) (from have want : ℕ) (out : List ℕ) (to : ℕ) → Parts next s pool from have want out to out to 0
-parts-start next s pool from have want out to = record { under = zero-le; bound = omega arith; len = refl; left = λ xs r l. writing-start valueBytes (fitted want xs) out to }
+pub parts-start : (next : ℕ) (s rows : List ℕ) (from have want : ℕ) (out : List ℕ) (to : ℕ) → Parts next s rows from have want out to out to 0
+parts-start next s rows from have want out to = record { under = zero-le; bound = omega arith; len = refl; left = λ xs r l. writing-start valueBytes (fitted want xs) out to }
 
-module _ (next : ℕ) (s pool : List ℕ) (from have want : ℕ) (out₀ : List ℕ) (to₀ : ℕ) (out : List ℕ) (to i : ℕ) (c : Parts next s pool from have want out₀ to₀ out to i) where
+module _ (next : ℕ) (s rows : List ℕ) (from have want : ℕ) (out₀ : List ℕ) (to₀ : ℕ) (out : List ℕ) (to i : ℕ) (c : Parts next s rows from have want out₀ to₀ out to i) where
   -- one more is written
-  pub parts-again : (out′ : List ℕ) (to′ : ℕ) → i < want → length out′ ≡ length out → to′ ≤ to + 5 → ((xs : List Value) → RowAt next s pool from xs → length xs ≡ have → Writes (valueBytes (getD xs i unit)) out out′ to to′) → Parts next s pool from have want out₀ to₀ out′ to′ (i + 1)
+  pub parts-again : (out′ : List ℕ) (to′ : ℕ) → i < want → length out′ ≡ length out → to′ ≤ to + 5 → OfParts next s rows from have (λ xs. Writes (valueBytes (getD xs i unit)) out out′ to to′) → Parts next s rows from have want out₀ to₀ out′ to′ (i + 1)
   parts-again out′ to′ h k b w = record {
     under = omega arith;
     bound = omega (arith, c .bound);
@@ -118,19 +118,19 @@ module _ (next : ℕ) (s pool : List ℕ) (from have want : ℕ) (out₀ : List 
   }
 
   -- all are written
-  pub parts-done : want ≤ i → (xs : List Value) → RowAt next s pool from xs → length xs ≡ have → Writes (eachBytes valueBytes (fitted want xs)) out₀ out to₀ to
+  pub parts-done : want ≤ i → OfParts next s rows from have (λ xs. Writes (eachBytes valueBytes (fitted want xs)) out₀ out to₀ to)
   parts-done h xs r l = writing-done valueBytes (fitted want xs) out₀ to₀ out to i (c .left xs r l) (omega (arith, c .under, length-fitted want xs))
 
 -- the loop over a struct's fields: those before the i-th are written
-pub record Fields (next : ℕ) (s pool : List ℕ) (from have : ℕ) (row : List ℕ) (want : ℕ) (out₀ : List ℕ) (to₀ : ℕ) (out : List ℕ) (to i : ℕ) : Type 0 where
+pub record Fields (next : ℕ) (s rows : List ℕ) (from have : ℕ) (row : List ℕ) (want : ℕ) (out₀ : List ℕ) (to₀ : ℕ) (out : List ℕ) (to i : ℕ) : Type 0 where
   pub under : i ≤ want
   pub bound : to ≤ to₀ + 7 * i
   pub len : length out ≡ length out₀
-  pub left : (fs : List StructField) (xs : List Value) → RowAt next s pool from xs → length xs ≡ have → length fs ≡ want → NamesIn row fs → Writing fieldInitBytes (named fs xs) out₀ to₀ out to i
+  pub left : OfParts next s rows from have (λ xs. OfFields row want (λ fs. Writing fieldInitBytes (named fs xs) out₀ to₀ out to i))
 
 -- none is written yet
-pub fields-start : (next : ℕ) (s pool : List ℕ) (from have : ℕ) (row : List ℕ) (want : ℕ) (out : List ℕ) (to : ℕ) → Fields next s pool from have row want out to out to 0
-fields-start next s pool from have row want out to = record { under = zero-le; bound = omega arith; len = refl; left = λ fs xs r l m n. writing-start fieldInitBytes (named fs xs) out to }
+pub fields-start : (next : ℕ) (s rows : List ℕ) (from have : ℕ) (row : List ℕ) (want : ℕ) (out : List ℕ) (to : ℕ) → Fields next s rows from have row want out to out to 0
+fields-start next s rows from have row want out to = record { under = zero-le; bound = omega arith; len = refl; left = λ xs r l fs m n. writing-start fieldInitBytes (named fs xs) out to }
 
 -- a name and a value behind it
 field-writes : (n v out out₁ out′ : List ℕ) (to to′ : ℕ) → length n ≡ 2 → out₁ ≡ sets out to n → Writes v out₁ out′ (to + 2) to′ → Writes (n ++ v) out out′ to to′
@@ -138,22 +138,22 @@ field-writes n v out out₁ out′ to to′ h e w =
     let z : to + 2 ≡ to + length n = omega arith in
     (omega (arith, w .0, length-append n v), w .1 ∙ ap (λ l. sets l (to + 2) v) e ∙ ap (λ k. sets (sets out to n) k v) z ∙ sym (sets-append out to n v))
 
-module _ (next : ℕ) (s pool : List ℕ) (from have : ℕ) (row : List ℕ) (want : ℕ) (out₀ : List ℕ) (to₀ : ℕ) (out : List ℕ) (to i : ℕ) (c : Fields next s pool from have row want out₀ to₀ out to i) where
+module _ (next : ℕ) (s rows : List ℕ) (from have : ℕ) (row : List ℕ) (want : ℕ) (out₀ : List ℕ) (to₀ : ℕ) (out : List ℕ) (to i : ℕ) (c : Fields next s rows from have row want out₀ to₀ out to i) where
   -- one more is written
-  pub fields-again : (out₁ out′ : List ℕ) (to′ x : ℕ) → i < want → x ≡ at16 row (4 + 4 * i) → out₁ ≡ sets out to (nameIdBytes (record { 0 = x })) → length out′ ≡ length out₁ → to′ ≤ to + 2 + 5 → ((xs : List Value) → RowAt next s pool from xs → length xs ≡ have → Writes (valueBytes (getD xs i unit)) out₁ out′ (to + 2) to′) → Fields next s pool from have row want out₀ to₀ out′ to′ (i + 1)
+  pub fields-again : (out₁ out′ : List ℕ) (to′ x : ℕ) → i < want → x ≡ at16 row (4 + 4 * i) → out₁ ≡ sets out to (nameIdBytes (record { 0 = x })) → length out′ ≡ length out₁ → to′ ≤ to + 2 + 5 → OfParts next s rows from have (λ xs. Writes (valueBytes (getD xs i unit)) out₁ out′ (to + 2) to′) → Fields next s rows from have row want out₀ to₀ out′ to′ (i + 1)
   fields-again out₁ out′ to′ x h e f k b w = record {
     under = omega arith;
     bound = omega (arith, c .bound);
     len = k ∙ ap length f ∙ length-sets out to (nameIdBytes (record { 0 = x })) ∙ c .len;
-    left = λ fs xs r l m n.
+    left = λ xs r l fs m n.
         let z : FieldInit = record { name = record { 0 = 0 }; value = unit } in
         let hn : i < length fs = omega arith in
         let hz : i < length (named fs xs) = omega (arith, length-named fs xs) in
         let g : nameIdBytes (getD fs i noField .name) ≡ nameIdBytes (record { 0 = x }) = n .each i hn ∙ ap (λ y. nameIdBytes (record { 0 = y })) (sym e) in
         let q = field-writes (nameIdBytes (getD fs i noField .name)) (valueBytes (getD xs i unit)) out out₁ out′ to to′ refl (f ∙ ap (sets out to) (sym g)) (w xs r l) in
-        writing-again fieldInitBytes (named fs xs) out₀ to₀ out to i (c .left fs xs r l m n) out′ to′ z hz (rw (getD-named fs i xs z hn) q);
+        writing-again fieldInitBytes (named fs xs) out₀ to₀ out to i (c .left xs r l fs m n) out′ to′ z hz (rw (getD-named fs i xs z hn) q);
   }
 
   -- all are written
-  pub fields-done : want ≤ i → (fs : List StructField) (xs : List Value) → RowAt next s pool from xs → length xs ≡ have → length fs ≡ want → NamesIn row fs → Writes (eachBytes fieldInitBytes (named fs xs)) out₀ out to₀ to
-  fields-done h fs xs r l m n = writing-done fieldInitBytes (named fs xs) out₀ to₀ out to i (c .left fs xs r l m n) (omega (arith, c .under, length-named fs xs))
+  pub fields-done : want ≤ i → OfParts next s rows from have (λ xs. OfFields row want (λ fs. Writes (eachBytes fieldInitBytes (named fs xs)) out₀ out to₀ to))
+  fields-done h xs r l fs m n = writing-done fieldInitBytes (named fs xs) out₀ to₀ out to i (c .left xs r l fs m n) (omega (arith, c .under, length-named fs xs))

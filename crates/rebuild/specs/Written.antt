@@ -6,14 +6,19 @@ use mathlib.Core.Bool.{true, false}
 use mathlib.Core.Option.{some}
 use lib.ListN.{length, getD}
 use lib.Seq.{sets}
+use Rattle.wire.specs.Parse.{ok}
 use Rattle.wire.specs.Number.{at16}
+use Rattle.wire.specs.WellFormed.{Bytes}
 use Rattle.wire.specs.declared.ValueId.{ValueId}
 use Rattle.wire.specs.declared.TypeId.{TypeId}
 use Rattle.wire.specs.declared.Value.{Value}
 use Rattle.form.specs.Encode.{eachBytes, instructionBytes, nameIdBytes}
-use Rattle.typetable.specs.Syntax.{StructField}
+use Rattle.typetable.specs.Syntax.{StructField, MirType}
+use Rattle.typetable.specs.Decode.{typeOf}
+use Rattle.typetable.specs.Index.{TypesAt}
 use Rattle.eligibility.specs.Lookup.{Types, rowOf}
 use Rattle.rewriting.specs.Rebuild.{rebuildAt, clashes}
+use Rattle.parts.specs.Rows.{RowAt}
 use Rattle.rebuild.specs.declared.Rebuilt.{Rebuilt}
 
 -- `bytes` are written from `to` on, and r is the place behind them
@@ -27,6 +32,22 @@ noField = record { name = record { 0 = 0 }; part = record { 0 = 0 } }
 -- the names of a struct's fields stand four bytes apart in its type's bytes, from the fifth on
 pub record NamesIn (row : List ℕ) (fs : List StructField) : Type 0 where
   pub each : (k : ℕ) → k < length fs → nameIdBytes (getD fs k noField .name) ≡ nameIdBytes (record { 0 = at16 row (4 + 4 * k) })
+
+-- P holds of the `have` parts whose places stand in the rows from `from` on
+abbrev pub OfParts : ℕ → List ℕ → List ℕ → ℕ → ℕ → (List Value → Type 0) → Type 0
+OfParts next s rows from have P = (xs : List Value) → RowAt next s rows from xs → length xs ≡ have → P xs
+
+-- P holds of the `want` fields whose names stand in a type's bytes
+abbrev pub OfFields : List ℕ → ℕ → (List StructField → Type 0) → Type 0
+OfFields row want P = (fs : List StructField) → length fs ≡ want → NamesIn row fs → P fs
+
+-- P holds of the type that is read from its bytes
+abbrev pub OfType : List ℕ → (MirType → Type 0) → Type 0
+OfType row P = (most own n : ℕ) (T : MirType) → Bytes row → typeOf most own row ≡ ok T n → P T
+
+-- P holds of types that stand at the places `types`, and have a type t
+abbrev pub OfTable : List ℕ → List ℕ → TypeId → (Types → Type 0) → Type 0
+OfTable s types t P = (most : ℕ) (τ : Types) → Bytes s → TypesAt most s types (τ .rows) → t .0 < length (τ .rows) → P τ
 
 -- the bytes of the rebuild of d from the parts xs at type t
 abbrev pub rebuildBytes : Types → ValueId → List Value → TypeId → List ℕ

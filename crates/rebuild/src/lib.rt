@@ -8,21 +8,15 @@ ghost use mathlib.Core.Path.{_≡_};
 ghost use mathlib.Core.List.{List, [], _∷_, _++_};
 ghost use mathlib.Core.Bool.{false};
 ghost use mathlib.Core.Option.{some};
-ghost use Prim.Native.Nat.{ℕ, _+_, _*_, _≤_, _<_};
+ghost use Prim.Native.Nat.{_+_, _*_, _≤_, _<_};
 ghost use lib.ListN.{length, getD};
 ghost use lib.Seq.{sets};
-ghost use Rattle.wire.specs.Parse.{ok};
 ghost use Rattle.wire.specs.Value.{valueBytes, unit};
-ghost use Rattle.wire.specs.WellFormed.{Bytes};
 ghost use Rattle.form.specs.Syntax.{InstructionKind};
 ghost use Rattle.form.specs.Encode.{eachBytes, valueIdBytes, fieldInitBytes, instructionBytes};
-ghost use Rattle.typetable.specs.Syntax.{StructField, MirType};
-ghost use Rattle.typetable.specs.Decode.{typeOf};
-ghost use Rattle.typetable.specs.Index.{TypesAt};
-ghost use Rattle.eligibility.specs.Lookup.{Types};
 ghost use Rattle.rewriting.specs.Rebuild.{plain, fitted, named, rebuildAt, clashes};
-ghost use Rattle.parts.specs.Rows.{ValueAt, RowAt};
-ghost use Rattle.rebuild.specs.Written.{Writes, NamesIn, Rebuilds};
+ghost use Rattle.parts.specs.Rows.{ValueAt};
+ghost use Rattle.rebuild.specs.Written.{Writes, OfParts, OfFields, OfType, OfTable, Rebuilds};
 
 // The place behind a rebuild, and whether it met an array of another count.
 pub struct Rebuilt {
@@ -39,23 +33,24 @@ pub fn put_value_at(out: &mut [u8], to: usize, s: &[u8], at: usize, next: u16) -
     emit::put_value(out, to, lookup::value_at(s, at, next))
 }
 
-// Part k of the `have` parts whose places stand in the pool from `from` on; past them Unit.
+// Part k of the `have` parts whose places stand in the rows from `from` on; past them Unit.
 fn put_part(
     out: &mut [u8],
     to: usize,
     s: &[u8],
     next: u16,
-    pool: &[usize],
+    rows: &[u16],
     from: usize,
     have: u16,
     k: u8,
 ) -> usize
     requires { ⌜ (to < 1099511627776) × (from < 1099511627776) ⌝ }
     ensures { λ r. ⌜ r ≤ to + 5 ⌝ }
-    ensures { λ r. ⌜ ((xs : List Value) → RowAt next (now (s .entry)) (now (pool .entry)) from xs → length xs ≡ have → Writes (valueBytes (getD xs k unit)) (now (out .entry)) (now (out .exit)) to r) ⌝ }
+    ensures { λ r. ⌜ OfParts next (now (s .entry)) (now (rows .entry)) from have (λ xs.
+        Writes (valueBytes (getD xs k unit)) (now (out .entry)) (now (out .exit)) to r) ⌝ }
 {
     if (k as u16) < have {
-        let at = table::place(pool, from + k as usize);
+        let at = table::place(rows, from + k as usize);
         return put_value_at(out, to, s, at, next);
     }
     emit::put_value(out, to, Value::Literal(Literal::Unit))
@@ -67,19 +62,20 @@ fn put_parts(
     to: usize,
     s: &[u8],
     next: u16,
-    pool: &[usize],
+    rows: &[u16],
     from: usize,
     have: u16,
     want: u8,
 ) -> usize
     requires { ⌜ (to < 549755813888) × (from < 1099511627776) ⌝ }
     ensures { λ r. ⌜ r ≤ to + 5 * want ⌝ }
-    ensures { λ r. ⌜ ((xs : List Value) → RowAt next (now (s .entry)) (now (pool .entry)) from xs → length xs ≡ have → Writes (eachBytes valueBytes (fitted want xs)) (now (out .entry)) (now (out .exit)) to r) ⌝ }
+    ensures { λ r. ⌜ OfParts next (now (s .entry)) (now (rows .entry)) from have (λ xs.
+        Writes (eachBytes valueBytes (fitted want xs)) (now (out .entry)) (now (out .exit)) to r) ⌝ }
 {
     let mut p = to;
     let mut i: u8 = 0;
     while i < want {
-        p = put_part(out, p, s, next, pool, from, have, i);
+        p = put_part(out, p, s, next, rows, from, have, i);
         i = i + 1;
     }
     p
@@ -91,7 +87,7 @@ fn put_fields(
     to: usize,
     s: &[u8],
     next: u16,
-    pool: &[usize],
+    rows: &[u16],
     from: usize,
     have: u16,
     row: &[u8],
@@ -99,14 +95,15 @@ fn put_fields(
 ) -> usize
     requires { ⌜ (to < 549755813888) × (from < 1099511627776) ⌝ }
     ensures { λ r. ⌜ r ≤ to + 7 * want ⌝ }
-    ensures { λ r. ⌜ ((fs : List StructField) (xs : List Value) → RowAt next (now (s .entry)) (now (pool .entry)) from xs → length xs ≡ have → length fs ≡ want → NamesIn (now (row .entry)) fs → Writes (eachBytes fieldInitBytes (named fs xs)) (now (out .entry)) (now (out .exit)) to r) ⌝ }
+    ensures { λ r. ⌜ OfParts next (now (s .entry)) (now (rows .entry)) from have (λ xs. OfFields (now (row .entry)) want (λ fs.
+        Writes (eachBytes fieldInitBytes (named fs xs)) (now (out .entry)) (now (out .exit)) to r)) ⌝ }
 {
     let mut p = to;
     let mut i: u8 = 0;
     while i < want {
         let name = wire::u16_at(row, 4 + 4 * (i as usize));
         emit::put_name_id(out, p, NameId(name));
-        p = put_part(out, p + 2, s, next, pool, from, have, i);
+        p = put_part(out, p + 2, s, next, rows, from, have, i);
         i = i + 1;
     }
     p
@@ -130,17 +127,18 @@ fn put_tuple(
     s: &[u8],
     next: u16,
     d: ValueId,
-    pool: &[usize],
+    rows: &[u16],
     from: usize,
     have: u16,
     want: u8,
 ) -> usize
     requires { ⌜ (to < 274877906944) × (from < 1099511627776) ⌝ }
     ensures { λ r. ⌜ r ≤ to + 1792 ⌝ }
-    ensures { λ r. ⌜ ((xs : List Value) → RowAt next (now (s .entry)) (now (pool .entry)) from xs → length xs ≡ have → Writes (instructionBytes (plain (InstructionKind.MakeTuple d (fitted want xs)))) (now (out .entry)) (now (out .exit)) to r) ⌝ }
+    ensures { λ r. ⌜ OfParts next (now (s .entry)) (now (rows .entry)) from have (λ xs.
+        Writes (instructionBytes (plain (InstructionKind.MakeTuple d (fitted want xs)))) (now (out .entry)) (now (out .exit)) to r) ⌝ }
 {
     put_head(out, to, 10, d, want);
-    put_parts(out, to + 5, s, next, pool, from, have, want)
+    put_parts(out, to + 5, s, next, rows, from, have, want)
 }
 
 // A struct of the fields of type t; `row` is that type, from its kind on.
@@ -150,7 +148,7 @@ fn put_struct(
     s: &[u8],
     next: u16,
     d: ValueId,
-    pool: &[usize],
+    rows: &[u16],
     from: usize,
     have: u16,
     row: &[u8],
@@ -158,11 +156,12 @@ fn put_struct(
 ) -> usize
     requires { ⌜ (to < 274877906944) × (from < 1099511627776) ⌝ }
     ensures { λ r. ⌜ r ≤ to + 1792 ⌝ }
-    ensures { λ r. ⌜ ((fs : List StructField) (xs : List Value) → RowAt next (now (s .entry)) (now (pool .entry)) from xs → length xs ≡ have → length fs ≡ getD (now (row .entry)) 3 0 → NamesIn (now (row .entry)) fs → Writes (instructionBytes (plain (InstructionKind.MakeStruct d (named fs xs) t))) (now (out .entry)) (now (out .exit)) to r) ⌝ }
+    ensures { λ r. ⌜ OfParts next (now (s .entry)) (now (rows .entry)) from have (λ xs. OfFields (now (row .entry)) (getD (now (row .entry)) 3 0) (λ fs.
+        Writes (instructionBytes (plain (InstructionKind.MakeStruct d (named fs xs) t))) (now (out .entry)) (now (out .exit)) to r)) ⌝ }
 {
     let want = wire::byte_at(row, 3);
     put_head(out, to, 12, d, want);
-    let at = put_fields(out, to + 5, s, next, pool, from, have, row, want);
+    let at = put_fields(out, to + 5, s, next, rows, from, have, row, want);
     emit::put_type_id(out, at, t);
     at + 2
 }
@@ -174,25 +173,26 @@ fn put_array(
     s: &[u8],
     next: u16,
     d: ValueId,
-    pool: &[usize],
+    rows: &[u16],
     from: usize,
     have: u16,
     e: TypeId,
 ) -> usize
     requires { ⌜ (to < 274877906944) × (from < 1099511627776) ⌝ }
     ensures { λ r. ⌜ r ≤ to + 1792 ⌝ }
-    ensures { λ r. ⌜ ((xs : List Value) → RowAt next (now (s .entry)) (now (pool .entry)) from xs → length xs ≡ have → have < 256 → Writes (instructionBytes (plain (InstructionKind.MakeFixedArray d xs e false))) (now (out .entry)) (now (out .exit)) to r) ⌝ }
+    ensures { λ r. ⌜ OfParts next (now (s .entry)) (now (rows .entry)) from have (λ xs.
+        have < 256 → Writes (instructionBytes (plain (InstructionKind.MakeFixedArray d xs e false))) (now (out .entry)) (now (out .exit)) to r) ⌝ }
 {
     let n = (have % 256) as u8;
     put_head(out, to, 16, d, n);
-    let at = put_parts(out, to + 5, s, next, pool, from, have, n);
+    let at = put_parts(out, to + 5, s, next, rows, from, have, n);
     emit::put_type_id(out, at, e);
     at + 2
 }
 
 // Type `row`, from its kind on, is an array of another count than `have`.
 fn array_clashes(row: &[u8], have: u16) -> bool
-    ensures { λ r. ⌜ ((most own n : ℕ) (T : MirType) (xs : List Value) → Bytes (now (row .entry)) → typeOf most own (now (row .entry)) ≡ ok T n → length xs ≡ have → r ≡ clashes xs (some T)) ⌝ }
+    ensures { λ r. ⌜ OfType (now (row .entry)) (λ T. (xs : List Value) → length xs ≡ have → r ≡ clashes xs (some T)) ⌝ }
 {
     if wire::byte_at(row, 0) != 5 {
         return false;
@@ -209,46 +209,48 @@ fn put_make(
     row: &[u8],
     t: TypeId,
     d: ValueId,
-    pool: &[usize],
+    rows: &[u16],
     from: usize,
     have: u16,
 ) -> usize
     requires { ⌜ (to < 274877906944) × (from < 1099511627776) ⌝ }
     ensures { λ r. ⌜ r ≤ to + 1792 ⌝ }
-    ensures { λ r. ⌜ ((most own n : ℕ) (T : MirType) (xs : List Value) → Bytes (now (row .entry)) → typeOf most own (now (row .entry)) ≡ ok T n → RowAt next (now (s .entry)) (now (pool .entry)) from xs → length xs ≡ have → have ≤ 16 → Writes (eachBytes instructionBytes (rebuildAt d xs t (some T))) (now (out .entry)) (now (out .exit)) to r) ⌝ }
+    ensures { λ r. ⌜ OfType (now (row .entry)) (λ T. OfParts next (now (s .entry)) (now (rows .entry)) from have (λ xs.
+        have ≤ 16 → Writes (eachBytes instructionBytes (rebuildAt d xs t (some T))) (now (out .entry)) (now (out .exit)) to r)) ⌝ }
 {
     let kind = wire::byte_at(row, 0);
     if kind == 3 {
         let want = wire::byte_at(row, 1);
-        return put_tuple(out, to, s, next, d, pool, from, have, want);
+        return put_tuple(out, to, s, next, d, rows, from, have, want);
     }
     if kind == 4 {
-        return put_struct(out, to, s, next, d, pool, from, have, row, t);
+        return put_struct(out, to, s, next, d, rows, from, have, row, t);
     }
     if kind == 5 {
         let e = TypeId(wire::u16_at(row, 1));
-        return put_array(out, to, s, next, d, pool, from, have, e);
+        return put_array(out, to, s, next, d, rows, from, have, e);
     }
     to
 }
 
-// Writes the rebuild of d at type t from `have` parts whose places stand in the pool from `from` on. A type that is no
+// Writes the rebuild of d at type t from `have` parts whose places stand in the rows from `from` on. A type that is no
 // aggregate has none; an array of another count clashes. `types` has the types' places.
 pub fn put_rebuild(
     out: &mut [u8],
     to: usize,
     s: &[u8],
     next: u16,
-    types: &[usize],
+    types: &[u16],
     t: TypeId,
     d: ValueId,
-    pool: &[usize],
+    rows: &[u16],
     from: usize,
     have: u16,
 ) -> Rebuilt
     requires { ⌜ (to < 274877906944) × (from < 1099511627776) ⌝ }
     ensures { λ r. ⌜ r .to ≤ to + 1792 ⌝ }
-    ensures { λ r. ⌜ ((most : ℕ) (τ : Types) (xs : List Value) → Bytes (now (s .entry)) → TypesAt most (now (s .entry)) (now (types .entry)) (τ .rows) → t .0 < length (τ .rows) → RowAt next (now (s .entry)) (now (pool .entry)) from xs → length xs ≡ have → have ≤ 16 → Rebuilds τ d xs t (now (out .entry)) (now (out .exit)) to r) ⌝ }
+    ensures { λ r. ⌜ OfTable (now (s .entry)) (now (types .entry)) t (λ τ. OfParts next (now (s .entry)) (now (rows .entry)) from have (λ xs.
+        have ≤ 16 → Rebuilds τ d xs t (now (out .entry)) (now (out .exit)) to r)) ⌝ }
 {
     let row = form::tail(s, typetable::type_place(types, t));
     if array_clashes(row, have) {
@@ -257,7 +259,7 @@ pub fn put_rebuild(
             clash: true,
         };
     }
-    let p = put_make(out, to, s, next, row, t, d, pool, from, have);
+    let p = put_make(out, to, s, next, row, t, d, rows, from, have);
     Rebuilt {
         to: p,
         clash: false,

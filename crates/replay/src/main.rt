@@ -7,55 +7,6 @@
 ghost use Prim.Native.Nat.{_≤_, _<_};
 ghost use lib.ListN.{length};
 
-// The part of the bytes that has `n` of them, from `from` on; what there is of it.
-fn part<'a>(s: &'a [u8], from: usize, n: usize) -> &'a [u8] {
-    let len = s.len();
-    if len < from {
-        return &s[len..];
-    }
-    if len - from < n {
-        return &s[from..];
-    }
-    &s[from..from + n]
-}
-
-fn number_at(answer: &[u64], i: u8) -> u64 {
-    if (i as usize) < answer.len() {
-        answer[i as usize]
-    } else {
-        0
-    }
-}
-
-// The ten numbers of an answer are those that stand at the head of `told`.
-fn same_numbers(answer: &[u64], told: &[u8]) -> bool {
-    let mut i: u8 = 0;
-    while i < 10 {
-        if number_at(answer, i) != wire::u32_at(told, 4 * (i as usize)) as u64 {
-            return false;
-        }
-        i = i + 1;
-    }
-    true
-}
-
-// Byte i of some; past the last one another.
-fn byte_or(bytes: &[u8], i: usize, other: u8) -> u8 {
-    if i < bytes.len() { bytes[i] } else { other }
-}
-
-// The output has these bytes, and what it was filled with behind them.
-fn same_bytes(out: &[u8], bytes: &[u8]) -> bool {
-    let mut i = 0;
-    while i < out.len() {
-        if byte_or(bytes, i, 165) != out[i] {
-            return false;
-        }
-        i = i + 1;
-    }
-    true
-}
-
 // Calls the pass; whether it answers as is told. `row` begins with the settings.
 fn replayed(row: &[u8], input: &[u8], told: &[u8], bytes: &[u8], out: &mut [u8]) -> bool {
     let mut answer: [u64; 10] = [0; 10];
@@ -63,29 +14,27 @@ fn replayed(row: &[u8], input: &[u8], told: &[u8], bytes: &[u8], out: &mut [u8])
     let structs = wire::byte_at(row, 1) as u64;
     let most = wire::byte_at(row, 2) as u64;
     pass::lower(input, out, tuples, structs, most, &mut answer);
-    if !same_numbers(&answer, told) {
+    if !showing::same_numbers(&answer, told) {
         return false;
     }
-    same_bytes(out, bytes)
+    showing::same_bytes(out, bytes)
 }
 
-// The same with an output of its own, of the length that was lent.
-fn same(row: &[u8], input: &[u8], told: &[u8], bytes: &[u8]) -> bool {
-    let mut out = [165u8; 65536];
-    let lent = wire::u32_at(row, 3) as usize;
-    if 65536 < lent {
-        return false;
-    }
-    replayed(row, input, told, bytes, &mut out[0..lent])
-}
-
-// Replays the row at the head of `row`: 1 where it was answered otherwise, else 0.
+// Replays the row at the head of `row`, whose input has `n` bytes and whose output has `size`, with an output of its own, of the
+// length that was lent: 1 where it was answered otherwise, else 0.
 fn otherwise(row: &[u8], n: usize, size: usize) -> u64
     requires { ⌜ n < 4294967296 ⌝ }
     ensures { λ r. ⌜ r ≤ 1 ⌝ }
 {
-    let told = part(row, 11 + n, 40);
-    if same(row, part(row, 11, n), told, part(row, 11 + n + 40, size)) {
+    let input = showing::part(row, 11, n);
+    let told = showing::part(row, 11 + n, 40);
+    let bytes = showing::part(row, 11 + n + 40, size);
+    let mut out = [165u8; 65536];
+    let lent = wire::u32_at(row, 3) as usize;
+    if 65536 < lent {
+        return 1;
+    }
+    if replayed(row, input, told, bytes, &mut out[0..lent]) {
         return 0;
     }
     1
@@ -98,7 +47,7 @@ fn replay(s: &[u8])
     let mut others: u64 = 0;
     let mut at: usize = 0;
     while at < s.len() {
-        let row = part(s, at, s.len());
+        let row = showing::part(s, at, s.len());
         let n = wire::u32_at(row, 7) as usize;
         let size = wire::u32_at(row, 11 + n + 36) as usize;
         others = others + otherwise(row, n, size);

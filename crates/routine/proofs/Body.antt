@@ -15,24 +15,25 @@ use Rattle.wire.specs.declared.BlockId.{BlockId}
 use Rattle.wire.specs.declared.TypeId.{TypeId}
 use Rattle.wire.specs.declared.ValueId.{ValueId}
 use Rattle.wire.proofs.Laws.{size, map-later, later-later, rest-all, told, told-size}
-use Rattle.wire.proofs.Inv.{behind, image, later-inv, map-inv}
+use Rattle.wire.proofs.Inv.{behind, image, later-inv, map-inv, map-bad}
 use Rattle.form.specs.Syntax.{Block}
 use Rattle.form.specs.Decode.{definedsOf}
 use Rattle.form.specs.Walk.{asPart, unit}
 use Rattle.form.specs.declared.Bounds.{Bounds}
 use Rattle.form.specs.declared.Part.{Part}
 use Rattle.block.specs.Decode.{marks}
-use Rattle.block.specs.declared.Mosts.{Mosts}
+use Rattle.index.specs.Table.{recordedIn}
+use Rattle.block.specs.Rows.{Kept}
+use Rattle.block.proofs.Filling.{kept-through}
 use Rattle.typetable.specs.Syntax.{MirType}
-use Rattle.typetable.proofs.Fields.{map-bad}
 use Rattle.routine.specs.Routine.{Routine}
-use Rattle.routine.specs.Decode.{mapOf, recordedOf, blocksOf, boundsOf, bodyOf, ended}
-use Rattle.routine.specs.Index.{RecordedAt, RecordedRead, ParametersRead, BlocksAt, BlocksRead, sizesFrom, BodyRead}
+use Rattle.routine.specs.Decode.{mosts, mapOf, recordedOf, blocksOf, boundsOf, bodyOf, ended}
+use Rattle.routine.specs.Index.{RecordedAt, RecordedRead, ParametersRead, BlocksFilled, BlocksRead}
+use Rattle.routine.specs.Facts.{sizesFrom, BodyRead}
 use Rattle.routine.specs.declared.Checked.{Checked}
-use Rattle.routine.specs.declared.Layout.{Layout}
 use Rattle.routine.proofs.Laws.{refused, refusal, part-bad, part-some}
 use Rattle.routine.proofs.Map.{size-map-of, map-bytes, same-types}
-use Rattle.routine.proofs.Recording.{size-recorded}
+use Rattle.routine.proofs.Recording.{size-recorded, recorded-length, recorded-kept}
 use Rattle.routine.proofs.Parameters.{size-parameters}
 use Rattle.routine.proofs.Coding.{size-blocks, blocks-length}
 
@@ -84,12 +85,13 @@ mapped next s at {k} {r} h p g =
     ]
 
 -- the recorded types are read, from behind their map
-pub record Typed (types next : ℕ) (s bits : List ℕ) (at end : ℕ) (recorded : List ℕ) : Type 0 where
+pub record Typed (types next : ℕ) (s bits : List ℕ) (at end : ℕ) (before facts : List ℕ) : Type 0 where
   pub found : List (Option TypeId)
   pub took : ℕ
   pub read : recordedOf types bits 0 next (drop at s) ≡ ok found took
   pub end-is : end ≡ at + took
-  pub stored : RecordedAt recorded found
+  pub kept : Kept 65 before facts
+  pub stored : RecordedAt (recordedIn facts) found
   pub in-s : end ≤ length s
 
 -- the definition looks at the map that was read, the code at the bytes
@@ -97,8 +99,8 @@ by-bytes : (types next : ℕ) (s : List ℕ) (map k at : ℕ) (u : Mapped next s
 by-bytes types next s map k at u = same-types types next (drop map s) (u .bits) (map-bytes next (drop map s) (u .read)) next 0 (drop at s) (omega arith)
 
 -- so the code tells, where the map is read
-pub typed : (types next : ℕ) (s : List ℕ) (map at : ℕ) {end k : ℕ} {before recorded : List ℕ} {r : Part} (u : Mapped next s map k) → at ≤ length s → RecordedRead types (drop map s) next at s (asPart r) before recorded → r ≡ Part.Used end → Typed types next s (u .bits) at end recorded
-typed types next s map at {end} {k} {before} {recorded} {r} u h p g =
+pub typed : (types next : ℕ) (s : List ℕ) (map at : ℕ) {end k : ℕ} {before facts : List ℕ} {r : Part} (u : Mapped next s map k) → at ≤ length s → RecordedRead types (drop map s) next at s (asPart r) before facts → r ≡ Part.Used end → Typed types next s (u .bits) at end before facts
+typed types next s map at {end} {k} {before} {facts} {r} u h p g =
     let d = recordedOf types (drop map s) 0 next (drop at s) in
     let q : ok tt end ≡ later at (mapParse unit (recordedOf types (drop map s) 0 next (drop at s))) = sym (ap asPart g) ∙ p .answers in
     elim (later-inv at (mapParse unit d) (sym q)) [
@@ -110,6 +112,7 @@ typed types next s map at {end} {k} {before} {recorded} {r} u h p g =
                   took = n;
                   read = by-bytes types next s map k at u ∙ i;
                   end-is = f;
+                  kept = p .kept rs n i;
                   stored = p .numbers rs n i;
                   in-s = omega (arith, ap (λ x. size x) i, size-recorded types (drop map s) 0 next (drop at s), length-drop at s);
                 }
@@ -117,19 +120,19 @@ typed types next s map at {end} {k} {before} {recorded} {r} u h p g =
     ]
 
 -- the blocks are read
-pub record Coded (m : Mosts) (b : Bounds) (s : List ℕ) (names : List ValueId) (at end : ℕ) (starts : List ℕ) : Type 0 where
+pub record Coded (b : Bounds) (s : List ℕ) (names : List ValueId) (at end : ℕ) (before facts : List ℕ) : Type 0 where
   pub found : List Block
   pub took : ℕ
-  pub read : blocksOf m b 0 (marks (clear b) names) (b .blocks) (drop at s) ≡ ok found took
+  pub read : blocksOf mosts b 0 (marks (clear b) names) (b .blocks) (drop at s) ≡ ok found took
   pub end-is : end ≡ at + took
-  pub placed : BlocksAt m b s starts found
+  pub filled : BlocksFilled b s before facts found
   pub in-s : end ≤ length s
 
 -- so the code tells, where the parameters are read
-pub coded : (m : Mosts) (b : Bounds) (s : List ℕ) (at : ℕ) {end k from : ℕ} {seen : List Bool} {before starts : List ℕ} {r : Part} (u : Marked b s from k seen) → at ≤ length s → BlocksRead m b (b .blocks) at s seen (asPart r) before starts → r ≡ Part.Used end → Coded m b s (u .names) at end starts
-coded m b s at {end} {k} {from} {seen} {before} {starts} {r} u h p g =
-    let d = blocksOf m b 0 seen (b .blocks) (drop at s) in
-    let q : ok tt end ≡ later at (mapParse unit (blocksOf m b 0 seen (b .blocks) (drop at s))) = sym (ap asPart g) ∙ p .answers in
+pub coded : (b : Bounds) (s : List ℕ) (at : ℕ) {end k from : ℕ} {seen : List Bool} {before facts : List ℕ} {r : Part} (u : Marked b s from k seen) → at ≤ length s → BlocksRead b at s seen (asPart r) before facts → r ≡ Part.Used end → Coded b s (u .names) at end before facts
+coded b s at {end} {k} {from} {seen} {before} {facts} {r} u h p g =
+    let d = blocksOf mosts b 0 seen (b .blocks) (drop at s) in
+    let q : ok tt end ≡ later at (mapParse unit (blocksOf mosts b 0 seen (b .blocks) (drop at s))) = sym (ap asPart g) ∙ p .answers in
     elim (later-inv at (mapParse unit d) (sym q)) [
       | behind n e f ↦
           elim (map-inv unit d e) [
@@ -137,23 +140,23 @@ coded m b s at {end} {k} {from} {seen} {before} {starts} {r} u h p g =
                 record {
                   found = xs;
                   took = n;
-                  read = ap (λ x. blocksOf m b 0 x (b .blocks) (drop at s)) (sym (u .marking)) ∙ i;
+                  read = ap (λ x. blocksOf mosts b 0 x (b .blocks) (drop at s)) (sym (u .marking)) ∙ i;
                   end-is = f;
-                  placed = p .places xs n i;
-                  in-s = omega (arith, ap (λ x. size x) i, size-blocks m b 0 seen (b .blocks) (drop at s), length-drop at s);
+                  filled = p .filled xs n i;
+                  in-s = omega (arith, ap (λ x. size x) i, size-blocks mosts b 0 seen (b .blocks) (drop at s), length-drop at s);
                 }
           ]
     ]
 
 -- what is left to read, from the end backwards
-module _ (m : Mosts) (b : Bounds) (entry : BlockId) (ts : List MirType) where
+module _ (b : Bounds) (entry : BlockId) (ts : List MirType) where
   -- the routine of these parts
   abbrev madeOf : List ValueId → List (Option TypeId) → List Block → Routine
   madeOf ps rs ks = record { types = ts; next = b .next; entry = entry; parameters = ps; recorded = rs; blocks = ks }
 
   -- the blocks are left
   abbrev codeLeft : List ValueId → List (Option TypeId) → List ℕ → Parse Routine
-  codeLeft ps rs s = mapParse (madeOf ps rs) (blocksOf m b 0 (marks (clear b) ps) (b .blocks) s)
+  codeLeft ps rs s = mapParse (madeOf ps rs) (blocksOf mosts b 0 (marks (clear b) ps) (b .blocks) s)
 
   -- the recorded types, and they
   abbrev typesLeft : List ValueId → List ℕ → List ℕ → Parse Routine
@@ -168,7 +171,7 @@ module _ (m : Mosts) (b : Bounds) (entry : BlockId) (ts : List MirType) where
   bodyLeft s = andThen s (definedsOf (b .list) (b .next) (clear b) s) (λ ps s. mapLeft ps s)
 
   -- where the bounds are those of the definition, that is the definition's body
-  body-left : (s : List ℕ) → b ≡ boundsOf m (length ts) (b .next) (b .blocks) → bodyOf m ts (sizesFrom b entry) s ≡ bodyLeft s
+  body-left : (s : List ℕ) → b ≡ boundsOf mosts (length ts) (b .next) (b .blocks) → bodyOf mosts ts (sizesFrom b entry) s ≡ bodyLeft s
   unfolding bodyOf
   body-left s h = rw h
 
@@ -176,97 +179,97 @@ module _ (m : Mosts) (b : Bounds) (entry : BlockId) (ts : List MirType) where
 abbrev ending : List ℕ → ℕ → (List ℕ → Parse Routine) → Parse (Unit {0})
 ending s at f = later at (mapParse unit (andThen (drop at s) (f (drop at s)) (λ r t. ended r t)))
 
-module _ (m : Mosts) (b : Bounds) (entry : BlockId) (s : List ℕ) (at : ℕ) where
+module _ (b : Bounds) (s : List ℕ) (at : ℕ) where
   -- a refusal finds nothing
-  body-bad : {c : Cause} {o : ℕ} {recorded starts : List ℕ} → ((ts : List MirType) → bad c o ≡ ending s at (bodyLeft m b entry ts)) → BodyRead m b entry at s (Checked.Refused c o) recorded starts
+  body-bad : {c : Cause} {o : ℕ} {before facts : List ℕ} → ((entry : BlockId) (ts : List MirType) → bad c o ≡ ending s at (bodyLeft b entry ts)) → BodyRead b at s (Checked.Refused c o) before facts
   body-bad f =
       record {
-        answers = λ ts h. f ts ∙ ap (λ d. later at (mapParse unit (andThen (drop at s) d (λ r t. ended r t)))) (sym (body-left m b entry ts (drop at s) h));
-        found = λ l ts r n h e g. absurd (let z : _≡_ {A = ℕ} 0 1 = cc in omega arith);
+        bounds = λ l e. absurd (let z : _≡_ {A = ℕ} 0 1 = cc in omega arith);
+        answers = λ entry ts h. f entry ts ∙ ap (λ d. later at (mapParse unit (andThen (drop at s) d (λ r t. ended r t)))) (sym (body-left b entry ts (drop at s) h));
+        found = λ entry ts l r n h e g. absurd (let z : _≡_ {A = ℕ} 0 1 = cc in omega arith);
       }
 
   -- the parameters are refused
-  pub body-parameters : {c : Cause} {o : ℕ} {recorded starts : List ℕ} {before seen : List Bool} {r : Part} → before ≡ clear b → ParametersRead b (take (length s - at) (drop at s)) (asPart r) before seen → r ≡ Part.Refused c o → BodyRead m b entry at s (Checked.Refused c (at + o)) recorded starts
+  pub body-parameters : {c : Cause} {o : ℕ} {facts facts′ : List ℕ} {before seen : List Bool} {r : Part} → before ≡ clear b → ParametersRead b (take (length s - at) (drop at s)) (asPart r) before seen → r ≡ Part.Refused c o → BodyRead b at s (Checked.Refused c (at + o)) facts facts′
   body-parameters {before} f p g =
       let d = definedsOf (b .list) (b .next) (clear b) (drop at s) in
       let q = rw f at (told asPart (λ t. mapParse unit (definedsOf (b .list) (b .next) before t)) at s (p .answers) g) in
-      body-bad (λ ts. part-bad s at (definedsOf (b .list) (b .next) (clear b)) (λ ps t. mapLeft m b entry ts ps t) (λ r t. ended r t) (map-bad unit d q))
+      body-bad (λ entry ts. part-bad s at (definedsOf (b .list) (b .next) (clear b)) (λ ps t. mapLeft b entry ts ps t) (λ r t. ended r t) (map-bad unit d q))
 
   module _ {k : ℕ} {seen : List Bool} (u : Marked b s at k seen) where
     -- the parameters are passed
-    after-parameters : (ts : List MirType) → ending s at (bodyLeft m b entry ts) ≡ ending s (at + k) (mapLeft m b entry ts (u .names))
-    after-parameters ts = part-some s at (definedsOf (b .list) (b .next) (clear b)) (λ ps t. mapLeft m b entry ts ps t) (λ r t. ended r t) (u .read)
+    after-parameters : (entry : BlockId) (ts : List MirType) → ending s at (bodyLeft b entry ts) ≡ ending s (at + k) (mapLeft b entry ts (u .names))
+    after-parameters entry ts = part-some s at (definedsOf (b .list) (b .next) (clear b)) (λ ps t. mapLeft b entry ts ps t) (λ r t. ended r t) (u .read)
 
     -- the map is refused
-    pub body-map : {c : Cause} {o : ℕ} {recorded starts : List ℕ} {r : Part} → asPart r ≡ mapParse unit (mapOf (b .next) (take (length s - (at + k)) (drop (at + k) s))) → r ≡ Part.Refused c o → BodyRead m b entry at s (Checked.Refused c (at + k + o)) recorded starts
+    pub body-map : {c : Cause} {o : ℕ} {facts facts′ : List ℕ} {r : Part} → asPart r ≡ mapParse unit (mapOf (b .next) (take (length s - (at + k)) (drop (at + k) s))) → r ≡ Part.Refused c o → BodyRead b at s (Checked.Refused c (at + k + o)) facts facts′
     body-map p g =
         let q = told asPart (λ t. mapParse unit (mapOf (b .next) t)) (at + k) s p g in
-        body-bad (λ ts. part-bad s (at + k) (mapOf (b .next)) (λ bits t. typesLeft m b entry ts (u .names) bits t) (λ r t. ended r t) (map-bad unit (mapOf (b .next) (drop (at + k) s)) q) ∙ sym (after-parameters ts))
+        body-bad (λ entry ts. part-bad s (at + k) (mapOf (b .next)) (λ bits t. typesLeft b entry ts (u .names) bits t) (λ r t. ended r t) (map-bad unit (mapOf (b .next) (drop (at + k) s)) q) ∙ sym (after-parameters entry ts))
 
     module _ {j : ℕ} (v : Mapped (b .next) s (at + k) j) where
       -- the map is passed
-      after-map : (ts : List MirType) → ending s at (bodyLeft m b entry ts) ≡ ending s (at + k + j) (typesLeft m b entry ts (u .names) (v .bits))
-      after-map ts = after-parameters ts ∙ part-some s (at + k) (mapOf (b .next)) (λ bits t. typesLeft m b entry ts (u .names) bits t) (λ r t. ended r t) (v .read)
+      after-map : (entry : BlockId) (ts : List MirType) → ending s at (bodyLeft b entry ts) ≡ ending s (at + k + j) (typesLeft b entry ts (u .names) (v .bits))
+      after-map entry ts = after-parameters entry ts ∙ part-some s (at + k) (mapOf (b .next)) (λ bits t. typesLeft b entry ts (u .names) bits t) (λ r t. ended r t) (v .read)
 
       -- the recorded types are refused
-      pub body-types : {c : Cause} {o : ℕ} {before recorded starts : List ℕ} {r : Part} → RecordedRead (b .types) (drop (at + k) s) (b .next) (at + k + j) s (asPart r) before recorded → r ≡ Part.Refused c o → BodyRead m b entry at s (Checked.Refused c o) recorded starts
+      pub body-types : {c : Cause} {o : ℕ} {before facts facts′ : List ℕ} {r : Part} → RecordedRead (b .types) (drop (at + k) s) (b .next) (at + k + j) s (asPart r) before facts → r ≡ Part.Refused c o → BodyRead b at s (Checked.Refused c o) before facts′
       body-types {c} p g =
           elim (refusal (at + k + j) (recordedOf (b .types) (drop (at + k) s) 0 (b .next) (drop (at + k + j) s)) (sym (ap asPart g) ∙ p .answers)) [
             | refused i e f ↦
-                body-bad (λ ts. ap (bad c) f ∙ part-bad s (at + k + j) (recordedOf (b .types) (v .bits) 0 (b .next)) (λ rs t. codeLeft m b entry ts (u .names) rs t) (λ r t. ended r t) (by-bytes (b .types) (b .next) s (at + k) j (at + k + j) v ∙ e) ∙ sym (after-map ts))
+                body-bad (λ entry ts. ap (bad c) f ∙ part-bad s (at + k + j) (recordedOf (b .types) (v .bits) 0 (b .next)) (λ rs t. codeLeft b entry ts (u .names) rs t) (λ r t. ended r t) (by-bytes (b .types) (b .next) s (at + k) j (at + k + j) v ∙ e) ∙ sym (after-map entry ts))
           ]
 
-      module _ {code : ℕ} {recorded : List ℕ} (w : Typed (b .types) (b .next) s (v .bits) (at + k + j) code recorded) where
+      module _ {code : ℕ} {before middle : List ℕ} (w : Typed (b .types) (b .next) s (v .bits) (at + k + j) code before middle) where
         -- the recorded types are passed
-        after-types : (ts : List MirType) → ending s at (bodyLeft m b entry ts) ≡ ending s code (codeLeft m b entry ts (u .names) (w .found))
-        after-types ts = after-map ts ∙ part-some s (at + k + j) (recordedOf (b .types) (v .bits) 0 (b .next)) (λ rs t. codeLeft m b entry ts (u .names) rs t) (λ r t. ended r t) (w .read) ∙ rw (← w .end-is)
+        after-types : (entry : BlockId) (ts : List MirType) → ending s at (bodyLeft b entry ts) ≡ ending s code (codeLeft b entry ts (u .names) (w .found))
+        after-types entry ts = after-map entry ts ∙ part-some s (at + k + j) (recordedOf (b .types) (v .bits) 0 (b .next)) (λ rs t. codeLeft b entry ts (u .names) rs t) (λ r t. ended r t) (w .read) ∙ rw (← w .end-is)
 
         -- the blocks are refused
-        pub body-code : {c : Cause} {o : ℕ} {before starts : List ℕ} {r : Part} → BlocksRead m b (b .blocks) code s seen (asPart r) before starts → r ≡ Part.Refused c o → BodyRead m b entry at s (Checked.Refused c o) recorded starts
+        pub body-code : {c : Cause} {o : ℕ} {facts : List ℕ} {r : Part} → BlocksRead b code s seen (asPart r) middle facts → r ≡ Part.Refused c o → BodyRead b at s (Checked.Refused c o) before facts
         body-code {c} p g =
-            elim (refusal code (blocksOf m b 0 seen (b .blocks) (drop code s)) (sym (ap asPart g) ∙ p .answers)) [
+            elim (refusal code (blocksOf mosts b 0 seen (b .blocks) (drop code s)) (sym (ap asPart g) ∙ p .answers)) [
               | refused i e f ↦
-                  let q : blocksOf m b 0 (marks (clear b) (u .names)) (b .blocks) (drop code s) ≡ bad c i = ap (λ x. blocksOf m b 0 x (b .blocks) (drop code s)) (sym (u .marking)) ∙ e in
-                  body-bad (λ ts. sym (after-types ts ∙ simp (q, f)))
+                  let q : blocksOf mosts b 0 (marks (clear b) (u .names)) (b .blocks) (drop code s) ≡ bad c i = ap (λ x. blocksOf mosts b 0 x (b .blocks) (drop code s)) (sym (u .marking)) ∙ e in
+                  body-bad (λ entry ts. sym (after-types entry ts ∙ simp (q, f)))
             ]
 
-        module _ {end : ℕ} {starts : List ℕ} (x : Coded m b s (u .names) code end starts) where
+        module _ {end : ℕ} {facts : List ℕ} (x : Coded b s (u .names) code end middle facts) where
           -- the blocks are passed
-          after-code : (ts : List MirType) → ending s at (bodyLeft m b entry ts) ≡ later end (mapParse unit (ended (madeOf m b entry ts (u .names) (w .found) (x .found)) (drop end s)))
-          after-code ts = after-types ts ∙ simp (x .read, map-later, later-later, drop-drop, ← x .end-is)
+          after-code : (entry : BlockId) (ts : List MirType) → ending s at (bodyLeft b entry ts) ≡ later end (mapParse unit (ended (madeOf b entry ts (u .names) (w .found) (x .found)) (drop end s)))
+          after-code entry ts = after-types entry ts ∙ simp (x .read, map-later, later-later, drop-drop, ← x .end-is)
 
           -- bytes stand behind the last
-          pub body-trailing : end < length s → BodyRead m b entry at s (Checked.Refused Cause.Trailing end) recorded starts
+          pub body-trailing : end < length s → BodyRead b at s (Checked.Refused Cause.Trailing end) before facts
           body-trailing h =
               let z : length (drop end s) ≡ 0 → ⊥ = λ q. omega (arith, length-drop end s) in
-              body-bad (λ ts. sym (after-code ts ∙ simp (ne-eqb _ _ z, add-zero)))
+              body-bad (λ entry ts. sym (after-code entry ts ∙ simp (ne-eqb _ _ z, add-zero)))
 
           -- the body that the definition gives
-          body-made : (ts : List MirType) → bodyLeft m b entry ts (drop at s) ≡ ok (madeOf m b entry ts (u .names) (w .found) (x .found)) (k + (j + (w .took + x .took)))
-          body-made ts = simp (u .read, drop-drop, v .read, w .read, ← w .end-is, x .read)
+          body-made : (entry : BlockId) (ts : List MirType) → bodyLeft b entry ts (drop at s) ≡ ok (madeOf b entry ts (u .names) (w .found) (x .found)) (k + (j + (w .took + x .took)))
+          body-made entry ts = simp (u .read, drop-drop, v .read, w .read, ← w .end-is, x .read)
 
           -- nothing does: the routine is accepted
-          pub body-accepted : (l : Layout) → l .types ≡ b .types → l .next ≡ b .next → l .blocks ≡ b .blocks → l .entry ≡ entry .0 → length s ≤ end → BodyRead m b entry at s (Checked.Accepted l) recorded starts
-          body-accepted l lt ln lb le h =
+          pub body-accepted : b .next ≤ 256 → length s ≤ end → BodyRead b at s (Checked.Accepted b) before facts
+          body-accepted few h =
               let z : length (drop end s) ≡ 0 = omega (arith, length-drop end s) in
               let y : end ≡ length s = omega (arith, x .in-s) in
               record {
-                answers = λ ts h.
-                    sym (ap (λ d. later at (mapParse unit (andThen (drop at s) d (λ r t. ended r t)))) (body-left m b entry ts (drop at s) h)
-                    ∙ after-code ts ∙ simp (eq-eqb _ _ z, add-zero) (ap (ok tt) y));
-                found = λ l′ ts r n h e f.
-                    let i : ok (madeOf m b entry ts (u .names) (w .found) (x .found)) (k + (j + (w .took + x .took))) ≡ ok r n = sym (body-left m b entry ts (drop at s) h ∙ body-made ts) ∙ f in
-                    let p : madeOf m b entry ts (u .names) (w .found) (x .found) ≡ r = cc in
-                    let q : l ≡ l′ = cc in
-                    let t : b .types ≡ length ts = ap (λ b. b .types) h in
-                    let o : length (x .found) ≡ b .blocks = blocks-length m b 0 (marks (clear b) (u .names)) (b .blocks) (drop code s) (x .read) in
-                    rw (← p, ← q) (record {
-                      counts = lt ∙ t;
-                      next = ln;
-                      many = lb ∙ sym o;
-                      entry = le;
-                      types-recorded = w .stored;
-                      code = rw (o, ← h) (x .placed);
+                bounds = λ l e. cc;
+                answers = λ entry ts h.
+                    sym (ap (λ d. later at (mapParse unit (andThen (drop at s) d (λ r t. ended r t)))) (body-left b entry ts (drop at s) h)
+                    ∙ after-code entry ts ∙ simp (eq-eqb _ _ z, add-zero) (ap (ok tt) y));
+                found = λ entry ts l r n h e f.
+                    let i : ok (madeOf b entry ts (u .names) (w .found) (x .found)) (k + (j + (w .took + x .took))) ≡ ok r n = sym (body-left b entry ts (drop at s) h ∙ body-made entry ts) ∙ f in
+                    let p : madeOf b entry ts (u .names) (w .found) (x .found) ≡ r = cc in
+                    let d = x .filled in
+                    rw (← p) (record {
+                      next = refl;
+                      many = blocks-length mosts b 0 (marks (clear b) (u .names)) (b .blocks) (drop code s) (x .read);
+                      kept = kept-through 65 321 (omega arith) (w .kept) (d .kept);
+                      recorded = recorded-kept (w .found) middle facts (d .kept) (omega (arith, recorded-length (b .types) (v .bits) 0 (b .next) (drop (at + k + j) s) (w .read))) (w .stored);
+                      blocks = d .blocks;
+                      code = d .code;
                     });
               }
 

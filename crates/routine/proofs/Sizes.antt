@@ -12,11 +12,10 @@ use Rattle.wire.specs.Parse.{Parse, ok, bad, mapParse}
 use Rattle.wire.specs.Number.{u16Of, at16}
 use Rattle.wire.specs.declared.Cause.{Cause}
 use Rattle.wire.proofs.Laws.{size, size-map, size-checked, size-and, size-number, size-below, from-16, later-later}
-use Rattle.wire.proofs.Inv.{both, image, and-inv, map-inv, checked-inv, number-inv}
+use Rattle.wire.proofs.Inv.{both, image, and-inv, map-inv, checked-inv, number-inv, map-bad}
 use Rattle.form.specs.Decode.{blockIdOf}
 use Rattle.form.specs.Walk.{unit}
 use Rattle.block.specs.declared.Mosts.{Mosts}
-use Rattle.typetable.proofs.Fields.{map-bad}
 use Rattle.routine.specs.Decode.{Sizes, atMost, sizesOf}
 
 -- a count that was read is the u16 at the place, and at most its most

@@ -1,29 +1,33 @@
 -- The whole routine: types, sizes, body.
-use Prim.Native.Nat.{ℕ, zero, suc, _+_, _-_, _≤_}
+use Prim.Native.Nat.{ℕ, zero, suc, _+_, _-_, _≤_, _<_}
 use mathlib.Core.Path.{_≡_, refl, ap, _∙_, sym}
 use mathlib.Core.List.{List, [], _∷_, _++_}
 use mathlib.Core.Bool.{not}
 use native.Mathlib.Omega.{arith}
-use lib.ListN.{length, take, drop}
+use borrow.Author.Tests.{leb-true}
+use lib.ListN.{length, getD, take, drop}
 use lib.Seq.{drop-drop}
 use lib.Dec.{leb, eqb}
 use Rattle.wire.specs.Parse.{Parse, ok, bad, later, andThen, mapParse, checked}
 use Rattle.wire.specs.Number.{u16Of, at16}
+use Rattle.wire.specs.WellFormed.{Bytes}
 use Rattle.wire.specs.declared.Cause.{Cause}
 use Rattle.wire.specs.declared.BlockId.{BlockId}
 use Rattle.wire.proofs.Laws.{size, map-later, later-later, map-map, map-and, told, told-size, from-16}
-use Rattle.wire.proofs.Inv.{no-ok, both, behind, image, later-inv, and-inv, map-inv, cond-inv, checked-inv, number-inv}
+use Rattle.wire.proofs.Inv.{no-ok, both, behind, image, later-inv, and-inv, map-inv, cond-inv, checked-inv, number-inv, map-bad}
 use Rattle.form.specs.Walk.{asPart, unit}
 use Rattle.form.specs.declared.Part.{Part}
+use Rattle.canon.specs.WellFormed.{Wide}
+use Rattle.block.specs.Rows.{Kept, Tabular}
 use Rattle.block.specs.declared.Mosts.{Mosts}
 use Rattle.typetable.specs.Syntax.{MirType}
 use Rattle.typetable.specs.Decode.{hasType, typeOf, typeSeq, typesOf}
 use Rattle.typetable.specs.Index.{TypesAt, TypesRead}
 use Rattle.typetable.proofs.Sizes.{size-types}
-use Rattle.typetable.proofs.Fields.{map-bad}
 use Rattle.routine.specs.Routine.{Routine}
-use Rattle.routine.specs.Decode.{Sizes, sizesOf, boundsOf, bodyOf, routineOf, ended, wholeOf}
-use Rattle.routine.specs.Index.{asSizes, asChecked, BodyRead, RoutineRead, verdict}
+use Rattle.routine.specs.Decode.{mosts, Sizes, sizesOf, boundsOf, bodyOf, routineOf, ended, wholeOf}
+use Rattle.routine.specs.Index.{asSizes, asChecked, verdict}
+use Rattle.routine.specs.Facts.{BodyRead, RoutineRead}
 use Rattle.routine.specs.declared.Checked.{Checked}
 use Rattle.routine.specs.declared.SizesRead.{SizesRead}
 use Rattle.form.proofs.Laws.{and-later}
@@ -41,38 +45,44 @@ types-length most earlier (suc k) s e =
           ]
     ]
 
--- as many as the first u16 says
-types-count : (mostTypes most : ℕ) (s : List ℕ) {ts : List MirType} {n : ℕ} → typesOf mostTypes most s ≡ ok ts n → at16 s 0 ≡ length ts
+-- as many as the first u16 says, and not too many
+types-count : (mostTypes most : ℕ) (s : List ℕ) {ts : List MirType} {n : ℕ} → typesOf mostTypes most s ≡ ok ts n → (at16 s 0 ≡ length ts) × (length ts ≤ mostTypes)
 unfolding typesOf
 types-count mostTypes most s e =
     elim (and-inv s (checked Cause.TooMany (λ n. leb n mostTypes) (u16Of s)) (λ n t. typeSeq most [] n t) e) [
       | both x i j p q r ↦
-          let h = number-inv 2 s (checked-inv Cause.TooMany (λ n. leb n mostTypes) (u16Of s) p .0) in
-          sym (types-length most [] x (drop i s) q ∙ h .1 ∙ from-16 s 0)
+          let c = checked-inv Cause.TooMany (λ n. leb n mostTypes) (u16Of s) p in
+          let l = types-length most [] x (drop i s) q in
+          (sym (l ∙ number-inv 2 s (c .0) .1 ∙ from-16 s 0), rw l (leb-true x mostTypes (c .1)))
     ]
 
 -- the table of types is read
-pub record Tabled (m : Mosts) (s : List ℕ) (at : ℕ) (starts : List ℕ) : Type 0 where
+pub record Tabled (s : List ℕ) (at : ℕ) (facts : List ℕ) : Type 0 where
   pub found : List MirType
-  pub read : typesOf (m .types) (m .list) s ≡ ok found at
-  pub table : TypesAt (m .list) s starts found
+  pub read : typesOf 64 16 s ≡ ok found at
+  pub table : TypesAt 16 s facts found
+  pub first : getD facts 0 0 ≡ 2
   pub counts : at16 s 0 ≡ length found
+  pub few : length found ≤ 64
   pub in-s : at ≤ length s
 
 -- so the code tells
-pub tabled : (m : Mosts) (s : List ℕ) {at : ℕ} {before starts : List ℕ} {r : Part} → TypesRead (m .types) (m .list) s (asPart r) before starts → r ≡ Part.Used at → Tabled m s at starts
-tabled m s {at} p g =
-    let d = typesOf (m .types) (m .list) s in
-    elim (map-inv unit d (sym (p .answers) ∙ ap asPart g)) [
+pub tabled : (s : List ℕ) {at : ℕ} {before facts : List ℕ} {r : Part} → TypesRead 64 16 s (asPart r) before facts → r ≡ Part.Used at → Tabled s at facts
+tabled s {at} p g =
+    elim (map-inv unit (typesOf 64 16 s) (sym (p .answers) ∙ ap asPart g)) [
       | image ts e i ↦
-          record {
-            found = ts;
-            read = e;
-            table = p .places ts at e;
-            counts = types-count (m .types) (m .list) s e;
-            in-s = omega (arith, ap (λ x. size x) e, size-types (m .types) (m .list) s);
-          }
+          let c = types-count 64 16 s e in
+          record { found = ts; read = e; table = p .places ts at e; first = p .first ts at e; counts = c .0; few = c .1; in-s = omega (arith, ap (λ x. size x) e, size-types 64 16 s) }
     ]
+
+-- what is stored behind the types leaves them
+types-kept : (most : ℕ) (s before facts : List ℕ) (ts : List MirType) → Kept 65 before facts → length ts ≤ 64 → TypesAt most s before ts → TypesAt most s facts ts
+types-kept most s before facts ts k h a =
+    record {
+      each = λ j l. rw (k .same j (omega arith), k .same (suc j) (omega arith)) (a .each j l);
+      rises = λ j l. rw (k .same j (omega arith), k .same (suc j) (omega arith)) (a .rises j l);
+      within = λ j l. rw (k .same j (omega arith)) (a .within j l);
+    }
 
 -- the sizes are read
 pub record Fitted (m : Mosts) (s : List ℕ) (at : ℕ) (z : Sizes) : Type 0 where
@@ -118,46 +128,59 @@ accepted at s d {r} e =
           ]
     ]
 
-module _ (m : Mosts) (s : List ℕ) where
+module _ (s : List ℕ) where
   -- a refusal finds nothing
-  whole-bad : {c : Cause} {o : ℕ} {types recorded starts : List ℕ} → bad c o ≡ mapParse unit (wholeOf m s) → RoutineRead m s (Checked.Refused c o) types recorded starts
-  whole-bad e =
-      record {
-        answers = e;
-        found = λ l r n f g. absurd (no-ok (e ∙ ap (mapParse unit) g));
-        table = λ r n g. absurd (no-ok (e ∙ ap (mapParse unit) g));
-      }
+  whole-bad : {c : Cause} {o : ℕ} {facts : List ℕ} → bad c o ≡ mapParse unit (wholeOf mosts s) → RoutineRead s (Checked.Refused c o) facts
+  whole-bad e = record { answers = e; found = λ b r n h f g. absurd (no-ok (e ∙ ap (mapParse unit) g)) }
 
   -- the types are refused
-  pub whole-types : {c : Cause} {o : ℕ} {before types recorded starts : List ℕ} {r : Part} → TypesRead (m .types) (m .list) s (asPart r) before types → r ≡ Part.Refused c o → RoutineRead m s (Checked.Refused c o) types recorded starts
+  pub whole-types : {c : Cause} {o : ℕ} {before facts : List ℕ} {r : Part} → TypesRead 64 16 s (asPart r) before facts → r ≡ Part.Refused c o → RoutineRead s (Checked.Refused c o) facts
   unfolding wholeOf routineOf
-  whole-types p g = whole-bad (sym (simp (map-bad unit (typesOf (m .types) (m .list) s) (sym (p .answers) ∙ ap asPart g))))
+  whole-types p g = whole-bad (sym (simp (map-bad unit (typesOf 64 16 s) (sym (p .answers) ∙ ap asPart g))))
 
-  module _ {at : ℕ} {types : List ℕ} (u : Tabled m s at types) where
+  module _ {at : ℕ} {before : List ℕ} (u : Tabled s at before) where
     -- the types are passed
-    after-types : wholeOf m s ≡ later at (andThen (drop at s) (andThen (drop at s) (sizesOf m (drop at s)) (λ z t. bodyOf m (u .found) z t)) (λ r t. ended r t))
+    after-types : wholeOf mosts s ≡ later at (andThen (drop at s) (andThen (drop at s) (sizesOf mosts (drop at s)) (λ z t. bodyOf mosts (u .found) z t)) (λ r t. ended r t))
     unfolding wholeOf routineOf
     after-types = simp (u .read, and-later)
 
     -- the sizes are refused
-    pub whole-sizes : {c : Cause} {o : ℕ} {recorded starts : List ℕ} {r : SizesRead} → asSizes r ≡ sizesOf m (take (length s - at) (drop at s)) → r ≡ SizesRead.Refused c o → RoutineRead m s (Checked.Refused c (at + o)) types recorded starts
-    whole-sizes p g = whole-bad (sym (ap (mapParse unit) after-types ∙ simp (told asSizes (sizesOf m) at s p g)))
+    pub whole-sizes : {c : Cause} {o : ℕ} {facts : List ℕ} {r : SizesRead} → asSizes r ≡ sizesOf mosts (take (length s - at) (drop at s)) → r ≡ SizesRead.Refused c o → RoutineRead s (Checked.Refused c (at + o)) facts
+    whole-sizes p g = whole-bad (sym (ap (mapParse unit) after-types ∙ simp (told asSizes (sizesOf mosts) at s p g)))
 
-    module _ (z : Sizes) (v : Fitted m s at z) where
+    module _ (z : Sizes) (v : Fitted mosts s at z) where
       -- the sizes are passed
-      after-sizes : wholeOf m s ≡ later (at + 6) (andThen (drop (at + 6) s) (bodyOf m (u .found) z (drop (at + 6) s)) (λ r t. ended r t))
+      after-sizes : wholeOf mosts s ≡ later (at + 6) (andThen (drop (at + 6) s) (bodyOf mosts (u .found) z (drop (at + 6) s)) (λ r t. ended r t))
       after-sizes = after-types ∙ simp (v .read, and-later, later-later, drop-drop)
 
       -- the body behind them
-      pub whole-body : (x : ℕ) {recorded starts : List ℕ} {answer : Checked} → x ≡ at16 s 0 → BodyRead m (boundsOf m x (z .next) (z .blocks)) (z .entry) (at + 6) s answer recorded starts → RoutineRead m s answer types recorded starts
-      whole-body x {recorded} {starts} {answer} h p =
+      pub whole-body : (x : ℕ) (facts : List ℕ) (answer : Checked) → x ≡ at16 s 0 → 6147 ≤ length facts → ((r : Routine) (n : ℕ) → Bytes s → wholeOf mosts s ≡ ok r n → length s < 65536) → BodyRead (boundsOf mosts x (z .next) (z .blocks)) (at + 6) s answer before facts → RoutineRead s answer facts
+      whole-body x facts answer h long short p =
           let ts = u .found in
-          let d = bodyOf m ts z (drop (at + 6) s) in
-          let k : boundsOf m x (z .next) (z .blocks) ≡ boundsOf m (length (u .found)) (z .next) (z .blocks) = ap (λ y. boundsOf m y (z .next) (z .blocks)) (h ∙ u .counts) in
+          let b = boundsOf mosts x (z .next) (z .blocks) in
+          let d = bodyOf mosts ts z (drop (at + 6) s) in
+          let l : x ≡ length ts = h ∙ u .counts in
+          let k : boundsOf mosts x (z .next) (z .blocks) ≡ boundsOf mosts (length (u .found)) (z .next) (z .blocks) = ap (λ y. boundsOf mosts y (z .next) (z .blocks)) l in
           record {
-            answers = p .answers ts k ∙ sym (ap (mapParse unit) after-sizes ∙ map-later unit (at + 6) (andThen (drop (at + 6) s) d (λ r t. ended r t)));
-            found = λ l r n e f. elim (accepted (at + 6) (drop (at + 6) s) d (sym after-sizes ∙ f)) [ made i g ↦ p .found l ts r i k e g ];
-            table = λ r n f. elim (accepted (at + 6) (drop (at + 6) s) d (sym after-sizes ∙ f)) [ made i g ↦ rw (body-types m ts z (drop (at + 6) s) g) (u .table) ];
+            answers = p .answers (z .entry) ts k ∙ sym (ap (mapParse unit) after-sizes ∙ map-later unit (at + 6) (andThen (drop (at + 6) s) d (λ r t. ended r t)));
+            found = λ b′ r n bytes e f.
+                elim (accepted (at + 6) (drop (at + 6) s) d (sym after-sizes ∙ f)) [
+                  | made i g ↦
+                      let q = p .found (z .entry) ts b′ r i k e g in
+                      let same : r .types ≡ ts = body-types mosts ts z (drop (at + 6) s) g in
+                      let wide : Wide b = record { types = omega (arith, u .few); next = omega (arith, v .next); blocks = omega (arith, v .blocks); list = omega arith; projections = omega arith } in
+                      let t : Tabular b s = record { bytes = bytes; short = short r n bytes f; wide = wide; listed = omega arith; projected = omega arith } in
+                      rw (← p .bounds b′ e) record {
+                        bounded = rw (same, ← l, q .next, q .many) refl;
+                        short = short r n bytes f;
+                        types = rw same (types-kept 16 s before facts ts (q .kept) (u .few) (u .table));
+                        first = q .kept .same 0 (omega arith) ∙ u .first;
+                        recorded = q .recorded;
+                        long = long;
+                        blocks = q .blocks t;
+                        code = q .code t;
+                      }
+                ];
           }
 
 -- the verdict does not look at the value

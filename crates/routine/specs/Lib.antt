@@ -2,3 +2,4 @@ pub mod Routine
 pub mod Decode
 pub mod Encode
 pub mod Index
+pub mod Facts

@@ -2,6 +2,7 @@
 pub mod sections;
 
 use block::Mosts;
+use form::Bounds;
 use wire::BlockId;
 use wire::Cause;
 use wire::TypeId;
@@ -12,23 +13,10 @@ ghost use Prim.Native.Nat.{_<_};
 ghost use lib.ListN.{length, getD};
 ghost use Rattle.wire.specs.WellFormed.{Bytes};
 ghost use Rattle.form.specs.Syntax.{Block};
-ghost use Rattle.form.specs.declared.Bounds.{Bounds};
+ghost use Rattle.form.specs.declared.Bounds.{Bounds as AnyBounds};
 ghost use Rattle.block.specs.Encode.{blockBytes};
 ghost use Rattle.block.specs.declared.Mosts.{Mosts};
 ghost use Rattle.routine.specs.Index.{BlocksAt, noBlock, asRecorded, recordedFrom};
-
-// How many types, values and blocks an accepted routine has, its entry block, and where its sections begin. Of these four
-// places nothing is promised, and nothing asks for them: they are left free.
-pub struct Layout {
-    pub types: u16,
-    pub next: u16,
-    pub blocks: u16,
-    pub entry: u16,
-    pub parameters: usize,
-    pub map: usize,
-    pub recorded: usize,
-    pub code: usize,
-}
 
 // Next value, number of blocks, entry block.
 pub enum SizesRead {
@@ -36,8 +24,9 @@ pub enum SizesRead {
     Refused(Cause, usize),
 }
 
+// What an accepted routine's numbers stay below, or the refusal.
 pub enum Checked {
-    Accepted(Layout),
+    Accepted(Bounds),
     Refused(Cause, usize),
 }
 
@@ -53,8 +42,9 @@ pub const MOSTS: Mosts = Mosts {
 };
 
 // The part of the caller's bytes that is block k.
-pub fn block_bytes<'a>(s: &'a [u8], blocks: &[usize], k: BlockId) -> &'a [u8]
-    ensures { λ r. ⌜ ((m : Mosts) (b : Bounds) (xs : List Block) → Bytes (now (s .entry)) → BlocksAt m b (now (s .entry)) (now (blocks .entry)) xs → k .0 < length xs → now r ≡ blockBytes (getD xs (k .0) noBlock)) ⌝ }
+pub fn block_bytes<'a>(s: &'a [u8], blocks: &[u16], k: BlockId) -> &'a [u8]
+    ensures { λ r. ⌜ ((m : Mosts) (b : AnyBounds) (xs : List Block) → Bytes (now (s .entry)) →
+        BlocksAt m b (now (s .entry)) (now (blocks .entry)) xs → k .0 < length xs → now r ≡ blockBytes (getD xs (k .0) noBlock)) ⌝ }
 {
     let i = k.0 as usize;
     let from = table::place(blocks, i);

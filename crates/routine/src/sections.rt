@@ -1,4 +1,5 @@
 // The parts of a routine: sizes, map, recorded types, parameters, blocks.
+use crate::MOSTS;
 use crate::SizesRead;
 use block::BlockRead;
 use block::Mosts;
@@ -88,13 +89,14 @@ fn map_bit(s: &[u8], map: usize, v: u16) -> bool
     b / POWERS[i] % 2 == 1
 }
 
-// The recorded type of value v, at `here` where it has one: `recorded` is given 1 and its number, else 0.
-fn recorded_one(s: &[u8], here: usize, map: usize, v: u16, types: u16, recorded: &mut [u16]) -> Part
+// The recorded type of value v, at `here` where it has one: the table is given 1 and its number, else 0.
+fn recorded_one(s: &[u8], here: usize, map: usize, v: u16, types: u16, facts: &mut [u16]) -> Part
     requires { ⌜ here ≤ length (now s) ⌝ }
-    ensures { λ r. ⌜ RecordedOne types (drop map (now (s .entry))) v here (now (s .entry)) (asPart r) (now (recorded .entry)) (now (recorded .exit)) ⌝ }
+    ensures { λ r. ⌜ RecordedOne types (drop map (now (s .entry))) v here (now (s .entry)) (asPart r) (now (facts .entry)) (now (facts .exit)) ⌝ }
 {
+    let place = index::RECORDED + v as usize;
     if !map_bit(s, map, v) {
-        table::set_number(recorded, v as usize, 0);
+        table::set_number(facts, place, 0);
         return Part::Used(here);
     }
     match wire::read_u16(&s[here..]) {
@@ -103,28 +105,28 @@ fn recorded_one(s: &[u8], here: usize, map: usize, v: u16, types: u16, recorded:
             if types <= t {
                 return Part::Refused(Cause::OutOfRange, here);
             }
-            table::set_number(recorded, v as usize, t + 1);
+            table::set_number(facts, place, t + 1);
             Part::Used(here + n)
         }
     }
 }
 
-// The recorded types, from `at` on.
+// The recorded types, from `at` on, into the table.
 pub fn recorded_part(
     s: &[u8],
     at: usize,
     map: usize,
     next: u16,
     types: u16,
-    recorded: &mut [u16],
+    facts: &mut [u16],
 ) -> Part
     requires { ⌜ at ≤ length (now s) ⌝ }
-    ensures { λ r. ⌜ RecordedRead types (drop map (now (s .entry))) next at (now (s .entry)) (asPart r) (now (recorded .entry)) (now (recorded .exit)) ⌝ }
+    ensures { λ r. ⌜ RecordedRead types (drop map (now (s .entry))) next at (now (s .entry)) (asPart r) (now (facts .entry)) (now (facts .exit)) ⌝ }
 {
     let mut here = at;
     let mut v: u16 = 0;
     while v < next {
-        match recorded_one(s, here, map, v, types, recorded) {
+        match recorded_one(s, here, map, v, types, facts) {
             Part::Refused(c, o) => {
                 return Part::Refused(c, o);
             }
@@ -148,36 +150,30 @@ pub fn parameters_part(s: &[u8], b: Bounds, seen: &mut [bool]) -> Part
     }
 }
 
-// The blocks, from `at` on. `starts` is given each block's place, and the place behind the last.
-pub fn blocks_part(
-    s: &[u8],
-    at: usize,
-    m: Mosts,
-    b: Bounds,
-    many: u16,
-    seen: &mut [bool],
-    starts: &mut [usize],
-) -> Part
-    requires { ⌜ (at ≤ length (now s)) × (many < length (now starts)) ⌝ }
-    ensures { λ r. ⌜ BlocksRead m b many at (now (s .entry)) (now (seen .entry)) (asPart r) (now (starts .entry)) (now (starts .exit)) ⌝ }
+// The blocks, from `at` on: the table is given each block's place, the slot of its first instruction, and its rows.
+pub fn blocks_part(s: &[u8], at: usize, b: Bounds, seen: &mut [bool], facts: &mut [u16]) -> Part
+    requires { ⌜ (at ≤ length (now s)) × (b .blocks ≤ 32) × (6147 ≤ length (now facts)) ⌝ }
+    ensures { λ r. ⌜ BlocksRead b at (now (s .entry)) (now (seen .entry)) (asPart r) (now (facts .entry)) (now (facts .exit)) ⌝ }
 {
+    let many = b.blocks;
     let mut here = at;
     let mut total: u16 = 0;
     let mut k: u16 = 0;
-    starts[0] = here;
+    table::set_place(facts, index::BLOCKS, here);
+    table::set_number(facts, index::STARTS, 0);
     while k < many {
-        match block::read_block(&s[here..], m, b, total, seen) {
+        match block::read_block(s, here, MOSTS, b, total, total + k, seen, facts) {
             BlockRead::Refused(c, o) => {
-                return Part::Refused(c, here + o);
+                return Part::Refused(c, o);
             }
-            BlockRead::Used(n, count) => {
-                here = here + n;
+            BlockRead::Used(end, count) => {
+                here = end;
                 total = total + count;
             }
         }
         k = k + 1;
-        let i = k as usize;
-        starts[i] = here;
+        table::set_place(facts, index::BLOCKS + k as usize, here);
+        table::set_number(facts, index::STARTS + k as usize, total + k);
     }
     Part::Used(here)
 }

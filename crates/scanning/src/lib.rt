@@ -1,87 +1,64 @@
-// The scan of a block, which fills the tables that the climb looks at.
+// The scan of a block, which fills the graph that the climb looks at.
 use form::Bounds;
-use lookup::Found;
 use lookup::Step;
 use wire::Literal;
 use wire::Value;
 ghost use mathlib.Core.Path.{_≡_};
-ghost use mathlib.Core.List.{[]};
-ghost use mathlib.Core.Bool.{true, false, not, cond, _&&_};
-ghost use Prim.Native.Nat.{ℕ, _<_, _≤_};
-ghost use lib.ListN.{length, getD, set};
-ghost use lib.Dec.{eqb};
-ghost use Rattle.form.specs.Syntax.{Instruction};
-ghost use Rattle.climb.specs.Edges.{variesFirst};
-ghost use Rattle.climb.specs.Noted.{edgesIn, pushed, notedPart, notedWhole, notedArguments, variesFound, PartsNoted, tablesIn, OneScanned, BlockScanned};
-ghost use Rattle.lookup.specs.Fields.{asFound, asStep, listValues, placeSteps, listCount};
-ghost use Rattle.wire.specs.Number.{at16};
-ghost use Rattle.form.specs.Decode.{instructionOf};
-ghost use Rattle.wire.specs.Parse.{ok};
+ghost use mathlib.Core.List.{List};
+ghost use Prim.Native.Nat.{ℕ, _+_, _≤_, _<_};
+ghost use lib.ListN.{getD};
+ghost use Rattle.wire.specs.declared.ValueId.{ValueId};
+ghost use Rattle.index.specs.Table.{ReadsIn};
+ghost use Rattle.lookup.specs.Fields.{asStep};
+ghost use Rattle.scanning.specs.Noted.{destIn, barring, notedRead, notedReads, variesFound, passesBy, PlaceNoted, BuildNoted, OneScanned, BlockScanned};
 
-// Notes an edge, and answers how many there are.
-fn note_edge(
-    child: u16,
-    parent: u16,
-    tuple: bool,
-    many: u16,
-    children: &mut [u16],
-    parents: &mut [u16],
-    tuples: &mut [bool],
-) -> u16
-    requires { ⌜ (2048 ≤ length (now children)) × (2048 ≤ length (now parents)) × (2048 ≤ length (now tuples)) ⌝ }
-    ensures { λ r. ⌜ edgesIn (now (children .exit)) (now (parents .exit)) (now (tuples .exit)) r ≡ pushed child parent tuple (edgesIn (now (children .entry)) (now (parents .entry)) (now (tuples .entry)) many) ⌝ }
+// The value that the instruction in a slot defines, where that is its first field.
+pub fn dest(s: &[u8], facts: &[u16], slot: u16) -> u16
+    ensures { λ r. ⌜ r ≡ destIn (now (s .entry)) (now (facts .entry)) slot ⌝ }
 {
+    let t = form::tail(s, index::place(facts, slot));
+    wire::u16_at(form::tail(t, lookup::fields_place(t)), 0)
+}
+
+// A value that is wanted whole.
+fn bar(graph: &mut [u16], v: u16)
+    ensures { λ _. ⌜ now (graph .exit) ≡ barring v (now (graph .entry)) ⌝ }
+{
+    if v < 256 {
+        table::set_number(graph, climb::BARRED + v as usize, 1);
+    }
+}
+
+// A value that an instruction reads: a Call wants it whole, to a build `d` of the kind it is a part, if not the build itself.
+fn note_read(graph: &mut [u16], kind: u16, d: u16, w: u16)
+    ensures { λ _. ⌜ now (graph .exit) ≡ notedRead kind d (now (graph .entry)) w ⌝ }
+{
+    if kind == 3 {
+        bar(graph, w);
+        return;
+    }
+    if w == d {
+        return;
+    }
+    let many = table::number(graph, 0);
     if many < 2048 {
-        let at = many as usize;
-        children[at] = child;
-        parents[at] = parent;
-        tuples[at] = tuple;
-        return many + 1;
-    }
-    many
-}
-
-// A part of the build `parent`: an edge where it is an operand other than the build itself.
-fn note_part(
-    x: Found,
-    parent: u16,
-    tuple: bool,
-    many: u16,
-    children: &mut [u16],
-    parents: &mut [u16],
-    tuples: &mut [bool],
-) -> u16
-    requires { ⌜ (2048 ≤ length (now children)) × (2048 ≤ length (now parents)) × (2048 ≤ length (now tuples)) ⌝ }
-    ensures { λ r. ⌜ edgesIn (now (children .exit)) (now (parents .exit)) (now (tuples .exit)) r ≡ notedPart parent tuple (edgesIn (now (children .entry)) (now (parents .entry)) (now (tuples .entry)) many) (asFound x) ⌝ }
-{
-    match x {
-        Found::Nothing => many,
-        Found::Value(y) => match y {
-            Value::Operand(w) => {
-                if w.0 == parent {
-                    return many;
-                }
-                note_edge(w.0, parent, tuple, many, children, parents, tuples)
-            }
-            Value::Literal(_) => many,
-            Value::Error => many,
-        },
+        let at = climb::EDGES + climb::WIDTH * many as usize;
+        table::set_number(graph, at, w);
+        table::set_number(graph, at + 1, d);
+        table::set_number(graph, at + 2, kind);
+        table::set_number(graph, 0, many + 1);
     }
 }
 
-// A Call's argument is wanted whole.
-fn note_whole(x: Found, blocked: &mut [bool])
-    ensures { λ r. ⌜ now (blocked .exit) ≡ notedWhole (now (blocked .entry)) (asFound x) ⌝ }
+// All that the instruction in a slot reads, the last one first.
+fn note_reads(graph: &mut [u16], facts: &[u16], slot: u16, kind: u16, d: u16)
+    ensures { λ _. ⌜ ((ws : List ValueId) → ReadsIn (now (facts .entry)) slot ws → now (graph .exit) ≡ notedReads kind d (now (graph .entry)) ws) ⌝ }
 {
-    match x {
-        Found::Nothing => {}
-        Found::Value(y) => match y {
-            Value::Operand(w) => {
-                table::set_flag(blocked, w.0 as usize, true);
-            }
-            Value::Literal(_) => {}
-            Value::Error => {}
-        },
+    let mut k = index::read_count(facts, slot);
+    while 0 < k {
+        k = k - 1;
+        let w = index::read(facts, slot, k);
+        note_read(graph, kind, d, w);
     }
 }
 
@@ -105,201 +82,109 @@ fn varies(p: Step) -> bool
     }
 }
 
-// The parts of a build, the last one first.
-fn note_parts(
-    s: &[u8],
-    b: Bounds,
-    count: u8,
-    parent: u16,
-    tuple: bool,
-    many: u16,
-    children: &mut [u16],
-    parents: &mut [u16],
-    tuples: &mut [bool],
-) -> u16
-    requires { ⌜ (2048 ≤ length (now children)) × (2048 ≤ length (now parents)) × (2048 ≤ length (now tuples)) ⌝ }
-    ensures { λ r. ⌜ PartsNoted (now (s .entry)) b count parent tuple (edgesIn (now (children .entry)) (now (parents .entry)) (now (tuples .entry)) many) (edgesIn (now (children .exit)) (now (parents .exit)) (now (tuples .exit)) r) ⌝ }
+// The base of a Load or Store, its first read, is wanted whole where the first projection varies.
+fn note_place(s: &[u8], b: Bounds, facts: &[u16], slot: u16, graph: &mut [u16])
+    ensures { λ _. ⌜ PlaceNoted (now (s .entry)) b (now (facts .entry)) slot (now (graph .entry)) (now (graph .exit)) ⌝ }
 {
-    let mut n = many;
-    let mut i = count;
-    while 0 < i {
-        i = i - 1;
-        let x = lookup::element(s, b, i);
-        n = note_part(x, parent, tuple, n, children, parents, tuples);
-    }
-    n
-}
-
-// The arguments of a Call.
-fn note_arguments(s: &[u8], b: Bounds, count: u8, blocked: &mut [bool])
-    ensures { λ r. ⌜ ((i : Instruction) (n : ℕ) → instructionOf b [] false (now (s .entry)) ≡ ok i n → length (listValues (i .kind)) ≡ count → now (blocked .exit) ≡ notedArguments (now (blocked .entry)) (listValues (i .kind))) ⌝ }
-{
-    let mut i = count;
-    while 0 < i {
-        i = i - 1;
-        let x = lookup::element(s, b, i);
-        note_whole(x, blocked);
-    }
-}
-
-// The base of a Load or Store.
-fn note_base(s: &[u8], b: Bounds, base: u16, blocked: &mut [bool])
-    ensures { λ r. ⌜ ((i : Instruction) (n : ℕ) → instructionOf b [] false (now (s .entry)) ≡ ok i n → now (blocked .exit) ≡ cond (variesFirst (placeSteps (i .kind))) (set (now (blocked .entry)) base true) (now (blocked .entry))) ⌝ }
-{
-    if varies(lookup::projection(s, b, 0)) {
-        table::set_flag(blocked, base as usize, true);
-    }
-}
-
-fn clear(l: &mut [bool])
-    ensures { λ r. ⌜ (length (now (l .exit)) ≡ length (now (l .entry))) × ((v : ℕ) → getD (now (l .exit)) v false ≡ false) ⌝ }
-{
-    let mut i = 0;
-    while i < l.len() {
-        l[i] = false;
-        i = i + 1;
+    let t = form::tail(s, index::place(facts, slot));
+    if varies(lookup::projection(t, b, 0)) {
+        bar(graph, index::read(facts, slot, 0));
     }
 }
 
 // Conditions 1 to 3 of a tuple's or an array's build: the shape, an eligible type, no use in another block.
 fn passes(at: usize, shape: u8, shapes: &[u8], eligible: &[bool], cross: &[bool]) -> bool
-    ensures { λ r. ⌜ r ≡ eqb (getD (now (shapes .entry)) at 0) shape && (getD (now (eligible .entry)) at false && not (getD (now (cross .entry)) at false)) ⌝ }
+    ensures { λ r. ⌜ r ≡ passesBy (now (shapes .entry)) (now (eligible .entry)) (now (cross .entry)) at shape ⌝ }
 {
-    if wire::byte_at(shapes, at) == shape {
-        climb::allowed(eligible, cross, at)
-    } else {
-        false
+    if wire::byte_at(shapes, at) != shape {
+        return false;
     }
+    if !table::flag(eligible, at) {
+        return false;
+    }
+    !table::flag(cross, at)
 }
 
-// Notes a build that takes its parts from the fields `t` of the instruction `s`.
-fn note_build(
-    s: &[u8],
-    b: Bounds,
-    t: &[u8],
-    good: bool,
-    tuple: bool,
-    many: u16,
-    children: &mut [u16],
-    parents: &mut [u16],
-    tuples: &mut [bool],
-    buildable: &mut [bool],
-) -> u16
-    requires { ⌜ (2048 ≤ length (now children)) × (2048 ≤ length (now parents)) × (2048 ≤ length (now tuples)) ⌝ }
-    ensures { λ r. ⌜ (now (buildable .exit) ≡ set (now (buildable .entry)) (at16 (now (t .entry)) 0) good) × PartsNoted (now (s .entry)) b (getD (now (t .entry)) 2 0) (at16 (now (t .entry)) 0) tuple (edgesIn (now (children .entry)) (now (parents .entry)) (now (tuples .entry)) many) (edgesIn (now (children .exit)) (now (parents .exit)) (now (tuples .exit)) r) ⌝ }
+// Notes a build `d` of a kind, and whether it passes its conditions.
+fn note_build(graph: &mut [u16], facts: &[u16], slot: u16, kind: u16, d: u16, good: bool)
+    ensures { λ _. ⌜ BuildNoted (now (facts .entry)) slot kind d good (now (graph .entry)) (now (graph .exit)) ⌝ }
 {
-    let d = wire::u16_at(t, 0);
-    table::set_flag(buildable, d as usize, good);
-    note_parts(
-        s,
-        b,
-        wire::byte_at(t, 2),
-        d,
-        tuple,
-        many,
-        children,
-        parents,
-        tuples,
-    )
+    table::set_number(graph, climb::BUILT + d as usize, good as u16);
+    note_reads(graph, facts, slot, kind, d);
 }
 
-// How many arguments a Call has: the count stands behind its dests.
-fn argument_count(t: &[u8]) -> u8
-    ensures { λ r. ⌜ r ≡ listCount (now (t .entry)) 3 ⌝ }
-{
-    let dests = wire::byte_at(t, 0) as usize;
-    wire::byte_at(t, 1 + 2 * dests + 2)
-}
-
-// Notes what an instruction adds to the tables; `pass`: a MakeStruct passes its conditions.
+// Notes what the instruction in a slot adds to the graph; `pass`: a MakeStruct passes its conditions.
 fn scan_one(
     s: &[u8],
     b: Bounds,
+    facts: &[u16],
+    slot: u16,
     shapes: &[u8],
     eligible: &[bool],
     cross: &[bool],
     pass: bool,
-    many: u16,
-    children: &mut [u16],
-    parents: &mut [u16],
-    tuples: &mut [bool],
-    built: &mut [bool],
-    blocked: &mut [bool],
-) -> u16
-    requires { ⌜ (2048 ≤ length (now children)) × (2048 ≤ length (now parents)) × (2048 ≤ length (now tuples)) ⌝ }
-    ensures { λ r. ⌜ OneScanned (now (s .entry)) b (now (shapes .entry)) (now (eligible .entry)) (now (cross .entry)) pass (tablesIn (now (children .entry)) (now (parents .entry)) (now (tuples .entry)) many (now (built .entry)) (now (blocked .entry))) (tablesIn (now (children .exit)) (now (parents .exit)) (now (tuples .exit)) r (now (built .exit)) (now (blocked .exit))) ⌝ }
+    graph: &mut [u16],
+)
+    ensures { λ _. ⌜ OneScanned (now (s .entry)) b (now (facts .entry)) slot (now (shapes .entry)) (now (eligible .entry)) (now (cross .entry)) pass
+        (now (graph .entry)) (now (graph .exit)) ⌝ }
 {
-    let kind = wire::byte_at(s, 1);
-    let t = form::tail(s, lookup::fields_place(s));
+    let kind = index::kind(facts, slot);
     match kind {
-        3 => {
-            note_arguments(s, b, argument_count(t), blocked);
-            many
-        }
-        5 => {
-            note_base(s, b, wire::u16_at(t, 2), blocked);
-            many
-        }
-        6 => {
-            note_base(s, b, wire::u16_at(t, 0), blocked);
-            many
-        }
+        3 => note_reads(graph, facts, slot, 3, 0),
+        5 => note_place(s, b, facts, slot, graph),
+        6 => note_place(s, b, facts, slot, graph),
         10 => {
-            let good = passes(wire::u16_at(t, 0) as usize, 1, shapes, eligible, cross);
-            note_build(s, b, t, good, true, many, children, parents, tuples, built)
+            let d = dest(s, facts, slot);
+            let good = passes(d as usize, 1, shapes, eligible, cross);
+            note_build(graph, facts, slot, 10, d, good);
         }
-        12 => note_build(s, b, t, pass, false, many, children, parents, tuples, built),
+        12 => {
+            let d = dest(s, facts, slot);
+            note_build(graph, facts, slot, 12, d, pass);
+        }
         16 => {
-            let good = passes(wire::u16_at(t, 0) as usize, 3, shapes, eligible, cross);
-            note_build(s, b, t, good, false, many, children, parents, tuples, built)
+            let d = dest(s, facts, slot);
+            let good = passes(d as usize, 3, shapes, eligible, cross);
+            note_build(graph, facts, slot, 16, d, good);
         }
-        _ => many,
+        _ => {}
     }
 }
 
-// Fills the tables for a block whose `count` instructions stand at `places`, the last one first, and answers how many
-// edges there are. `structs`: which MakeStructs pass their conditions, by instruction.
+// Clears all of the graph but its edges.
+fn clear(graph: &mut [u16])
+    ensures { λ _. ⌜ ((at : ℕ) → at < 513 → getD (now (graph .exit)) at 0 ≡ 0) ⌝ }
+{
+    let mut i = 0;
+    while i < climb::EDGES {
+        table::set_number(graph, i, 0);
+        i = i + 1;
+    }
+}
+
+// Fills the graph for a block of `count` instructions from the slot `first` on, the last one first.
+// `structs`: which MakeStructs pass their conditions, by instruction.
 pub fn scan_block(
     s: &[u8],
     b: Bounds,
-    places: &[usize],
+    facts: &[u16],
+    first: u16,
     count: u16,
     shapes: &[u8],
     eligible: &[bool],
     cross: &[bool],
     structs: &[bool],
-    children: &mut [u16],
-    parents: &mut [u16],
-    tuples: &mut [bool],
-    buildable: &mut [bool],
-    blocked: &mut [bool],
-) -> u16
-    requires { ⌜ (2048 ≤ length (now children)) × (2048 ≤ length (now parents)) × (2048 ≤ length (now tuples)) ⌝ }
-    ensures { λ r. ⌜ BlockScanned (now (s .entry)) b (now (places .entry)) count (now (shapes .entry)) (now (eligible .entry)) (now (cross .entry)) (now (structs .entry)) (tablesIn (now (children .entry)) (now (parents .entry)) (now (tuples .entry)) 0 (now (buildable .entry)) (now (blocked .entry))) (tablesIn (now (children .exit)) (now (parents .exit)) (now (tuples .exit)) r (now (buildable .exit)) (now (blocked .exit))) ⌝ }
+    graph: &mut [u16],
+)
+    requires { ⌜ first + count ≤ 288 ⌝ }
+    ensures { λ _. ⌜ BlockScanned (now (s .entry)) b (now (facts .entry)) first count (now (shapes .entry)) (now (eligible .entry)) (now (cross .entry))
+        (now (structs .entry)) (now (graph .entry)) (now (graph .exit)) ⌝ }
 {
-    clear(buildable);
-    clear(blocked);
-    let mut n: u16 = 0;
+    clear(graph);
     let mut k = count;
     while 0 < k {
         k = k - 1;
-        let at = k as usize;
-        let t = form::tail(s, table::place(places, at));
-        let given = table::flag(structs, at);
-        n = scan_one(
-            t,
-            b,
-            shapes,
-            eligible,
-            cross,
-            given,
-            n,
-            children,
-            parents,
-            tuples,
-            buildable,
-            blocked,
-        );
+        let pass = table::flag(structs, k as usize);
+        scan_one(s, b, facts, first + k, shapes, eligible, cross, pass, graph);
     }
-    n
 }

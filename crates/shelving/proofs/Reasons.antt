@@ -1,5 +1,5 @@
 -- Which reason it is, by the first test that fails.
-use Prim.Native.Nat.{ℕ, _+_, _≤_}
+use Prim.Native.Nat.{ℕ}
 use mathlib.Core.Path.{_≡_, refl, ap, _∙_, sym}
 use mathlib.Core.Bool.{Bool, true, false, cond, not, _&&_}
 use native.Mathlib.Omega.{arith}
@@ -10,15 +10,15 @@ use Rattle.form.specs.Reads.{terminatorReads}
 use Rattle.form.specs.declared.Bounds.{Bounds}
 use Rattle.routine.specs.Routine.{Routine}
 use Rattle.rewriting.specs.Run.{Rewritten}
-use Rattle.eligibility.specs.Lookup.{Types}
 use mathlib.Core.List.{List, [], _∷_}
 use Rattle.wire.specs.declared.ValueId.{ValueId}
 use Rattle.eligibility.specs.Fold.{behindPhis}
 use Rattle.rewriting.specs.Run.{typesIn}
-use Rattle.progress.specs.Ground.{Ground}
 use Rattle.shelf.specs.Lists.{every, among}
-use Rattle.shelf.specs.Reads.{countedReads, ordered, bases, apart, isDeep, shallow, clean, cleanTerminator}
-use Rattle.shelving.specs.Shelved.{inputReason}
+use Rattle.shelf.specs.Reads.{countedReads, isDeep, shallow, clean, cleanTerminator}
+use Rattle.marking.specs.Tests.{allOrdered, allApart, allShallow}
+use Rattle.unread.specs.Unread.{Written}
+use Rattle.shelving.specs.Shelved.{outputBounds, inputReason, Shelved}
 use Rattle.shelf.specs.Reason.{typesAgree, inOrder, keptApart, noDeepStore, readsNoDropped, shelfReason}
 
 -- an answer whose opposite is known
@@ -27,15 +27,15 @@ told true q b e f = ap not (sym f) ∙ e
 told false q b e f = ap not (sym f) ∙ e
 
 -- what the scans answer, as the tests have it
-pub of-order : (debug : Bool) (x : Routine) (r : Bool) → r ≡ every (λ k. ordered debug (behindPhis (k .instructions))) (x .blocks) → r ≡ inOrder debug x
+pub of-order : (x : Routine) (r : Bool) → r ≡ allOrdered (x .blocks) → r ≡ inOrder false x
 unfolding inOrder
-of-order debug x r e = e
+of-order x r e = e
 
-pub of-apart : (x : Routine) (r : Bool) → r ≡ every (λ k. apart (λ v. among v (bases (typesIn x) (x .blocks))) (behindPhis (k .instructions))) (x .blocks) → r ≡ keptApart x
+pub of-apart : (x : Routine) (r : Bool) → r ≡ allApart (typesIn x) (x .blocks) → r ≡ keptApart x
 unfolding keptApart
 of-apart x r e = e
 
-pub of-deep : (x : Routine) (ds : List ValueId) (r : Bool) → r ≡ every (λ k. every (λ i. shallow (λ v. among v ds) (i .kind)) (behindPhis (k .instructions))) (x .blocks) → r ≡ noDeepStore ds x
+pub of-deep : (x : Routine) (ds : List ValueId) (r : Bool) → r ≡ allShallow ds (x .blocks) → r ≡ noDeepStore ds x
 unfolding noDeepStore
 of-deep x ds r e = e
 
@@ -94,9 +94,21 @@ module _ (ds : List ValueId) (none : (v : ℕ) → among v ds ≡ false) where
   unfolding readsNoDropped
   none-dropped debug ks = sym (rw (every-true _ (λ k. none-clean (λ v. among v ds) none debug (k .instructions)) ks) (every-true _ (λ k. none-last (λ v. among v ds) none (k .terminator)) ks))
 
--- lists are short
-pub lists-few : {b : Bounds} {s types recorded : List ℕ} {τ : Types} → Ground b s types recorded τ → b .list + b .projections ≤ 30
-lists-few g = omega (arith, g .listed, g .projected)
+-- the blocks of the output as reason 5 looks at them
+pub blocks-written : {s facts out : List ℕ} {b : Bounds} {at next : ℕ} {dropped : List Bool} {x : Routine} {w : Rewritten} → Shelved s b facts out at next dropped x w → Written (outputBounds b next) out at (b .blocks) (w .blocks)
+blocks-written h =
+    record {
+      rest = h .rest;
+      bytes = h .written;
+      as-many = h .as-many;
+      mosts = h .mosts;
+      total = h .total;
+      seen = h .seen;
+      fits = h .fits;
+      counted = h .counted;
+      wide = h .wide;
+      short = omega (arith, h .input .coded .ground .listed, h .input .coded .ground .projected);
+    }
 
 -- the reasons of the input
 module _ (debug : Bool) (x : Routine) where

@@ -1,5 +1,5 @@
--- What the shelf test looks at: an accepted routine with its tables, and the blocks of its rewriting in the output.
-use Prim.Native.Nat.{ℕ, _≤_}
+-- What the shelf test looks at: an accepted routine with its table of facts, and the blocks of its rewriting in the output.
+use Prim.Native.Nat.{ℕ, _+_, _≤_}
 use mathlib.Core.Path.{_≡_}
 use mathlib.Core.List.{List, _++_}
 use mathlib.Core.Bool.{Bool, false, cond}
@@ -13,9 +13,8 @@ use Rattle.block.specs.Encode.{blockBytes}
 use Rattle.block.specs.declared.Mosts.{Mosts}
 use Rattle.routine.specs.Routine.{Routine}
 use Rattle.whole.specs.WellFormed.{FitBlocks}
-use Rattle.index.specs.Code.{CodeAt}
 use Rattle.rewriting.specs.Run.{Rewritten, typesIn}
-use Rattle.progress.specs.Ground.{Ground}
+use Rattle.progress.specs.Ground.{Coded}
 use Rattle.shelf.specs.Lists.{among}
 use Rattle.shelf.specs.Reason.{typesAgree, inOrder, keptApart}
 
@@ -23,21 +22,19 @@ use Rattle.shelf.specs.Reason.{typesAgree, inOrder, keptApart}
 abbrev pub outputBounds : Bounds → ℕ → Bounds
 outputBounds b next = record { types = b .types; next = next; blocks = b .blocks; list = b .list; projections = b .projections }
 
--- an accepted routine with its tables
-pub record Input (s : List ℕ) (b : Bounds) (types recorded : List ℕ) (parameters : ℕ) (places starts : List ℕ) (x : Routine) : Type 0 where
-  pub ground : Ground b s types recorded (typesIn x)
-  pub code : CodeAt b s places starts (x .blocks)
-  pub many : length (x .blocks) ≡ b .blocks
+-- an accepted routine with its table of facts; its parameters stand 6 bytes behind its type table
+pub record Input (s : List ℕ) (b : Bounds) (facts : List ℕ) (x : Routine) : Type 0 where
+  pub coded : Coded b s facts (typesIn x) (x .blocks)
   pub used : ℕ
-  pub given : definedsOf (b .list) (b .next) (replicate (b .next) false) (drop parameters s) ≡ ok (x .parameters) used
+  pub given : definedsOf (b .list) (b .next) (replicate (b .next) false) (drop (getD facts (b .types) 0 + 6) s) ≡ ok (x .parameters) used
 
 -- the lowest of the reasons 1, 2 and 3, which do not ask for the output; else 0
 unfoldable pub inputReason : Bool → Routine → ℕ
 inputReason debug x = cond (typesAgree debug x) (cond (inOrder debug x) (cond (keptApart x) 0 3) 2) 1
 
 -- and the blocks of its rewriting
-pub record Shelved (s : List ℕ) (b : Bounds) (types recorded : List ℕ) (parameters : ℕ) (places starts out : List ℕ) (at next : ℕ) (dropped : List Bool) (x : Routine) (w : Rewritten) : Type 0 where
-  pub input : Input s b types recorded parameters places starts x
+pub record Shelved (s : List ℕ) (b : Bounds) (facts out : List ℕ) (at next : ℕ) (dropped : List Bool) (x : Routine) (w : Rewritten) : Type 0 where
+  pub input : Input s b facts x
   pub rest : List ℕ
   pub written : drop at out ≡ eachBytes blockBytes (w .blocks) ++ rest
   pub as-many : length (w .blocks) ≡ b .blocks

@@ -32,39 +32,17 @@ pub fn reason_number(k: ShelfReason) -> u8
     }
 }
 
-// What the numbers of the output stay below: its next value is higher.
-fn widened(b: Bounds, next: u16) -> Bounds
-    ensures { λ r. ⌜ r ≡ record { types = b .types; next = next; blocks = b .blocks; list = b .list; projections = b .projections } ⌝ }
+// The lowest of the reasons 1, 2 and 3, which are reasons of the input alone; else passed.
+pub fn input_reason(s: &[u8], b: Bounds, facts: &[u16]) -> ShelfReason
+    ensures { λ r. ⌜ ((x : Routine) → Input (now (s .entry)) b (now (facts .entry)) x → numberOfReason r ≡ inputReason false x) ⌝ }
 {
-    Bounds {
-        types: b.types,
-        next: next,
-        blocks: b.blocks,
-        list: b.list,
-        projections: b.projections,
-    }
-}
-
-// The lowest of the reasons 1, 2 and 3, which are reasons of the input alone; else passed. The input `s` has its tables beside it, its parameters
-// stand at `parameters`.
-pub fn input_reason(
-    s: &[u8],
-    b: Bounds,
-    types: &[usize],
-    recorded: &[u16],
-    parameters: usize,
-    places: &[usize],
-    starts: &[u16],
-) -> ShelfReason
-    ensures { λ r. ⌜ ((x : Routine) → Input (now (s .entry)) b (now (types .entry)) (now (recorded .entry)) parameters (now (places .entry)) (now (starts .entry)) x → numberOfReason r ≡ inputReason false x) ⌝ }
-{
-    if !agreeing::types_agree(s, b, types, recorded, parameters, places, starts, b.blocks) {
+    if !agreeing::types_agree(s, b, facts) {
         return ShelfReason::TypesDisagree;
     }
-    if !ordering::in_order(s, b, places, starts, b.blocks) {
+    if !ordering::in_order(s, b, facts) {
         return ShelfReason::ReadsEarly;
     }
-    if !apart::kept_apart(s, b, types, recorded, places, starts, b.blocks) {
+    if !apart::kept_apart(s, b, facts) {
         return ShelfReason::BaseAsPart;
     }
     ShelfReason::Passed
@@ -75,29 +53,33 @@ pub fn input_reason(
 pub fn reason(
     s: &[u8],
     b: Bounds,
-    types: &[usize],
-    recorded: &[u16],
-    parameters: usize,
-    places: &[usize],
-    starts: &[u16],
+    facts: &[u16],
     out: &[u8],
     at: usize,
     next: u16,
     dropped: &[bool],
 ) -> ShelfReason
-    ensures { λ r. ⌜ ((x : Routine) (w : Rewritten) → Shelved (now (s .entry)) b (now (types .entry)) (now (recorded .entry)) parameters (now (places .entry)) (now (starts .entry)) (now (out .entry)) at next (now (dropped .entry)) x w → numberOfReason r ≡ shelfReason false x w) ⌝ }
+    ensures { λ r. ⌜ ((x : Routine) (w : Rewritten) → Shelved (now (s .entry)) b (now (facts .entry)) (now (out .entry)) at next (now (dropped .entry)) x w
+        → numberOfReason r ≡ shelfReason false x w) ⌝ }
 {
-    let first = input_reason(s, b, types, recorded, parameters, places, starts);
+    let first = input_reason(s, b, facts);
     if reason_number(first) != 0 {
         return first;
     }
     if !table::any(dropped) {
         return ShelfReason::Passed;
     }
-    if !shallow::no_deep_store(s, b, places, starts, b.blocks, dropped) {
+    if !shallow::no_deep_store(s, b, facts, dropped) {
         return ShelfReason::DeepStore;
     }
-    if !unread::reads_no_dropped(out, at, widened(b, next), b.blocks, dropped) {
+    let wider = Bounds {
+        types: b.types,
+        next: next,
+        blocks: b.blocks,
+        list: b.list,
+        projections: b.projections,
+    };
+    if !unread::reads_no_dropped(out, at, wider, b.blocks, dropped) {
         return ShelfReason::ReadsDropped;
     }
     ShelfReason::Passed

@@ -1,12 +1,12 @@
--- One instruction: a Call, a Store, or any other kind.
-use Prim.Native.Nat.{ℕ}
+-- One instruction: what becomes of a Call, a Store or any other kind, and what of it is put out.
+use Prim.Native.Nat.{ℕ, _≤_}
 use mathlib.Core.Path.{_≡_, refl, ap, _∙_, sym}
-use mathlib.Core.List.{List, [], _∷_}
+use mathlib.Core.List.{List, [], _∷_, _++_}
 use mathlib.Core.Bool.{Bool, true, false}
 use mathlib.Core.Option.{Option, none, some}
 use native.Mathlib.Omega.{arith}
-use lib.ListN.{getD, drop}
-use Rattle.wire.specs.Parse.{ok}
+use lib.ListN.{length}
+use lib.Seq.{length-take-le, take-at, drop-at}
 use Rattle.wire.specs.declared.ValueId.{ValueId}
 use Rattle.wire.specs.declared.TypeId.{TypeId}
 use Rattle.wire.specs.declared.Value.{Value}
@@ -14,9 +14,7 @@ use Rattle.form.specs.Syntax.{Place, Instruction, InstructionKind, Meta}
 use Rattle.form.specs.Syntax.{Assign, UnaryOp, BinaryOp, Call, Cast, Load, Store, Debug, Nop, Phi}
 use Rattle.form.specs.Syntax.{MakeTuple, ExtractTupleElement, MakeStruct, ExtractStructField, InsertField, InsertTuple, MakeFixedArray, AssertEq, HeapAllocCells}
 use Rattle.form.specs.Reads.{kindNumber}
-use Rattle.form.specs.Decode.{instructionOf}
 use Rattle.form.specs.declared.Bounds.{Bounds}
-use Rattle.lookup.proofs.Instruction.{instruction-fields}
 use Rattle.eligibility.specs.declared.Settings.{Settings}
 use Rattle.eligibility.specs.Lookup.{Types}
 use Rattle.eligibility.specs.Climb.{isSome}
@@ -24,20 +22,25 @@ use Rattle.eligibility.specs.Family.{Marks}
 use Rattle.rewriting.specs.State.{AggStates, forwardStore, stateOf, onSome}
 use Rattle.rewriting.specs.Rebuild.{Rebuilt, rebuildAll, wantedArguments, aggregateType}
 use Rattle.rewriting.specs.Step.{Piece, kept, left, oneInsert, step, stepKind, stepCall, stepStore, storeKept, storeRebuilt, guarded}
-use Rattle.parts.specs.Rows.{Rep}
+use Rattle.parts.specs.Rows.{Rep, rowsIn, freshIn}
+use Rattle.parts.specs.Here.{Here}
 use Rattle.progress.specs.declared.Progress.{Progress}
 use Rattle.progress.specs.declared.Put.{Put}
-use Rattle.progress.specs.Effect.{Output, outputOf, behind, pieceEffect, Puts}
+use Rattle.progress.specs.declared.Setup.{Setup}
+use Rattle.progress.specs.Effect.{Output, outputOf, behind, pieceEffect, PutLow}
+use Rattle.chains.specs.Chained.{statesAfter}
+use Rattle.decided.specs.declared.Action.{Action}
+use Rattle.decided.specs.Decided.{Does}
+use Rattle.stepping.specs.declared.Rewrite.{Rewrite}
 use Rattle.stepping.specs.declared.Reached.{Reached}
 use Rattle.stepping.specs.declared.Stepped.{Stepped}
-use Rattle.chains.specs.Chained.{statesAfter}
-use Rattle.stepping.specs.Stepping.{withUsed, Gone, Steps}
+use Rattle.stepping.specs.declared.Settled.{Settled}
+use Rattle.stepping.specs.Stepping.{Lent, lentAs, outputIn, PutsIn, CallPiece, call-piece, StorePiece, store-piece, Becomes, Settles, withUsed, Steps, freshFrom, SettlesAll, PutsPiece, StepsOn, SteppedLow}
+use Rattle.performing.specs.Performed.{raisedBy, Performs}
+use Rattle.performing.proofs.Performing.{left-none}
+use Rattle.performing.proofs.Counting.{puts-went}
 
--- the second byte is the kind
-pub kind-is : (b : Bounds) (s t : List ℕ) (at : ℕ) (i : Instruction) (n k : ℕ) → instructionOf b [] false (drop at s) ≡ ok i n → t ≡ drop at s → k ≡ getD t 1 0 → kindNumber (i .kind) ≡ k
-kind-is b s t at i n k e f g = instruction-fields b [] false (drop at s) i n e .numbered ∙ sym (g ∙ ap (λ u. getD u 1 0) f)
-
-pub data CallKind (k : InstructionKind) : Type 0 where
+data CallKind (k : InstructionKind) : Type 0 where
   is-call : (ds : List ValueId) (f : ℕ) (xs : List Value) (ps rs : List TypeId) → k ≡ Call ds f xs ps rs → CallKind k
 
 call-kind : (k : InstructionKind) → kindNumber k ≡ 3 → CallKind k
@@ -61,7 +64,7 @@ call-kind (MakeFixedArray d xs t c) h = absurd (omega arith)
 call-kind (AssertEq x y) h = absurd (omega arith)
 call-kind (HeapAllocCells d x) h = absurd (omega arith)
 
-pub data StoreKind (k : InstructionKind) : Type 0 where
+data StoreKind (k : InstructionKind) : Type 0 where
   is-store : (p : Place) (x : Value) (t : TypeId) → k ≡ Store p x t → StoreKind k
 
 store-kind : (k : InstructionKind) → kindNumber k ≡ 6 → StoreKind k
@@ -105,62 +108,43 @@ store-states τ S n i p x t (some xs) = rebuilt-states S (i .meta) p t _ _
 pub no-clash : {w : Reached} → Stepped.Went w ≡ Stepped.Clash → ⊥
 no-clash {w} e = let z : _≡_ {A = ℕ} 0 1 = cc in omega arith
 
-pub no-went : {w : Reached} → Stepped.Clash ≡ Stepped.Went w → ⊥
-no-went {w} e = let z : _≡_ {A = ℕ} 0 1 = cc in omega arith
+-- a writer's answer is a step's
+pub steps-put : (next : ℕ) (s : List ℕ) (o : Output) (q : Piece) (l : Lent) (r : Put) (t : Stepped) (used : ℕ) → t ≡ withUsed r used → Rep next s (l .tracked) (rowsIn (l .work)) used (q .states) → PutsIn o (pieceEffect q) (q .clash) l r → Steps next s o q l t
+steps-put next s o q l Put.Clash t used e h p = rw e (record { clashed = λ z. p .clashed refl; went = λ w z. absurd (no-clash (sym z)) })
+steps-put next s o q l (Put.Went v) t used e h p =
+    let z = p .went v refl in
+    rw e (record { clashed = λ y. absurd (no-clash y); went = λ w y. let x : w ≡ record { progress = v; used = used } = cc in rw x (record { safe = z .0; out = z .1; rep = h }) })
 
-module _ (next : ℕ) (s : List ℕ) (o : Output) (q : Piece) (tracked : Marks) (firsts pool buffer types : List ℕ) (dropped : Marks) where
-  -- a step that went
-  pub steps-went : (w : Reached) → Gone next s o q tracked firsts pool buffer types dropped w → Steps next s o q tracked firsts pool buffer types dropped (Stepped.Went w)
-  steps-went w g = record { clashed = λ e. absurd (no-clash e); went = λ v e. let z : v ≡ w = cc in rw z g }
+-- what becomes of an instruction, by its kind
+module _ (σ : Settings) (τ : Types) (folds : ValueId → Bool) (S : AggStates) (n : ℕ) (i : Instruction) (next : ℕ) (s : List ℕ) (tracked : Marks) (rows : List ℕ) (used : ℕ) where
+  abbrev piece : Piece
+  piece = step σ τ folds S n i
 
-  -- a writer's answer is a step's
-  pub steps-put : (r : Put) (t : Stepped) (used : ℕ) → t ≡ withUsed r used → Rep next s tracked firsts pool used (q .states) → Puts o (pieceEffect q) (q .clash) buffer types dropped r → Steps next s o q tracked firsts pool buffer types dropped t
-  steps-put Put.Clash t used e h p = rw e (record { clashed = λ z. p .clashed refl; went = λ w z. absurd (no-went z) })
-  steps-put (Put.Went w) t used e h p =
-      let z = p .went w refl in
-      rw e (steps-went (record { progress = w; used = used }) (record { safe = z .0; out = z .1; rep = h }))
+  abbrev As : Rewrite → Type 0
+  As r = Settles τ next s tracked rows S n i piece (record { rewrite = r; used = used })
 
-  -- an instruction that is kept
-  pub steps-kept : (S : AggStates) (i : Instruction) (p : Progress) (used : ℕ) → q ≡ kept S i → outputOf buffer types dropped p ≡ behind o (pieceEffect (kept S i)) → Rep next s tracked firsts pool used S → Steps next s o q tracked firsts pool buffer types dropped (Stepped.Went (record { progress = p; used = used }))
-  unfolding kept
-  steps-kept S i p used e f h = steps-went (record { progress = p; used = used }) (record { safe = ap (λ x. x .clash) e; out = f ∙ sym (ap (λ x. behind o (pieceEffect x)) e); rep = rw (ap (λ x. x .states) e) h })
-
-  -- a Store that is forwarded
-  pub steps-left : (S : AggStates) (p : Progress) (used : ℕ) → q ≡ left oneInsert [] S → outputOf buffer types dropped p ≡ behind o (pieceEffect (left oneInsert [] S)) → Rep next s tracked firsts pool used S → Steps next s o q tracked firsts pool buffer types dropped (Stepped.Went (record { progress = p; used = used }))
-  unfolding left
-  steps-left S p used e f h = steps-went (record { progress = p; used = used }) (record { safe = ap (λ x. x .clash) e; out = f ∙ sym (ap (λ x. behind o (pieceEffect x)) e); rep = rw (ap (λ x. x .states) e) h })
-
-module _ (σ : Settings) (τ : Types) (folds : ValueId → Bool) (S : AggStates) (n : ℕ) (i : Instruction) where
-  call-step : (ds : List ValueId) (f : ℕ) (xs : List Value) (ps rs : List TypeId) → i .kind ≡ Call ds f xs ps rs → step σ τ folds S n i ≡ stepCall S i ds f ps rs (rebuildAll τ S n (wantedArguments τ xs ps)) ((rebuildAll τ S n (wantedArguments τ xs ps)) .fresh)
+  call-step : (ds : List ValueId) (f : ℕ) (xs : List Value) (ps rs : List TypeId) → i .kind ≡ Call ds f xs ps rs → piece ≡ stepCall S i ds f ps rs (rebuildAll τ S n (wantedArguments τ xs ps)) ((rebuildAll τ S n (wantedArguments τ xs ps)) .fresh)
   unfolding step stepKind
   call-step ds f xs ps rs e = ap (stepKind σ τ folds S n i) e
 
   -- a Call
-  pub call-turn : (next : ℕ) (s : List ℕ) (o : Output) (tracked : Marks) (firsts pool buffer types : List ℕ) (dropped : Marks) (used : ℕ) (r : Put) (t : Stepped) → kindNumber (i .kind) ≡ 3 → t ≡ withUsed r used → Rep next s tracked firsts pool used S → ((ds : List ValueId) (f : ℕ) (xs : List Value) (ps rs : List TypeId) → i .kind ≡ Call ds f xs ps rs → step σ τ folds S n i ≡ stepCall S i ds f ps rs (rebuildAll τ S n (wantedArguments τ xs ps)) ((rebuildAll τ S n (wantedArguments τ xs ps)) .fresh) → Puts o (pieceEffect (step σ τ folds S n i)) ((step σ τ folds S n i) .clash) buffer types dropped r) → Steps next s o (step σ τ folds S n i) tracked firsts pool buffer types dropped t
-  call-turn next s o tracked firsts pool buffer types dropped used r t h e rep p =
+  pub call-settles : kindNumber (i .kind) ≡ 3 → Rep next s tracked rows used S → As Rewrite.Call
+  call-settles h rep =
       elim (call-kind (i .kind) h) [
         | is-call ds f xs ps rs z ↦
             let q = call-step ds f xs ps rs z in
-            let w : (step σ τ folds S n i) .states ≡ S = ap (λ x. x .states) q ∙ call-states S i ds f ps rs _ _ in
-            steps-put next s o (step σ τ folds S n i) tracked firsts pool buffer types dropped r t used e (rw w rep) (p ds f xs ps rs z q)
+            let w : piece .states ≡ S = ap (λ x. x .states) q ∙ call-states S i ds f ps rs _ _ in
+            record { rep = rw w rep; becomes = call-piece ds f xs ps rs z q }
       ]
 
-  store-step : (p : Place) (x : Value) (t : TypeId) → i .kind ≡ Store p x t → step σ τ folds S n i ≡ guarded (σ .tuples) S i (stepStore τ S n i p x t (forwardStore τ S p x))
+  store-step : (p : Place) (x : Value) (t : TypeId) → i .kind ≡ Store p x t → piece ≡ guarded (σ .tuples) S i (stepStore τ S n i p x t (forwardStore τ S p x))
   unfolding step stepKind
   store-step p x t e = ap (stepKind σ τ folds S n i) e
 
-  stored-guarded : (u : Bool) (q : Piece) → u ≡ false → guarded u S i q ≡ kept S i
-  unfolding guarded
-  stored-guarded u q e = rw e refl
-
-  stored-open : (u : Bool) (q : Piece) → u ≡ true → guarded u S i q ≡ q
-  unfolding guarded
-  stored-open u q e = rw e refl
-
-  stored-went : (p : Place) (x : Value) (t : TypeId) (o : Option AggStates) → isSome o ≡ true → stepStore τ S n i p x t o ≡ left oneInsert [] (statesAfter S o)
-  unfolding stepStore statesAfter isSome
+  stored-went : (p : Place) (x : Value) (t : TypeId) (o : Option AggStates) → isSome o ≡ true → (stepStore τ S n i p x t o ≡ left oneInsert [] (statesAfter S o)) × ((stepStore τ S n i p x t o) .states ≡ statesAfter S o)
+  unfolding stepStore statesAfter isSome left
   stored-went p x t none e = absurd (let z : _≡_ {A = ℕ} 0 1 = cc in omega arith)
-  stored-went p x t (some S′) e = refl
+  stored-went p x t (some S′) e = (refl, refl)
 
   stored-stays : (p : Place) (x : Value) (t : TypeId) (o : Option AggStates) → isSome o ≡ false → (stepStore τ S n i p x t o ≡ storeKept τ S n i p x t (onSome (aggregateType τ t) (λ u. stateOf S x))) × (statesAfter S o ≡ S)
   unfolding stepStore statesAfter isSome
@@ -168,32 +152,98 @@ module _ (σ : Settings) (τ : Types) (folds : ValueId → Bool) (S : AggStates)
   stored-stays p x t (some S′) e = absurd (let z : _≡_ {A = ℕ} 0 1 = cc in omega arith)
 
   -- a Store where the setting is off
-  pub store-off : kindNumber (i .kind) ≡ 6 → σ .tuples ≡ false → step σ τ folds S n i ≡ kept S i
-  store-off h e =
+  pub store-off : kindNumber (i .kind) ≡ 6 → σ .tuples ≡ false → Rep next s tracked rows used S → As (Rewrite.Does Action.Keep)
+  unfolding guarded kept
+  store-off h e rep =
       elim (store-kind (i .kind) h) [
-        | is-store p x t z ↦ store-step p x t z ∙ stored-guarded (σ .tuples) _ e
+        | is-store p x t z ↦
+            let q : piece ≡ kept S i = store-step p x t z ∙ ap (λ u. guarded u S i (stepStore τ S n i p x t (forwardStore τ S p x))) e in
+            record { rep = rw (ap (λ u. u .states) q) rep; becomes = q }
       ]
 
-  -- a Store that is forwarded
-  pub store-went : (next : ℕ) (s : List ℕ) (o : Output) (tracked : Marks) (firsts pool buffer types : List ℕ) (dropped : Marks) (used : ℕ) (p : Progress) → kindNumber (i .kind) ≡ 6 → σ .tuples ≡ true → (forwarded : Bool) → forwarded ≡ true → ((pl : Place) (x : Value) (t : TypeId) → i .kind ≡ Store pl x t → (forwarded ≡ isSome (forwardStore τ S pl x)) × Rep next s tracked firsts pool used (statesAfter S (forwardStore τ S pl x))) → ((S′ : AggStates) → outputOf buffer types dropped p ≡ behind o (pieceEffect (left oneInsert [] S′))) → Steps next s o (step σ τ folds S n i) tracked firsts pool buffer types dropped (Stepped.Went (record { progress = p; used = used }))
-  store-went next s o tracked firsts pool buffer types dropped used p h on forwarded e f g =
-      elim (store-kind (i .kind) h) [
-        | is-store pl x t z ↦
-            let w = f pl x t z in
-            let S′ = statesAfter S (forwardStore τ S pl x) in
-            let q : step σ τ folds S n i ≡ left oneInsert [] S′ = store-step pl x t z ∙ stored-open (σ .tuples) _ on ∙ stored-went pl x t (forwardStore τ S pl x) (sym (w .0) ∙ e) in
-            steps-left next s o (step σ τ folds S n i) tracked firsts pool buffer types dropped S′ p used q (g S′) (w .1)
+  module _ (h : kindNumber (i .kind) ≡ 6) (on : σ .tuples ≡ true) (forwarded : Bool) (f : (p : Place) (x : Value) (t : TypeId) → i .kind ≡ Store p x t → (forwarded ≡ isSome (forwardStore τ S p x)) × Rep next s tracked rows used (statesAfter S (forwardStore τ S p x))) where
+    stored : (p : Place) (x : Value) (t : TypeId) → i .kind ≡ Store p x t → piece ≡ stepStore τ S n i p x t (forwardStore τ S p x)
+    unfolding guarded
+    stored p x t z = store-step p x t z ∙ ap (λ u. guarded u S i (stepStore τ S n i p x t (forwardStore τ S p x))) on
+
+    -- a Store that is forwarded
+    pub store-forwarded : forwarded ≡ true → As Rewrite.Forwarded
+    store-forwarded e =
+        elim (store-kind (i .kind) h) [
+          | is-store p x t z ↦
+              let w = f p x t z in
+              let v = stored-went p x t (forwardStore τ S p x) (sym (w .0) ∙ e) in
+              let y : piece .states ≡ statesAfter S (forwardStore τ S p x) = ap (λ u. u .states) (stored p x t z) ∙ v .1 in
+              record { rep = rw y (w .1); becomes = stored p x t z ∙ v .0 ∙ sym (ap (λ u. left oneInsert [] u) y) }
+        ]
+
+    -- a Store that is written
+    pub store-written : forwarded ≡ false → As Rewrite.Store
+    store-written e =
+        elim (store-kind (i .kind) h) [
+          | is-store p x t z ↦
+              let w = f p x t z in
+              let y = stored-stays p x t (forwardStore τ S p x) (sym (w .0) ∙ e) in
+              let q = stored p x t z ∙ y .0 in
+              let v : piece .states ≡ S = ap (λ u. u .states) q ∙ store-states τ S n i p x t _ in
+              let rep : Rep next s tracked rows used S = rw (y .1) at w .1 in
+              record { rep = rw v rep; becomes = store-piece p x t z q }
+        ]
+
+-- what was settled is put out
+module _ (b : Bounds) (s facts : List ℕ) (slot : ℕ) (τ : Types) (S : AggStates) (used : ℕ) (i : Instruction) (q : Piece) (l : Lent) (p : Progress) (rewrite : Rewrite) (h : Here b s facts slot (l .tracked) (rowsIn (l .work)) used τ (q .states) i) (becomes : Becomes τ (b .next) s S (freshFrom b p) i q rewrite) where
+  abbrev Out : Lent → Put → Type 0
+  Out l′ r = PutsIn (outputIn l p) (pieceEffect q) (q .clash) l′ r
+
+  -- an action
+  pub put-does : (action : Action) (out′ : List ℕ) (dropped′ : Marks) (r : Progress) → rewrite ≡ Rewrite.Does action → Performs b s facts slot action (λ types. outputOf (l .out) types (l .dropped) p) (λ types. outputOf out′ types dropped′ r) → Out (lentAs (l .tracked) dropped′ (l .work) out′) (Put.Went r)
+  put-does action out′ dropped′ r e f =
+      let d : Does (b .next) s S i q action = rw e at becomes in
+      let w = f τ S i q (freshIn (l .work)) (h .ground) (h .line) d in
+      puts-went _ _ _ out′ _ dropped′ r (w .0) (w .1)
+
+  -- a Store that was forwarded
+  pub put-forwarded : (r : Progress) → rewrite ≡ Rewrite.Forwarded → r ≡ raisedBy p oneInsert → Out l (Put.Went r)
+  unfolding left
+  put-forwarded r e f =
+      let d : q ≡ left oneInsert [] (q .states) = rw e at becomes in
+      puts-went _ _ _ (l .out) _ (l .dropped) r (ap (λ x. x .clash) d) (left-none oneInsert (q .states) (l .out) (freshIn (l .work)) (l .dropped) p r f ∙ sym (ap (λ x. behind (outputIn l p) (pieceEffect x)) d))
+
+  abbrev Before : Type 0
+  Before = Here b s facts slot (l .tracked) (rowsIn (l .work)) used τ S i
+
+  same-here : q .states ≡ S → Before
+  same-here e = record { ground = h .ground; rep = rw e at h .rep; line = h .line }
+
+  -- a Call
+  pub put-called : (l′ : Lent) (r : Put) → rewrite ≡ Rewrite.Call → ((ds : List ValueId) (f : ℕ) (xs : List Value) (ps rs : List TypeId) → Before → i .kind ≡ Call ds f xs ps rs → q ≡ stepCall S i ds f ps rs (rebuildAll τ S (freshFrom b p) (wantedArguments τ xs ps)) ((rebuildAll τ S (freshFrom b p) (wantedArguments τ xs ps)) .fresh) → Out l′ r) → Out l′ r
+  put-called l′ r e f =
+      let d : CallPiece τ S (freshFrom b p) i q = rw e at becomes in
+      elim d [
+        | call-piece ds g xs ps rs z y ↦ f ds g xs ps rs (same-here (ap (λ x. x .states) y ∙ call-states S i ds g ps rs _ _)) z y
       ]
 
-  -- a Store that is written
-  pub store-turn : (next : ℕ) (s : List ℕ) (o : Output) (tracked : Marks) (firsts pool buffer types : List ℕ) (dropped : Marks) (used : ℕ) (r : Put) (v : Stepped) → kindNumber (i .kind) ≡ 6 → σ .tuples ≡ true → (forwarded : Bool) → forwarded ≡ false → v ≡ withUsed r used → ((pl : Place) (x : Value) (t : TypeId) → i .kind ≡ Store pl x t → (forwarded ≡ isSome (forwardStore τ S pl x)) × Rep next s tracked firsts pool used (statesAfter S (forwardStore τ S pl x))) → ((pl : Place) (x : Value) (t : TypeId) → i .kind ≡ Store pl x t → Rep next s tracked firsts pool used S → step σ τ folds S n i ≡ storeKept τ S n i pl x t (onSome (aggregateType τ t) (λ u. stateOf S x)) → Puts o (pieceEffect (step σ τ folds S n i)) ((step σ τ folds S n i) .clash) buffer types dropped r) → Steps next s o (step σ τ folds S n i) tracked firsts pool buffer types dropped v
-  store-turn next s o tracked firsts pool buffer types dropped used r v h on forwarded e m f g =
-      elim (store-kind (i .kind) h) [
-        | is-store pl x t z ↦
-            let w = f pl x t z in
-            let y = stored-stays pl x t (forwardStore τ S pl x) (sym (w .0) ∙ e) in
-            let q : step σ τ folds S n i ≡ storeKept τ S n i pl x t (onSome (aggregateType τ t) (λ u. stateOf S x)) = store-step pl x t z ∙ stored-open (σ .tuples) _ on ∙ y .0 in
-            let rep : Rep next s tracked firsts pool used S = rw (y .1) at w .1 in
-            let st : (step σ τ folds S n i) .states ≡ S = ap (λ u. u .states) q ∙ store-states τ S n i pl x t _ in
-            steps-put next s o (step σ τ folds S n i) tracked firsts pool buffer types dropped r v used m (rw st rep) (g pl x t z rep q)
+  -- a Store
+  pub put-stored : (l′ : Lent) (r : Put) → rewrite ≡ Rewrite.Store → ((v : Place) (x : Value) (t : TypeId) → Before → i .kind ≡ Store v x t → q ≡ storeKept τ S (freshFrom b p) i v x t (onSome (aggregateType τ t) (λ u. stateOf S x)) → Out l′ r) → Out l′ r
+  put-stored l′ r e f =
+      let d : StorePiece τ S (freshFrom b p) i q = rw e at becomes in
+      elim d [
+        | store-piece v x t z y ↦ f v x t (same-here (ap (λ u. u .states) y ∙ store-states τ S _ i v x t _)) z y
       ]
+
+-- a whole step: the rows are settled, then all is put out
+pub step-turn : (setup : Setup) (s facts : List ℕ) (slot : ℕ) (fold : Bool) (l : Lent) (w : Reached) (tracked dropped : Marks) (rows work out : List ℕ) (d : Settled) (r : Put) (t : Stepped) → 2432 ≤ length (l .work) → length rows ≡ length (rowsIn (l .work)) → SettlesAll setup s facts slot fold (l .tracked) (rowsIn (l .work)) (w .used) tracked rows d → PutsPiece (setup .bounds) s facts slot (d .rewrite) (lentAs tracked (l .dropped) (rows ++ freshIn (l .work)) (l .out)) (w .progress) (lentAs tracked dropped work out) r → rowsIn work ≡ rowsIn (rows ++ freshIn (l .work)) → t ≡ withUsed r (d .used) → StepsOn setup s facts slot fold l w (lentAs tracked dropped work out) t
+step-turn setup s facts slot fold l w tracked dropped rows work out d r t long same settles puts stays e τ S folds i h room f bd =
+    let q = step (setup .settings) τ folds S (freshFrom (setup .bounds) (w .progress)) i in
+    let z = settles τ S folds (freshFrom (setup .bounds) (w .progress)) i h room f in
+    let size : length rows ≡ 2432 = same ∙ length-take-le 2432 (l .work) long in
+    let front : rowsIn (rows ++ freshIn (l .work)) ≡ rows = take-at rows (freshIn (l .work)) 2432 size in
+    let back : freshIn (rows ++ freshIn (l .work)) ≡ freshIn (l .work) = drop-at rows (freshIn (l .work)) 2432 size in
+    let rep : Rep (setup .bounds .next) s tracked (rowsIn (rows ++ freshIn (l .work))) (d .used) (q .states) = rw front (z .rep) in
+    let p = puts τ S (d .used) i q (record { ground = h .ground; rep = rep; line = h .line }) (z .becomes) bd in
+    steps-put (setup .bounds .next) s _ q (lentAs tracked dropped work out) r t (d .used) e (rw stays rep) (rw back at p)
+
+-- a writer's answer, with the use of the rows beside it
+pub low-used : (k used most : ℕ) (r : Put) (q : Stepped) → q ≡ withUsed r used → used ≤ most → PutLow k r → SteppedLow k most q
+low-used k used most Put.Clash q e h l = rw e tt
+low-used k used most (Put.Went p) q e h l = rw e (l, h)

@@ -1,41 +1,77 @@
 -- What a step through a block leaves behind, and what is left of the block.
 use Prim.Native.Nat.{ℕ, _+_, _≤_, _<_}
 use mathlib.Core.Path.{_≡_}
-use mathlib.Core.List.{List}
+use mathlib.Core.List.{List, []}
 use mathlib.Core.Bool.{Bool, true, false}
 use mathlib.Core.Option.{some}
-use lib.ListN.{length, getD}
+use lib.ListN.{length}
+use Rattle.wire.specs.declared.TypeId.{TypeId}
+use Rattle.wire.specs.declared.Value.{Value}
 use Rattle.wire.specs.declared.ValueId.{ValueId}
-use Rattle.form.specs.Syntax.{Instruction, Terminator, Block}
+use Rattle.form.specs.Syntax.{Place, Instruction, Call, Store}
 use Rattle.form.specs.declared.Bounds.{Bounds}
-use Rattle.places.specs.Places.{BlockPlaces, noInstruction}
-use Rattle.eligibility.specs.declared.Settings.{Settings}
 use Rattle.eligibility.specs.Lookup.{Types}
 use Rattle.eligibility.specs.Family.{Marks, buildDest}
-use Rattle.rewriting.specs.declared.Counts.{Counts}
-use Rattle.rewriting.specs.State.{AggStates}
-use Rattle.rewriting.specs.Step.{Piece}
-use Rattle.rewriting.specs.Run.{Walked, walk, addCounts}
-use Rattle.parts.specs.Rows.{Rep}
+use Rattle.rewriting.specs.State.{AggStates, stateOf, onSome}
+use Rattle.rewriting.specs.Rebuild.{rebuildAll, wantedArguments, aggregateType}
+use Rattle.rewriting.specs.Step.{Piece, step, left, stepCall, storeKept, oneInsert}
+use Rattle.parts.specs.Rows.{Rep, Room, rowsIn, freshIn}
+use Rattle.parts.specs.Here.{Here}
 use Rattle.progress.specs.declared.Progress.{Progress}
 use Rattle.progress.specs.declared.Put.{Put}
-use Rattle.progress.specs.Ground.{Ground}
-use Rattle.progress.specs.Effect.{Output, outputOf, behind, pieceEffect, walkedEffect, Low}
+use Rattle.progress.specs.declared.Setup.{Setup}
+use Rattle.progress.specs.Effect.{Effect, Output, outputOf, behind, pieceEffect, Puts, Low}
+use Rattle.decided.specs.Decided.{Does}
+use Rattle.stepping.specs.declared.Rewrite.{Rewrite}
+use Rattle.stepping.specs.declared.Settled.{Settled}
 use Rattle.stepping.specs.declared.Reached.{Reached}
 use Rattle.stepping.specs.declared.Stepped.{Stepped}
 
--- a writer's answer, with how much of the pool is used
+-- the tables that a walk is lent: the marks of the tracked and of the dropped values, the working table, the output
+pub record Lent : Type 0 where
+  pub tracked : Marks
+  pub dropped : Marks
+  pub work : List ℕ
+  pub out : List ℕ
+
+abbrev pub lentAs : Marks → Marks → List ℕ → List ℕ → Lent
+lentAs tracked dropped work out = record { tracked = tracked; dropped = dropped; work = work; out = out }
+
+-- the output in them
+abbrev pub outputIn : Lent → Progress → Output
+outputIn l p = outputOf (l .out) (freshIn (l .work)) (l .dropped) p
+
+-- what a writer into them answers
+abbrev pub PutsIn : Output → Effect → Bool → Lent → Put → Type 0
+PutsIn o e clash l r = Puts o e clash (l .out) (freshIn (l .work)) (l .dropped) r
+
+-- the flag of a build says whether it is folded
+abbrev pub FoldsAs : Bool → (ValueId → Bool) → Instruction → Type 0
+FoldsAs fold folds i = (d : ValueId) → buildDest (i .kind) ≡ some d → fold ≡ folds d
+
+-- the piece q of a Call, and of a Store that is not forwarded
+pub data CallPiece (τ : Types) (S : AggStates) (n : ℕ) (i : Instruction) (q : Piece) : Type 0 where
+  call-piece : (ds : List ValueId) (f : ℕ) (xs : List Value) (ps rs : List TypeId) → i .kind ≡ Call ds f xs ps rs → q ≡ stepCall S i ds f ps rs (rebuildAll τ S n (wantedArguments τ xs ps)) ((rebuildAll τ S n (wantedArguments τ xs ps)) .fresh) → CallPiece τ S n i q
+
+pub data StorePiece (τ : Types) (S : AggStates) (n : ℕ) (i : Instruction) (q : Piece) : Type 0 where
+  store-piece : (p : Place) (x : Value) (t : TypeId) → i .kind ≡ Store p x t → q ≡ storeKept τ S n i p x t (onSome (aggregateType τ t) (λ u. stateOf S x)) → StorePiece τ S n i q
+
+-- what becomes of an instruction is the piece q
+abbrev pub Becomes : Types → ℕ → List ℕ → AggStates → ℕ → Instruction → Piece → Rewrite → Type 0
+Becomes τ next s S n i q (Rewrite.Does a) = Does next s S i q a
+Becomes τ next s S n i q Rewrite.Forwarded = q ≡ left oneInsert [] (q .states)
+Becomes τ next s S n i q Rewrite.Call = CallPiece τ S n i q
+Becomes τ next s S n i q Rewrite.Store = StorePiece τ S n i q
+
+-- the tables hold the states behind the piece q, and the answer is what becomes of the instruction
+pub record Settles (τ : Types) (next : ℕ) (s : List ℕ) (tracked : Marks) (rows : List ℕ) (S : AggStates) (n : ℕ) (i : Instruction) (q : Piece) (r : Settled) : Type 0 where
+  pub rep : Rep next s tracked rows (r .used) (q .states)
+  pub becomes : Becomes τ next s S n i q (r .rewrite)
+
+-- a writer's answer, with how much of the rows is used
 abbrev pub withUsed : Put → ℕ → Stepped
 withUsed Put.Clash used = Stepped.Clash
 withUsed (Put.Went p) used = Stepped.Went (record { progress = p; used = used })
-
--- a progress at another place and number of instructions
-abbrev pub movedTo : Progress → ℕ → ℕ → Progress
-movedTo p to lines = record { to = to; lines = lines; fresh = p .fresh; counts = p .counts }
-
--- a progress with other counts
-abbrev pub raisedBy : Progress → Counts → Progress
-raisedBy p c = record { to = p .to; lines = p .lines; fresh = p .fresh; counts = addCounts (p .counts) c }
 
 -- a step's answer stays low
 abbrev pub SteppedLow : ℕ → ℕ → Stepped → Type 0
@@ -43,41 +79,48 @@ SteppedLow k used Stepped.Clash = Unit {0}
 SteppedLow k used (Stepped.Went w) = Low k (w .progress) × (w .used ≤ used)
 
 -- a piece is put out, and the tables hold its states
-pub record Gone (next : ℕ) (s : List ℕ) (o : Output) (q : Piece) (tracked : Marks) (firsts pool buffer types : List ℕ) (dropped : Marks) (w : Reached) : Type 0 where
+pub record Gone (next : ℕ) (s : List ℕ) (o : Output) (q : Piece) (l : Lent) (w : Reached) : Type 0 where
   pub safe : q .clash ≡ false
-  pub out : outputOf buffer types dropped (w .progress) ≡ behind o (pieceEffect q)
-  pub rep : Rep next s tracked firsts pool (w .used) (q .states)
+  pub out : outputIn l (w .progress) ≡ behind o (pieceEffect q)
+  pub rep : Rep next s (l .tracked) (rowsIn (l .work)) (w .used) (q .states)
 
 -- what a step answers
-pub record Steps (next : ℕ) (s : List ℕ) (o : Output) (q : Piece) (tracked : Marks) (firsts pool buffer types : List ℕ) (dropped : Marks) (r : Stepped) : Type 0 where
+pub record Steps (next : ℕ) (s : List ℕ) (o : Output) (q : Piece) (l : Lent) (r : Stepped) : Type 0 where
   pub clashed : r ≡ Stepped.Clash → q .clash ≡ true
-  pub went : (w : Reached) → r ≡ Stepped.Went w → Gone next s o q tracked firsts pool buffer types dropped w
+  pub went : (w : Reached) → r ≡ Stepped.Went w → Gone next s o q l w
 
--- Of a block whose walk is `whole` from the output o on, the instructions `rest` and the terminator t are left at the
--- output `now`: what they give from the states that the tables hold is what the whole walk gives.
-pub record Left (σ : Settings) (τ : Types) (folds : ValueId → Bool) (b : Bounds) (s : List ℕ) (t : Terminator) (o : Output) (whole : Walked) (rest : List Instruction) (tracked : Marks) (firsts pool : List ℕ) (used : ℕ) (now : Output) : Type 0 where
-  pub states : AggStates
-  pub rep : Rep (b .next) s tracked firsts pool used states
-  pub same : behind now (walkedEffect (walk σ τ folds states (b .next + now .progress .fresh) rest t)) ≡ behind o (walkedEffect whole)
-  pub clash : (walk σ τ folds states (b .next + now .progress .fresh) rest t) .clash ≡ whole .clash
-  pub bound : b .next + now .progress .fresh + length ((walk σ τ folds states (b .next + now .progress .fresh) rest t) .fresh) < 65536
+-- the numbers from the next one on that are fresh, and those that a piece takes of them
+abbrev pub freshFrom : Bounds → Progress → ℕ
+freshFrom b p = b .next + p .fresh
 
--- a block as the code finds it: its instructions and terminator stand at `places`, the flags of its builds from
--- `first` on
-pub record InBlock (b : Bounds) (s types recorded places : List ℕ) (count : ℕ) (folded : List Bool) (first : ℕ) (τ : Types) (folds : ValueId → Bool) (x : Block) : Type 0 where
-  pub ground : Ground b s types recorded τ
-  pub size : ℕ
-  pub standing : BlockPlaces b s places size x
-  pub many : length (x .instructions) ≡ count
-  pub flags : (j : ℕ) (d : ValueId) → j < length (x .instructions) → buildDest (getD (x .instructions) j noInstruction .kind) ≡ some d → getD folded (first + j) false ≡ folds d
+abbrev pub Enough : Bounds → Progress → List TypeId → Type 0
+Enough b p ts = freshFrom b p + length ts < 65536
 
--- what the loop over a block's instructions answers
-pub record Arrives (σ : Settings) (τ : Types) (folds : ValueId → Bool) (b : Bounds) (s : List ℕ) (t : Terminator) (o : Output) (whole : Walked) (rest : List Instruction) (tracked : Marks) (firsts pool buffer types : List ℕ) (dropped : Marks) (r : Stepped) : Type 0 where
-  pub clashed : r ≡ Stepped.Clash → whole .clash ≡ true
-  pub went : (w : Reached) → r ≡ Stepped.Went w → Left σ τ folds b s t o whole rest tracked firsts pool (w .used) (outputOf buffer types dropped (w .progress))
+-- what is settled of an instruction, whatever its kind
+abbrev pub SettlesAll : Setup → List ℕ → List ℕ → ℕ → Bool → Marks → List ℕ → ℕ → Marks → List ℕ → Settled → Type 0
+SettlesAll setup s facts slot fold tracked rows used tracked′ rows′ r =
+    (τ : Types) (S : AggStates) (folds : ValueId → Bool) (n : ℕ) (i : Instruction) →
+    Here (setup .bounds) s facts slot tracked rows used τ S i →
+    Room rows used →
+    FoldsAs fold folds i →
+    Settles τ (setup .bounds .next) s tracked′ rows′ S n i (step (setup .settings) τ folds S n i) r
 
--- the tables have a place for each value, and the pool has a row for each instruction of a block
-pub record Tabled (tracked : Marks) (firsts pool : List ℕ) : Type 0 where
-  pub mark : 256 ≤ length tracked
-  pub first : 256 ≤ length firsts
-  pub places : 2176 ≤ length pool
+-- what was settled is put out
+abbrev pub PutsPiece : Bounds → List ℕ → List ℕ → ℕ → Rewrite → Lent → Progress → Lent → Put → Type 0
+PutsPiece b s facts slot rewrite l p l′ r =
+    (τ : Types) (S : AggStates) (used : ℕ) (i : Instruction) (q : Piece) →
+    Here b s facts slot (l .tracked) (rowsIn (l .work)) used τ (q .states) i →
+    Becomes τ (b .next) s S (freshFrom b p) i q rewrite →
+    Enough b p (q .fresh) →
+    PutsIn (outputIn l p) (pieceEffect q) (q .clash) l′ r
+
+-- a whole step: one instruction is settled and put out
+abbrev pub StepsOn : Setup → List ℕ → List ℕ → ℕ → Bool → Lent → Reached → Lent → Stepped → Type 0
+StepsOn setup s facts slot fold l w l′ r =
+    (τ : Types) (S : AggStates) (folds : ValueId → Bool) (i : Instruction) →
+    Here (setup .bounds) s facts slot (l .tracked) (rowsIn (l .work)) (w .used) τ S i →
+    Room (rowsIn (l .work)) (w .used) →
+    FoldsAs fold folds i →
+    let q = step (setup .settings) τ folds S (freshFrom (setup .bounds) (w .progress)) i in
+    Enough (setup .bounds) (w .progress) (q .fresh) →
+    Steps (setup .bounds .next) s (outputIn l (w .progress)) q l′ r

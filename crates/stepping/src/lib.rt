@@ -1,32 +1,36 @@
-// One instruction: what is decided of it is put out. A Call, a Store, or any other kind.
-pub mod actions;
-
+// One instruction: what becomes of it is settled in the tables of tracked values, then put out.
+use decided::Action;
 use decided::Counted;
-use eligibility::Settings;
 use form::Bounds;
 use progress::Progress;
 use progress::Put;
+use progress::Setup;
 ghost use mathlib.Core.Path.{_≡_};
-ghost use mathlib.Core.List.{List, []};
-ghost use mathlib.Core.Bool.{Bool, false};
-ghost use mathlib.Core.Option.{some};
-ghost use Prim.Native.Nat.{ℕ, _+_, _-_, _≤_, _<_};
-ghost use lib.ListN.{length, drop};
-ghost use Rattle.wire.specs.Parse.{ok};
-ghost use Rattle.wire.specs.declared.ValueId.{ValueId};
-ghost use Rattle.form.specs.Syntax.{Instruction};
-ghost use Rattle.form.specs.Reads.{kindNumber};
-ghost use Rattle.form.specs.Decode.{instructionOf};
-ghost use Rattle.eligibility.specs.Lookup.{Types};
-ghost use Rattle.eligibility.specs.Family.{buildDest};
-ghost use Rattle.rewriting.specs.State.{AggStates};
-ghost use Rattle.rewriting.specs.Step.{step as stepOf};
-ghost use Rattle.parts.specs.Rows.{Rep};
-ghost use Rattle.progress.specs.Ground.{Ground, Tables};
-ghost use Rattle.progress.specs.Effect.{outputOf, Low};
-ghost use Rattle.stepping.specs.Stepping.{withUsed, SteppedLow, Steps};
+ghost use Prim.Native.Nat.{ℕ, _+_, _≤_, _<_};
+ghost use lib.ListN.{length};
+ghost use Rattle.parts.specs.Rows.{rowsIn};
+ghost use Rattle.progress.specs.Effect.{Low, PutLow};
+ghost use Rattle.stepping.specs.Stepping.{lentAs, withUsed, SteppedLow, SettlesAll, PutsPiece, StepsOn};
 
-// How far the output is written, and how much of the pool is used.
+// How many numbers of the working table the rows of tracked values take.
+pub const ROWS: usize = 2432;
+
+// What becomes of an instruction: what is decided of it; a Store that is forwarded into the parts of a tracked value; a
+// Call, or any other Store, whose tracked values are rebuilt before it.
+pub enum Rewrite {
+    Does(Action),
+    Forwarded,
+    Call,
+    Store,
+}
+
+// What is settled of an instruction, and how much of the rows is used then.
+pub struct Settled {
+    pub rewrite: Rewrite,
+    pub used: usize,
+}
+
+// How far the output is written, and how much of the rows is used.
 pub struct Reached {
     pub progress: Progress,
     pub used: usize,
@@ -38,7 +42,90 @@ pub enum Stepped {
     Went(Reached),
 }
 
-// A writer's answer, with how much of the pool is used.
+// Settles what becomes of a slot's instruction; `fold` is whether a build is left out.
+fn settle(
+    s: &[u8],
+    setup: Setup,
+    facts: &[u16],
+    slot: u16,
+    fold: bool,
+    tracked: &mut [bool],
+    rows: &mut [u16],
+    used: usize,
+) -> Settled
+    requires { ⌜ used < 60000 ⌝ }
+    ensures { λ r. ⌜ r .used ≤ used + 17 ⌝ }
+    ensures { λ r. ⌜ SettlesAll setup (now (s .entry)) (now (facts .entry)) slot fold
+        (now (tracked .entry)) (now (rows .entry)) used (now (tracked .exit)) (now (rows .exit)) r ⌝ }
+{
+    let b = setup.bounds;
+    let settings = setup.settings;
+    let kind = index::kind(facts, slot);
+    if kind == 3 {
+        return Settled {
+            rewrite: Rewrite::Call,
+            used: used,
+        };
+    }
+    if kind != 6 {
+        let d = deciding::decide(s, b, settings, facts, slot, fold, tracked, rows, used);
+        let action = d.action;
+        return Settled {
+            rewrite: Rewrite::Does(action),
+            used: d.used,
+        };
+    }
+    if !settings.tuples {
+        return Settled {
+            rewrite: Rewrite::Does(Action::Keep),
+            used: used,
+        };
+    }
+    let f = chains::forward_store(s, b, facts, slot, tracked, rows, used);
+    if f.forwarded {
+        return Settled {
+            rewrite: Rewrite::Forwarded,
+            used: f.used,
+        };
+    }
+    Settled {
+        rewrite: Rewrite::Store,
+        used: f.used,
+    }
+}
+
+// Puts out what is settled of a slot's instruction.
+fn carry_out(
+    rewrite: Rewrite,
+    s: &[u8],
+    b: Bounds,
+    facts: &[u16],
+    slot: u16,
+    tracked: &[bool],
+    dropped: &mut [bool],
+    work: &mut [u16],
+    out: &mut [u8],
+    p: Progress,
+) -> Put
+    requires { ⌜ Low 8000 p ⌝ }
+    ensures { λ r. ⌜ ((k : ℕ) → Low k p → PutLow (k + 1) r) ⌝ }
+    ensures { λ _. ⌜ rowsIn (now (work .exit)) ≡ rowsIn (now (work .entry)) ⌝ }
+    ensures { λ r. ⌜ PutsPiece b (now (s .entry)) (now (facts .entry)) slot rewrite
+        (lentAs (now (tracked .entry)) (now (dropped .entry)) (now (work .entry)) (now (out .entry))) p
+        (lentAs (now (tracked .entry)) (now (dropped .exit)) (now (work .exit)) (now (out .exit))) r ⌝ }
+{
+    match rewrite {
+        Rewrite::Does(action) => {
+            let q = performing::perform(action, s, b, facts, slot, out, p, dropped);
+            Put::Went(q)
+        }
+        Rewrite::Forwarded => Put::Went(performing::left_out(p, Counted::Insert)),
+        Rewrite::Call => materialize::put_call(out, p, s, b, facts, slot, tracked, work),
+        Rewrite::Store => materialize::put_store(out, p, s, b, facts, slot, tracked, work),
+    }
+}
+
+// A writer's answer, with how much of the rows is used.
 fn with_used(r: Put, used: usize) -> Stepped
     ensures { λ q. ⌜ q ≡ withUsed r used ⌝ }
 {
@@ -51,155 +138,38 @@ fn with_used(r: Put, used: usize) -> Stepped
     }
 }
 
-// A Store: forwarded into the parts of a tracked value, or written.
-fn step_store(
-    s: &[u8],
-    at: usize,
-    end: usize,
-    b: Bounds,
-    settings: Settings,
-    types: &[usize],
-    recorded: &[u16],
-    tracked: &mut [bool],
-    firsts: &mut [u16],
-    pool: &mut [usize],
-    used: usize,
-    out: &mut [u8],
-    p: Progress,
-    fresh: &mut [u16],
-) -> Stepped
-    requires { ⌜ Low 8000 p × (used < 60000) ⌝ }
-    ensures { λ r. ⌜ ((k : ℕ) → Low k p → SteppedLow (k + 1) (used + 17) r) ⌝ }
-    ensures { λ r. ⌜ ((τ : Types) (S : AggStates) (folds : ValueId → Bool) (i : Instruction) (dropped : List Bool) → Ground b (now (s .entry)) (now (types .entry)) (now (recorded .entry)) τ → Rep (b .next) (now (s .entry)) (now (tracked .entry)) (now (firsts .entry)) (now (pool .entry)) used S → Tables (now (tracked .entry)) (now (firsts .entry)) (now (pool .entry)) used → at ≤ end → end ≤ length (now (s .entry)) → instructionOf b [] false (drop at (now (s .entry))) ≡ ok i (end - at) → kindNumber (i .kind) ≡ 6 → b .next + p .fresh + length ((stepOf settings τ folds S (b .next + p .fresh) i) .fresh) < 65536 → Steps (b .next) (now (s .entry)) (outputOf (now (out .entry)) (now (fresh .entry)) dropped p) (stepOf settings τ folds S (b .next + p .fresh) i) (now (tracked .exit)) (now (firsts .exit)) (now (pool .exit)) (now (out .exit)) (now (fresh .exit)) dropped r) ⌝ }
-{
-    if !settings.tuples {
-        let q = actions::keep_line(out, p, s, at, end);
-        return Stepped::Went(Reached {
-            progress: q,
-            used: used,
-        });
-    }
-    let f = chains::forward_store(s, at, b, types, recorded, tracked, firsts, pool, used);
-    if f.forwarded {
-        let q = actions::left_out(p, Counted::Insert);
-        return Stepped::Went(Reached {
-            progress: q,
-            used: f.used,
-        });
-    }
-    with_used(
-        materialize::put_store(out, p, s, at, end, b, types, tracked, firsts, pool, fresh),
-        f.used,
-    )
-}
-
-// Any kind but a Call and a Store. (No instruction stands past the end.)
-fn step_other(
-    s: &[u8],
-    at: usize,
-    end: usize,
-    b: Bounds,
-    settings: Settings,
-    types: &[usize],
-    recorded: &[u16],
-    fold: bool,
-    tracked: &mut [bool],
-    firsts: &mut [u16],
-    pool: &mut [usize],
-    used: usize,
-    out: &mut [u8],
-    p: Progress,
-    dropped: &mut [bool],
-) -> Stepped
-    requires { ⌜ Low 8000 p × ((used < 60000) × (length (now s) < 1099511627776)) ⌝ }
-    ensures { λ r. ⌜ ((k : ℕ) → Low k p → SteppedLow (k + 1) (used + 17) r) ⌝ }
-    ensures { λ r. ⌜ ((τ : Types) (S : AggStates) (folds : ValueId → Bool) (m : ℕ) (i : Instruction) (fresh : List ℕ) → Ground b (now (s .entry)) (now (types .entry)) (now (recorded .entry)) τ → Rep (b .next) (now (s .entry)) (now (tracked .entry)) (now (firsts .entry)) (now (pool .entry)) used S → Tables (now (tracked .entry)) (now (firsts .entry)) (now (pool .entry)) used → at ≤ end → end ≤ length (now (s .entry)) → instructionOf b [] false (drop at (now (s .entry))) ≡ ok i (end - at) → (kindNumber (i .kind) ≡ 3 → ⊥) → (kindNumber (i .kind) ≡ 6 → ⊥) → ((d : ValueId) → buildDest (i .kind) ≡ some d → fold ≡ folds d) → Steps (b .next) (now (s .entry)) (outputOf (now (out .entry)) fresh (now (dropped .entry)) p) (stepOf settings τ folds S m i) (now (tracked .exit)) (now (firsts .exit)) (now (pool .exit)) (now (out .exit)) fresh (now (dropped .exit)) r) ⌝ }
-{
-    if s.len() < at {
-        return Stepped::Clash;
-    }
-    let d = deciding::decide(
-        s,
-        at,
-        b,
-        settings,
-        types,
-        recorded,
-        fold,
-        tracked,
-        firsts,
-        pool,
-        used,
-    );
-    let action = d.action;
-    let more = d.used;
-    let q = actions::perform(action, s, at, end, b, out, p, dropped);
-    Stepped::Went(Reached {
-        progress: q,
-        used: more,
-    })
-}
-
-// Puts out what becomes of the instruction that stands from `at` to `end`; `fold` is whether a build is left out.
+// One step: a slot's instruction; `fold` is whether a build is left out.
 pub fn step(
     s: &[u8],
-    at: usize,
-    end: usize,
-    b: Bounds,
-    settings: Settings,
-    types: &[usize],
-    recorded: &[u16],
+    setup: Setup,
+    facts: &[u16],
+    slot: u16,
     fold: bool,
     tracked: &mut [bool],
-    firsts: &mut [u16],
-    pool: &mut [usize],
-    used: usize,
-    out: &mut [u8],
-    p: Progress,
-    fresh: &mut [u16],
     dropped: &mut [bool],
+    work: &mut [u16],
+    out: &mut [u8],
+    w: Reached,
 ) -> Stepped
-    requires { ⌜ Low 8000 p × ((used < 60000) × (length (now s) < 1099511627776)) ⌝ }
-    ensures { λ r. ⌜ ((k : ℕ) → Low k p → SteppedLow (k + 1) (used + 17) r) ⌝ }
-    ensures { λ r. ⌜ ((τ : Types) (S : AggStates) (folds : ValueId → Bool) (i : Instruction) → Ground b (now (s .entry)) (now (types .entry)) (now (recorded .entry)) τ → Rep (b .next) (now (s .entry)) (now (tracked .entry)) (now (firsts .entry)) (now (pool .entry)) used S → Tables (now (tracked .entry)) (now (firsts .entry)) (now (pool .entry)) used → at ≤ end → end ≤ length (now (s .entry)) → instructionOf b [] false (drop at (now (s .entry))) ≡ ok i (end - at) → ((d : ValueId) → buildDest (i .kind) ≡ some d → fold ≡ folds d) → b .next + p .fresh + length ((stepOf settings τ folds S (b .next + p .fresh) i) .fresh) < 65536 → Steps (b .next) (now (s .entry)) (outputOf (now (out .entry)) (now (fresh .entry)) (now (dropped .entry)) p) (stepOf settings τ folds S (b .next + p .fresh) i) (now (tracked .exit)) (now (firsts .exit)) (now (pool .exit)) (now (out .exit)) (now (fresh .exit)) (now (dropped .exit)) r) ⌝ }
+    requires { ⌜ Low 8000 (w .progress) × ((w .used < 60000) × (2432 ≤ length (now work))) ⌝ }
+    ensures { λ r. ⌜ ((k : ℕ) → Low k (w .progress) → SteppedLow (k + 1) (w .used + 17) r) ⌝ }
+    ensures { λ r. ⌜ StepsOn setup (now (s .entry)) (now (facts .entry)) slot fold
+        (lentAs (now (tracked .entry)) (now (dropped .entry)) (now (work .entry)) (now (out .entry))) w
+        (lentAs (now (tracked .exit)) (now (dropped .exit)) (now (work .exit)) (now (out .exit))) r ⌝ }
 {
-    match wire::byte_at(form::tail(s, at), 1) {
-        3 => with_used(
-            materialize::put_call(out, p, s, at, end, b, types, tracked, firsts, pool, fresh),
-            used,
-        ),
-        6 => step_store(
-            s,
-            at,
-            end,
-            b,
-            settings,
-            types,
-            recorded,
-            tracked,
-            firsts,
-            pool,
-            used,
-            out,
-            p,
-            fresh,
-        ),
-        _ => step_other(
-            s,
-            at,
-            end,
-            b,
-            settings,
-            types,
-            recorded,
-            fold,
-            tracked,
-            firsts,
-            pool,
-            used,
-            out,
-            p,
-            dropped,
-        ),
-    }
+    let b = setup.bounds;
+    let p = w.progress;
+    let d = settle(
+        s,
+        setup,
+        facts,
+        slot,
+        fold,
+        tracked,
+        &mut work[..ROWS],
+        w.used,
+    );
+    let rewrite = d.rewrite;
+    let r = carry_out(rewrite, s, b, facts, slot, tracked, dropped, work, out, p);
+    with_used(r, d.used)
 }

@@ -2,6 +2,7 @@
 // (wire::byte_at reads a table of bytes.)
 ghost use mathlib.Core.Path.{_≡_};
 ghost use mathlib.Core.Bool.{false};
+ghost use Prim.Native.Nat.{_%_};
 ghost use lib.ListN.{getD, set};
 ghost use Rattle.table.specs.Flags.{anyStands};
 
@@ -13,10 +14,10 @@ pub fn number(l: &[u16], i: usize) -> u16
 }
 
 // The place that stands in slot `i`.
-pub fn place(l: &[usize], i: usize) -> usize
+pub fn place(l: &[u16], i: usize) -> usize
     ensures { λ r. ⌜ r ≡ getD (now (l .entry)) i 0 ⌝ }
 {
-    if i < l.len() { l[i] } else { 0 }
+    number(l, i) as usize
 }
 
 // The flag at a place.
@@ -35,13 +36,11 @@ pub fn set_number(l: &mut [u16], i: usize, n: u16)
     }
 }
 
-// Stores a place.
-pub fn set_place(l: &mut [usize], i: usize, place: usize)
-    ensures { λ _. ⌜ now (l .exit) ≡ set (now (l .entry)) i place ⌝ }
+// Stores a place: its lowest 16 bits, which are all of it where the bytes are short.
+pub fn set_place(l: &mut [u16], i: usize, place: usize)
+    ensures { λ _. ⌜ now (l .exit) ≡ set (now (l .entry)) i (place % 65536) ⌝ }
 {
-    if i < l.len() {
-        l[i] = place;
-    }
+    set_number(l, i, (place % 65536) as u16)
 }
 
 // Stores a flag.

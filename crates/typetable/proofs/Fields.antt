@@ -14,17 +14,12 @@ use Rattle.wire.specs.declared.Cause.{Cause}
 use Rattle.wire.specs.declared.NameId.{NameId}
 use Rattle.wire.specs.declared.TypeId.{TypeId}
 use Rattle.wire.proofs.Laws.{map-map, map-later, later-later, number-short, number-some, from-8, from-16}
-use Rattle.wire.proofs.Inv.{no-ok, both, behind, image, later-inv, and-inv, map-inv, checked-inv, number-inv, below-inv}
+use Rattle.wire.proofs.Inv.{no-ok, both, behind, image, later-inv, and-inv, map-inv, checked-inv, number-inv, below-inv, map-bad}
 use Rattle.form.specs.Decode.{typeIdOf, nameIdOf}
 use Rattle.form.specs.Walk.{unit, asPart}
 use Rattle.form.specs.declared.Part.{Part}
 use Rattle.typetable.specs.Decode.{hasName, newNameOf, structFields, structOf}
 use Rattle.typetable.specs.Index.{namesAt, fieldOf}
-
--- what is made of the value does not move a refusal
-pub map-bad : {A B : Type 0} (f : A → B) (d : Parse A) {c : Cause} {o : ℕ} → mapParse f d ≡ bad c o → d ≡ bad c o
-map-bad f (ok a n) e = absurd (no-ok (sym e))
-map-bad f (bad k m) {c} {o} e = let p : k ≡ c = cc in let q : m ≡ o = cc in rw (p, q)
 
 -- where the second of two decoders refuses, one behind it is not asked
 refused : {A B C : Type 0} (t : List ℕ) (d : Parse A) (e : List ℕ → Parse B) (g : A → B → List ℕ → Parse C) {c : Cause} {o : ℕ} → andThen t d (λ a u. e u) ≡ bad c o → andThen t d (λ a u. andThen u (e u) (g a)) ≡ bad c o

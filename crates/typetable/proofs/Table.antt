@@ -1,12 +1,12 @@
 -- The type table, one type after another.
-use Prim.Native.Nat.{ℕ, suc, _+_, _-_, _≤_, _<_, zero-le}
+use Prim.Native.Nat.{ℕ, suc, _+_, _-_, _*_, _%_, _≤_, _<_, zero-le}
 use mathlib.Core.Path.{_≡_, refl, ap, _∙_, sym}
 use mathlib.Core.List.{List, [], _∷_, _++_, append-assoc, append-nil}
 use mathlib.Core.Bool.{true, false}
 use mathlib.Core.Bool as B
 use mathlib.Core.Logic.{⊎-elim}
 use native.Mathlib.Numerals.{add-one}
-use native.Mathlib.Nat.{add-zero, sub-zero, eq-or-lt-of-le}
+use native.Mathlib.Nat.{add-zero, sub-zero, eq-or-lt-of-le, mod-eq-of-lt}
 use native.Mathlib.Omega.{arith}
 use borrow.Author.Tests.{le-leb, lt-leb}
 use lib.ListN.{length, getD, drop, set, length-append, length-drop, length-set, List·getD-append}
@@ -16,13 +16,14 @@ use Rattle.wire.specs.Number.{u16Of}
 use Rattle.wire.specs.WellFormed.{Bytes}
 use Rattle.wire.specs.declared.Cause.{Cause}
 use Rattle.wire.proofs.Laws.{size, size-map, map-id, map-map, map-later, later-later}
-use Rattle.wire.proofs.Inv.{no-ok, image, map-inv, number-inv}
+use Rattle.wire.proofs.Inv.{no-ok, image, map-inv, number-inv, map-bad}
+use Rattle.wire.proofs.Canon.{bytes-drop}
 use Rattle.form.specs.Walk.{unit}
 use Rattle.typetable.specs.Syntax.{MirType}
 use Rattle.typetable.specs.Decode.{typeOf, hasType, typeSeq, typesOf}
 use Rattle.typetable.specs.Index.{TypesAt, TypesRead}
+use Rattle.typetable.proofs.Canon.{type-exact}
 use Rattle.typetable.proofs.Sizes.{size-type}
-use Rattle.typetable.proofs.Fields.{map-bad}
 
 -- a place that is stored behind the first k + 1, and those before it
 pub stored-end : (starts : List ℕ) (k p : ℕ) → k + 1 < length starts → getD (set starts (k + 1) p) (suc k) 0 ≡ p
@@ -57,13 +58,16 @@ module _ (most : ℕ) (s starts : List ℕ) (ts : List MirType) (a : TypesAt mos
             ⊎-elim (λ q. omega (arith, ap (λ i. getD p i 0) q, stored-end starts k (at + n) room)) (λ q. let g : j ≤ length ts = omega arith in rw (stored-before starts k (at + n) j (omega arith)) (a .within j g)) (eq-or-lt-of-le l);
       }
 
--- of `count` types k are behind, and stand at their places
+-- of `count` types k are behind, and stand at their places; a type takes at most 71 bytes
 pub record Reading (limit most : ℕ) (s before starts : List ℕ) (count k at : ℕ) : Type 0 where
   pub under : k ≤ count
+  pub few : count ≤ 64
+  pub near : at ≤ 2 + k * 71
   pub room : count < length starts
   pub long : length starts ≡ length before
   pub in-s : at ≤ length s
   pub here : at ≡ getD starts k 0
+  pub first : getD starts 0 0 ≡ 2
   pub earlier : List MirType
   pub many : length earlier ≡ k
   pub table : TypesAt most s starts earlier
@@ -71,7 +75,7 @@ pub record Reading (limit most : ℕ) (s before starts : List ℕ) (count k at :
 
 -- a refusal: there are no places
 pub read-bad : (limit most : ℕ) (s before starts : List ℕ) {c : Cause} {o : ℕ} → length starts ≡ length before → bad c o ≡ mapParse unit (typesOf limit most s) → TypesRead limit most s (bad c o) before starts
-read-bad limit most s before starts h e = record { answers = e; long = h; places = λ ts n f. absurd (no-ok (e ∙ ap (mapParse unit) f)) }
+read-bad limit most s before starts h e = record { answers = e; long = h; places = λ ts n f. absurd (no-ok (e ∙ ap (mapParse unit) f)); first = λ ts n f. absurd (no-ok (e ∙ ap (mapParse unit) f)) }
 
 -- the count is refused
 pub count-bad : (limit most : ℕ) (s : List ℕ) {c : Cause} {o : ℕ} → u16Of s ≡ bad c o → bad c o ≡ mapParse unit (typesOf limit most s)
@@ -84,17 +88,21 @@ unfolding typesOf
 count-past limit most s e h = sym (simp (e, lt-leb _ _ h))
 
 -- none is behind yet
-pub table-start : (limit most : ℕ) (s starts : List ℕ) {x n : ℕ} → u16Of s ≡ ok x n → x ≤ limit → limit < length starts → Reading limit most s (set starts 0 n) (set starts 0 n) x 0 n
+pub table-start : (limit most : ℕ) (s entry starts : List ℕ) {x n : ℕ} → u16Of s ≡ ok x n → x ≤ limit → (limit ≤ 64) × (most ≤ 16) × (limit < length entry) → starts ≡ set entry 0 (n % 65536) → Reading limit most s starts starts x 0 n
 unfolding typesOf
-table-start limit most s starts {x} {n} e h l =
+table-start limit most s entry starts {x} {n} e h l q =
     let v = number-inv 2 s e in
-    let g : getD (set starts 0 n) 0 0 ≡ n = getD-set-same starts 0 n 0 (omega arith) in
+    let w : starts ≡ set entry 0 n = q ∙ ap (set entry 0) (mod-eq-of-lt (omega (arith, v .2))) in
+    let g : getD starts 0 0 ≡ n = ap (λ z. getD z 0 0) w ∙ getD-set-same entry 0 n 0 (omega arith) in
     record {
       under = zero-le;
-      room = omega (arith, length-set starts 0 n);
+      few = omega arith;
+      near = omega (arith, v .2);
+      room = omega (arith, ap length w, length-set entry 0 n);
       long = refl;
       in-s = omega (arith, v .0, v .2);
       here = sym g;
+      first = omega (arith, g, v .2);
       earlier = [];
       many = refl;
       table = record {
@@ -127,9 +135,9 @@ module _ (limit most : ℕ) (s before starts : List ℕ) (count k at : ℕ) (u :
         ]
 
     -- it is a new one: one more is behind
-    pub table-again : r ≡ false → Reading limit most s before (set starts (k + 1) (at + n)) count (k + 1) (at + n)
+    pub table-again : r ≡ false → most ≤ 16 → (starts′ : List ℕ) → starts′ ≡ set starts (k + 1) ((at + n) % 65536) → Reading limit most s before starts′ count (k + 1) (at + n)
     unfolding typeSeq
-    table-again p =
+    table-again p few starts′ stored =
         let m = count - (k + 1) in
         let z : count - k ≡ suc m = omega arith in
         let y : at + n - at ≡ n = omega arith in
@@ -139,12 +147,17 @@ module _ (limit most : ℕ) (s before starts : List ℕ) (count k at : ℕ) (u :
               let ts = u .earlier in
               let q : hasType t ts ≡ false = sym (f most k ts t b (u .many) (u .table) (rw y g)) ∙ p in
               let room : k + 1 < length starts = omega arith in
-              record {
+              let near : at + n ≤ 2 + (k + 1) * 71 = omega (arith, type-exact most k .each (drop at s) t n (bytes-drop s at b) g .small, u .near) in
+              let w : starts′ ≡ set starts (k + 1) (at + n) = stored ∙ ap (set starts (k + 1)) (mod-eq-of-lt (omega (arith, u .few))) in
+              rw w record {
                 under = omega arith;
+                few = u .few;
+                near = near;
                 room = omega (arith, length-set starts (k + 1) (at + n));
                 long = length-set starts (k + 1) (at + n) ∙ u .long;
                 in-s = l;
                 here = sym (getD-set-same starts (k + 1) (at + n) 0 room);
+                first = getD-set-other starts (k + 1) 0 (at + n) 0 (λ z. absurd (omega arith)) ∙ u .first;
                 earlier = ts ++ (t ∷ []);
                 many = omega (arith, length-append ts (t ∷ []), u .many);
                 table = table-more most s starts ts (u .table) k at n t (u .many) room (u .here) g l;
@@ -162,4 +175,5 @@ table-done limit most s before starts count k at u h entry l =
       answers = sym (ap (mapParse unit) e);
       long = u .long ∙ l;
       places = λ ts n f. let p : u .earlier ≡ ts = cc in rw p at (u .table);
+      first = λ ts n f. u .first;
     }

@@ -2,15 +2,17 @@
 use Prim.Native.Nat.{ℕ, zero, suc, _+_, _-_, _*_, _≤_, _<_}
 use mathlib.Core.Path.{_≡_}
 use mathlib.Core.List.{List, [], _∷_}
+use mathlib.Core.Bool.{Bool}
 use lib.ListN.{length, getD, drop}
 use Rattle.wire.specs.Parse.{Parse, ok, andThen, mapParse}
 use Rattle.wire.specs.Number.{at16}
+use Rattle.wire.specs.WellFormed.{Bytes}
 use Rattle.wire.specs.declared.NameId.{NameId}
 use Rattle.wire.specs.declared.TypeId.{TypeId}
 use Rattle.form.specs.Decode.{typeIdOf}
 use Rattle.form.specs.Walk.{unit}
 use Rattle.typetable.specs.Syntax.{MirType}
-use Rattle.typetable.specs.Decode.{newNameOf, typeOf, typesOf}
+use Rattle.typetable.specs.Decode.{newNameOf, typeOf, hasType, typesOf}
 
 -- the names of the first k fields that begin at `from`, four bytes each, the last one first
 abbrev pub namesAt : List ℕ → ℕ → ℕ → List NameId
@@ -27,8 +29,13 @@ pub record TypesAt (most : ℕ) (s starts : List ℕ) (ts : List MirType) : Type
   pub rises : (k : ℕ) → k < length ts → getD starts k 0 ≤ getD starts (suc k) 0
   pub within : (k : ℕ) → k ≤ length ts → getD starts k 0 ≤ length s
 
+-- testing whether one of the k types before has the bytes from `at` to `end`
+abbrev pub TestedBefore : List ℕ → List ℕ → ℕ → ℕ → ℕ → Bool → Type 0
+TestedBefore s starts k at end r = (most own : ℕ) (ts : List MirType) (t : MirType) → Bytes s → length ts ≡ k → TypesAt most s starts ts → typeOf most own (drop at s) ≡ ok t (end - at) → r ≡ hasType t ts
+
 -- what reading the table gives: the definition's answer and, where that is a table, its places
 pub record TypesRead (mostTypes most : ℕ) (s : List ℕ) (answer : Parse (Unit {0})) (before starts : List ℕ) : Type 0 where
   pub answers : answer ≡ mapParse unit (typesOf mostTypes most s)
   pub long : length starts ≡ length before
   pub places : (ts : List MirType) (n : ℕ) → typesOf mostTypes most s ≡ ok ts n → TypesAt most s starts ts
+  pub first : (ts : List MirType) (n : ℕ) → typesOf mostTypes most s ≡ ok ts n → getD starts 0 0 ≡ 2

@@ -7,14 +7,12 @@ use wire::Read16;
 ghost use mathlib.Core.Path.{_≡_};
 ghost use mathlib.Core.List.{List, []};
 ghost use mathlib.Core.Bool.{Bool};
-ghost use Prim.Native.Nat.{ℕ, _+_, _-_, _*_, _≤_, _<_};
+ghost use Prim.Native.Nat.{ℕ, _+_, _*_, _≤_, _<_};
 ghost use lib.ListN.{length, getD, drop};
-ghost use Rattle.wire.specs.Parse.{ok, mapParse, later};
-ghost use Rattle.wire.specs.WellFormed.{Bytes};
+ghost use Rattle.wire.specs.Parse.{mapParse, later};
 ghost use Rattle.form.specs.Walk.{asScan, asPart, unit};
-ghost use Rattle.typetable.specs.Syntax.{MirType};
-ghost use Rattle.typetable.specs.Decode.{hasName, structFields, structOf, typeOf, sameBytes, hasType};
-ghost use Rattle.typetable.specs.Index.{namesAt, fieldOf, TypesAt, TypesRead};
+ghost use Rattle.typetable.specs.Decode.{hasName, structFields, structOf, typeOf, sameBytes};
+ghost use Rattle.typetable.specs.Index.{namesAt, fieldOf, TestedBefore, TypesRead};
 
 // The classes of each kind's fields (see `field_at` of crate rows), in `MirType` order. A Struct has no row: its names
 // differ.
@@ -165,15 +163,14 @@ fn same_bytes(a: &[u8], b: &[u8]) -> bool
 }
 
 // One of the `k` types before has the bytes from `at` to `end`.
-fn type_before(s: &[u8], starts: &[usize], k: u16, at: usize, end: usize) -> bool
-    requires { ⌜ k < length (now starts) ⌝ }
-    ensures { λ r. ⌜ ((most own : ℕ) (ts : List MirType) (t : MirType) → Bytes (now (s .entry)) → length ts ≡ k → TypesAt most (now (s .entry)) (now (starts .entry)) ts → typeOf most own (drop at (now (s .entry))) ≡ ok t (end - at) → r ≡ hasType t ts) ⌝ }
+fn type_before(s: &[u8], starts: &[u16], k: u16, at: usize, end: usize) -> bool
+    ensures { λ r. ⌜ TestedBefore (now (s .entry)) (now (starts .entry)) k at end r ⌝ }
 {
     let here = form::between(s, at, end);
     let mut j: u16 = 0;
     while j < k {
         let i = j as usize;
-        let other = form::between(s, starts[i], starts[i + 1]);
+        let other = form::between(s, table::place(starts, i), table::place(starts, i + 1));
         if same_bytes(here, other) {
             return true;
         }
@@ -183,8 +180,8 @@ fn type_before(s: &[u8], starts: &[usize], k: u16, at: usize, end: usize) -> boo
 }
 
 // The type table, from its count on. `starts` is given each type's place, and the place behind the last.
-pub fn read_types(s: &[u8], limit: u16, most: u8, starts: &mut [usize]) -> Part
-    requires { ⌜ limit < length (now starts) ⌝ }
+pub fn read_types(s: &[u8], limit: u16, most: u8, starts: &mut [u16]) -> Part
+    requires { ⌜ (limit ≤ 64) × (most ≤ 16) × (limit < length (now starts)) ⌝ }
     ensures { λ r. ⌜ TypesRead limit most (now (s .entry)) (asPart r) (now (starts .entry)) (now (starts .exit)) ⌝ }
 {
     match wire::read_u16(s) {
@@ -194,7 +191,7 @@ pub fn read_types(s: &[u8], limit: u16, most: u8, starts: &mut [usize]) -> Part
                 return Part::Refused(Cause::TooMany, 0);
             }
             let mut at = n;
-            starts[0] = at;
+            table::set_place(starts, 0, at);
             let mut k: u16 = 0;
             while k < count {
                 match read_type(&s[at..], most, k) {
@@ -210,8 +207,7 @@ pub fn read_types(s: &[u8], limit: u16, most: u8, starts: &mut [usize]) -> Part
                     }
                 }
                 k = k + 1;
-                let i = k as usize;
-                starts[i] = at;
+                table::set_place(starts, k as usize, at);
             }
             Part::Used(at)
         }
@@ -219,7 +215,7 @@ pub fn read_types(s: &[u8], limit: u16, most: u8, starts: &mut [usize]) -> Part
 }
 
 // The place of a type's kind.
-pub fn type_place(starts: &[usize], t: wire::TypeId) -> usize
+pub fn type_place(starts: &[u16], t: wire::TypeId) -> usize
     ensures { λ r. ⌜ r ≡ getD (now (starts .entry)) (t .0) 0 ⌝ }
 {
     table::place(starts, t.0 as usize)

@@ -27,7 +27,7 @@ ghost use Rattle.shelf.specs.Agrees.{isScalarType, isScalar, isIndex, isConditi
 ghost use Rattle.typing.specs.Rows.{kindAt, numbered, rowScalar, tuplePart, structPart, rowPart, rowCounts, rowPointee, Tells, shapedPart};
 
 // Where the row of a type begins; the end of the bytes where there is no such type.
-fn row_place(s: &[u8], b: Bounds, types: &[usize], number: u16) -> usize
+fn row_place(s: &[u8], b: Bounds, types: &[u16], number: u16) -> usize
     ensures { λ r. ⌜ ((τ : Types) (o : Option AnyType) → TypesAt (b .list) (now (s .entry)) (now (types .entry)) (τ .rows) → length (τ .rows) ≡ b .types → number ≡ recordedNumber o → Tells (rowOf τ o) (drop r (now (s .entry)))) ⌝ }
 {
     if number == 0 {
@@ -134,14 +134,14 @@ pub fn same_type(a: u16, c: u16) -> bool
 }
 
 // Which literals fit a type: 1 Integer, 2 Boolean, 3 Unit, 0 none.
-pub fn scalar_kind(s: &[u8], b: Bounds, types: &[usize], number: u16) -> u8
+pub fn scalar_kind(s: &[u8], b: Bounds, types: &[u16], number: u16) -> u8
     ensures { λ r. ⌜ ((τ : Types) (o : Option AnyType) → TypesAt (b .list) (now (s .entry)) (now (types .entry)) (τ .rows) → length (τ .rows) ≡ b .types → number ≡ recordedNumber o → r ≡ scalarKind (rowOf τ o)) ⌝ }
 {
     row_scalar(form::tail(s, row_place(s, b, types, number)))
 }
 
 // 1 Tuple, 2 Struct, 3 FixedArray, 0 any other, or none.
-pub fn shape_of(s: &[u8], b: Bounds, types: &[usize], number: u16) -> u8
+pub fn shape_of(s: &[u8], b: Bounds, types: &[u16], number: u16) -> u8
     ensures { λ r. ⌜ ((τ : Types) (o : Option AnyType) → TypesAt (b .list) (now (s .entry)) (now (types .entry)) (τ .rows) → length (τ .rows) ≡ b .types → number ≡ recordedNumber o → r ≡ shape (rowOf τ o)) ⌝ }
 {
     if number == 0 {
@@ -151,28 +151,28 @@ pub fn shape_of(s: &[u8], b: Bounds, types: &[usize], number: u16) -> u8
 }
 
 // The type of part `k`.
-pub fn part_type(s: &[u8], b: Bounds, types: &[usize], number: u16, k: u32) -> u16
+pub fn part_type(s: &[u8], b: Bounds, types: &[u16], number: u16, k: u32) -> u16
     ensures { λ r. ⌜ ((τ : Types) (o : Option AnyType) → TypesAt (b .list) (now (s .entry)) (now (types .entry)) (τ .rows) → length (τ .rows) ≡ b .types → number ≡ recordedNumber o → r ≡ recordedNumber (partType (rowOf τ o) k)) ⌝ }
 {
     row_part(form::tail(s, row_place(s, b, types, number)), k)
 }
 
 // The type has parts, and `n` of them.
-pub fn has_parts(s: &[u8], b: Bounds, types: &[usize], number: u16, n: u32) -> bool
+pub fn has_parts(s: &[u8], b: Bounds, types: &[u16], number: u16, n: u32) -> bool
     ensures { λ r. ⌜ ((τ : Types) (o : Option AnyType) → TypesAt (b .list) (now (s .entry)) (now (types .entry)) (τ .rows) → length (τ .rows) ≡ b .types → number ≡ recordedNumber o → r ≡ counts (partCount (rowOf τ o)) n) ⌝ }
 {
     row_counts(form::tail(s, row_place(s, b, types, number)), n)
 }
 
 // The type that a Pointer points to.
-pub fn pointee(s: &[u8], b: Bounds, types: &[usize], number: u16) -> u16
+pub fn pointee(s: &[u8], b: Bounds, types: &[u16], number: u16) -> u16
     ensures { λ r. ⌜ ((τ : Types) (o : Option AnyType) → TypesAt (b .list) (now (s .entry)) (now (types .entry)) (τ .rows) → length (τ .rows) ≡ b .types → number ≡ recordedNumber o → r ≡ recordedNumber (pointeeOf (rowOf τ o))) ⌝ }
 {
     row_pointee(form::tail(s, row_place(s, b, types, number)))
 }
 
 // The type of a struct's field, by its name.
-pub fn field_type(s: &[u8], b: Bounds, types: &[usize], number: u16, name: NameId) -> u16
+pub fn field_type(s: &[u8], b: Bounds, types: &[u16], number: u16, name: NameId) -> u16
     ensures { λ r. ⌜ ((τ : Types) (o : Option AnyType) → TypesAt (b .list) (now (s .entry)) (now (types .entry)) (τ .rows) → length (τ .rows) ≡ b .types → number ≡ recordedNumber o → r ≡ recordedNumber (fieldTypeOf (rowOf τ o) name)) ⌝ }
 {
     if number == 0 {
@@ -185,7 +185,7 @@ pub fn field_type(s: &[u8], b: Bounds, types: &[usize], number: u16, name: NameI
 }
 
 // The type of part `k` of a type of that shape.
-fn shaped_part(s: &[u8], b: Bounds, types: &[usize], number: u16, shape: u8, k: u32) -> u16
+fn shaped_part(s: &[u8], b: Bounds, types: &[u16], number: u16, shape: u8, k: u32) -> u16
     ensures { λ r. ⌜ ((τ : Types) (o : Option AnyType) → TypesAt (b .list) (now (s .entry)) (now (types .entry)) (τ .rows) → length (τ .rows) ≡ b .types → number ≡ recordedNumber o → r ≡ recordedNumber (shapedPart (rowOf τ o) shape k)) ⌝ }
 {
     if shape_of(s, b, types, number) == shape {
@@ -195,7 +195,7 @@ fn shaped_part(s: &[u8], b: Bounds, types: &[usize], number: u16, shape: u8, k: 
 }
 
 // The type behind one step of a place.
-pub fn step_type(s: &[u8], b: Bounds, types: &[usize], number: u16, p: Step) -> u16
+pub fn step_type(s: &[u8], b: Bounds, types: &[u16], number: u16, p: Step) -> u16
     ensures { λ r. ⌜ ((τ : Types) (o : Option AnyType) (q : Projection) → TypesAt (b .list) (now (s .entry)) (now (types .entry)) (τ .rows) → length (τ .rows) ≡ b .types → number ≡ recordedNumber o → asStep p ≡ some q → r ≡ recordedNumber (stepType (rowOf τ o) q)) ⌝ }
 {
     match p {
@@ -218,7 +218,7 @@ fn literal_kind(l: Literal) -> u8
 }
 
 // A value fits a type.
-pub fn fits(s: &[u8], b: Bounds, types: &[usize], recorded: &[u16], x: Value, number: u16) -> bool
+pub fn fits(s: &[u8], b: Bounds, types: &[u16], recorded: &[u16], x: Value, number: u16) -> bool
     ensures { λ r. ⌜ ((τ : Types) (o : Option AnyType) → Ground b (now (s .entry)) (now (types .entry)) (now (recorded .entry)) τ → number ≡ recordedNumber o → FitValue (b .next) x → r ≡ fitsType τ x o) ⌝ }
 {
     match x {
@@ -229,7 +229,7 @@ pub fn fits(s: &[u8], b: Bounds, types: &[usize], recorded: &[u16], x: Value, nu
 }
 
 // A type, and no aggregate.
-pub fn is_scalar_type(s: &[u8], b: Bounds, types: &[usize], number: u16) -> bool
+pub fn is_scalar_type(s: &[u8], b: Bounds, types: &[u16], number: u16) -> bool
     ensures { λ r. ⌜ ((τ : Types) (o : Option AnyType) → TypesAt (b .list) (now (s .entry)) (now (types .entry)) (τ .rows) → length (τ .rows) ≡ b .types → number ≡ recordedNumber o → r ≡ isScalarType τ o) ⌝ }
 {
     if number == 0 {
@@ -239,7 +239,7 @@ pub fn is_scalar_type(s: &[u8], b: Bounds, types: &[usize], number: u16) -> bool
 }
 
 // A literal, or an operand recorded as no aggregate.
-pub fn is_scalar(s: &[u8], b: Bounds, types: &[usize], recorded: &[u16], x: Value) -> bool
+pub fn is_scalar(s: &[u8], b: Bounds, types: &[u16], recorded: &[u16], x: Value) -> bool
     ensures { λ r. ⌜ ((τ : Types) → Ground b (now (s .entry)) (now (types .entry)) (now (recorded .entry)) τ → FitValue (b .next) x → r ≡ isScalar τ x) ⌝ }
 {
     match x {
@@ -250,7 +250,7 @@ pub fn is_scalar(s: &[u8], b: Bounds, types: &[usize], recorded: &[u16], x: Valu
 }
 
 // An Integer, or an operand recorded as Felt or U32.
-pub fn is_index(s: &[u8], b: Bounds, types: &[usize], recorded: &[u16], x: Value) -> bool
+pub fn is_index(s: &[u8], b: Bounds, types: &[u16], recorded: &[u16], x: Value) -> bool
     ensures { λ r. ⌜ ((τ : Types) → Ground b (now (s .entry)) (now (types .entry)) (now (recorded .entry)) τ → FitValue (b .next) x → r ≡ isIndex τ x) ⌝ }
 {
     match x {
@@ -261,7 +261,7 @@ pub fn is_index(s: &[u8], b: Bounds, types: &[usize], recorded: &[u16], x: Value
 }
 
 // A Boolean, or an operand recorded as Bool.
-pub fn is_condition(s: &[u8], b: Bounds, types: &[usize], recorded: &[u16], x: Value) -> bool
+pub fn is_condition(s: &[u8], b: Bounds, types: &[u16], recorded: &[u16], x: Value) -> bool
     ensures { λ r. ⌜ ((τ : Types) → Ground b (now (s .entry)) (now (types .entry)) (now (recorded .entry)) τ → FitValue (b .next) x → r ≡ isCondition τ x) ⌝ }
 {
     match x {
@@ -283,14 +283,7 @@ pub fn is_known(recorded: &[u16], x: Value) -> bool
 }
 
 // A literal and another value are of equal types.
-fn literal_fits(
-    s: &[u8],
-    b: Bounds,
-    types: &[usize],
-    recorded: &[u16],
-    l: Literal,
-    y: Value,
-) -> bool
+fn literal_fits(s: &[u8], b: Bounds, types: &[u16], recorded: &[u16], l: Literal, y: Value) -> bool
     ensures { λ r. ⌜ ((τ : Types) → Ground b (now (s .entry)) (now (types .entry)) (now (recorded .entry)) τ → FitValue (b .next) y → r ≡ equalTypes τ (AnyValue.Literal l) y) ⌝ }
 {
     match y {
@@ -303,14 +296,7 @@ fn literal_fits(
 }
 
 // An operand and another value are of equal types.
-fn operand_fits(
-    s: &[u8],
-    b: Bounds,
-    types: &[usize],
-    recorded: &[u16],
-    v: ValueId,
-    y: Value,
-) -> bool
+fn operand_fits(s: &[u8], b: Bounds, types: &[u16], recorded: &[u16], v: ValueId, y: Value) -> bool
     ensures { λ r. ⌜ ((τ : Types) → Ground b (now (s .entry)) (now (types .entry)) (now (recorded .entry)) τ → v .0 < b .next → FitValue (b .next) y → r ≡ equalTypes τ (AnyValue.Operand v) y) ⌝ }
 {
     match y {
@@ -323,14 +309,7 @@ fn operand_fits(
 }
 
 // Two values are of equal types.
-pub fn equal_types(
-    s: &[u8],
-    b: Bounds,
-    types: &[usize],
-    recorded: &[u16],
-    x: Value,
-    y: Value,
-) -> bool
+pub fn equal_types(s: &[u8], b: Bounds, types: &[u16], recorded: &[u16], x: Value, y: Value) -> bool
     ensures { λ r. ⌜ ((τ : Types) → Ground b (now (s .entry)) (now (types .entry)) (now (recorded .entry)) τ → FitValue (b .next) x → FitValue (b .next) y → r ≡ equalTypes τ x y) ⌝ }
 {
     match x {

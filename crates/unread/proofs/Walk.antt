@@ -12,6 +12,7 @@ use Rattle.wire.proofs.Laws.{from-16}
 use Rattle.wire.proofs.Inv.{number-inv}
 use Rattle.wire.proofs.RoundTrip.{length-toBytes, number-back}
 use Rattle.form.specs.Syntax.{Instruction, Terminator, Block}
+use Rattle.form.specs.Reads.{reads, terminatorReads}
 use Rattle.form.specs.Decode.{instructionOf, terminatorOf}
 use Rattle.form.specs.Encode.{eachBytes, instructionBytes, terminatorBytes}
 use Rattle.form.specs.declared.Bounds.{Bounds}
@@ -35,7 +36,7 @@ pub data SomeLeft (b : Bounds) (s : List ℕ) (at : ℕ) (ms : List Bool) (count
 -- k instructions were walked, and read no marked value
 pub record Walking (b : Bounds) (s : List ℕ) (at : ℕ) (ms : List Bool) (count k here : ℕ) : Type 0 where
   pub under : k ≤ count
-  pub left : (x : Block) (rest : List ℕ) → drop at s ≡ blockBytes x ++ rest → Legible b x → b .list + b .projections ≤ 30 → SomeLeft b s at ms count k here x rest
+  pub left : (x : Block) (rest : List ℕ) → drop at s ≡ blockBytes x ++ rest → Legible b x → SomeLeft b s at ms count k here x rest
 
 -- a u16 at a place
 word-at : (s : List ℕ) (at x : ℕ) (rest : List ℕ) → x < 65536 → drop at s ≡ toBytes 2 x ++ rest → (at16 s at ≡ x) × (drop (at + 2) s ≡ rest)
@@ -69,79 +70,90 @@ pub walk-start : (b : Bounds) (s : List ℕ) (at : ℕ) (ms : List Bool) {count 
 walk-start b s at ms {count} e =
     record {
       under = zero-le;
-      left = λ x rest g h f.
+      left = λ x rest g h.
           let w = word-at s at (length (x .instructions)) _ (h .many) (g ∙ block-split x rest) in
           some-left (x .instructions) (record { many = omega (arith, e, w .0); sound = h .each; bytes = w .1; end = omega (arith, block-length x); same = refl });
     }
 
 -- there is no room for a block
-pub no-room : (b : Bounds) (s : List ℕ) (at : ℕ) (ms : List Bool) → length s < at + 2 → (x : Block) (rest : List ℕ) → drop at s ≡ blockBytes x ++ rest → Legible b x → b .list + b .projections ≤ 30 → Walked.Reads ≡ walked (cleanBlock ms x) (at + length (blockBytes x))
-no-room b s at ms h x rest e g k = absurd (omega (arith, ap (λ t. length t) e, length-append (blockBytes x) rest, block-length x, length-drop at s))
+pub no-room : (b : Bounds) (s : List ℕ) (at : ℕ) (ms : List Bool) → length s < at + 2 → (x : Block) (rest : List ℕ) → drop at s ≡ blockBytes x ++ rest → Legible b x → Walked.Reads ≡ walked (cleanBlock ms x) (at + length (blockBytes x))
+no-room b s at ms h x rest e g = absurd (omega (arith, ap (λ t. length t) e, length-append (blockBytes x) rest, block-length x, length-drop at s))
+
+-- what an answer says
+behind-inj : {a e : ℕ} → Walked.Behind a ≡ Walked.Behind e → a ≡ e
+behind-inj e = cc
+
+no-behind : {e : ℕ} → Walked.Behind e ≡ Walked.Reads → ⊥
+no-behind e = let z : _≡_ {A = ℕ} 0 1 = cc in omega arith
+
+pub end-told : (c : Bool) (e end : ℕ) → Walked.Behind end ≡ walked c e → (c ≡ true) × (end ≡ e)
+end-told true e end h = (refl, behind-inj h)
+end-told false e end h = absurd (no-behind h)
+
+pub reads-told : (c : Bool) (e : ℕ) → Walked.Reads ≡ walked c e → c ≡ false
+reads-told true e h = absurd (no-behind (sym h))
+reads-told false e h = refl
 
 -- the next instruction
-module _ (b : Bounds) (s : List ℕ) (at : ℕ) (ms : List Bool) (count k here : ℕ) (u : Walking b s at ms count k here) (h : k < count) (t : List ℕ) (et : t ≡ drop here s) (c : Bool) (says : (i : Instruction) (n : ℕ) → instructionOf b [] false t ≡ ok i n → b .list + b .projections ≤ 30 → c ≡ unmarked ms (countedReads false (i .kind))) where
+module _ (b : Bounds) (s : List ℕ) (at : ℕ) (ms : List Bool) (count k here : ℕ) (u : Walking b s at ms count k here) (h : k < count) (r : Walked) (says : (i : Instruction) (n : ℕ) → instructionOf b [] false (drop here s) ≡ ok i n → length (reads (i .kind)) ≤ 32 → r ≡ walked (unmarked ms (countedReads false (i .kind))) (here + n)) where
+  split-left : (i : Instruction) (is : List Instruction) {x : Block} {rest : List ℕ} → Left b s at ms count k here x rest (i ∷ is) → drop here s ≡ instructionBytes i ++ (eachBytes instructionBytes is ++ (terminatorBytes (x .terminator) ++ rest))
+  split-left i is {x} {rest} l = l .bytes ∙ append-assoc (instructionBytes i) (eachBytes instructionBytes is) (terminatorBytes (x .terminator) ++ rest)
+
+  says-left : (i : Instruction) (is : List Instruction) {x : Block} {rest : List ℕ} → Left b s at ms count k here x rest (i ∷ is) → r ≡ walked (unmarked ms (countedReads false (i .kind))) (here + length (instructionBytes i))
+  says-left i is l = says i (length (instructionBytes i)) (ap (λ q. instructionOf b [] false q) (split-left i is l) ∙ l .sound .0 .read _) (l .sound .0 .few)
+
   -- reads a marked value
-  reads-left : {x : Block} {rest : List ℕ} (is : List Instruction) → Left b s at ms count k here x rest is → c ≡ false → b .list + b .projections ≤ 30 → cleanBlock ms x ≡ false
+  reads-left : {x : Block} {rest : List ℕ} (is : List Instruction) → Left b s at ms count k here x rest is → r ≡ Walked.Reads → cleanBlock ms x ≡ false
   unfolding clean
-  reads-left [] l z g = absurd (omega (arith, l .many))
-  reads-left {x} {rest} (i ∷ is) l z g =
-      let a = instructionBytes i in
-      let r = eachBytes instructionBytes is ++ (terminatorBytes (x .terminator) ++ rest) in
-      let y : drop here s ≡ a ++ r = l .bytes ∙ append-assoc a (eachBytes instructionBytes is) (terminatorBytes (x .terminator) ++ rest) in
-      let p : instructionOf b [] false t ≡ ok i (length a) = ap (λ q. instructionOf b [] false q) (et ∙ y) ∙ l .sound .0 r in
-      let w : unmarked ms (countedReads false (i .kind)) ≡ false = sym (says i (length a) p g) ∙ z in
+  reads-left [] l z = absurd (omega (arith, l .many))
+  reads-left {x} (i ∷ is) l z =
+      let w = reads-told (unmarked ms (countedReads false (i .kind))) _ (sym z ∙ says-left i is l) in
       l .same ∙ ap (λ q. (q && clean false (marked ms) is) && cleanTerminator (marked ms) (x .terminator)) w
 
-  pub walk-reads : c ≡ false → (x : Block) (rest : List ℕ) → drop at s ≡ blockBytes x ++ rest → Legible b x → b .list + b .projections ≤ 30 → Walked.Reads ≡ walked (cleanBlock ms x) (at + length (blockBytes x))
-  walk-reads z x rest e f g =
-      elim (u .left x rest e f g) [
-        | some-left is l ↦ rw (reads-left is l z g)
+  pub walk-reads : r ≡ Walked.Reads → (x : Block) (rest : List ℕ) → drop at s ≡ blockBytes x ++ rest → Legible b x → Walked.Reads ≡ walked (cleanBlock ms x) (at + length (blockBytes x))
+  walk-reads z x rest e f =
+      elim (u .left x rest e f) [
+        | some-left is l ↦ rw (reads-left is l z)
       ]
 
   -- reads none: it is left behind
-  module _ (z : c ≡ true) (end : ℕ) (ends : (i : Instruction) (n : ℕ) → instructionOf b [] false (drop here s) ≡ ok i n → end ≡ here + n) where
-    one-less : {x : Block} {rest : List ℕ} (is : List Instruction) → Left b s at ms count k here x rest is → b .list + b .projections ≤ 30 → SomeLeft b s at ms count (k + 1) end x rest
-    unfolding clean
-    one-less [] l g = absurd (omega (arith, l .many))
-    one-less {x} {rest} (i ∷ is) l g =
-        let a = instructionBytes i in
-        let e = eachBytes instructionBytes is in
-        let r = e ++ (terminatorBytes (x .terminator) ++ rest) in
-        let y : drop here s ≡ a ++ r = l .bytes ∙ append-assoc a e (terminatorBytes (x .terminator) ++ rest) in
-        let p : instructionOf b [] false (drop here s) ≡ ok i (length a) = ap (λ q. instructionOf b [] false q) y ∙ l .sound .0 r in
-        let w : unmarked ms (countedReads false (i .kind)) ≡ true = sym (says i (length a) (ap (λ q. instructionOf b [] false q) et ∙ p) g) ∙ z in
-        let v : end ≡ here + length a = ends i (length a) p in
-        some-left is (record {
-          many = omega (arith, l .many);
-          sound = l .sound .1;
-          bytes = rw v (behind s here (length a) a r y refl);
-          end = omega (arith, l .end, length-append a e);
-          same = l .same ∙ ap (λ q. (q && clean false (marked ms) is) && cleanTerminator (marked ms) (x .terminator)) w;
-        })
+  one-less : {x : Block} {rest : List ℕ} (is : List Instruction) → Left b s at ms count k here x rest is → (end : ℕ) → r ≡ Walked.Behind end → SomeLeft b s at ms count (k + 1) end x rest
+  unfolding clean
+  one-less [] l end z = absurd (omega (arith, l .many))
+  one-less {x} {rest} (i ∷ is) l end z =
+      let a = instructionBytes i in
+      let w = end-told (unmarked ms (countedReads false (i .kind))) (here + length a) end (sym z ∙ says-left i is l) in
+      some-left is (record {
+        many = omega (arith, l .many);
+        sound = l .sound .1;
+        bytes = rw (w .1) (behind s here (length a) a (eachBytes instructionBytes is ++ (terminatorBytes (x .terminator) ++ rest)) (split-left i is l) refl);
+        end = omega (arith, l .end, w .1, length-append a (eachBytes instructionBytes is));
+        same = l .same ∙ ap (λ q. (q && clean false (marked ms) is) && cleanTerminator (marked ms) (x .terminator)) (w .0);
+      })
 
-    pub walk-again : Walking b s at ms count (k + 1) end
-    walk-again =
-        record {
-          under = omega arith;
-          left = λ x rest e f g.
-              elim (u .left x rest e f g) [
-                | some-left is l ↦ one-less is l g
-              ];
-        }
+  pub walk-again : (end : ℕ) → r ≡ Walked.Behind end → Walking b s at ms count (k + 1) end
+  walk-again end z =
+      record {
+        under = omega arith;
+        left = λ x rest e f.
+            elim (u .left x rest e f) [
+              | some-left is l ↦ one-less is l end z
+            ];
+      }
 
 -- the terminator
-module _ (b : Bounds) (s : List ℕ) (at : ℕ) (ms : List Bool) (count k here : ℕ) (u : Walking b s at ms count k here) (h : count ≤ k) (r : Walked) (says : (x : Terminator) (n : ℕ) → terminatorOf b (drop here s) ≡ ok x n → b .list + b .projections ≤ 30 → r ≡ walked (cleanTerminator (marked ms) x) (here + n)) where
-  none-left : {x : Block} {rest : List ℕ} (is : List Instruction) → Left b s at ms count k here x rest is → Legible b x → b .list + b .projections ≤ 30 → r ≡ walked (cleanBlock ms x) (at + length (blockBytes x))
+module _ (b : Bounds) (s : List ℕ) (at : ℕ) (ms : List Bool) (count k here : ℕ) (u : Walking b s at ms count k here) (h : count ≤ k) (r : Walked) (says : (x : Terminator) (n : ℕ) → terminatorOf b (drop here s) ≡ ok x n → length (terminatorReads x) ≤ 32 → r ≡ walked (cleanTerminator (marked ms) x) (here + n)) where
+  none-left : {x : Block} {rest : List ℕ} (is : List Instruction) → Left b s at ms count k here x rest is → Legible b x → r ≡ walked (cleanBlock ms x) (at + length (blockBytes x))
   unfolding clean
-  none-left {x} {rest} [] l f g =
+  none-left {x} {rest} [] l f =
       let a = terminatorBytes (x .terminator) in
       let p : terminatorOf b (drop here s) ≡ ok (x .terminator) (length a) = ap (λ q. terminatorOf b q) (l .bytes) ∙ f .last rest in
       let v : here + length a ≡ at + length (blockBytes x) = omega (arith, l .end) in
-      rw (l .same, ← v) (says (x .terminator) (length a) p g)
-  none-left (i ∷ is) l f g = absurd (omega (arith, l .many))
+      rw (l .same, ← v) (says (x .terminator) (length a) p (f .few))
+  none-left (i ∷ is) l f = absurd (omega (arith, l .many))
 
-  pub walk-done : (x : Block) (rest : List ℕ) → drop at s ≡ blockBytes x ++ rest → Legible b x → b .list + b .projections ≤ 30 → r ≡ walked (cleanBlock ms x) (at + length (blockBytes x))
-  walk-done x rest e f g =
-      elim (u .left x rest e f g) [
-        | some-left is l ↦ none-left is l f g
+  pub walk-done : (x : Block) (rest : List ℕ) → drop at s ≡ blockBytes x ++ rest → Legible b x → r ≡ walked (cleanBlock ms x) (at + length (blockBytes x))
+  walk-done x rest e f =
+      elim (u .left x rest e f) [
+        | some-left is l ↦ none-left is l f
       ]

@@ -3,23 +3,19 @@ use form::Bounds;
 use form::Scan;
 ghost use mathlib.Core.Path.{_≡_};
 ghost use mathlib.Core.List.{List, [], _++_};
-ghost use mathlib.Core.Bool.{Bool, false};
+ghost use mathlib.Core.Bool.{false};
 ghost use Prim.Native.Nat.{ℕ, _+_, _≤_};
 ghost use lib.ListN.{length, getD, drop};
 ghost use Rattle.wire.specs.Parse.{ok};
 ghost use Rattle.wire.specs.declared.ValueId.{ValueId};
 ghost use Rattle.form.specs.Syntax.{Instruction, Terminator, Block};
 ghost use Rattle.form.specs.Decode.{instructionOf, terminatorOf};
-ghost use Rattle.form.specs.Encode.{eachBytes};
-ghost use Rattle.canon.specs.WellFormed.{Wide};
+ghost use Rattle.form.specs.Reads.{reads, terminatorReads};
 ghost use Rattle.block.specs.Encode.{blockBytes};
-ghost use Rattle.block.specs.declared.Mosts.{Mosts};
-ghost use Rattle.whole.specs.WellFormed.{FitBlocks};
-ghost use Rattle.readers.specs.Readers.{Buffered};
 ghost use Rattle.shelf.specs.Lists.{among};
 ghost use Rattle.shelf.specs.Reads.{countedReads, cleanTerminator};
 ghost use Rattle.shelf.specs.Reason.{readsNoDropped};
-ghost use Rattle.unread.specs.Unread.{marked, unmarked, cleanBlock, walked, Legible};
+ghost use Rattle.unread.specs.Unread.{Buffered, marked, unmarked, cleanBlock, walked, Legible, Written};
 
 // The place behind what was walked, or that it reads a dropped value.
 pub enum Walked {
@@ -33,7 +29,7 @@ fn clean_buffer(buffer: &[u16], n: usize, dropped: &[bool]) -> bool
 {
     let mut k = 0;
     while k < n {
-        if family::is_marked(dropped, table::number(buffer, k)) {
+        if table::flag(dropped, table::number(buffer, k) as usize) {
             return false;
         }
         k = k + 1;
@@ -41,29 +37,40 @@ fn clean_buffer(buffer: &[u16], n: usize, dropped: &[bool]) -> bool
     true
 }
 
-// The instruction at the head of `t` reads no dropped value; a Debug's reads do not count.
-fn clean_instruction(t: &[u8], b: Bounds, dropped: &[bool]) -> bool
-    ensures { λ r. ⌜ ((i : Instruction) (n : ℕ) → instructionOf b [] false (now (t .entry)) ≡ ok i n → b .list + b .projections ≤ 30 → r ≡ unmarked (now (dropped .entry)) (countedReads false (i .kind))) ⌝ }
+// Walks the instruction that stands at `at`; a Debug's reads do not count.
+fn walk_instruction(s: &[u8], at: usize, b: Bounds, dropped: &[bool]) -> Walked
+    ensures { λ r. ⌜ ((i : Instruction) (n : ℕ) → instructionOf b [] false (drop at (now (s .entry))) ≡ ok i n → length (reads (i .kind)) ≤ 32
+        → r ≡ walked (unmarked (now (dropped .entry)) (countedReads false (i .kind))) (at + n)) ⌝ }
 {
-    let kind = wire::byte_at(t, 1);
-    if kind == 7 {
-        return true;
-    }
+    let mut none: [bool; 0] = [false; 0];
     let mut buffer: [u16; 32] = [0; 32];
-    let n = lookup::reads_of(t, b, &mut buffer);
-    clean_buffer(&buffer, n, dropped)
+    let t = form::tail(s, at);
+    match block::read_instruction(t, b, 0, false, &mut none, &mut buffer) {
+        Scan::Refused(_, _) => Walked::Reads,
+        Scan::Used(took, n, _) => {
+            let kind = wire::byte_at(t, 1);
+            if kind == 7 {
+                return Walked::Behind(at + took);
+            }
+            if clean_buffer(&buffer, n, dropped) {
+                return Walked::Behind(at + took);
+            }
+            Walked::Reads
+        }
+    }
 }
 
 // Walks the terminator that stands at `at`.
 fn walk_terminator(s: &[u8], at: usize, b: Bounds, dropped: &[bool]) -> Walked
-    ensures { λ r. ⌜ ((x : Terminator) (n : ℕ) → terminatorOf b (drop at (now (s .entry))) ≡ ok x n → b .list + b .projections ≤ 30 → r ≡ walked (cleanTerminator (marked (now (dropped .entry))) x) (at + n)) ⌝ }
+    ensures { λ r. ⌜ ((x : Terminator) (n : ℕ) → terminatorOf b (drop at (now (s .entry))) ≡ ok x n → length (terminatorReads x) ≤ 32
+        → r ≡ walked (cleanTerminator (marked (now (dropped .entry))) x) (at + n)) ⌝ }
 {
     let mut none: [bool; 0] = [false; 0];
     let mut buffer: [u16; 32] = [0; 32];
     match block::read_terminator(form::tail(s, at), b, 0, false, &mut none, &mut buffer) {
         Scan::Refused(_, _) => Walked::Reads,
-        Scan::Used(took, n, _) => {
-            if clean_buffer(&buffer, n, dropped) {
+        Scan::Used(took, count, _) => {
+            if clean_buffer(&buffer, count, dropped) {
                 return Walked::Behind(at + took);
             }
             Walked::Reads
@@ -73,7 +80,8 @@ fn walk_terminator(s: &[u8], at: usize, b: Bounds, dropped: &[bool]) -> Walked
 
 // Walks the block that begins at `at`: its count, its instructions, its terminator.
 fn walk_block(s: &[u8], at: usize, b: Bounds, dropped: &[bool]) -> Walked
-    ensures { λ r. ⌜ ((x : Block) (rest : List ℕ) → drop at (now (s .entry)) ≡ blockBytes x ++ rest → Legible b x → b .list + b .projections ≤ 30 → r ≡ walked (cleanBlock (now (dropped .entry)) x) (at + length (blockBytes x))) ⌝ }
+    ensures { λ r. ⌜ ((x : Block) (rest : List ℕ) → drop at (now (s .entry)) ≡ blockBytes x ++ rest → Legible b x
+        → r ≡ walked (cleanBlock (now (dropped .entry)) x) (at + length (blockBytes x))) ⌝ }
 {
     if s.len() < 2 {
         return Walked::Reads;
@@ -85,10 +93,10 @@ fn walk_block(s: &[u8], at: usize, b: Bounds, dropped: &[bool]) -> Walked
     let mut here = at + 2;
     let mut k: u16 = 0;
     while k < count {
-        if !clean_instruction(form::tail(s, here), b, dropped) {
-            return Walked::Reads;
-        }
-        here = places::instruction_end(s, b, here);
+        here = match walk_instruction(s, here, b, dropped) {
+            Walked::Behind(end) => end,
+            Walked::Reads => return Walked::Reads,
+        };
         k = k + 1;
     }
     walk_terminator(s, here, b, dropped)
@@ -96,7 +104,8 @@ fn walk_block(s: &[u8], at: usize, b: Bounds, dropped: &[bool]) -> Walked
 
 // The `many` blocks that stand in `out` from `at` on read no dropped value, Debug aside.
 pub fn reads_no_dropped(out: &[u8], at: usize, b: Bounds, many: u16, dropped: &[bool]) -> bool
-    ensures { λ r. ⌜ ((ks : List Block) (ds : List ValueId) (rest : List ℕ) (m : Mosts) (total : ℕ) (seen : List Bool) → drop at (now (out .entry)) ≡ eachBytes blockBytes ks ++ rest → length ks ≡ many → FitBlocks m b total seen ks → m .block ≤ 65535 → Wide b → b .list + b .projections ≤ 30 → ((v : ℕ) → getD (now (dropped .entry)) v false ≡ among v ds) → r ≡ readsNoDropped false ds ks) ⌝ }
+    ensures { λ r. ⌜ ((ks : List Block) (ds : List ValueId) → Written b (now (out .entry)) at many ks
+        → ((v : ℕ) → getD (now (dropped .entry)) v false ≡ among v ds) → r ≡ readsNoDropped false ds ks) ⌝ }
 {
     let mut here = at;
     let mut k: u16 = 0;

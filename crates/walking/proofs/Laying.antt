@@ -1,147 +1,131 @@
--- One block, and the loop over all blocks.
-use Prim.Native.Nat.{ℕ, suc, _+_, _*_, _%_, _≤_, _<_}
+-- One block: its begin, its end, and a skipped one.
+use Prim.Native.Nat.{ℕ, zero, suc, _+_, _-_, _≤_, _<_}
 use mathlib.Core.Path.{_≡_, ap, _∙_, sym}
-use mathlib.Core.List.{List, [], _∷_, _++_}
+use mathlib.Core.List.{List, [], _∷_}
 use mathlib.Core.Bool.{Bool, true, false}
 use native.Mathlib.Omega.{arith}
 use native.Mathlib.Nat.{add-zero}
-use lib.ListN.{length, length-append, getD, drop}
-use lib.Seq.{sets}
-use Rattle.wire.specs.Number.{toBytes}
-use Rattle.wire.specs.declared.ValueId.{ValueId}
-use Rattle.form.specs.Syntax.{Instruction, Block}
-use Rattle.form.specs.Encode.{eachBytes, instructionBytes, terminatorBytes}
-use Rattle.form.specs.declared.Bounds.{Bounds}
+use lib.ListN.{length, getD, drop}
+use lib.Seq.{sets, length-take-le}
 use Rattle.wire.proofs.Canon.{bytes-drop}
-use Rattle.canon.proofs.Instruction.{instruction-canon, instruction-size, terminator-canon, terminator-size}
+use Rattle.form.specs.Syntax.{Block}
+use Rattle.form.specs.declared.Bounds.{Bounds}
 use Rattle.block.specs.Encode.{blockBytes}
-use Rattle.block.specs.declared.Mosts.{Mosts}
-use Rattle.routine.specs.Index.{noBlock}
-use Rattle.places.specs.Places.{noInstruction}
-use Rattle.index.specs.Code.{BlockStands, standing}
-use Rattle.eligibility.specs.declared.Settings.{Settings}
+use Rattle.block.proofs.Canon.{block-canon}
+use Rattle.index.specs.Table.{startsIn, blocksIn}
+use Rattle.index.specs.Code.{noBlock, TerminatorIn, CodeIn}
+use Rattle.routine.specs.Decode.{mosts}
+use Rattle.routine.specs.Index.{BlockAt, standing}
 use Rattle.eligibility.specs.Lookup.{Types}
-use Rattle.eligibility.specs.Family.{Marks}
 use Rattle.rewriting.specs.State.{noStates}
-use Rattle.rewriting.specs.Run.{Walked, Rewritten, Choice, walk, allBlocks}
+use Rattle.rewriting.specs.Run.{Walked, Rewritten, Choice, walk}
+use Rattle.parts.specs.Rows.{Rep, rowsIn, freshIn}
 use Rattle.progress.specs.declared.Progress.{Progress}
 use Rattle.progress.specs.declared.Put.{Put}
-use Rattle.progress.specs.Effect.{outputOf, behind, further, walkedEffect, rewrittenEffect, numbersOf, markAll, Puts, Low, PutLow}
-use Rattle.stepping.specs.Stepping.{movedTo, InBlock, Tabled}
-use Rattle.walking.specs.Blocks.{blockEffect, InCode}
-use Rattle.walking.proofs.Ends.{puts-went, body-clash}
-use Rattle.walking.proofs.Whole.{block-out, skip-effect, walk-effect}
+use Rattle.progress.specs.declared.Setup.{Setup}
+use Rattle.progress.specs.Ground.{Coded}
+use Rattle.progress.specs.Chosen.{Follows}
+use Rattle.progress.specs.Effect.{behind, further, walkedEffect, rewrittenEffect, numbersOf, markAll, Puts, Low, PutLow}
+use Rattle.stepping.specs.declared.Reached.{Reached}
+use Rattle.performing.specs.Performed.{movedTo}
+use Rattle.stepping.specs.Stepping.{Lent, lentAs, outputIn, PutsIn, Enough}
+use Rattle.performing.proofs.Lows.{low-mono}
+use Rattle.performing.proofs.Counting.{puts-went, puts-clash}
+use Rattle.performing.specs.Performed.{blockEffect, CountPut}
+use Rattle.walking.specs.Blocks.{EndPut, rewritten, OnePut}
+use Rattle.walking.proofs.Whole.{skip-effect, walk-effect}
+use Rattle.walking.proofs.Walks.{walkFrom, Left, Begun, Opened}
 
-transfer : (P : ℕ → Type 0) (m n : ℕ) → m ≡ n → P m → P n
-transfer P m n e h = rw e at h
+transfer : {A : Type 0} (P : A → Type 0) (x y : A) → x ≡ y → P x → P y
+transfer P x y e h = rw e at h
 
--- the table of marks is as long as it was
-pub tabled-on : (tracked tracked′ : Marks) (firsts pool : List ℕ) → length tracked′ ≡ length tracked → Tabled tracked firsts pool → Tabled tracked′ firsts pool
-tabled-on tracked tracked′ firsts pool e t = record { mark = omega (arith, t .mark, e); first = t .first; places = t .places }
+-- no block begins behind the last slot
+starts-below : (b : Bounds) (s facts : List ℕ) (ks : List Block) → CodeIn b s facts ks → (n k : ℕ) → k + n ≡ length ks → getD (startsIn facts) k 0 ≤ 288
+starts-below b s facts ks c zero k e =
+    let z : k ≡ length ks = omega (arith, e) in
+    rw z (c .within)
+starts-below b s facts ks c (suc n) k e =
+    let y = starts-below b s facts ks c n (suc k) (omega (arith, e)) in
+    omega (arith, y, c .next k (omega (arith, e)))
 
--- at the same place with no instruction
-pub low-reset : (k : ℕ) (q r : Progress) → r ≡ movedTo q (q .to) 0 → Low k q → Low k r
-low-reset k q r e l =
-    rw e
-    (record {
-      to = l .to;
-      lines = omega arith;
-      fresh = l .fresh;
-      builds = l .builds;
-      extracts = l .extracts;
-      inserts = l .inserts;
-      assigns = l .assigns;
-      materializations = l .materializations;
-    })
-
-pub low-told : (k : ℕ) (r : Put) (q : Progress) → r ≡ Put.Went q → PutLow k r → Low k q
-low-told k r q e l = let z : PutLow k (Put.Went q) = rw e at l in z
-
--- a walked block: its body stands two bytes behind its begin
-module _ (σ : Settings) (τ : Types) (folds : ValueId → Bool) (next : ℕ) (x : Block) (out types : List ℕ) (dropped : Marks) (p body : Progress) (m : body ≡ movedTo p (p .to + 2) 0) (z : p .lines ≡ 0) (out′ types′ : List ℕ) (dropped′ : Marks) (r : Put) where
-  abbrev walked : ℕ → Walked
-  walked n = walk σ τ folds noStates n (x .instructions) (x .terminator)
-
-  module _ (bd : next + p .fresh + length ((walked (next + p .fresh)) .fresh) < 65536) (f : next + body .fresh + length ((walked (next + body .fresh)) .fresh) < 65536 → Puts (outputOf out types dropped body) (walkedEffect (walked (next + body .fresh))) ((walked (next + body .fresh)) .clash) out′ types′ dropped′ r) where
-    same : body .fresh ≡ p .fresh
-    same = ap (λ y. y .fresh) m
-
-    body-of : Puts (outputOf out types dropped body) (walkedEffect (walked (next + p .fresh))) ((walked (next + p .fresh)) .clash) out′ types′ dropped′ r
-    body-of = transfer (λ n. Puts (outputOf out types dropped body) (walkedEffect (walked (next + n))) ((walked (next + n)) .clash) out′ types′ dropped′ r) (body .fresh) (p .fresh) same (f (transfer (λ n. next + n + length ((walked (next + n)) .fresh) < 65536) (p .fresh) (body .fresh) (sym same) bd))
-
-    pub block-clash : (out″ types″ : List ℕ) (dropped″ : Marks) → r ≡ Put.Clash → Puts (outputOf out types dropped p) (blockEffect (walked (next + p .fresh))) ((walked (next + p .fresh)) .clash) out″ types″ dropped″ Put.Clash
-    block-clash out″ types″ dropped″ e = body-clash _ _ _ out″ types″ dropped″ (body-of .clashed e)
-
-    pub block-went : (q v : Progress) (out″ : List ℕ) → r ≡ Put.Went q → out″ ≡ sets out′ (p .to) (toBytes 2 (q .lines % 65536)) → v ≡ movedTo q (q .to) 0 → Puts (outputOf out types dropped p) (blockEffect (walked (next + p .fresh))) ((walked (next + p .fresh)) .clash) out″ types′ dropped′ (Put.Went v)
-    block-went q v out″ e g h =
-        let w = body-of .went q e in
-        puts-went _ _ _ out″ types′ dropped′ v (w .0) (block-out out out′ out″ types types′ dropped dropped′ p q v body (walked (next + p .fresh)) z m (w .1) g h)
-
--- instructions of at most 268 bytes each
-each-short : (is : List Instruction) → ((j : ℕ) → j < length is → length (instructionBytes (getD is j noInstruction)) ≤ 268) → length (eachBytes instructionBytes is) ≤ 268 * length is
-each-short [] f = omega arith
-each-short (i ∷ is) f =
-    let a : length (instructionBytes i) ≤ 268 = f 0 (omega arith) in
-    let r = each-short is (λ j l. f (suc j) (omega (arith, l))) in
-    omega (arith, a, r, length-append (instructionBytes i) (eachBytes instructionBytes is))
-
-module _ (m : Mosts) (b : Bounds) (s types recorded blocks places starts : List ℕ) (folded skips : List Bool) (τ : Types) (c : Choice) (ks : List Block) (g : InCode m b s types recorded blocks places starts folded skips τ c ks) (k : ℕ) (h : k < length ks) where
-  abbrev this : Block
-  this = getD ks k noBlock
-
-  stands-as : (own : List ℕ) (count first : ℕ) → own ≡ drop (getD starts k 0) places → length (this .instructions) ≡ count → first ≡ getD starts k 0 → c .skips this ≡ false → BlockStands b s (drop (getD starts k 0) places) this → InBlock b s types recorded own count folded first τ (c .folds this) this
-  stands-as own count first e f q z (standing size w) =
-      record {
-        ground = g .ground;
-        size = size;
-        standing = rw e w;
-        many = f;
-        flags = λ j d l y. ap (λ n. getD folded (n + j) false) q ∙ g .follows .fold k j d h z l y;
-      }
-
-  -- block k as the code finds it
-  pub in-block : (own : List ℕ) (count some-count first : ℕ) → own ≡ drop (getD starts k 0) places → some-count ≡ length (this .instructions) → (some-count ≤ 128 → count ≡ some-count) → first ≡ getD starts k 0 → c .skips this ≡ false → InBlock b s types recorded own count folded first τ (c .folds this) this
-  in-block own count some-count first e f q v z =
-      let short = g .short k h in
-      let y : count ≡ some-count = q (omega (arith, f, short)) in
-      let many : length (this .instructions) ≡ count = omega (arith, f, y) in
-      stands-as own count first e many v z (g .code .each k h)
-
-  stands-short : BlockStands b s (drop (getD starts k 0) places) this → length (blockBytes this) ≤ 65536
-  unfolding blockBytes
-  stands-short (standing size w) =
-      let is = this .instructions in
-      let own = drop (getD starts k 0) places in
-      let h′ = g .ground .bytes in
-      let each = each-short is (λ j l. let d = drop (getD own j 0) s in let e = w .instructions .each j l in omega (arith, instruction-canon b [] false d (bytes-drop s (getD own j 0) h′) e .size, instruction-size b [] false d (bytes-drop s (getD own j 0) h′) e (g .ground .listed) (g .ground .projected))) in
-      let d = drop (getD own (length is) 0) s in
-      let last : length (terminatorBytes (this .terminator)) ≤ 96 = omega (arith, terminator-canon b d (bytes-drop s (getD own (length is) 0) h′) (w .terminator) .size, terminator-size b d (bytes-drop s (getD own (length is) 0) h′) (w .terminator) (g .ground .listed)) in
-      omega (arith, g .short k h, each, last, length-append (toBytes 2 (length is)) (eachBytes instructionBytes is ++ terminatorBytes (this .terminator)), length-append (eachBytes instructionBytes is) (terminatorBytes (this .terminator)))
-
-  block-short : length (blockBytes this) ≤ 65536
-  block-short = stands-short (g .code .each k h)
-
-  pub skips-as : (f : Bool) → f ≡ getD skips k false → f ≡ c .skips this
-  skips-as f e = e ∙ g .follows .skip k h
-
-  module _ (σ : Settings) (out fresh : List ℕ) (dropped : Marks) (p : Progress) where
-    abbrev alone : Rewritten
-    alone = allBlocks σ τ c (b .next + p .fresh) (this ∷ [])
-
-    -- a rewritten block
-    pub walked-puts : (out′ fresh′ : List ℕ) (dropped′ : Marks) (r : Put) → c .skips this ≡ false → b .next + p .fresh + length (alone .fresh) < 65536 → (b .next + p .fresh + length ((walk σ τ (c .folds this) noStates (b .next + p .fresh) (this .instructions) (this .terminator)) .fresh) < 65536 → Puts (outputOf out fresh dropped p) (blockEffect (walk σ τ (c .folds this) noStates (b .next + p .fresh) (this .instructions) (this .terminator))) ((walk σ τ (c .folds this) noStates (b .next + p .fresh) (this .instructions) (this .terminator)) .clash) out′ fresh′ dropped′ r) → Puts (outputOf out fresh dropped p) (rewrittenEffect alone) (alone .clash) out′ fresh′ dropped′ r
-    walked-puts out′ fresh′ dropped′ r z bd f =
-        let e = walk-effect σ τ c (b .next + p .fresh) this z in
-        let y = f (omega (arith, bd, ap (λ l. length l) (e .1 .1))) in
+module _ (setup : Setup) (s facts : List ℕ) (choice : List Bool) (k : ℕ) (p : Progress) where
+  -- the block is not skipped: its first slot and its count are found, and no value is tracked
+  module _ (skips : Bool) (fs : skips ≡ getD choice (288 + k) false) (sk : skips ≡ false) (found first counted count : ℕ) (e1 : found ≡ getD (startsIn facts) k 0) (e2 : (first ≤ 288) × (found ≤ 288 → first ≡ found)) (e3 : (b : Bounds) (s : List ℕ) (ks : List Block) → CodeIn b s facts ks → k < length ks → counted ≡ length (getD ks k noBlock .instructions)) (e4 : (count ≤ 128) × (counted ≤ 128 → count ≡ counted)) (l : Lent) (w : Reached) (long : 2432 ≤ length (l .work)) (body : w .progress ≡ movedTo p (p .to + 2) 0) (clear : (next : ℕ) (s rows : List ℕ) → w .used ≤ length rows → length s < 65536 → Rep next s (l .tracked) rows (w .used) noStates) (used : w .used ≡ 256) where
+    pub open-block : Opened setup s facts choice k p first count l w
+    open-block =
         record {
-          clashed = λ q. e .1 .0 ∙ y .clashed q;
-          went = λ q v. let w = y .went q v in (e .1 .0 ∙ w .0, w .1 ∙ sym (ap (λ d. behind (outputOf out fresh dropped p) d) (e .0)));
+          begun = λ τ c ks co fo h en.
+              let x = getD ks k noBlock in
+              let skip : c .skips x ≡ false = sym (fo .skip k h) ∙ sym fs ∙ sk in
+              let here : first ≡ getD (startsIn facts) k 0 = e2 .1 (omega (arith, e1, starts-below (setup .bounds) s facts ks (co .code) (length ks - k) k (omega (arith, h)))) ∙ e1 in
+              let size = e3 (setup .bounds) s ks (co .code) h in
+              let many : length (x .instructions) ≡ count = sym (e4 .1 (omega (arith, size, co .small k h)) ∙ size) in
+              let own = walk-effect (setup .settings) τ c (setup .bounds .next + p .fresh) x skip .1 .1 in (
+                skip,
+                record {
+                  ground = co .ground;
+                  block = rw here (co .code .each k h);
+                  many = many;
+                  flags = λ j d m e. ap (λ n. getD choice (n + j) false) here ∙ fo .fold k j d h skip m e;
+                  rep = clear (setup .bounds .next) s (rowsIn (l .work)) (omega (arith, used, length-take-le 2432 (l .work) long)) (co .short);
+                  bound = transfer (λ q. Enough (setup .bounds) q ((walkFrom setup τ (c .folds x) noStates q (x .instructions) (x .terminator)) .fresh)) (movedTo p (p .to + 2) 0) (w .progress) (sym body) (omega (arith, en, ap (λ y. length y) own));
+                },
+              );
+          body = body;
+          early = e2 .0;
+          most = e4 .0;
+          long = long;
         }
 
-    -- a skipped one
-    pub skipped-puts : (part : List ℕ) (to : ℕ) (out′ : List ℕ) (r : Progress) → c .skips this ≡ true → part ≡ blockBytes this → (length part ≤ 65536 → (to ≡ p .to + length part) × (out′ ≡ sets out (p .to) part)) → r ≡ movedTo p to (p .lines) → Puts (outputOf out fresh dropped p) (rewrittenEffect alone) (alone .clash) out′ fresh dropped (Put.Went r)
-    unfolding behind further numbersOf markAll
-    skipped-puts part to out′ r z e f q =
-        let y = skip-effect σ τ c (b .next + p .fresh) this z in
-        let w = f (omega (arith, ap (λ v. length v) e, block-short)) in
-        puts-went _ _ _ out′ fresh dropped r (y .1 .0) (rw (q, w .0, w .1, e) (simp (add-zero)) ∙ sym (ap (λ d. behind (outputOf out fresh dropped p) d) (y .0)))
+  -- the loop over a block that was begun
+  module _ (first count : ℕ) (l₀ : Lent) (w₀ : Reached) (o : Opened setup s facts choice k p first count l₀ w₀) where
+    module _ (τ : Types) (c : Choice) (ks : List Block) (co : Coded (setup .bounds) s facts τ ks) (fo : Follows c facts choice ks) (h : k < length ks) (en : Enough (setup .bounds) p ((rewritten setup τ c p (getD ks k noBlock ∷ [])) .fresh)) where
+      abbrev this : Block
+      this = getD ks k noBlock
+
+      abbrev own : Progress → Walked
+      own q = walkFrom setup τ (c .folds this) noStates q (this .instructions) (this .terminator)
+
+      abbrev alone : Rewritten
+      alone = rewritten setup τ c p (this ∷ [])
+
+      begun : Begun setup s facts choice first count l₀ w₀ τ (c .folds this) this
+      begun = o .begun τ c ks co fo h en .1
+
+      same : (rewrittenEffect alone ≡ blockEffect (own p)) × ((alone .clash ≡ (own p) .clash) × (alone .fresh ≡ (own p) .fresh))
+      same = walk-effect (setup .settings) τ c (setup .bounds .next + p .fresh) this (o .begun τ c ks co fo h en .0)
+
+      -- an array rebuild met another count
+      pub block-clash : (l : Lent) → (own (w₀ .progress)) .clash ≡ true → PutsIn (outputIn l₀ p) (rewrittenEffect alone) (alone .clash) l Put.Clash
+      block-clash l e = puts-clash _ _ _ _ _ _ (same .1 .0 ∙ transfer (λ q. (own q) .clash ≡ true) (w₀ .progress) (movedTo p (p .to + 2) 0) (o .body) e)
+
+      -- its terminator is put out, and its count in front
+      pub block-end : (l : Lent) (w : Reached) (work out out′ : List ℕ) (r v : Put) → Left setup τ (c .folds this) s (this .terminator) (outputIn l₀ (w₀ .progress)) (own (w₀ .progress)) [] l w → EndPut (setup .bounds) s facts (first + count) (l .tracked) (l .work) (l .out) (w .progress) work out r → CountPut p out r out′ v → p .lines ≡ 0 → Puts (outputIn l₀ p) (rewrittenEffect alone) (alone .clash) out′ (freshIn work) (l .dropped) v
+      unfolding walk
+      block-end l w work out out′ r v left ended counted z =
+          let line = transfer (λ n. TerminatorIn (setup .bounds) s facts (first + n) (this .terminator)) (length (this .instructions)) count (begun .many) (begun .block .terminator) in
+          let e = ended τ (left .states) (w .used) (this .terminator) (l .dropped) (co .ground) (left .rep) line (left .bound) in
+          let whole : Puts (outputIn l₀ (w₀ .progress)) (walkedEffect (own (w₀ .progress))) ((own (w₀ .progress)) .clash) out (freshIn work) (l .dropped) r = record { clashed = λ y. sym (left .clash) ∙ e .clashed y; went = λ q y. (sym (left .clash) ∙ e .went q y .0, e .went q y .1 ∙ left .same) } in
+          let body = transfer (λ q. Puts (outputIn l₀ q) (walkedEffect (own q)) ((own q) .clash) out (freshIn work) (l .dropped) r) (w₀ .progress) (movedTo p (p .to + 2) 0) (o .body) whole in
+          let b = counted (l₀ .out) (freshIn (l₀ .work)) (freshIn work) (l₀ .dropped) (l .dropped) (own p) z body in
+          record { clashed = λ y. same .1 .0 ∙ b .clashed y; went = λ q y. (same .1 .0 ∙ b .went q y .0, b .went q y .1 ∙ sym (ap (λ d. behind (outputIn l₀ p) d) (same .0))) }
+
+  -- a skipped block is copied
+  stands-short : (τ : Types) (ks : List Block) → Coded (setup .bounds) s facts τ ks → k < length ks → length (blockBytes (getD ks k noBlock)) ≤ 65536
+  stands-short τ ks co h = by-place (co .blocks .each k h)
+    where
+      by-place : BlockAt mosts (setup .bounds) s (getD (blocksIn facts) k 0) (getD (blocksIn facts) (suc k) 0) (getD ks k noBlock) → length (blockBytes (getD ks k noBlock)) ≤ 65536
+      by-place (standing total seen e) = omega (arith, block-canon mosts (setup .bounds) total seen (drop (getD (blocksIn facts) k 0) s) (bytes-drop s (getD (blocksIn facts) k 0) (co .ground .bytes)) e .size, co .blocks .within (suc k) (omega (arith, h)), co .short)
+
+  pub skipped-puts : (l : Lent) (skips : Bool) (part out : List ℕ) (r : Progress) → skips ≡ getD choice (288 + k) false → skips ≡ true → ((τ : Types) (ks : List Block) → Coded (setup .bounds) s facts τ ks → k < length ks → part ≡ blockBytes (getD ks k noBlock)) → (length part ≤ 65536 → (r ≡ movedTo p (p .to + length part) (p .lines + 0)) × (out ≡ sets (l .out) (p .to) part)) → OnePut setup s facts choice k l p (lentAs (l .tracked) (l .dropped) (l .work) out) (Put.Went r)
+  unfolding behind further numbersOf markAll
+  skipped-puts l skips part out r fs sk stands put τ c ks co fo h z en =
+      let x = getD ks k noBlock in
+      let y = skip-effect (setup .settings) τ c (setup .bounds .next + p .fresh) x (sym (fo .skip k h) ∙ sym fs ∙ sk) in
+      let e = stands τ ks co h in
+      let w = put (omega (arith, ap (λ v. length v) e, stands-short τ ks co h)) in
+      puts-went _ _ _ out (freshIn (l .work)) (l .dropped) r (y .1 .0) (rw (w .0, w .1, e) (simp (add-zero)) ∙ sym (ap (λ d. behind (outputIn l p) d) (y .0)))
+
+-- the terminator and the count of a block add no more than one thing does
+pub low-end : (n j : ℕ) (w : Progress) (r v : Put) → j ≤ 128 → Low (n + 1 + j) w → ((k : ℕ) → Low k w → PutLow (k + 1) r) → ((k : ℕ) → PutLow k r → PutLow k v) → PutLow (n + 130) v
+low-end n j w r v h l f g = g (n + 130) (transfer (λ m. PutLow m r) (n + 129 + 1) (n + 130) (omega arith) (f (n + 129) (low-mono (n + 1 + j) (n + 129) w (omega arith) l)))

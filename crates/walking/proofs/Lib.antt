@@ -1,5 +1,5 @@
-pub mod Walks
 pub mod Ends
 pub mod Whole
+pub mod Walks
 pub mod Laying
 pub mod Rounds

@@ -1,5 +1,5 @@
 -- A block's instructions, one after another: what is left of the block gives the rest of what the whole gives.
-use Prim.Native.Nat.{ℕ, suc, _+_, _-_, _*_, _≤_, _<_}
+use Prim.Native.Nat.{ℕ, suc, _+_, _*_, _≤_, _<_}
 use mathlib.Core.Path.{_≡_, refl, ap, _∙_, sym}
 use mathlib.Core.List.{List, [], _∷_}
 use mathlib.Core.Bool.{Bool, true, false, _||_}
@@ -7,184 +7,191 @@ use mathlib.Core.Option.{some}
 use native.Mathlib.Omega.{arith}
 use native.Mathlib.Numerals.{add-one}
 use lib.ListN.{length, length-append, getD, drop}
-use lib.Seq.{drop-cons, drop-length}
-use Rattle.wire.specs.Parse.{ok}
+use lib.Seq.{drop-cons, drop-length, length-take-le}
 use Rattle.wire.specs.declared.ValueId.{ValueId}
 use Rattle.form.specs.Syntax.{Instruction, Terminator, Block}
-use Rattle.form.specs.Decode.{instructionOf}
-use Rattle.form.specs.declared.Bounds.{Bounds}
-use Rattle.places.specs.Places.{noInstruction}
-use Rattle.eligibility.specs.declared.Settings.{Settings}
+use Rattle.index.specs.Table.{recordedIn}
+use Rattle.index.specs.Code.{noInstruction, noBlock, BlockIn}
 use Rattle.eligibility.specs.Lookup.{Types}
-use Rattle.eligibility.specs.Family.{Marks, buildDest}
+use Rattle.eligibility.specs.Family.{buildDest}
 use Rattle.rewriting.specs.State.{AggStates, noStates}
 use Rattle.rewriting.specs.Step.{Piece, step}
-use Rattle.rewriting.specs.Run.{Walked, glue, walk}
-use Rattle.parts.specs.Rows.{Rep}
-use Rattle.progress.specs.Ground.{Ground, Tables}
-use Rattle.progress.specs.Effect.{Output, outputOf, behind, further, pieceEffect, walkedEffect, Low}
+use Rattle.rewriting.specs.Run.{Walked, Choice, glue, walk}
+use Rattle.parts.specs.Rows.{Rep, Room, rowsIn}
+use Rattle.progress.specs.declared.Progress.{Progress}
+use Rattle.progress.specs.declared.Setup.{Setup}
+use Rattle.progress.specs.Ground.{Ground, Coded}
+use Rattle.progress.specs.Chosen.{Follows}
+use Rattle.progress.specs.Effect.{Output, behind, further, pieceEffect, walkedEffect, Low}
 use Rattle.progress.proofs.Laws.{behind-then, glue-effect}
 use Rattle.stepping.specs.declared.Reached.{Reached}
 use Rattle.stepping.specs.declared.Stepped.{Stepped}
-use Rattle.stepping.specs.Stepping.{SteppedLow, Gone, Steps, Left, InBlock, Arrives, Tabled}
-use Rattle.stepping.proofs.Lows.{low-mono}
-use Rattle.stepping.proofs.Turns.{no-clash, no-went}
+use Rattle.performing.specs.Performed.{movedTo}
+use Rattle.stepping.specs.Stepping.{Lent, outputIn, freshFrom, Enough, SteppedLow, Gone, Steps, StepsOn}
+use Rattle.performing.proofs.Lows.{low-mono, low-moved}
+use Rattle.walking.specs.Blocks.{rewritten}
 
-module _ (σ : Settings) (τ : Types) (folds : ValueId → Bool) (b : Bounds) (s : List ℕ) (t : Terminator) (o : Output) (whole : Walked) where
-  module _ (i : Instruction) (rest : List Instruction) (tracked : Marks) (firsts pool : List ℕ) (used : ℕ) (now : Output) (l : Left σ τ folds b s t o whole (i ∷ rest) tracked firsts pool used now) where
-    -- the next piece, and what comes behind it
-    abbrev piece : Piece
-    piece = step σ τ folds (l .states) (b .next + now .progress .fresh) i
+abbrev pub walkFrom : Setup → Types → (ValueId → Bool) → AggStates → Progress → List Instruction → Terminator → Walked
+walkFrom setup τ folds S p is t = walk (setup .settings) τ folds S (freshFrom (setup .bounds) p) is t
 
-    abbrev behindIt : Walked
-    behindIt = walk σ τ folds (piece .states) (b .next + now .progress .fresh + length (piece .fresh)) rest t
+-- Of a block whose walk is `whole` from the output o on, the instructions `rest` and the terminator t are left at w: what
+-- they give from the states that the tables hold is what the whole walk gives.
+pub record Left (setup : Setup) (τ : Types) (folds : ValueId → Bool) (s : List ℕ) (t : Terminator) (o : Output) (whole : Walked) (rest : List Instruction) (l : Lent) (w : Reached) : Type 0 where
+  pub states : AggStates
+  pub rep : Rep (setup .bounds .next) s (l .tracked) (rowsIn (l .work)) (w .used) states
+  pub same : behind (outputIn l (w .progress)) (walkedEffect (walkFrom setup τ folds states (w .progress) rest t)) ≡ behind o (walkedEffect whole)
+  pub clash : (walkFrom setup τ folds states (w .progress) rest t) .clash ≡ whole .clash
+  pub bound : Enough (setup .bounds) (w .progress) ((walkFrom setup τ folds states (w .progress) rest t) .fresh)
 
-    glued : walk σ τ folds (l .states) (b .next + now .progress .fresh) (i ∷ rest) t ≡ glue piece behindIt
-    unfolding walk
-    glued = refl
+module _ (setup : Setup) (τ : Types) (folds : ValueId → Bool) (s : List ℕ) (t : Terminator) (o : Output) (whole : Walked) (i : Instruction) (rest : List Instruction) (l : Lent) (w : Reached) (left : Left setup τ folds s t o whole (i ∷ rest) l w) where
+  abbrev at : ℕ
+  at = freshFrom (setup .bounds) (w .progress)
 
-    pub left-bound : b .next + now .progress .fresh + length (piece .fresh) < 65536
+  -- the next piece, and what comes behind it
+  abbrev piece : Piece
+  piece = step (setup .settings) τ folds (left .states) at i
+
+  abbrev behindIt : Walked
+  behindIt = walk (setup .settings) τ folds (piece .states) (at + length (piece .fresh)) rest t
+
+  glued : walkFrom setup τ folds (left .states) (w .progress) (i ∷ rest) t ≡ glue piece behindIt
+  unfolding walk
+  glued = refl
+
+  pub left-bound : Enough (setup .bounds) (w .progress) (piece .fresh)
+  unfolding glue
+  left-bound = omega (arith, left .bound, ap (λ x. length (x .fresh)) glued, length-append (piece .fresh) (behindIt .fresh))
+
+  pub left-clash : piece .clash ≡ true → whole .clash ≡ true
+  unfolding glue
+  left-clash h = sym (left .clash) ∙ ap (λ x. x .clash) glued ∙ ap (λ x. x || behindIt .clash) h
+
+  module _ (l′ : Lent) (v : Reached) (g : Gone (setup .bounds .next) s (outputIn l (w .progress)) piece l′ v) where
+    -- as many fresh numbers as the piece took are taken
+    further-on : freshFrom (setup .bounds) (v .progress) ≡ at + length (piece .fresh)
+    unfolding behind further pieceEffect
+    further-on =
+        let z : v .progress .fresh ≡ w .progress .fresh + length (piece .fresh) = ap (λ x. x .progress .fresh) (g .out) in
+        omega (arith, z)
+
+    moved : walkFrom setup τ folds (piece .states) (v .progress) rest t ≡ behindIt
+    moved = ap (λ n. walk (setup .settings) τ folds (piece .states) n rest t) further-on
+
+    pub left-again : Left setup τ folds s t o whole rest l′ v
     unfolding glue
-    left-bound = omega (arith, l .bound, ap (λ w. length (w .fresh)) glued, length-append (piece .fresh) (behindIt .fresh))
+    left-again =
+        record {
+          states = piece .states;
+          rep = g .rep;
+          same = ap (λ x. behind (outputIn l′ (v .progress)) (walkedEffect x)) moved ∙ ap (λ x. behind x (walkedEffect behindIt)) (g .out) ∙ behind-then (outputIn l (w .progress)) (pieceEffect piece) (walkedEffect behindIt) ∙ ap (λ e. behind (outputIn l (w .progress)) e) (sym (glue-effect piece behindIt)) ∙ sym (ap (λ x. behind (outputIn l (w .progress)) (walkedEffect x)) glued) ∙ left .same;
+          clash = ap (λ x. x .clash) moved ∙ sym (ap (λ x. x || behindIt .clash) (g .safe)) ∙ sym (ap (λ x. x .clash) glued) ∙ left .clash;
+          bound = omega (arith, left .bound, ap (λ x. length (x .fresh)) glued, length-append (piece .fresh) (behindIt .fresh), ap (λ x. length (x .fresh)) moved, further-on);
+        }
 
-    pub left-clash : piece .clash ≡ true → whole .clash ≡ true
-    unfolding glue
-    left-clash h = sym (l .clash) ∙ ap (λ w. w .clash) glued ∙ ap (λ x. x || behindIt .clash) h
+-- a block as the loop over its instructions finds it
+pub record Begun (setup : Setup) (s facts : List ℕ) (choice : List Bool) (first count : ℕ) (l : Lent) (w : Reached) (τ : Types) (folds : ValueId → Bool) (x : Block) : Type 0 where
+  pub ground : Ground (setup .bounds) s facts (recordedIn facts) τ
+  pub block : BlockIn (setup .bounds) s facts first x
+  pub many : length (x .instructions) ≡ count
+  pub flags : (j : ℕ) (d : ValueId) → j < length (x .instructions) → buildDest (getD (x .instructions) j noInstruction .kind) ≡ some d → getD choice (first + j) false ≡ folds d
+  pub rep : Rep (setup .bounds .next) s (l .tracked) (rowsIn (l .work)) (w .used) noStates
+  pub bound : Enough (setup .bounds) (w .progress) ((walkFrom setup τ folds noStates (w .progress) (x .instructions) (x .terminator)) .fresh)
 
-    module _ (tracked′ : Marks) (firsts′ pool′ buffer types : List ℕ) (dropped : Marks) (w : Reached) (g : Gone (b .next) s now piece tracked′ firsts′ pool′ buffer types dropped w) where
-      -- as many fresh numbers as the piece took are taken
-      further-on : b .next + w .progress .fresh ≡ b .next + now .progress .fresh + length (piece .fresh)
-      unfolding behind further pieceEffect
-      further-on =
-          let z : w .progress .fresh ≡ now .progress .fresh + length (piece .fresh) = ap (λ x. x .progress .fresh) (g .out) in
-          omega (arith, z)
+-- what is known before the loop over block k, which begins at the progress p, with its body behind the count
+pub record Opened (setup : Setup) (s facts : List ℕ) (choice : List Bool) (k : ℕ) (p : Progress) (first count : ℕ) (l : Lent) (w : Reached) : Type 0 where
+  pub begun : (τ : Types) (c : Choice) (ks : List Block) → Coded (setup .bounds) s facts τ ks → Follows c facts choice ks → k < length ks → Enough (setup .bounds) p ((rewritten setup τ c p (getD ks k noBlock ∷ [])) .fresh) → (c .skips (getD ks k noBlock) ≡ false) × Begun setup s facts choice first count l w τ (c .folds (getD ks k noBlock)) (getD ks k noBlock)
+  pub body : w .progress ≡ movedTo p (p .to + 2) 0
+  pub early : first ≤ 288
+  pub most : count ≤ 128
+  pub long : 2432 ≤ length (l .work)
 
-      abbrev here : Output
-      here = outputOf buffer types dropped (w .progress)
-
-      moved : walk σ τ folds (piece .states) (b .next + here .progress .fresh) rest t ≡ behindIt
-      moved = ap (λ n. walk σ τ folds (piece .states) n rest t) further-on
-
-      pub left-again : Left σ τ folds b s t o whole rest tracked′ firsts′ pool′ (w .used) here
-      unfolding glue
-      left-again =
-          record {
-            states = piece .states;
-            rep = g .rep;
-            same = ap (λ x. behind here (walkedEffect x)) moved ∙ ap (λ x. behind x (walkedEffect behindIt)) (g .out) ∙ behind-then now (pieceEffect piece) (walkedEffect behindIt) ∙ ap (λ e. behind now e) (sym (glue-effect piece behindIt)) ∙ sym (ap (λ x. behind now (walkedEffect x)) glued) ∙ l .same;
-            clash = ap (λ x. x .clash) moved ∙ sym (ap (λ x. x || behindIt .clash) (g .safe)) ∙ sym (ap (λ x. x .clash) glued) ∙ l .clash;
-            bound = omega (arith, l .bound, ap (λ x. length (x .fresh)) glued, length-append (piece .fresh) (behindIt .fresh), ap (λ x. length (x .fresh)) moved, further-on);
-          }
-
-  -- instruction j is the first that is left
-  pub left-cons : (is : List Instruction) (j : ℕ) (tracked : Marks) (firsts pool : List ℕ) (used : ℕ) (now : Output) → j < length is → Left σ τ folds b s t o whole (drop j is) tracked firsts pool used now → Left σ τ folds b s t o whole (getD is j noInstruction ∷ drop (suc j) is) tracked firsts pool used now
-  left-cons is j tracked firsts pool used now h l = rw (← drop-cons is j noInstruction h) l
-
--- the loop over a block's instructions
-pub record Walking (σ : Settings) (b : Bounds) (s types recorded places : List ℕ) (count : ℕ) (folded : List Bool) (first : ℕ) (tracked₀ : Marks) (firsts₀ pool₀ out₀ fresh₀ : List ℕ) (dropped₀ : Marks) (w₀ : Reached) (tracked : Marks) (firsts pool out fresh : List ℕ) (dropped : Marks) (w : Reached) (j : ℕ) : Type 0 where
+-- the loop, from the tables l₀ and the progress w₀ on
+pub record Walking (setup : Setup) (s facts : List ℕ) (choice : List Bool) (k : ℕ) (p : Progress) (first count : ℕ) (l₀ : Lent) (w₀ : Reached) (l : Lent) (w : Reached) (j : ℕ) : Type 0 where
+  pub opened : Opened setup s facts choice k p first count l₀ w₀
   pub few : j ≤ count
-  pub low : (k : ℕ) → Low k (w₀ .progress) → Low (k + j) (w .progress)
-  pub used : w .used ≤ 17 * j
-  pub mark-size : length tracked ≡ length tracked₀
-  pub first-size : length firsts ≡ length firsts₀
-  pub pool-size : length pool ≡ length pool₀
-  pub out-size : length out ≡ length out₀
-  pub fresh-size : length fresh ≡ length fresh₀
-  pub dropped-size : length dropped ≡ length dropped₀
-  pub left : (τ : Types) (folds : ValueId → Bool) (x : Block) → InBlock b s types recorded places count folded first τ folds x → Rep (b .next) s tracked₀ firsts₀ pool₀ 0 noStates → b .next + w₀ .progress .fresh + length ((walk σ τ folds noStates (b .next + w₀ .progress .fresh) (x .instructions) (x .terminator)) .fresh) < 65536 → Left σ τ folds b s (x .terminator) (outputOf out₀ fresh₀ dropped₀ (w₀ .progress)) (walk σ τ folds noStates (b .next + w₀ .progress .fresh) (x .instructions) (x .terminator)) (drop j (x .instructions)) tracked firsts pool (w .used) (outputOf out fresh dropped (w .progress))
+  pub low : (n : ℕ) → Low n p → Low (n + 1 + j) (w .progress)
+  pub used : w .used ≤ 256 + 17 * j
+  pub tracked-size : length (l .tracked) ≡ length (l₀ .tracked)
+  pub dropped-size : length (l .dropped) ≡ length (l₀ .dropped)
+  pub work-size : length (l .work) ≡ length (l₀ .work)
+  pub out-size : length (l .out) ≡ length (l₀ .out)
+  pub left : (τ : Types) (folds : ValueId → Bool) (x : Block) → Begun setup s facts choice first count l₀ w₀ τ folds x → Left setup τ folds s (x .terminator) (outputIn l₀ (w₀ .progress)) (walkFrom setup τ folds noStates (w₀ .progress) (x .instructions) (x .terminator)) (drop j (x .instructions)) l w
 
-module _ (σ : Settings) (b : Bounds) (s types recorded places : List ℕ) (count : ℕ) (folded : List Bool) (first : ℕ) (tracked₀ : Marks) (firsts₀ pool₀ out₀ fresh₀ : List ℕ) (dropped₀ : Marks) (w₀ : Reached) where
-  pub walking-start : w₀ .used ≡ 0 → Walking σ b s types recorded places count folded first tracked₀ firsts₀ pool₀ out₀ fresh₀ dropped₀ w₀ tracked₀ firsts₀ pool₀ out₀ fresh₀ dropped₀ w₀ 0
-  walking-start e =
+module _ (setup : Setup) (s facts : List ℕ) (choice : List Bool) (k : ℕ) (p : Progress) (first count : ℕ) (l₀ : Lent) (w₀ : Reached) where
+  pub walking-start : Opened setup s facts choice k p first count l₀ w₀ → w₀ .used ≡ 256 → Walking setup s facts choice k p first count l₀ w₀ l₀ w₀ 0
+  walking-start o e =
       record {
+        opened = o;
         few = omega arith;
-        low = λ k l. low-mono k (k + 0) (w₀ .progress) (omega arith) l;
+        low = λ n y. low-mono (n + 1) (n + 1 + 0) (w₀ .progress) (omega arith) (low-moved n p y (w₀ .progress) (p .to + 2) 0 (o .body) (omega arith) (omega arith));
         used = omega (arith, e);
-        mark-size = refl;
-        first-size = refl;
-        pool-size = refl;
-        out-size = refl;
-        fresh-size = refl;
+        tracked-size = refl;
         dropped-size = refl;
-        left = λ τ folds x a rep bd. record { states = noStates; rep = rw e rep; same = refl; clash = refl; bound = bd };
+        work-size = refl;
+        out-size = refl;
+        left = λ τ folds x a. record { states = noStates; rep = a .rep; same = refl; clash = refl; bound = a .bound };
       }
 
-  module _ (tracked : Marks) (firsts pool out fresh : List ℕ) (dropped : Marks) (w : Reached) (j : ℕ) (inv : Walking σ b s types recorded places count folded first tracked₀ firsts₀ pool₀ out₀ fresh₀ dropped₀ w₀ tracked firsts pool out fresh dropped w j) where
+  module _ (l : Lent) (w : Reached) (j : ℕ) (inv : Walking setup s facts choice k p first count l₀ w₀ l w j) where
     -- all instructions are behind
-    pub walking-done : count ≤ j → (τ : Types) (folds : ValueId → Bool) (x : Block) → InBlock b s types recorded places count folded first τ folds x → Rep (b .next) s tracked₀ firsts₀ pool₀ 0 noStates → b .next + w₀ .progress .fresh + length ((walk σ τ folds noStates (b .next + w₀ .progress .fresh) (x .instructions) (x .terminator)) .fresh) < 65536 → Arrives σ τ folds b s (x .terminator) (outputOf out₀ fresh₀ dropped₀ (w₀ .progress)) (walk σ τ folds noStates (b .next + w₀ .progress .fresh) (x .instructions) (x .terminator)) [] tracked firsts pool out fresh dropped (Stepped.Went w)
-    walking-done h τ folds x a rep bd =
+    pub walking-done : count ≤ j → (τ : Types) (folds : ValueId → Bool) (x : Block) → Begun setup s facts choice first count l₀ w₀ τ folds x → Left setup τ folds s (x .terminator) (outputIn l₀ (w₀ .progress)) (walkFrom setup τ folds noStates (w₀ .progress) (x .instructions) (x .terminator)) [] l w
+    walking-done h τ folds x a =
         let z : j ≡ length (x .instructions) = omega (arith, inv .few, a .many) in
         let q : drop j (x .instructions) ≡ [] = ap (λ n. drop n (x .instructions)) z ∙ drop-length (x .instructions) in
-        let l = inv .left τ folds x a rep bd in
-        record { clashed = λ e. absurd (no-clash e); went = λ v e. let y : v ≡ w = cc in rw y (rw q at l) }
+        rw q at (inv .left τ folds x a)
 
-    module _ (h : j < count) (most : count ≤ 128) (tabled : Tabled tracked₀ firsts₀ pool₀) where
-      -- the tables are ready for one more row
-      pub ready : Tables tracked firsts pool (w .used)
-      ready =
-          record {
-            mark = omega (arith, tabled .mark, inv .mark-size);
-            first = omega (arith, tabled .first, inv .first-size);
-            places = omega (arith, tabled .places, inv .pool-size, inv .used);
-          }
+    -- the tables are long enough for a step
+    pub walking-long : 2432 ≤ length (l .work)
+    walking-long = omega (arith, inv .opened .long, inv .work-size)
 
-      module _ (at end : ℕ) (ea : at ≡ getD places j 0) (ee : end ≡ getD places (j + 1) 0) (fold : Bool) (ef : fold ≡ getD folded (first + j) false) (tracked′ : Marks) (firsts′ pool′ out′ fresh′ : List ℕ) (dropped′ : Marks) (r : Stepped) (st : (τ : Types) (S : AggStates) (folds : ValueId → Bool) (i : Instruction) → Ground b s types recorded τ → Rep (b .next) s tracked firsts pool (w .used) S → Tables tracked firsts pool (w .used) → at ≤ end → end ≤ length s → instructionOf b [] false (drop at s) ≡ ok i (end - at) → ((d : ValueId) → buildDest (i .kind) ≡ some d → fold ≡ folds d) → b .next + w .progress .fresh + length ((step σ τ folds S (b .next + w .progress .fresh) i) .fresh) < 65536 → Steps (b .next) s (outputOf out fresh dropped (w .progress)) (step σ τ folds S (b .next + w .progress .fresh) i) tracked′ firsts′ pool′ out′ fresh′ dropped′ r) where
-        module _ (τ : Types) (folds : ValueId → Bool) (x : Block) (a : InBlock b s types recorded places count folded first τ folds x) (rep : Rep (b .next) s tracked₀ firsts₀ pool₀ 0 noStates) (bd : b .next + w₀ .progress .fresh + length ((walk σ τ folds noStates (b .next + w₀ .progress .fresh) (x .instructions) (x .terminator)) .fresh) < 65536) where
-          abbrev whole : Walked
-          whole = walk σ τ folds noStates (b .next + w₀ .progress .fresh) (x .instructions) (x .terminator)
+    module _ (h : j < count) (fold : Bool) (ef : fold ≡ getD choice (first + j) false) (l′ : Lent) (r : Stepped) (st : StepsOn setup s facts (first + j) fold l w l′ r) where
+      -- there is room for one more row
+      room : Room (rowsIn (l .work)) (w .used)
+      room = omega (arith, length-take-le 2432 (l .work) walking-long, inv .used, inv .opened .most)
 
-          below : j < length (x .instructions)
-          below = omega (arith, a .many)
+      module _ (τ : Types) (folds : ValueId → Bool) (x : Block) (a : Begun setup s facts choice first count l₀ w₀ τ folds x) where
+        abbrev whole : Walked
+        whole = walkFrom setup τ folds noStates (w₀ .progress) (x .instructions) (x .terminator)
 
-          abbrev this : Instruction
-          this = getD (x .instructions) j noInstruction
+        abbrev this : Instruction
+        this = getD (x .instructions) j noInstruction
 
-          abbrev rest : List Instruction
-          rest = drop (suc j) (x .instructions)
+        abbrev rest : List Instruction
+        rest = drop (suc j) (x .instructions)
 
-          abbrev start : Output
-          start = outputOf out₀ fresh₀ dropped₀ (w₀ .progress)
+        below : j < length (x .instructions)
+        below = omega (arith, a .many)
 
-          abbrev now : Output
-          now = outputOf out fresh dropped (w .progress)
+        next-left : Left setup τ folds s (x .terminator) (outputIn l₀ (w₀ .progress)) whole (this ∷ rest) l w
+        next-left = rw (← drop-cons (x .instructions) j noInstruction below) (inv .left τ folds x a)
 
-          next-left : Left σ τ folds b s (x .terminator) start whole (this ∷ rest) tracked firsts pool (w .used) now
-          next-left = left-cons σ τ folds b s (x .terminator) start whole (x .instructions) j tracked firsts pool (w .used) now below (inv .left τ folds x a rep bd)
-
-          turned : Steps (b .next) s now (step σ τ folds (next-left .states) (b .next + now .progress .fresh) this) tracked′ firsts′ pool′ out′ fresh′ dropped′ r
-          turned =
-              let is = a .standing .instructions in
-              let z : end ≡ getD places (suc j) 0 = ee ∙ ap (λ n. getD places n 0) (add-one j) in
-              st τ (next-left .states) folds this (a .ground) (next-left .rep) ready
-              (rw (ea, z) (is .rises j below))
-              (rw z (is .within (suc j) (omega (arith, below))))
-              (rw (ea, z) (is .each j below))
-              (λ d e. ef ∙ a .flags j d below e)
-              (left-bound σ τ folds b s (x .terminator) start whole this rest tracked firsts pool (w .used) now next-left)
-
-          clash-turn : r ≡ Stepped.Clash → whole .clash ≡ true
-          clash-turn e = left-clash σ τ folds b s (x .terminator) start whole this rest tracked firsts pool (w .used) now next-left (turned .clashed e)
-
-          went-turn : (v : Reached) → r ≡ Stepped.Went v → Left σ τ folds b s (x .terminator) start whole rest tracked′ firsts′ pool′ (v .used) (outputOf out′ fresh′ dropped′ (v .progress))
-          went-turn v e = left-again σ τ folds b s (x .terminator) start whole this rest tracked firsts pool (w .used) now next-left tracked′ firsts′ pool′ out′ fresh′ dropped′ v (turned .went v e)
+        turned : Steps (setup .bounds .next) s (outputIn l (w .progress)) (step (setup .settings) τ folds (next-left .states) (freshFrom (setup .bounds) (w .progress)) this) l′ r
+        turned =
+            st τ (next-left .states) folds this
+            (record { ground = a .ground; rep = next-left .rep; line = a .block .instructions j below })
+            room
+            (λ d e. ef ∙ a .flags j d below e)
+            (left-bound setup τ folds s (x .terminator) (outputIn l₀ (w₀ .progress)) whole this rest l w next-left)
 
         -- an array rebuild met another count
-        pub walking-clash : r ≡ Stepped.Clash → (τ : Types) (folds : ValueId → Bool) (x : Block) → InBlock b s types recorded places count folded first τ folds x → Rep (b .next) s tracked₀ firsts₀ pool₀ 0 noStates → b .next + w₀ .progress .fresh + length ((walk σ τ folds noStates (b .next + w₀ .progress .fresh) (x .instructions) (x .terminator)) .fresh) < 65536 → Arrives σ τ folds b s (x .terminator) (outputOf out₀ fresh₀ dropped₀ (w₀ .progress)) (walk σ τ folds noStates (b .next + w₀ .progress .fresh) (x .instructions) (x .terminator)) [] tracked′ firsts′ pool′ out′ fresh′ dropped′ Stepped.Clash
-        walking-clash e τ folds x a rep bd = record { clashed = λ z. clash-turn τ folds x a rep bd e; went = λ v z. absurd (no-went z) }
+        pub walking-clash : r ≡ Stepped.Clash → whole .clash ≡ true
+        walking-clash e = left-clash setup τ folds s (x .terminator) (outputIn l₀ (w₀ .progress)) whole this rest l w next-left (turned .clashed e)
 
-        -- one more is behind
-        pub walking-again : (v : Reached) → r ≡ Stepped.Went v → ((k : ℕ) → Low k (w .progress) → SteppedLow (k + 1) (w .used + 17) r) → length tracked′ ≡ length tracked → length firsts′ ≡ length firsts → length pool′ ≡ length pool → length out′ ≡ length out → length fresh′ ≡ length fresh → length dropped′ ≡ length dropped → Low 5000 (w₀ .progress) → Walking σ b s types recorded places count folded first tracked₀ firsts₀ pool₀ out₀ fresh₀ dropped₀ w₀ tracked′ firsts′ pool′ out′ fresh′ dropped′ v (j + 1)
-        walking-again v e lo c f p u y d five =
-            let lows : (k : ℕ) → Low k (w .progress) → Low (k + 1) (v .progress) × (v .used ≤ w .used + 17) = λ k l. rw e at (lo k l) in
-            record {
-              few = omega arith;
-              low = λ k l. low-mono (k + j + 1) (k + (j + 1)) (v .progress) (omega arith) (lows (k + j) (inv .low k l) .0);
-              used = omega (arith, lows (5000 + j) (inv .low 5000 five) .1, inv .used);
-              mark-size = c ∙ inv .mark-size;
-              first-size = f ∙ inv .first-size;
-              pool-size = p ∙ inv .pool-size;
-              out-size = u ∙ inv .out-size;
-              fresh-size = y ∙ inv .fresh-size;
-              dropped-size = d ∙ inv .dropped-size;
-              left = λ τ folds x a rep bd. rw (add-one j) (went-turn τ folds x a rep bd v e);
-            }
+        went-turn : (v : Reached) → r ≡ Stepped.Went v → Left setup τ folds s (x .terminator) (outputIn l₀ (w₀ .progress)) whole rest l′ v
+        went-turn v e = left-again setup τ folds s (x .terminator) (outputIn l₀ (w₀ .progress)) whole this rest l w next-left l′ v (turned .went v e)
+
+      -- one more is behind
+      pub walking-again : (v : Reached) → r ≡ Stepped.Went v → ((n : ℕ) → Low n (w .progress) → SteppedLow (n + 1) (w .used + 17) r) → length (l′ .tracked) ≡ length (l .tracked) → length (l′ .dropped) ≡ length (l .dropped) → length (l′ .work) ≡ length (l .work) → length (l′ .out) ≡ length (l .out) → Low 4800 p → Walking setup s facts choice k p first count l₀ w₀ l′ v (j + 1)
+      walking-again v e lo lt ld lw lu small =
+          let lows : (n : ℕ) → Low n (w .progress) → Low (n + 1) (v .progress) × (v .used ≤ w .used + 17) = λ n y. rw e at (lo n y) in
+          record {
+            opened = inv .opened;
+            few = omega arith;
+            low = λ n y. low-mono (n + 1 + j + 1) (n + 1 + (j + 1)) (v .progress) (omega arith) (lows (n + 1 + j) (inv .low n y) .0);
+            used = omega (arith, lows (4801 + j) (inv .low 4800 small) .1, inv .used);
+            tracked-size = lt ∙ inv .tracked-size;
+            dropped-size = ld ∙ inv .dropped-size;
+            work-size = lw ∙ inv .work-size;
+            out-size = lu ∙ inv .out-size;
+            left = λ τ folds x a. rw (add-one j) (went-turn τ folds x a v e);
+          }

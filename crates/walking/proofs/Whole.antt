@@ -1,63 +1,25 @@
 -- A block with its count in front, a skipped block, and all blocks one after another.
-use Prim.Native.Nat.{ℕ, _+_, _*_, _/_, _%_}
-use mathlib.Core.Path.{_≡_, refl, ap, _∙_, sym}
+use Prim.Native.Nat.{ℕ, _+_}
+use mathlib.Core.Path.{_≡_, refl, ap, _∙_}
 use mathlib.Core.List.{List, [], _∷_, _++_, append-nil}
 use mathlib.Core.Bool.{Bool, true, false, cond, _||_}
 use native.Mathlib.Omega.{arith}
 use native.Mathlib.Nat.{add-zero, zero-add}
-use lib.ListN.{length, length-append}
-use lib.Seq.{sets}
-use Rattle.wire.specs.Number.{toBytes}
+use lib.ListN.{length}
 use Rattle.wire.specs.declared.ValueId.{ValueId}
 use Rattle.form.specs.Syntax.{Instruction, InstructionKind, Terminator, Block}
 use Rattle.form.specs.Syntax.{Assign, UnaryOp, BinaryOp, Call, Cast, Load, Store, Debug, Nop, Phi}
 use Rattle.form.specs.Syntax.{MakeTuple, ExtractTupleElement, MakeStruct, ExtractStructField, InsertField, InsertTuple, MakeFixedArray, AssertEq, HeapAllocCells}
 use Rattle.form.specs.Reads.{isPhi}
-use Rattle.form.specs.Encode.{eachBytes, instructionBytes, terminatorBytes}
 use Rattle.block.specs.Encode.{blockBytes}
-use Rattle.emit.proofs.Sets.{sets-front}
 use Rattle.eligibility.specs.declared.Settings.{Settings}
 use Rattle.eligibility.specs.Lookup.{Types}
-use Rattle.eligibility.specs.Family.{Marks}
 use Rattle.eligibility.specs.Fold.{behindPhis, phisOf}
 use Rattle.rewriting.specs.State.{AggStates, noStates}
 use Rattle.rewriting.specs.Step.{kept, step, stepKind, noCounts}
-use Rattle.rewriting.specs.Run.{Walked, Rewritten, Choice, glue, walk, addCounts, blockThen, skipThen, oneBlock, allBlocks}
-use Rattle.progress.specs.declared.Progress.{Progress}
-use Rattle.progress.specs.Effect.{outputOf, behind, further, thenEffect, walkedEffect, rewrittenEffect, markAll, numbersOf}
-use Rattle.stepping.specs.Stepping.{movedTo}
-use Rattle.walking.specs.Blocks.{blockEffect}
-
--- multiples of 256 do not change the lowest byte
-low-byte : (a b : ℕ) → (a + 256 * b) % 256 ≡ a % 256
-low-byte a b = omega arith
-
--- the count's two bytes do not look past 65,535
-two-bytes : (n : ℕ) → toBytes 2 (n % 65536) ≡ toBytes 2 n
-two-bytes n =
-    let a : n % 65536 % 256 ≡ n % 256 = omega arith in
-    let k : n / 256 ≡ n % 65536 / 256 + 256 * (n / 65536) = omega arith in
-    let b : n % 65536 / 256 % 256 ≡ n / 256 % 256 = sym (ap (λ m. m % 256) k ∙ low-byte (n % 65536 / 256) (n / 65536)) in
-    rw (a, b)
-
--- the count is stored last, in front of the body
-pub block-out : (out out′ out″ types types′ : List ℕ) (dropped dropped′ : Marks) (p q r body : Progress) (w : Walked) → p .lines ≡ 0 → body ≡ movedTo p (p .to + 2) 0 → outputOf out′ types′ dropped′ q ≡ behind (outputOf out types dropped body) (walkedEffect w) → out″ ≡ sets out′ (p .to) (toBytes 2 (q .lines % 65536)) → r ≡ movedTo q (q .to) 0 → outputOf out″ types′ dropped′ r ≡ behind (outputOf out types dropped p) (blockEffect w)
-unfolding behind further walkedEffect blockEffect blockBytes
-block-out out out′ out″ types types′ dropped dropped′ p q r body w z m e f g =
-    let bytes = eachBytes instructionBytes (w .out) ++ terminatorBytes (w .terminator) in
-    let e′ : outputOf out′ types′ dropped′ q ≡ behind (outputOf out types dropped (movedTo p (p .to + 2) 0)) (walkedEffect w) = e ∙ ap (λ x. behind (outputOf out types dropped x) (walkedEffect w)) m in
-    let b1 : out′ ≡ sets out (p .to + 2) bytes = ap (λ o. o .buffer) e′ in
-    let b2 : types′ ≡ sets types (p .fresh) (numbersOf (w .fresh)) = ap (λ o. o .types) e′ in
-    let b3 : dropped′ ≡ markAll dropped (w .dropped) = ap (λ o. o .dropped) e′ in
-    let b4′ : q .lines ≡ 0 + length (w .out) = ap (λ o. o .progress .lines) e′ in
-    let b4 : q .lines ≡ length (w .out) = omega (arith, b4′) in
-    let b5 : q .to ≡ p .to + 2 + length bytes = ap (λ o. o .progress .to) e′ in
-    let b6 : q .fresh ≡ p .fresh + length (w .fresh) = ap (λ o. o .progress .fresh) e′ in
-    let b7 : q .counts ≡ addCounts (p .counts) (w .counts) = ap (λ o. o .progress .counts) e′ in
-    let front : out″ ≡ sets out (p .to) (toBytes 2 (length (w .out)) ++ bytes) =
-    f ∙ ap (λ n. sets out′ (p .to) n) (two-bytes (q .lines) ∙ ap (λ n. toBytes 2 n) b4) ∙ ap (λ l. sets l (p .to) (toBytes 2 (length (w .out)))) b1 ∙ sets-front out (p .to) (toBytes 2 (length (w .out))) bytes in
-    let far : q .to ≡ p .to + length (toBytes 2 (length (w .out)) ++ bytes) = omega (arith, b5, length-append (toBytes 2 (length (w .out))) bytes) in
-    rw (g, front, b2, b3, far, b6, b7, z) refl
+use Rattle.rewriting.specs.Run.{Walked, Rewritten, Choice, glue, walk, blockThen, skipThen, oneBlock, allBlocks}
+use Rattle.progress.specs.Effect.{behind, thenEffect, rewrittenEffect}
+use Rattle.performing.specs.Performed.{blockEffect}
 
 -- the phis in front of a walk
 abbrev pub withPhis : List Instruction → Walked → Walked

@@ -1,140 +1,126 @@
 // Blocks rewritten one after another: what is decided of each instruction is put out.
-mod body;
-
-use eligibility::Settings;
 use form::Bounds;
 use progress::Progress;
 use progress::Put;
+use progress::Setup;
+use stepping::Reached;
+use stepping::Stepped;
 use wire::BlockId;
 ghost use mathlib.Core.Path.{_≡_};
-ghost use mathlib.Core.List.{List, [], _∷_};
 ghost use Prim.Native.Nat.{ℕ, _+_, _≤_, _<_};
-ghost use lib.ListN.{length, getD};
-ghost use Rattle.form.specs.Syntax.{Block};
-ghost use Rattle.block.specs.declared.Mosts.{Mosts};
-ghost use Rattle.routine.specs.Index.{BlocksAt, noBlock};
-ghost use Rattle.index.specs.Code.{CodeAt};
-ghost use Rattle.eligibility.specs.Lookup.{Types};
-ghost use Rattle.rewriting.specs.Run.{Choice, allBlocks};
-ghost use Rattle.progress.specs.Ground.{Ground};
-ghost use Rattle.progress.specs.Chosen.{Follows};
-ghost use Rattle.progress.specs.Effect.{outputOf, rewrittenEffect, Puts, Low, PutLow};
-ghost use Rattle.stepping.specs.Stepping.{Tabled};
-ghost use Rattle.walking.specs.Blocks.{InCode};
+ghost use lib.ListN.{length};
+ghost use Rattle.progress.specs.Effect.{Low, PutLow};
+ghost use Rattle.stepping.specs.Stepping.{lentAs};
+ghost use Rattle.walking.specs.Blocks.{EndPut, OnePut, AllPut};
 
-// A number that is at most 128; a greater one is 0.
-fn capped(n: u16) -> u16
-    ensures { λ r. ⌜ (r ≤ 128) × (n ≤ 128 → r ≡ n) ⌝ }
+// A number that is at most `most`; a greater one is 0.
+fn capped(n: u16, most: u16) -> u16
+    ensures { λ r. ⌜ (r ≤ most) × (n ≤ most → r ≡ n) ⌝ }
 {
-    if n <= 128 { n } else { 0 }
+    if n <= most { n } else { 0 }
+}
+
+// The terminator of a slot: only a Return is written anew.
+fn put_end(
+    out: &mut [u8],
+    p: Progress,
+    s: &[u8],
+    b: Bounds,
+    facts: &[u16],
+    slot: u16,
+    tracked: &[bool],
+    work: &mut [u16],
+) -> Put
+    requires { ⌜ Low 8000 p ⌝ }
+    ensures { λ r. ⌜ ((k : ℕ) → Low k p → PutLow (k + 1) r) ⌝ }
+    ensures { λ r. ⌜ EndPut b (now (s .entry)) (now (facts .entry)) slot
+        (now (tracked .entry)) (now (work .entry)) (now (out .entry)) p (now (work .exit)) (now (out .exit)) r ⌝ }
+{
+    let at = index::place(facts, slot);
+    if wire::byte_at(s, at) == 3 {
+        return materialize::put_return(out, p, s, b, facts, slot, tracked, work);
+    }
+    let part = form::between(s, at, index::end(facts, slot));
+    Put::Went(performing::put_part(out, p, part, 0))
 }
 
 // Block k: copied where it is skipped, else rewritten.
-fn one_block(
+fn put_block(
     s: &[u8],
-    b: Bounds,
-    settings: Settings,
-    types: &[usize],
-    recorded: &[u16],
-    blocks: &[usize],
-    places: &[usize],
-    starts: &[u16],
+    setup: Setup,
+    facts: &[u16],
+    choice: &[bool],
     k: u16,
-    folded: &[bool],
-    skips: &[bool],
     tracked: &mut [bool],
-    firsts: &mut [u16],
-    pool: &mut [usize],
+    dropped: &mut [bool],
+    work: &mut [u16],
     out: &mut [u8],
     p: Progress,
-    fresh: &mut [u16],
-    dropped: &mut [bool],
 ) -> Put
-    requires { ⌜ Low 4800 p × (Tabled (now tracked) (now firsts) (now pool) × (length (now s) < 1099511627776)) ⌝ }
+    requires { ⌜ Low 4800 p × ((length (now tracked) ≡ 256) × (2432 ≤ length (now work))) ⌝ }
     ensures { λ r. ⌜ ((n : ℕ) → Low n p → PutLow (n + 130) r) ⌝ }
-    ensures { λ r. ⌜ ((τ : Types) (c : Choice) (m : Mosts) (ks : List Block) → InCode m b (now (s .entry)) (now (types .entry)) (now (recorded .entry)) (now (blocks .entry)) (now (places .entry)) (now (starts .entry)) (now (folded .entry)) (now (skips .entry)) τ c ks → k < length ks → p .lines ≡ 0 → b .next + p .fresh + length ((allBlocks settings τ c (b .next + p .fresh) (getD ks k noBlock ∷ [])) .fresh) < 65536 → Puts (outputOf (now (out .entry)) (now (fresh .entry)) (now (dropped .entry)) p) (rewrittenEffect (allBlocks settings τ c (b .next + p .fresh) (getD ks k noBlock ∷ []))) ((allBlocks settings τ c (b .next + p .fresh) (getD ks k noBlock ∷ [])) .clash) (now (out .exit)) (now (fresh .exit)) (now (dropped .exit)) r) ⌝ }
+    ensures { λ r. ⌜ OnePut setup (now (s .entry)) (now (facts .entry)) (now (choice .entry)) k
+        (lentAs (now (tracked .entry)) (now (dropped .entry)) (now (work .entry)) (now (out .entry))) p
+        (lentAs (now (tracked .exit)) (now (dropped .exit)) (now (work .exit)) (now (out .exit))) r ⌝ }
 {
-    if table::flag(skips, k as usize) {
-        let to = stepping::actions::copy_part(
-            out,
-            p.to,
-            routine::block_bytes(s, blocks, BlockId(k)),
-        );
-        return Put::Went(stepping::actions::moved(p, to, p.lines));
+    if table::flag(choice, 288 + k as usize) {
+        let part = routine::block_bytes(s, index::blocks(facts), BlockId(k));
+        return Put::Went(performing::put_part(out, p, part, 0));
     }
-    let own = index::block_places(places, starts, k);
-    let count = capped(index::instruction_count(starts, k));
-    let first = table::number(starts, k as usize);
-    body::put_block(
-        s,
-        b,
-        settings,
-        types,
-        recorded,
-        own,
-        count,
-        folded,
-        first,
-        tracked,
-        firsts,
-        pool,
-        out,
-        p,
-        fresh,
-        dropped,
-    )
+    parts::clear(tracked);
+    let first = capped(index::first_slot(facts, k), 288);
+    let count = capped(index::instruction_count(facts, k), 128);
+    let body = performing::moved(p, p.to + 2, 0);
+    let mut w = Reached {
+        progress: body,
+        used: 256,
+    };
+    let mut j: u16 = 0;
+    while j < count {
+        let slot = first + j;
+        let fold = table::flag(choice, slot as usize);
+        match stepping::step(s, setup, facts, slot, fold, tracked, dropped, work, out, w) {
+            Stepped::Clash => {
+                return Put::Clash;
+            }
+            Stepped::Went(q) => {
+                w = q;
+            }
+        }
+        j = j + 1;
+    }
+    let b = setup.bounds;
+    let now = w.progress;
+    let r = put_end(out, now, s, b, facts, first + count, tracked, work);
+    performing::put_count(out, p, r)
 }
 
-// All blocks. `blocks` has their places, `places` those of their instructions, `starts` where each block's begin in it;
-// `folded` has a flag for each place, `skips` one for each block. `tracked`, `firsts` and `pool` are for the parts of
-// tracked values, `fresh` gets the types of the fresh numbers, `dropped` the marks of the values that are left out.
+// All blocks. `facts` is the table of the routine's facts, `choice` says which builds are folded and which blocks are
+// skipped. `tracked` and the first numbers of `work` are for the parts of tracked values, the types of the fresh numbers
+// go behind them, and `dropped` gets the marks of the values that are left out.
 pub fn put_blocks(
     s: &[u8],
-    b: Bounds,
-    settings: Settings,
-    types: &[usize],
-    recorded: &[u16],
-    blocks: &[usize],
-    places: &[usize],
-    starts: &[u16],
-    many: u16,
-    folded: &[bool],
-    skips: &[bool],
-    tracked: &mut [bool],
-    firsts: &mut [u16],
-    pool: &mut [usize],
-    out: &mut [u8],
+    setup: Setup,
+    facts: &[u16],
+    choice: &[bool],
     p: Progress,
-    fresh: &mut [u16],
+    tracked: &mut [bool],
     dropped: &mut [bool],
+    work: &mut [u16],
+    out: &mut [u8],
 ) -> Put
-    requires { ⌜ Low 64 p × ((many ≤ 32) × ((256 ≤ length (now tracked)) × ((256 ≤ length (now firsts)) × ((2176 ≤ length (now pool)) × (length (now s) < 1099511627776))))) ⌝ }
+    requires { ⌜ Low 64 p × ((setup .bounds .blocks ≤ 32) × ((length (now tracked) ≡ 256) × (2432 ≤ length (now work)))) ⌝ }
     ensures { λ r. ⌜ PutLow 4300 r ⌝ }
-    ensures { λ r. ⌜ ((τ : Types) (c : Choice) (m : Mosts) (ks : List Block) → Ground b (now (s .entry)) (now (types .entry)) (now (recorded .entry)) τ → BlocksAt m b (now (s .entry)) (now (blocks .entry)) ks → CodeAt b (now (s .entry)) (now (places .entry)) (now (starts .entry)) ks → Follows c (now (starts .entry)) (now (folded .entry)) (now (skips .entry)) ks → length ks ≡ many → ((k : ℕ) → k < length ks → length (getD ks k noBlock .instructions) ≤ 128) → p .lines ≡ 0 → b .next + p .fresh + length ((allBlocks settings τ c (b .next + p .fresh) ks) .fresh) < 65536 → Puts (outputOf (now (out .entry)) (now (fresh .entry)) (now (dropped .entry)) p) (rewrittenEffect (allBlocks settings τ c (b .next + p .fresh) ks)) ((allBlocks settings τ c (b .next + p .fresh) ks) .clash) (now (out .exit)) (now (fresh .exit)) (now (dropped .exit)) r) ⌝ }
+    ensures { λ r. ⌜ AllPut setup (now (s .entry)) (now (facts .entry)) (now (choice .entry))
+        (lentAs (now (tracked .entry)) (now (dropped .entry)) (now (work .entry)) (now (out .entry))) p
+        (lentAs (now (tracked .exit)) (now (dropped .exit)) (now (work .exit)) (now (out .exit))) r ⌝ }
 {
+    let b = setup.bounds;
+    let many = b.blocks;
     let mut q = p;
     let mut k: u16 = 0;
     while k < many {
-        match one_block(
-            s,
-            b,
-            settings,
-            types,
-            recorded,
-            blocks,
-            places,
-            starts,
-            k,
-            folded,
-            skips,
-            tracked,
-            firsts,
-            pool,
-            out,
-            q,
-            fresh,
-            dropped,
-        ) {
+        match put_block(s, setup, facts, choice, k, tracked, dropped, work, out, q) {
             Put::Clash => {
                 return Put::Clash;
             }

@@ -10,11 +10,22 @@ use Rattle.wire.specs.Number.{at16}
 use Rattle.wire.specs.declared.ValueId.{ValueId}
 use Rattle.wire.specs.declared.TypeId.{TypeId}
 use Rattle.wire.specs.declared.Value.{Value}
+use Rattle.form.specs.declared.Bounds.{Bounds}
+use Rattle.index.specs.Table.{recordedIn}
+use Rattle.eligibility.specs.Family.{Marks}
 use Rattle.eligibility.specs.Lookup.{Types}
 use Rattle.rewriting.specs.State.{AggStates, stateOf}
 use Rattle.rewriting.specs.Rebuild.{Rebuilt, Wanted, keepValue, oneValue, aggregateType, returnType}
+use Rattle.parts.specs.Rows.{Rep}
+use Rattle.progress.specs.Ground.{Ground}
 use Rattle.wanting.specs.declared.Asks.{Asks}
 use Rattle.wanting.specs.declared.Wants.{Wants}
+
+-- the tables say what is tracked, and which types there are and which are recorded
+pub record Setting (b : Bounds) (s facts : List ℕ) (tracked : Marks) (rows : List ℕ) (τ : Types) (S : AggStates) : Type 0 where
+  pub used : ℕ
+  pub ground : Ground b s facts (recordedIn facts) τ
+  pub rep : Rep (b .next) s tracked rows used S
 
 -- the type asked of value i, which is x: the i-th of the types that stand in t, or its recorded type
 abbrev pub askedAt : Types → List ℕ → Asks → ℕ → Value → Option TypeId

@@ -16,8 +16,9 @@ use Rattle.wire.specs.Value.{boolByte}
 use Rattle.wire.specs.WellFormed.{Bytes}
 use Rattle.wire.specs.declared.Cause.{Cause}
 use Rattle.wire.specs.declared.TypeId.{TypeId}
-use Rattle.wire.proofs.Inv.{both, and-inv, cond-inv}
-use Rattle.wire.proofs.Canon.{Canon}
+use Rattle.wire.proofs.Inv.{both, image, and-inv, map-inv, cond-inv}
+use Rattle.wire.proofs.Canon.{Canon, bytes-drop}
+use Rattle.form.specs.Decode.{definedsOf}
 use Rattle.form.specs.Encode.{blockIdBytes, typeIdBytes, eachBytes, optionBytes, stands}
 use Rattle.canon.specs.WellFormed.{Wide, Each, FitOption}
 use Rattle.canon.proofs.Exact.{Exact, After, then, last, alone, whole, within, tested, because, number, byte, sequence}
@@ -31,10 +32,11 @@ use Rattle.typetable.specs.Encode.{typesBytes}
 use Rattle.typetable.specs.WellFormed.{FitPart, FitTypes}
 use Rattle.typetable.proofs.Canon.{only, types-exact}
 use Rattle.routine.specs.Routine.{Routine}
-use Rattle.routine.specs.Decode.{atMost, lastByteOf, mapOf, hasRecorded, recordedTypeOf, recordedOf, boundsOf, Sizes, sizesOf, bodyOf, routineOf, ended, wholeOf}
+use Rattle.typetable.specs.Decode.{typesOf}
+use Rattle.routine.specs.Decode.{mosts, atMost, lastByteOf, mapOf, hasRecorded, recordedTypeOf, recordedOf, blocksOf, boundsOf, Sizes, sizesOf, bodyOf, routineOf, ended, wholeOf}
 use Rattle.routine.specs.Encode.{mapNumber, encode}
 use Rattle.whole.specs.WellFormed.{WellFormed}
-use Rattle.whole.proofs.Blocks.{blocks-exact}
+use Rattle.whole.proofs.Blocks.{blocks-exact, blocks-small}
 use Rattle.whole.proofs.Map.{Small, half, map-bit, map-fit, to-from, first-bit}
 
 -- bytes one after another are the bytes
@@ -210,3 +212,51 @@ whole-canon m s {r} {n} h e =
 -- what is accepted has a byte form
 pub whole-fit : (m : Mosts) (s : List ℕ) {r : Routine} {n : ℕ} → WideMosts m → Bytes s → wholeOf m s ≡ ok r n → WellFormed m r
 whole-fit m s {r} {n} w h e = routine-exact m .each s r n h (whole-inv m s e .0) .good w
+
+-- and is short: its places take 16 bits
+pub whole-short : (s : List ℕ) {r : Routine} {n : ℕ} → Bytes s → wholeOf mosts s ≡ ok r n → length s < 65536
+unfolding routineOf bodyOf
+whole-short s {r} {n} h e =
+    let w = whole-inv mosts s e in
+    elim (and-inv s (typesOf 64 16 s) _ (w .0)) [
+      | both ts i j p q c ↦
+          let t₁ = drop i s in
+          let h₁ = bytes-drop s i h in
+          elim (and-inv (drop i s) (sizesOf mosts (drop i s)) _ q) [
+            | both z i₂ j₂ p₂ q₂ c₂ ↦
+                let t₂ = drop i₂ (drop i s) in
+                let h₂ = bytes-drop t₁ i₂ h₁ in
+                let b = boundsOf mosts (length ts) (z .next) (z .blocks) in
+                let clear = replicate (z .next) false in
+                let y = sizes mosts .each t₁ z i₂ h₁ p₂ in
+                elim (and-inv t₂ (definedsOf 16 (z .next) clear t₂) _ q₂) [
+                  | both ps i₃ j₃ p₃ q₃ c₃ ↦
+                      let t₃ = drop i₃ t₂ in
+                      let h₃ = bytes-drop t₂ i₃ h₂ in
+                      elim (and-inv t₃ (mapOf (z .next) t₃) _ q₃) [
+                        | both map i₄ j₄ p₄ q₄ c₄ ↦
+                            let t₄ = drop i₄ t₃ in
+                            let h₄ = bytes-drop t₃ i₄ h₃ in
+                            let o = map-exact (z .next) .each t₃ map i₄ h₃ p₄ in
+                            elim (and-inv t₄ (recordedOf (length ts) map 0 (z .next) t₄) _ q₄) [
+                              | both rs i₅ j₅ p₅ q₅ c₅ ↦
+                                  elim (map-inv _ (blocksOf mosts b 0 (marks clear ps) (z .blocks) (drop i₅ t₄)) q₅) [
+                                    | image ks f g ↦
+                                        omega (
+                                          arith,
+                                          w .1,
+                                          types-exact 64 16 .each s ts i h p .small,
+                                          y .small,
+                                          y .good .0,
+                                          y .good .1,
+                                          dests b clear .each t₂ ps i₃ h₂ p₃ .small,
+                                          o .small,
+                                          recorded (length ts) map (o .good .1) 0 (z .next) .each t₄ rs i₅ h₄ p₅ .small,
+                                          blocks-small mosts b 0 (marks clear ps) (z .blocks) (drop i₅ t₄) (omega arith) (omega arith) (omega arith) (bytes-drop t₄ i₅ h₄) f,
+                                        )
+                                  ]
+                            ]
+                      ]
+                ]
+          ]
+    ]

@@ -1,6 +1,6 @@
 -- What a decoder's success says of its parts.
 use Prim.Native.Nat.{ℕ, zero, suc, _+_, _≤_, _<_}
-use mathlib.Core.Path.{_≡_, refl, ap, _∙_}
+use mathlib.Core.Path.{_≡_, refl, ap, _∙_, sym}
 use mathlib.Core.List.{List, [], _∷_, map}
 use mathlib.Core.Bool.{Bool, true, false, cond}
 use native.Mathlib.Omega.{arith}
@@ -41,6 +41,11 @@ and-inv s (bad c o) f e = absurd (no-ok e)
 pub map-inv : {A B : Type 0} (f : A → B) (d : Parse A) {b : B} {n : ℕ} → mapParse f d ≡ ok b n → Image f d b n
 map-inv f (ok a m) {b} {n} e = let p : b ≡ f a = cc in let q : m ≡ n = cc in image a (ap (ok a) q) p
 map-inv f (bad c o) e = absurd (no-ok e)
+
+-- what is made of the value does not move a refusal
+pub map-bad : {A B : Type 0} (f : A → B) (d : Parse A) {c : Cause} {o : ℕ} → mapParse f d ≡ bad c o → d ≡ bad c o
+map-bad f (ok a n) e = absurd (no-ok (sym e))
+map-bad f (bad k m) {c} {o} e = let p : k ≡ c = cc in let q : m ≡ o = cc in rw (p, q)
 
 -- a refusal unless a test holds
 pub cond-inv : {A : Type 0} (t : Bool) (x : Parse A) (c : Cause) (o : ℕ) {a : A} {n : ℕ} → cond t x (bad c o) ≡ ok a n → (t ≡ true) × (x ≡ ok a n)

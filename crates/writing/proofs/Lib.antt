@@ -1,9 +1,1 @@
-pub mod Fit
-pub mod TypesEnd
-pub mod Accepted
-pub mod Dropped
-pub mod Shelf
 pub mod Answered
-pub mod Still
-pub mod Copied
-pub mod Untouched

@@ -1,58 +1,38 @@
-// The output of a routine whose builds are chosen: measured, then written; or the input itself, where nothing is folded.
-pub mod same;
-
-use eligibility::Settings;
-use form::Bounds;
+// The output of a routine whose builds are chosen. The blocks are run over first, into a buffer of their own, which tells how
+// long they are and which fresh numbers they take; then the head is written, and the blocks behind it.
+use answers::Answer;
+use opening::Opened;
 use progress::Progress;
 use progress::Put;
+use progress::Setup;
 use rewriting::Counts;
-use shelving::ShelfReason;
-use wire::Cause;
-use wire::TypeId;
 ghost use mathlib.Core.Path.{_≡_};
-ghost use mathlib.Core.List.{List};
-ghost use Prim.Native.Nat.{ℕ, _+_, _≤_, _<_};
-ghost use lib.ListN.{length, getD};
-ghost use Rattle.wire.specs.WellFormed.{Bytes};
-ghost use Rattle.typetable.specs.Syntax.{MirType};
-ghost use Rattle.typetable.specs.Index.{TypesAt};
-ghost use Rattle.typetable.specs.Encode.{typesBytes};
+ghost use Prim.Native.Nat.{_+_, _≤_};
+ghost use lib.ListN.{length};
+ghost use lib.Seq.{sets};
 ghost use Rattle.rewriting.specs.Run.{rewrittenBlocks};
-ghost use Rattle.shelf.specs.Answer.{answer as given};
+ghost use Rattle.parts.specs.Rows.{freshIn};
 ghost use Rattle.progress.specs.Effect.{PutLow};
-ghost use Rattle.writing.specs.Numbers.{Answers};
-ghost use Rattle.writing.specs.Tables.{Chosen, startAt, Runs, Measured};
+ghost use Rattle.shelf.specs.Answer.{answer as given};
+ghost use Rattle.answers.specs.Numbers.{Answers};
+ghost use Rattle.keeping.specs.Accepted.{Chosen};
+ghost use Rattle.writing.specs.Runs.{bodyOf, Runs, Begun, Measured};
 
-// What a call answers.
-pub enum Answer {
-    // Rows 1 to 9 of document 01's table: the input is no routine; with the offset.
-    Malformed(Cause, usize),
-    // Row 10: an array rebuild meets another count.
-    Clash,
-    // Row 11: the output is longer than the lent buffer.
-    NoRoom,
-    // Row 12: max_aggregate_size is above 16.
-    TooLarge,
-    // The result, the counts, the shelf reason, and how many bytes the rewritten routine has.
-    Lowered(bool, Counts, ShelfReason, usize),
-}
-
-// The place behind the type table, whose `many` types stand at `types`.
-fn types_end(types: &[usize], many: u16) -> usize
-    requires { ⌜ getD (now types) many 0 < 1099511627776 ⌝ }
-    ensures { λ r. ⌜ ((most : ℕ) (s : List ℕ) (ts : List MirType) → Bytes s → TypesAt most s (now (types .entry)) ts → length ts ≡ many → r ≡ length (typesBytes ts)) ⌝ }
-{
-    let from = typetable::type_place(types, TypeId(0));
-    let to = typetable::type_place(types, TypeId(many));
-    if to < from {
-        return 0;
-    }
-    2 + (to - from)
-}
-
-// Nothing is written yet, and the output is to begin at `to`.
-fn start_at(to: usize) -> Progress
-    ensures { λ r. ⌜ r ≡ startAt to ⌝ }
+// Writes the blocks from `to` on; `work` is given the types of the fresh numbers, `dropped` the marks of the values that are
+// left out.
+fn run_blocks(
+    s: &[u8],
+    setup: Setup,
+    facts: &[u16],
+    choice: &[bool],
+    to: usize,
+    dropped: &mut [bool],
+    work: &mut [u16],
+    out: &mut [u8],
+) -> Put
+    requires { ⌜ (to ≤ 67108864) × ((setup .bounds .blocks ≤ 32) × (2432 ≤ length (now work))) ⌝ }
+    ensures { λ r. ⌜ PutLow 4300 r ⌝ }
+    ensures { λ r. ⌜ ((h : Chosen (setup .settings) (now (s .entry)) (now (facts .entry)) (setup .bounds) (now (choice .entry))) → Runs (rewrittenBlocks (setup .settings) (h .accepted .routine)) to (now (out .entry)) (freshIn (now (work .entry))) (now (dropped .entry)) (now (out .exit)) (freshIn (now (work .exit))) (now (dropped .exit)) r) ⌝ }
 {
     let none = Counts {
         builds: 0,
@@ -61,185 +41,112 @@ fn start_at(to: usize) -> Progress
         assigns: 0,
         materializations: 0,
     };
-    Progress {
+    let start = Progress {
         to: to,
         lines: 0,
         fresh: 0,
         counts: none,
-    }
-}
-
-// Writes the blocks from `to` on, with working tables of its own; `fresh` is given the types of the fresh numbers, `dropped` the marks
-// of the values that are left out.
-fn run_blocks(
-    s: &[u8],
-    b: Bounds,
-    settings: Settings,
-    types: &[usize],
-    recorded: &[u16],
-    blocks: &[usize],
-    places: &[usize],
-    starts: &[u16],
-    folded: &[bool],
-    skips: &[bool],
-    out: &mut [u8],
-    to: usize,
-    fresh: &mut [u16],
-    dropped: &mut [bool],
-) -> Put
-    requires { ⌜ (to ≤ 67108864) × ((b .blocks ≤ 32) × (length (now s) < 1099511627776)) ⌝ }
-    ensures { λ r. ⌜ PutLow 4300 r ⌝ }
-    ensures { λ r. ⌜ ((h : Chosen settings (now (s .entry)) (now (types .entry)) (now (recorded .entry)) (now (blocks .entry)) b (now (places .entry)) (now (starts .entry)) (now (folded .entry)) (now (skips .entry))) → Runs (rewrittenBlocks settings (h .accepted .routine)) to (now (out .entry)) (now (fresh .entry)) (now (dropped .entry)) (now (out .exit)) (now (fresh .exit)) (now (dropped .exit)) r) ⌝ }
-{
+    };
     let mut tracked: [bool; 256] = [false; 256];
-    let mut firsts: [u16; 256] = [0; 256];
-    let mut pool: [usize; 2176] = [0; 2176];
     walking::put_blocks(
         s,
-        b,
-        settings,
-        types,
-        recorded,
-        blocks,
-        places,
-        starts,
-        b.blocks,
-        folded,
-        skips,
+        setup,
+        facts,
+        choice,
+        start,
         &mut tracked,
-        &mut firsts,
-        &mut pool,
-        out,
-        start_at(to),
-        fresh,
         dropped,
+        work,
+        out,
     )
 }
 
-// The next value of the output.
-fn next_value(next: u16, fresh: u32) -> u16
-    requires { ⌜ fresh < 4294901760 ⌝ }
-    ensures { λ r. ⌜ (next + fresh < 65536 → r ≡ next + fresh) ⌝ }
+// Writes the blocks from `to` on, where there is room for their `size` bytes: copied from `body`, where a run wrote them, or by
+// another run, where they are longer than that.
+fn put_body(
+    s: &[u8],
+    setup: Setup,
+    facts: &[u16],
+    choice: &[bool],
+    body: &[u8],
+    size: usize,
+    out: &mut [u8],
+    to: usize,
+)
+    requires { ⌜ (to ≤ 67108864) × ((setup .bounds .blocks ≤ 32) × (to + size ≤ length (now out))) ⌝ }
+    ensures { λ _. ⌜ ((h : Chosen (setup .settings) (now (s .entry)) (now (facts .entry)) (setup .bounds) (now (choice .entry))) → Begun (rewrittenBlocks (setup .settings) (h .accepted .routine)) (now (body .entry)) size → now (out .exit) ≡ sets (now (out .entry)) to (bodyOf (rewrittenBlocks (setup .settings) (h .accepted .routine)))) ⌝ }
 {
-    ((next as u32 + fresh) % 65536) as u16
+    if size <= body.len() {
+        keeping::copy_whole(&body[..size], out, to);
+        return;
+    }
+    let mut work: [u16; 7040] = [0; 7040];
+    let mut dropped: [bool; 256] = [false; 256];
+    run_blocks(s, setup, facts, choice, to, &mut dropped, &mut work, out);
 }
 
-// Writes the output where it has room; `p` and `fresh` are what a run over `nothing` gave, which has no bytes.
+// Writes the output where it has room; `p`, `fresh`, `dropped` and `body` are what a run gave.
 fn write_measured(
     s: &[u8],
-    b: Bounds,
-    settings: Settings,
-    types: &[usize],
-    recorded: &[u16],
-    blocks: &[usize],
-    places: &[usize],
-    starts: &[u16],
-    folded: &[bool],
-    skips: &[bool],
-    fresh: &mut [u16],
+    setup: Setup,
+    facts: &[u16],
+    choice: &[bool],
     p: Progress,
-    nothing: &mut [u8],
+    fresh: &[u16],
+    dropped: &[bool],
+    body: &[u8],
     out: &mut [u8],
 ) -> Answer
-    requires { ⌜ Measured settings (now s) (now types) (now recorded) (now blocks) b (now places) (now starts) (now folded) (now skips) (now fresh) p ⌝ }
-    ensures { λ r. ⌜ Answers (given settings (length (now (out .entry))) (now (s .entry))) r (now (out .entry)) (now (out .exit)) ⌝ }
+    requires { ⌜ Measured (setup .settings) (now s) (now facts) (setup .bounds) (now choice) (now fresh) (now dropped) (now body) p ⌝ }
+    ensures { λ r. ⌜ Answers (given (setup .settings) (length (now (out .entry))) (now (s .entry))) r (now (out .entry)) (now (out .exit)) ⌝ }
 {
-    let at = types_end(types, b.types);
-    let head = head::put_head(nothing, s, at, recorded, b.next, fresh, p.fresh);
-    if out.len() < head + p.to {
-        return Answer::NoRoom;
-    }
-    let to = head::put_head(out, s, at, recorded, b.next, fresh, p.fresh);
-    let mut dropped: [bool; 256] = [false; 256];
-    match run_blocks(
-        s,
-        b,
-        settings,
-        types,
-        recorded,
-        blocks,
-        places,
-        starts,
-        folded,
-        skips,
-        out,
-        to,
-        fresh,
-        &mut dropped,
-    ) {
-        Put::Clash => Answer::Clash,
-        Put::Went(q) => {
-            let c = q.counts;
-            let next = next_value(b.next, q.fresh);
-            let reason = shelving::reason(
-                s,
-                b,
-                types,
-                recorded,
-                at + 6,
-                places,
-                starts,
-                out,
-                to,
-                next,
-                &dropped,
-            );
-            Answer::Lowered(0 < c.builds, c, reason, q.to)
+    let b = setup.bounds;
+    let mut nothing: [u8; 0] = [0; 0];
+    match opening::put_opening(s, b, facts, fresh, p.fresh, p.to, &mut nothing, out) {
+        Opened::NoRoom => Answer::NoRoom,
+        Opened::Head(to) => {
+            put_body(s, setup, facts, choice, body, p.to, out, to);
+            let next = (b.next as u32 + p.fresh) as u16;
+            let reason = shelving::reason(s, b, facts, out, to, next, dropped);
+            answers::lowered(p.counts, reason, to + p.to)
         }
     }
 }
 
-// Measures the output, then writes it.
+// Runs over the blocks, then writes the output.
 pub fn lower_folded(
     s: &[u8],
-    b: Bounds,
-    settings: Settings,
-    types: &[usize],
-    recorded: &[u16],
-    blocks: &[usize],
-    places: &[usize],
-    starts: &[u16],
-    folded: &[bool],
-    skips: &[bool],
+    setup: Setup,
+    facts: &[u16],
+    choice: &[bool],
     out: &mut [u8],
 ) -> Answer
-    requires { ⌜ Chosen settings (now s) (now types) (now recorded) (now blocks) b (now places) (now starts) (now folded) (now skips) ⌝ }
-    ensures { λ r. ⌜ Answers (given settings (length (now (out .entry))) (now (s .entry))) r (now (out .entry)) (now (out .exit)) ⌝ }
+    requires { ⌜ Chosen (setup .settings) (now s) (now facts) (setup .bounds) (now choice) ⌝ }
+    ensures { λ r. ⌜ Answers (given (setup .settings) (length (now (out .entry))) (now (s .entry))) r (now (out .entry)) (now (out .exit)) ⌝ }
 {
-    let mut fresh: [u16; 4608] = [0; 4608];
-    let mut nothing: [u8; 0] = [0; 0];
-    let mut marks: [bool; 256] = [false; 256];
+    let mut work: [u16; 7040] = [0; 7040];
+    let mut dropped: [bool; 256] = [false; 256];
+    let mut body: [u8; 8192] = [0; 8192];
     match run_blocks(
         s,
-        b,
-        settings,
-        types,
-        recorded,
-        blocks,
-        places,
-        starts,
-        folded,
-        skips,
-        &mut nothing,
+        setup,
+        facts,
+        choice,
         0,
-        &mut fresh,
-        &mut marks,
+        &mut dropped,
+        &mut work,
+        &mut body,
     ) {
         Put::Clash => Answer::Clash,
         Put::Went(p) => write_measured(
             s,
-            b,
-            settings,
-            types,
-            recorded,
-            blocks,
-            places,
-            starts,
-            folded,
-            skips,
-            &mut fresh,
+            setup,
+            facts,
+            choice,
             p,
-            &mut nothing,
+            &work[2432..],
+            &dropped,
+            &body,
             out,
         ),
     }

@@ -1,32 +1,42 @@
+use borrow.Author.Needs.{needs}
 use Rattle.agreeing.proofs.one_agrees.Statement.{statement}
 use Rattle.agreeing.proofs.one_agrees.Tie as tie
-use mathlib.Core.Path.{ap, _∙_}
 use mathlib.Core.List.{[]}
-use lib.ListN.{drop}
-use Rattle.agreeing.proofs.Whole.{one-told}
-use borrow.Author.Needs.{needs}
+use Rattle.agreeing.proofs.Whole.{slot-told}
 
-fields-place-requires : tie.Need-fields-place-requires
-fields-place-requires c κs = search needs
+place-requires : tie.Need-place-requires
+place-requires c κs = search needs
 
 tail-requires : tie.Need-tail-requires
 tail-requires c κs = search needs
 
-byte-at-requires : tie.Need-byte-at-requires
-byte-at-requires c κs = search needs
+fields-place-requires : tie.Need-fields-place-requires
+fields-place-requires c κs = search needs
+
+tail-requires-2 : tie.Need-tail-requires-2
+tail-requires-2 c κs = search needs
+
+recorded-requires : tie.Need-recorded-requires
+recorded-requires c κs = search needs
+
+kind-requires : tie.Need-kind-requires
+kind-requires c κs = search needs
 
 agrees-requires : tie.Need-agrees-requires
 agrees-requires c κs = search needs
 
 returns : tie.Need-returns
-returns c = λ τ i n g e. one-told (c .before .before .before .before .before .before .before .before .args .b) (c .before .before .before .before .before .before .before .before .args .u .now) (c .before .before .tail .result .now) (c .before .byte-at .result) i n e (c .before .before .tail .ensures ∙ ap (λ m. drop m (c .before .before .before .before .before .before .before .before .args .u .now)) (c .before .before .before .fields-place .ensures)) (c .before .byte-at .ensures) (λ k m h. c .agrees .ensures τ [] k (i .kind) m g h)
+returns c = let a = c .before .before .before .before .before .before .before .before .before .args in λ τ i g w. slot-told (a .b) (a .s .now) (a .facts .now) (a .slot) (c .before .before .before .before .before .before .place .ensures .0) (c .before .before .before .before .before .tail .ensures) (c .before .before .before .before .fields-place .ensures) (c .before .before .before .tail2 .ensures) (c .before .kind .ensures) i w (λ k m h. c .agrees .ensures τ [] k (i .kind) m (rw (c .before .before .recorded .ensures) g) h)
 
 pub one-agrees-spec : {M : Type 1} → statement M
 one-agrees-spec =
     tie.close
     (tie.spec
-    fields-place-requires
+    place-requires
     tail-requires
-    byte-at-requires
+    fields-place-requires
+    tail-requires-2
+    recorded-requires
+    kind-requires
     agrees-requires
     returns)

@@ -1,31 +1,61 @@
+use borrow.Author.Needs.{needs}
 use Rattle.apart.proofs.kept_apart.Statement.{statement}
 use Rattle.apart.proofs.kept_apart.Tie as tie
-use borrow.Author.Needs.{needs}
-use mathlib.Core.Path.{_∙_}
-use native.Mathlib.Omega.{arith}
-use Rattle.marking.proofs.Marking.{apart-all}
+use mathlib.Core.Path.{refl}
+use Prim.Native.Nat.{_-_}
+use Rattle.marking.specs.Tests.{partsClear, eachKind}
+use Rattle.marking.proofs.Scanning.{Tested, tested-again, tested-stop, tested-done}
+use Rattle.marking.proofs.Bases.{apart-all}
 
-slice-aggregate-mark-bases : tie.Need-slice-aggregate-mark-bases
+abbrev Inv-loop : tie.InvT-loop
+Inv-loop s b facts marks k₀ k = Tested b s facts (λ τ x. eachKind (partsClear marks) (x .instructions)) k
+
+abbrev μ-loop : tie.MeasureT-loop
+μ-loop s b facts marks k₀ k = b .blocks - k
+
+slice-aggregate-mark-bases : tie.Need-slice-aggregate-mark-bases Inv-loop μ-loop
 slice-aggregate-mark-bases c = search needs
 
-mark-bases-requires : tie.Need-mark-bases-requires
+mark-bases-requires : tie.Need-mark-bases-requires Inv-loop μ-loop
 mark-bases-requires c κs = search needs
 
-slice-aggregate-parts-apart : tie.Need-slice-aggregate-parts-apart
-slice-aggregate-parts-apart c = search needs
+loop-holds : tie.Need-loop-holds Inv-loop μ-loop
+loop-holds c = λ τ ks a. refl
 
-parts-apart-requires : tie.Need-parts-apart-requires
-parts-apart-requires c κs = search needs
+slice-aggregate-parts-block : tie.Need-slice-aggregate-parts-block Inv-loop μ-loop
+slice-aggregate-parts-block c = search needs
 
-returns : tie.Need-returns
-returns c = let a = c .before .before .before .before .before .before .before .before .before .before .args in λ τ ks g e m. c .parts-apart .ensures ks e m (omega (arith, g .listed, g .projected)) ∙ apart-all (a .b) (a .s .now) (a .types .now) (a .recorded .now) τ ks _ g (c .before .before .before .mark-bases .ensures τ ks g e m)
+parts-block-requires : tie.Need-parts-block-requires Inv-loop μ-loop
+parts-block-requires c κs = search needs
+
+returns : tie.Need-returns Inv-loop μ-loop
+returns c = let a = c .before .before .before .before .before .before .before .before .before .before .before .args in apart-all (a .b) (a .s .now) (a .facts .now) _ (c .before .before .before .before .before .before .before .mark-bases .ensures) (tested-stop (a .b) (a .s .now) (a .facts .now) _ (c .before .before .before .before .before .loop .inv) (c .before .before .before .if1 .taken) (c .before .parts-block .ensures) (c .if2 .taken))
+
+add-k : tie.Need-add-k Inv-loop μ-loop
+add-k c = search needs
+
+loop-less : tie.Need-loop-less Inv-loop μ-loop
+loop-less c = search needs
+
+loop-again : tie.Need-loop-again Inv-loop μ-loop
+loop-again c = let a = c .before .before .before .before .before .before .before .before .before .before .before .args in tested-again (a .b) (a .s .now) (a .facts .now) _ (c .before .before .before .before .before .loop .inv) (c .before .before .before .if1 .taken) (c .before .parts-block .ensures) (c .if2 .left)
+
+returns-2 : tie.Need-returns-2 Inv-loop μ-loop
+returns-2 c = let a = c .before .before .before .before .before .before .before .before .args in apart-all (a .b) (a .s .now) (a .facts .now) _ (c .before .before .before .before .mark-bases .ensures) (tested-done (a .b) (a .s .now) (a .facts .now) _ (c .before .before .loop .inv) (c .if1 .left))
 
 pub kept-apart-spec : {M : Type 1} → statement M
 kept-apart-spec =
     tie.close
     (tie.spec
+    Inv-loop
+    μ-loop
     slice-aggregate-mark-bases
     mark-bases-requires
-    slice-aggregate-parts-apart
-    parts-apart-requires
-    returns)
+    loop-holds
+    slice-aggregate-parts-block
+    parts-block-requires
+    returns
+    add-k
+    loop-less
+    loop-again
+    returns-2)

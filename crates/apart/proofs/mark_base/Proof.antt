@@ -1,41 +1,45 @@
+use borrow.Author.Needs.{needs}
 use Rattle.apart.proofs.mark_base.Statement.{statement}
 use Rattle.apart.proofs.mark_base.Tie as tie
-use borrow.Author.Needs.{needs}
-use Rattle.marking.proofs.Marking.{base-other, base-kept, base-marked}
+use Rattle.marking.proofs.Bases.{base-other, base-kept, base-marked}
 
-byte-at-requires : tie.Need-byte-at-requires
-byte-at-requires c κs = search needs
+kind-requires : tie.Need-kind-requires
+kind-requires c κs = search needs
 
 returns : tie.Need-returns
-returns c = let a = c .before .before .before .before .before .before .before .args in base-other (a .b) (a .s .now) (a .types .now) (a .recorded .now) (a .t .now) (a .marks .now) _ (c .before .byte-at .ensures) (c .if1 .taken)
+returns c = let a = c .before .before .before .before .before .args in base-other (a .b) (a .s .now) (a .facts .now) (a .slot) (a .marks .now) (c .before .kind .ensures) (c .if1 .taken)
 
-store-base-requires : tie.Need-store-base-requires
-store-base-requires c κs = search needs
+read-requires : tie.Need-read-requires
+read-requires c κs = search needs
 
 is-aggregate-requires : tie.Need-is-aggregate-requires
 is-aggregate-requires c κs = search needs
 
-mark-requires : tie.Need-mark-requires
-mark-requires c κs = search needs
+cast-set-flag : tie.Need-cast-set-flag
+cast-set-flag c = search needs
+
+set-flag-requires : tie.Need-set-flag-requires
+set-flag-requires c κs = search needs
 
 same-length : tie.Need-same-length
 same-length c = search needs
 
 returns-2 : tie.Need-returns-2
-returns-2 c = let a = c .before .before .before .before .before .before .before .before .before .before .before .before .before .before .args in base-marked (a .b) (a .s .now) (a .types .now) (a .recorded .now) (a .t .now) (a .marks .now) _ (c .before .before .before .before .before .before .before .before .byte-at .ensures) (c .before .before .before .before .before .before .before .if1 .left) _ _ (c .before .before .before .before .before .before .store-base .ensures) (c .before .before .before .before .before .is-aggregate .ensures) (c .before .before .before .before .if2 .taken) (c .before .before .mark .ensures)
+returns-2 c = let a = c .before .before .before .before .before .before .before .before .before .before .before .before .args in base-marked (a .b) (a .s .now) (a .facts .now) (a .slot) (a .marks .now) (c .before .before .before .before .before .before .before .before .kind .ensures) (c .before .before .before .before .before .before .before .if1 .left) (c .before .before .before .before .before .before .read .ensures) (c .before .before .before .before .before .is-aggregate .ensures) (c .before .before .before .before .if2 .taken) (c .before .before .set-flag .ensures)
 
 returns-3 : tie.Need-returns-3
-returns-3 c = let a = c .before .before .before .before .before .before .before .before .before .before .args in base-kept (a .b) (a .s .now) (a .types .now) (a .recorded .now) (a .t .now) (a .marks .now) _ (c .before .before .before .before .byte-at .ensures) (c .before .before .before .if1 .left) _ _ (c .before .before .store-base .ensures) (c .before .is-aggregate .ensures) (c .if2 .left)
+returns-3 c = let a = c .before .before .before .before .before .before .before .before .args in base-kept (a .b) (a .s .now) (a .facts .now) (a .slot) (a .marks .now) (c .before .before .before .before .kind .ensures) (c .before .before .before .if1 .left) (c .before .before .read .ensures) (c .before .is-aggregate .ensures) (c .if2 .left)
 
 pub mark-base-spec : {M : Type 1} → statement M
 mark-base-spec =
     tie.close
     (tie.spec
-    byte-at-requires
+    kind-requires
     returns
-    store-base-requires
+    read-requires
     is-aggregate-requires
-    mark-requires
+    cast-set-flag
+    set-flag-requires
     same-length
     returns-2
     returns-3)

@@ -1,23 +1,18 @@
+use borrow.Author.Needs.{needs}
 use Rattle.apart.proofs.mark_bases.Statement.{statement}
 use Rattle.apart.proofs.mark_bases.Tie as tie
-use borrow.Author.Needs.{needs}
 use Prim.Native.Nat.{_-_}
-use Rattle.marking.proofs.Marking.{Basing, basing-start, basing-again, basing-done}
+use mathlib.Core.Path.{refl}
+use Rattle.marking.proofs.Bases.{Basing, basing-again, basing-done}
 
 abbrev Inv-loop : tie.InvT-loop
-Inv-loop s b types recorded places starts many marks₀ k₀ marks k = Basing s b types recorded places starts many marks₀ marks k
+Inv-loop s b facts marks₀ k₀ marks k = Basing b s facts marks₀ marks k
 
 abbrev μ-loop : tie.MeasureT-loop
-μ-loop s b types recorded places starts many marks₀ k₀ marks k = many - k
+μ-loop s b facts marks₀ k₀ marks k = b .blocks - k
 
 loop-holds : tie.Need-loop-holds Inv-loop μ-loop
-loop-holds c = basing-start _ _ _ _ _ _ _ _
-
-block-places-requires : tie.Need-block-places-requires Inv-loop μ-loop
-block-places-requires c κs = search needs
-
-instruction-count-requires : tie.Need-instruction-count-requires Inv-loop μ-loop
-instruction-count-requires c κs = search needs
+loop-holds c = record { long = refl; left = λ τ ks a. refl }
 
 mark-block-requires : tie.Need-mark-block-requires Inv-loop μ-loop
 mark-block-requires c κs = search needs
@@ -29,13 +24,13 @@ loop-less : tie.Need-loop-less Inv-loop μ-loop
 loop-less c = search needs
 
 loop-again : tie.Need-loop-again Inv-loop μ-loop
-loop-again c = let a = c .before .before .before .before .before .before .before .before .before .before .before .before .before .before .args in let l = c .before .before .before .before .before .before .before .loop in basing-again (a .s .now) (a .b) (a .types .now) (a .recorded .now) (a .places .now) (a .starts .now) (a .many) _ (l .marks) _ (l .k) _ _ (l .inv) (c .before .before .before .before .before .before .loop-test .taken) (c .before .before .before .before .before .block-places .ensures) (c .before .before .before .before .instruction-count .ensures) (c .before .before .mark-block .ensures) (search needs)
+loop-again c = let a = c .before .before .before .before .before .before .before .before .before .before .args in basing-again (a .b) (a .s .now) (a .facts .now) (c .before .before .before .before .before .before .loop .inv) (c .before .before .before .before .if1 .taken) (c .before .before .mark-block .ensures) (search needs)
 
 same-length : tie.Need-same-length Inv-loop μ-loop
 same-length c = search needs
 
 returns : tie.Need-returns Inv-loop μ-loop
-returns c = let a = c .before .before .before .before .before .before .before .before .args in let l = c .before .loop in basing-done (a .s .now) (a .b) (a .types .now) (a .recorded .now) (a .places .now) (a .starts .now) (a .many) _ (l .marks) (l .k) (l .inv) (c .loop-test .left)
+returns c = let a = c .before .before .before .before .before .before .args in basing-done (a .b) (a .s .now) (a .facts .now) (c .before .before .loop .inv) (c .if1 .left)
 
 pub mark-bases-spec : {M : Type 1} → statement M
 mark-bases-spec =
@@ -44,8 +39,6 @@ mark-bases-spec =
     Inv-loop
     μ-loop
     loop-holds
-    block-places-requires
-    instruction-count-requires
     mark-block-requires
     add-k
     loop-less

@@ -1,11 +1,17 @@
+use borrow.Author.Needs.{needs}
 use Rattle.apart.proofs.parts_clear.Statement.{statement}
 use Rattle.apart.proofs.parts_clear.Tie as tie
-use borrow.Author.Needs.{needs}
 use mathlib.Core.Path.{refl}
-use Rattle.marking.proofs.Storing.{parts-store, parts-field, parts-tuple, parts-build, parts-none}
+use Rattle.marking.proofs.Storing.{parts-operand, parts-build, parts-none}
 
-byte-at-requires : tie.Need-byte-at-requires
-byte-at-requires c κs = search needs
+place-requires : tie.Need-place-requires
+place-requires c κs = search needs
+
+tail-requires : tie.Need-tail-requires
+tail-requires c κs = search needs
+
+kind-requires : tie.Need-kind-requires
+kind-requires c κs = search needs
 
 operand-requires : tie.Need-operand-requires
 operand-requires c κs = search needs
@@ -35,31 +41,33 @@ reads-clear-requires-3 : tie.Need-reads-clear-requires-3
 reads-clear-requires-3 c κs = search needs
 
 returns : tie.Need-returns
-returns c = let a = c .before .before .before .before .before .before .args in parts-store (a .b) (a .t .now) (a .marks .now) _ (c .before .before .before .byte-at .ensures) (c .before .before .match .keys1) (c .before .operand .result) (c .before .operand .ensures) (c .value-clear .ensures)
+returns c = let a = c .before .before .before .before .before .before .before .before .before .args in parts-operand (a .b) (a .s .now) (a .facts .now) (a .slot) (a .marks .now) (c .before .before .before .kind .ensures) 6 0 (λ i. refl) (c .before .before .match .keys1) (c .before .operand .result) (c .before .before .before .before .before .place .ensures .0) (c .before .before .before .before .tail .ensures) (c .before .operand .ensures) (c .value-clear .ensures)
 
 returns-2 : tie.Need-returns-2
-returns-2 c = let a = c .before .before .before .before .before .args in parts-build (a .b) (a .t .now) (a .marks .now) _ (c .before .before .byte-at .ensures) 10 (λ i. refl) (c .before .match .keys2) (c .reads-clear .ensures)
+returns-2 c = let a = c .before .before .before .before .before .before .before .before .args in parts-build (a .b) (a .s .now) (a .facts .now) (a .slot) (a .marks .now) (c .before .before .kind .ensures) 10 (λ i. refl) (c .before .match .keys2) (c .reads-clear .ensures)
 
 returns-3 : tie.Need-returns-3
-returns-3 c = let a = c .before .before .before .before .before .args in parts-build (a .b) (a .t .now) (a .marks .now) _ (c .before .before .byte-at .ensures) 12 (λ i. refl) (c .before .match .keys3) (c .reads-clear2 .ensures)
+returns-3 c = let a = c .before .before .before .before .before .before .before .before .args in parts-build (a .b) (a .s .now) (a .facts .now) (a .slot) (a .marks .now) (c .before .before .kind .ensures) 12 (λ i. refl) (c .before .match .keys3) (c .reads-clear2 .ensures)
 
 returns-4 : tie.Need-returns-4
-returns-4 c = let a = c .before .before .before .before .before .before .args in parts-field (a .b) (a .t .now) (a .marks .now) _ (c .before .before .before .byte-at .ensures) (c .before .before .match .keys4) (c .before .operand2 .result) (c .before .operand2 .ensures) (c .value-clear2 .ensures)
+returns-4 c = let a = c .before .before .before .before .before .before .before .before .before .args in parts-operand (a .b) (a .s .now) (a .facts .now) (a .slot) (a .marks .now) (c .before .before .before .kind .ensures) 14 1 (λ i. refl) (c .before .before .match .keys4) (c .before .operand2 .result) (c .before .before .before .before .before .place .ensures .0) (c .before .before .before .before .tail .ensures) (c .before .operand2 .ensures) (c .value-clear2 .ensures)
 
 returns-5 : tie.Need-returns-5
-returns-5 c = let a = c .before .before .before .before .before .before .args in parts-tuple (a .b) (a .t .now) (a .marks .now) _ (c .before .before .before .byte-at .ensures) (c .before .before .match .keys5) (c .before .operand3 .result) (c .before .operand3 .ensures) (c .value-clear3 .ensures)
+returns-5 c = let a = c .before .before .before .before .before .before .before .before .before .args in parts-operand (a .b) (a .s .now) (a .facts .now) (a .slot) (a .marks .now) (c .before .before .before .kind .ensures) 15 1 (λ i. refl) (c .before .before .match .keys5) (c .before .operand3 .result) (c .before .before .before .before .before .place .ensures .0) (c .before .before .before .before .tail .ensures) (c .before .operand3 .ensures) (c .value-clear3 .ensures)
 
 returns-6 : tie.Need-returns-6
-returns-6 c = let a = c .before .before .before .before .before .args in parts-build (a .b) (a .t .now) (a .marks .now) _ (c .before .before .byte-at .ensures) 16 (λ i. refl) (c .before .match .keys6) (c .reads-clear3 .ensures)
+returns-6 c = let a = c .before .before .before .before .before .before .before .before .args in parts-build (a .b) (a .s .now) (a .facts .now) (a .slot) (a .marks .now) (c .before .before .kind .ensures) 16 (λ i. refl) (c .before .match .keys6) (c .reads-clear3 .ensures)
 
 returns-7 : tie.Need-returns-7
-returns-7 c = let a = c .before .before .before .before .args in parts-none (a .b) (a .t .now) (a .marks .now) _ (c .before .byte-at .ensures) (c .match .rest .0 .0 .0 .0 .0 .1) (c .match .rest .0 .0 .0 .0 .1) (c .match .rest .0 .0 .0 .1) (c .match .rest .0 .0 .1) (c .match .rest .0 .1) (c .match .rest .1)
+returns-7 c = let a = c .before .before .before .before .before .before .before .args in let m = c .match .rest in parts-none (a .b) (a .s .now) (a .facts .now) (a .slot) (a .marks .now) (c .before .kind .ensures) (m .0 .0 .0 .0 .0 .1) (m .0 .0 .0 .0 .1) (m .0 .0 .0 .1) (m .0 .0 .1) (m .0 .1) (m .1)
 
 pub parts-clear-spec : {M : Type 1} → statement M
 parts-clear-spec =
     tie.close
     (tie.spec
-    byte-at-requires
+    place-requires
+    tail-requires
+    kind-requires
     operand-requires
     value-clear-requires
     reads-clear-requires

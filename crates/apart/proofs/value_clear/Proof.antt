@@ -1,7 +1,7 @@
+use borrow.Author.Needs.{needs}
 use Rattle.apart.proofs.value_clear.Statement.{statement}
 use Rattle.apart.proofs.value_clear.Tie as tie
-use borrow.Author.Needs.{needs}
-use Rattle.marking.proofs.Storing.{clear-nothing, clear-literal, clear-operand, clear-error}
+use Rattle.marking.proofs.Storing.{clear-nothing, clear-literal, clear-error, clear-operand}
 
 enum-told : tie.Need-enum-told
 enum-told c = search needs
@@ -15,8 +15,11 @@ enum-told-2 c = search needs
 enum-known-x : tie.Need-enum-known-x
 enum-known-x c = search needs
 
-is-marked-requires : tie.Need-is-marked-requires
-is-marked-requires c κs = search needs
+cast-flag : tie.Need-cast-flag
+cast-flag c = search needs
+
+flag-requires : tie.Need-flag-requires
+flag-requires c κs = search needs
 
 enum-told-3 : tie.Need-enum-told-3
 enum-told-3 c = search needs
@@ -28,7 +31,7 @@ returns-2 : tie.Need-returns-2
 returns-2 c = clear-literal (c .before .before .before .before .before .before .args .marks .now) (c .before .before .before .f .given .1) (c .enum-told2 .given .1)
 
 returns-3 : tie.Need-returns-3
-returns-3 c = clear-operand (c .before .before .before .before .before .before .before .before .args .marks .now) (c .before .before .before .before .before .f .given .1) (c .before .before .x .given .1) (c .is-marked .ensures)
+returns-3 c = clear-operand (c .before .before .before .before .before .before .before .before .before .args .marks .now) (c .before .before .before .before .before .before .f .given .1) (c .before .before .before .x .given .1) (c .flag .ensures)
 
 returns-4 : tie.Need-returns-4
 returns-4 c = clear-error (c .before .before .before .before .before .before .args .marks .now) (c .before .before .before .f .given .1) (c .enum-told3 .given .1)
@@ -41,7 +44,8 @@ value-clear-spec =
     enum-known-f
     enum-told-2
     enum-known-x
-    is-marked-requires
+    cast-flag
+    flag-requires
     enum-told-3
     returns
     returns-2

@@ -1,11 +1,18 @@
 use borrow.Author.Needs.{needs}
 use Rattle.chains.proofs.forward_store.Statement.{statement}
 use Rattle.chains.proofs.forward_store.Tie as tie
-use mathlib.Core.Path.{refl}
+use mathlib.Core.Path.{refl, ap, _∙_}
+use mathlib.Core.List.{[]}
+use mathlib.Core.Bool.{false}
+use lib.ListN.{drop}
+use Rattle.form.specs.Decode.{instructionOf}
 use native.Mathlib.Omega.{arith}
 use Rattle.chains.proofs.Walks.{looked}
 use Rattle.chains.proofs.Ends.{store-read, last-long}
-use Rattle.chains.proofs.Stored.{forwards-none, store-empty, store-stuck, store-ends, both-facts}
+use Rattle.chains.proofs.Stored.{forwards-none, store-empty, store-stuck, store-ends, both-facts, stored-value, fields-near}
+
+place-requires : tie.Need-place-requires
+place-requires c κs = search needs
 
 tail-requires : tie.Need-tail-requires
 tail-requires c κs = search needs
@@ -20,10 +27,10 @@ byte-at-requires : tie.Need-byte-at-requires
 byte-at-requires c κs = search needs
 
 returns : tie.Need-returns
-returns c = (omega arith, λ τ S i n p x y g r tb e k. both-facts (forwards-none (store-empty τ S p x (store-read _ (c .before .before .before .before .before .before .before .before .before .before .before .args .s .now) _ _ (c .before .before .before .before .before .before .before .before .before .before .before .args .at) _ i n p (c .before .before .before .before .tail .ensures) e (c .before .before .tail2 .ensures) (c .before .before .before .fields-place .ensures) k refl (c .before .byte-at .ensures)) (c .if1 .taken)) r))
+returns c = (omega arith, λ τ S i p x y o q k. let f = c .before .before .before .before .before .before .before .before .before .before .good .1 .0 .1 .1 in both-facts (forwards-none (store-empty τ S p x (store-read o (f .0 .1) (f .1 .1 .0 .1) p (c .before .before .before .before .tail .ensures ∙ ap (λ a. drop a (c .before .before .before .before .before .before .before .before .before .before .args .s .now)) (c .before .before .before .before .before .place .ensures .0)) (c .before .before .tail2 .ensures) (c .before .before .before .fields-place .ensures) k refl (c .before .byte-at .ensures)) (c .if1 .taken)) (o .rep)))
 
-u16-at-requires : tie.Need-u16-at-requires
-u16-at-requires c κs = search needs
+read-requires : tie.Need-read-requires
+read-requires c κs = search needs
 
 sub-holder : tie.Need-sub-holder
 sub-holder c = search needs
@@ -43,11 +50,17 @@ sub-projection c = search needs
 projection-requires : tie.Need-projection-requires
 projection-requires c κs = search needs
 
-stored-place-requires : tie.Need-stored-place-requires
-stored-place-requires c κs = search needs
+projections-end-requires : tie.Need-projections-end-requires
+projections-end-requires c κs = search needs
+
+add-store-last : tie.Need-add-store-last
+add-store-last c = omega (arith, fields-near (c .before .before .before .before .before .before .before .before .before .before .before .before .before .before .before .tail .result .now), c .before .before .before .before .before .before .before .before .before .before .before .before .before .before .fields-place .ensures, c .before .before .before .before .before .before .before .before .before .before .before .before .before .before .before .before .place .ensures .1)
+
+add-store-last-2 : tie.Need-add-store-last-2
+add-store-last-2 c = omega (arith, fields-near (c .before .before .before .before .before .before .before .before .before .before .before .before .before .before .before .tail .result .now), c .before .before .before .before .before .before .before .before .before .before .before .before .before .before .fields-place .ensures, c .before .before .before .before .before .before .before .before .before .before .before .before .before .before .before .before .place .ensures .1, c .before .before .projections-end .ensures .1)
 
 store-last-requires : tie.Need-store-last-requires
-store-last-requires c κs = c .before .before .before .before .before .before .before .before .before .before .before .before .before .before .before .before .before .before .before .before .before .before .before .before .pre
+store-last-requires c κs = c .before .before .before .before .before .before .before .before .before .before .before .before .before .before .before .before .before .before .before .before .before .pre
 
 same-length : tie.Need-same-length
 same-length c = search needs
@@ -55,57 +68,54 @@ same-length c = search needs
 same-length-2 : tie.Need-same-length-2
 same-length-2 c = search needs
 
-same-length-3 : tie.Need-same-length-3
-same-length-3 c = search needs
-
 returns-2 : tie.Need-returns-2
 returns-2 c = (
   omega arith,
-  λ τ S i n p x y g r tb e k.
-      let R = store-read _ (c .before .before .before .before .before .before .before .before .before .before .before .before .before .before .before .before .before .before .args .s .now) _ _ (c .before .before .before .before .before .before .before .before .before .before .before .before .before .before .before .before .before .before .args .at) _ i n p (c .before .before .before .before .before .before .before .before .before .before .before .tail .ensures) e (c .before .before .before .before .before .before .before .before .before .tail2 .ensures) (c .before .before .before .before .before .before .before .before .before .before .fields-place .ensures) k (c .before .before .before .before .before .before .u16-at .ensures) (c .before .before .before .before .before .before .before .before .byte-at .ensures) in
-      both-facts (forwards-none (store-stuck τ S p x R (c .before .before .before .before .before .before .before .if1 .left) (c .before .before .holder .ensures τ S (p .projections) (record { ground = g; used = _; rep = r }) (R .steps) (R .below) (last-long (p .projections) (R .long) (c .before .before .before .before .before .before .before .if1 .left))) (c .enum-told .given .1)) r),
+  λ τ S i p x y o q k.
+      let f = c .before .before .before .before .before .before .before .before .before .before .before .before .before .before .before .before .good .1 .0 .1 .1 in
+      let R = store-read o (f .0 .1) (f .1 .1 .0 .1) p (c .before .before .before .before .before .before .before .before .before .before .tail .ensures ∙ ap (λ a. drop a (c .before .before .before .before .before .before .before .before .before .before .before .before .before .before .before .before .args .s .now)) (c .before .before .before .before .before .before .before .before .before .before .before .place .ensures .0)) (c .before .before .before .before .before .before .before .before .tail2 .ensures) (c .before .before .before .before .before .before .before .before .before .fields-place .ensures) k (c .before .before .before .before .before .read .ensures) (c .before .before .before .before .before .before .before .byte-at .ensures) in
+      both-facts (forwards-none (store-stuck τ S p x R (c .before .before .before .before .before .before .if1 .left) (c .before .before .holder .ensures τ S (p .projections) (record { ground = o .ground; used = _; rep = o .rep }) (R .steps) (R .below) (last-long (p .projections) (R .long) (c .before .before .before .before .before .before .if1 .left))) (c .enum-told .given .1)) (o .rep)),
 )
+
+same-length-3 : tie.Need-same-length-3
+same-length-3 c = search needs
 
 same-length-4 : tie.Need-same-length-4
 same-length-4 c = search needs
 
-same-length-5 : tie.Need-same-length-5
-same-length-5 c = search needs
-
-same-length-6 : tie.Need-same-length-6
-same-length-6 c = search needs
-
 returns-3 : tie.Need-returns-3
 returns-3 c = (
-  c .before .before .before .before .before .before .store-last .ensures .0,
-  λ τ S i n p x y g r tb e k.
-      let R = store-read _ (c .before .before .before .before .before .before .before .before .before .before .before .before .before .before .before .before .before .before .before .before .before .before .before .before .before .before .before .before .before .before .before .args .s .now) _ _ (c .before .before .before .before .before .before .before .before .before .before .before .before .before .before .before .before .before .before .before .before .before .before .before .before .before .before .before .before .before .before .before .args .at) _ i n p (c .before .before .before .before .before .before .before .before .before .before .before .before .before .before .before .before .before .before .before .before .before .before .before .before .tail .ensures) e (c .before .before .before .before .before .before .before .before .before .before .before .before .before .before .before .before .before .before .before .before .before .before .tail2 .ensures) (c .before .before .before .before .before .before .before .before .before .before .before .before .before .before .before .before .before .before .before .before .before .before .before .fields-place .ensures) k (c .before .before .before .before .before .before .before .before .before .before .before .before .before .before .before .before .before .before .before .u16-at .ensures) (c .before .before .before .before .before .before .before .before .before .before .before .before .before .before .before .before .before .before .before .before .before .byte-at .ensures) in
-      both-facts (store-ends τ S p x R (c .before .before .before .before .before .before .before .before .before .before .before .before .before .before .before .before .before .before .before .before .if1 .left) _ (c .before .before .before .before .before .before .before .before .before .before .before .before .before .before .before .holder .ensures τ S (p .projections) (record { ground = g; used = _; rep = r }) (R .steps) (R .below) (last-long (p .projections) (R .long) (c .before .before .before .before .before .before .before .before .before .before .before .before .before .before .before .before .before .before .before .before .if1 .left))) (c .before .before .before .before .before .before .before .before .before .before .before .before .before .v .given .1) (c .before .before .before .before .before .before .before .before .before .before .before .projection .result) (looked _ _ _ (c .before .before .before .before .before .before .before .before .before .before .before .projection .result) (c .before .before .before .before .before .before .before .before .before .before .before .projection .ensures) (p .projections) (R .steps)) (λ q h f. c .before .before .before .before .before .before .store-last .ensures .1 τ S q x g r tb h f (c .before .before .before .before .before .before .before .before .before .before .stored-place .ensures _ i n p x y e k))),
+  c .before .before .before .before .store-last .ensures .0,
+  λ τ S i p x y o q k.
+      let f = c .before .before .before .before .before .before .before .before .before .before .before .before .before .before .before .before .before .before .before .before .before .before .before .before .before .before .good .1 .0 .1 .1 in
+      let R = store-read o (f .0 .1) (f .1 .1 .0 .1) p (c .before .before .before .before .before .before .before .before .before .before .before .before .before .before .before .before .before .before .before .before .tail .ensures ∙ ap (λ a. drop a (c .before .before .before .before .before .before .before .before .before .before .before .before .before .before .before .before .before .before .before .before .before .before .before .before .before .before .args .s .now)) (c .before .before .before .before .before .before .before .before .before .before .before .before .before .before .before .before .before .before .before .before .before .place .ensures .0)) (c .before .before .before .before .before .before .before .before .before .before .before .before .before .before .before .before .before .before .tail2 .ensures) (c .before .before .before .before .before .before .before .before .before .before .before .before .before .before .before .before .before .before .before .fields-place .ensures) k (c .before .before .before .before .before .before .before .before .before .before .before .before .before .before .before .read .ensures) (c .before .before .before .before .before .before .before .before .before .before .before .before .before .before .before .before .before .byte-at .ensures) in
+      both-facts (store-ends τ S p x R (c .before .before .before .before .before .before .before .before .before .before .before .before .before .before .before .before .if1 .left) _ (c .before .before .before .before .before .before .before .before .before .before .before .before .holder .ensures τ S (p .projections) (record { ground = o .ground; used = _; rep = o .rep }) (R .steps) (R .below) (last-long (p .projections) (R .long) (c .before .before .before .before .before .before .before .before .before .before .before .before .before .before .before .before .if1 .left))) (c .before .before .before .before .before .before .before .before .before .before .v .given .1) (c .before .before .before .before .before .before .before .before .projection .result) (looked _ _ _ (c .before .before .before .before .before .before .before .before .projection .result) (c .before .before .before .before .before .before .before .before .projection .ensures) (p .projections) (R .steps)) (λ z h e. c .before .before .before .before .store-last .ensures .1 τ S z x (o .ground) (o .rep) q h e (stored-value _ (c .before .before .before .before .before .before .before .before .before .before .before .before .before .before .before .before .before .before .before .before .before .before .before .before .before .before .args .s .now) _ _ _ _ _ _ i _ p x y (c .before .before .before .before .before .before .before .before .before .before .before .before .before .before .before .before .before .before .before .before .tail .ensures) (c .before .before .before .before .before .before .before .before .before .before .before .before .before .before .before .before .before .before .before .fields-place .ensures) (c .before .before .before .before .before .before .before .before .before .before .before .before .before .before .before .before .before .before .tail2 .ensures) (c .before .before .before .before .before .before .before .before .before .before .before .before .before .before .before .before .before .byte-at .ensures) (c .before .before .before .before .before .before .before .projections-end .ensures .0) (ap (λ a. instructionOf (c .before .before .before .before .before .before .before .before .before .before .before .before .before .before .before .before .before .before .before .before .before .before .before .before .before .before .args .b) [] false (drop a (c .before .before .before .before .before .before .before .before .before .before .before .before .before .before .before .before .before .before .before .before .before .before .before .before .before .before .args .s .now))) (c .before .before .before .before .before .before .before .before .before .before .before .before .before .before .before .before .before .before .before .before .before .place .ensures .0) ∙ o .line .read) k))),
 )
 
 pub forward-store-spec : {M : Type 1} → statement M
 forward-store-spec =
     tie.close
     (tie.spec
+    place-requires
     tail-requires
     fields-place-requires
     tail-requires-2
     byte-at-requires
     returns
-    u16-at-requires
+    read-requires
     sub-holder
     holder-requires
     enum-told
     enum-known-v
     sub-projection
     projection-requires
-    stored-place-requires
+    projections-end-requires
+    add-store-last
+    add-store-last-2
     store-last-requires
     same-length
     same-length-2
-    same-length-3
     returns-2
+    same-length-3
     same-length-4
-    same-length-5
-    same-length-6
     returns-3)

@@ -4,6 +4,9 @@ use Rattle.chains.proofs.store_last.Tie as tie
 use native.Mathlib.Omega.{arith}
 use Rattle.chains.proofs.Stored.{forwards-none, last-none, last-some}
 
+recorded-requires : tie.Need-recorded-requires
+recorded-requires c κs = search needs
+
 step-index-requires : tie.Need-step-index-requires
 step-index-requires c κs = search needs
 
@@ -22,25 +25,22 @@ same-length c = search needs
 same-length-2 : tie.Need-same-length-2
 same-length-2 c = search needs
 
-same-length-3 : tie.Need-same-length-3
-same-length-3 c = search needs
-
 returns : tie.Need-returns
-returns c = (c .before .before .before .before .before .before .store-part .ensures .0, λ τ S q y g r tb h e a. rw (last-some τ S _ q y _ (c .before .before .before .before .before .before .before .before .before .before .before .before .before .step-index .ensures τ q g h e) (c .before .before .before .before .before .before .before .before .before .before .before .k .given .1)) (c .before .before .before .before .before .before .store-part .ensures .1 _ _ S y r (record { mark = omega (arith, tb .mark, g .few, h); first = omega (arith, tb .first, g .few, h); places = tb .places }) a))
+returns c = (c .before .before .before .before .store-part .ensures .0, λ τ S q y g r tb h e a. rw (last-some τ S _ q y _ (c .before .before .before .before .before .before .before .before .before .before .step-index .ensures τ q (rw (c .before .before .before .before .before .before .before .before .before .before .before .recorded .ensures) g) h e) (c .before .before .before .before .before .before .before .before .k .given .1)) (c .before .before .before .before .store-part .ensures .1 _ _ S y r tb (omega (arith, g .few, h)) a))
 
 returns-2 : tie.Need-returns-2
-returns-2 c = (omega arith, λ τ S q y g r tb h e a. forwards-none (last-none τ S _ q y (c .before .before .step-index .ensures τ q g h e) (c .enum-told .given .1)) r)
+returns-2 c = (omega arith, λ τ S q y g r tb h e a. forwards-none (last-none τ S _ q y (c .before .before .step-index .ensures τ q (rw (c .before .before .before .recorded .ensures) g) h e) (c .enum-told .given .1)) r)
 
 pub store-last-spec : {M : Type 1} → statement M
 store-last-spec =
     tie.close
     (tie.spec
+    recorded-requires
     step-index-requires
     enum-known-k
     store-part-requires
     enum-told
     same-length
     same-length-2
-    same-length-3
     returns
     returns-2)

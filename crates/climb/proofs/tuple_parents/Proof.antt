@@ -1,17 +1,21 @@
+use borrow.Author.Needs.{needs}
 use Rattle.climb.proofs.tuple_parents.Statement.{statement}
 use Rattle.climb.proofs.tuple_parents.Tie as tie
-use mathlib.Core.Path.{refl, sym, _∙_}
-use borrow.Author.Tests.{not-true, not-false}
-use Rattle.climb.specs.Scanned.{sightOf}
+use mathlib.Core.Path.{refl, sym, ap, _∙_}
+use borrow.Author.Tests.{not-true, not-false, eq-eqb, ne-eqb}
+use Rattle.climb.specs.Scanned.{tuplesDown, sightOf}
+use Rattle.climb.specs.Edges.{tuplesClimb}
 use Rattle.climb.specs.Decided.{climbs}
 use Rattle.climb.proofs.Decide.{Testing, test-done, test-kind, test-other, test-on, test-stop}
-use borrow.Author.Needs.{needs}
 
 abbrev Inv-loop : tie.InvT-loop
-Inv-loop v children parents tuples many shapes buildable blocked i₀ i = Testing (climbs (sightOf shapes buildable blocked children parents many)) v tuples children parents many i
+Inv-loop v graph shapes i₀ i = Testing (climbs (sightOf shapes graph)) v graph i₀ i
 
 abbrev μ-loop : tie.MeasureT-loop
-μ-loop v children parents tuples many shapes buildable blocked i₀ i = i
+μ-loop v graph shapes i₀ i = i
+
+number-requires : tie.Need-number-requires Inv-loop μ-loop
+number-requires c κs = search needs
 
 loop-holds : tie.Need-loop-holds Inv-loop μ-loop
 loop-holds c = record { small = search needs; left = refl }
@@ -19,44 +23,56 @@ loop-holds c = record { small = search needs; left = refl }
 sub-i : tie.Need-sub-i Inv-loop μ-loop
 sub-i c = search needs
 
-cast-at : tie.Need-cast-at Inv-loop μ-loop
-cast-at c = search needs
+cast-e : tie.Need-cast-e Inv-loop μ-loop
+cast-e c = search needs
 
-flag-requires : tie.Need-flag-requires Inv-loop μ-loop
-flag-requires c κs = search needs
+mul-e : tie.Need-mul-e Inv-loop μ-loop
+mul-e c = search needs
 
-number-requires : tie.Need-number-requires Inv-loop μ-loop
-number-requires c κs = search needs
+add-e : tie.Need-add-e Inv-loop μ-loop
+add-e c = search needs
+
+add-number : tie.Need-add-number Inv-loop μ-loop
+add-number c = search needs
 
 number-requires-2 : tie.Need-number-requires-2 Inv-loop μ-loop
 number-requires-2 c κs = search needs
+
+number-requires-3 : tie.Need-number-requires-3 Inv-loop μ-loop
+number-requires-3 c κs = search needs
+
+add-number-2 : tie.Need-add-number-2 Inv-loop μ-loop
+add-number-2 c = search needs
+
+number-requires-4 : tie.Need-number-requires-4 Inv-loop μ-loop
+number-requires-4 c κs = search needs
 
 can-scalarize-requires : tie.Need-can-scalarize-requires Inv-loop μ-loop
 can-scalarize-requires c κs = search needs
 
 returns : tie.Need-returns Inv-loop μ-loop
-returns c = let a = c .before .before .before .before .before .before .before .before .before .before .before .before .before .before .before .args in test-stop (climbs (sightOf (a .shapes .now) (a .buildable .now) (a .blocked .now) (a .children .now) (a .parents .now) (a .many))) (a .v) (a .tuples .now) (a .children .now) (a .parents .now) (a .many) (c .before .before .before .before .before .before .before .before .loop .i) (c .before .before .before .before .before .before .before .before .loop .inv) (c .before .before .before .before .before .before .before .loop-test .taken) (sym (c .before .before .before .before .before .before .flag .ensures) ∙ c .before .before .before .before .before .if1 .taken) (sym (c .before .before .before .before .number .ensures) ∙ c .before .before .before .if2 .taken) (c .before .before .number2 .result) (c .before .before .number2 .ensures) (c .before .can-scalarize .result) (c .before .can-scalarize .ensures) (not-true _ (c .if3 .taken))
+returns c = let a = c .before .before .before .before .before .before .before .before .before .before .before .before .args in test-stop (climbs (sightOf (a .shapes .now) (a .graph .now))) (a .v) (a .graph .now) (c .before .before .before .before .before .before .before .before .before .number .result) (c .before .before .before .before .before .before .before .before .loop .i) (c .before .before .before .before .before .before .before .before .loop .inv) (c .before .before .before .before .before .before .before .loop-test .taken) (eq-eqb _ _ (sym (c .before .before .before .before .before .before .number2 .ensures) ∙ c .before .before .before .before .before .if1 .taken)) (sym (c .before .before .before .before .number3 .ensures) ∙ c .before .before .before .if2 .taken) (c .before .before .number4 .result) (c .before .before .number4 .ensures) (c .before .can-scalarize .result) (c .before .can-scalarize .ensures) (not-true _ (c .if3 .taken)) ∙ ap (λ n. tuplesClimb (climbs (sightOf (a .shapes .now) (a .graph .now))) (a .v) (tuplesDown (a .graph .now) n)) (c .before .before .before .before .before .before .before .before .before .number .ensures)
 
 loop-less : tie.Need-loop-less Inv-loop μ-loop
 loop-less c = search needs
 
 loop-again : tie.Need-loop-again Inv-loop μ-loop
-loop-again c = let a = c .before .before .before .before .before .before .before .before .before .before .before .before .before .before .before .args in test-on (climbs (sightOf (a .shapes .now) (a .buildable .now) (a .blocked .now) (a .children .now) (a .parents .now) (a .many))) (a .v) (a .tuples .now) (a .children .now) (a .parents .now) (a .many) (c .before .before .before .before .before .before .before .before .loop .i) (c .before .before .before .before .before .before .before .before .loop .inv) (c .before .before .before .before .before .before .before .loop-test .taken) (sym (c .before .before .before .before .before .before .flag .ensures) ∙ c .before .before .before .before .before .if1 .taken) (sym (c .before .before .before .before .number .ensures) ∙ c .before .before .before .if2 .taken) (c .before .before .number2 .result) (c .before .before .number2 .ensures) (c .before .can-scalarize .result) (c .before .can-scalarize .ensures) (not-false _ (c .if3 .left))
+loop-again c = let a = c .before .before .before .before .before .before .before .before .before .before .before .before .args in test-on (climbs (sightOf (a .shapes .now) (a .graph .now))) (a .v) (a .graph .now) (c .before .before .before .before .before .before .before .before .before .number .result) (c .before .before .before .before .before .before .before .before .loop .i) (c .before .before .before .before .before .before .before .before .loop .inv) (c .before .before .before .before .before .before .before .loop-test .taken) (eq-eqb _ _ (sym (c .before .before .before .before .before .before .number2 .ensures) ∙ c .before .before .before .before .before .if1 .taken)) (sym (c .before .before .before .before .number3 .ensures) ∙ c .before .before .before .if2 .taken) (c .before .before .number4 .result) (c .before .before .number4 .ensures) (c .before .can-scalarize .result) (c .before .can-scalarize .ensures) (not-false _ (c .if3 .left))
 
 loop-less-2 : tie.Need-loop-less-2 Inv-loop μ-loop
 loop-less-2 c = search needs
 
 loop-again-2 : tie.Need-loop-again-2 Inv-loop μ-loop
-loop-again-2 c = let a = c .before .before .before .before .before .before .before .before .before .before .before .before .args in test-other (climbs (sightOf (a .shapes .now) (a .buildable .now) (a .blocked .now) (a .children .now) (a .parents .now) (a .many))) (a .v) (a .tuples .now) (a .children .now) (a .parents .now) (a .many) (c .before .before .before .before .before .loop .i) (c .before .before .before .before .before .loop .inv) (c .before .before .before .before .loop-test .taken) (sym (c .before .before .before .flag .ensures) ∙ c .before .before .if1 .taken) (λ e. c .if2 .left (c .before .number .ensures ∙ e))
+loop-again-2 c = let a = c .before .before .before .before .before .before .before .before .before .args in test-other (climbs (sightOf (a .shapes .now) (a .graph .now))) (a .v) (a .graph .now) (c .before .before .before .before .before .before .number .result) (c .before .before .before .before .before .loop .i) (c .before .before .before .before .before .loop .inv) (c .before .before .before .before .loop-test .taken) (eq-eqb _ _ (sym (c .before .before .before .number2 .ensures) ∙ c .before .before .if1 .taken)) (λ e. c .if2 .left (c .before .number3 .ensures ∙ e))
 
 loop-less-3 : tie.Need-loop-less-3 Inv-loop μ-loop
 loop-less-3 c = search needs
 
 loop-again-3 : tie.Need-loop-again-3 Inv-loop μ-loop
-loop-again-3 c = let a = c .before .before .before .before .before .before .before .before .before .before .args in test-kind (climbs (sightOf (a .shapes .now) (a .buildable .now) (a .blocked .now) (a .children .now) (a .parents .now) (a .many))) (a .v) (a .tuples .now) (a .children .now) (a .parents .now) (a .many) (c .before .before .before .loop .i) (c .before .before .before .loop .inv) (c .before .before .loop-test .taken) (sym (c .before .flag .ensures) ∙ c .if1 .left)
+loop-again-3 c = let a = c .before .before .before .before .before .before .before .args in test-kind (climbs (sightOf (a .shapes .now) (a .graph .now))) (a .v) (a .graph .now) (c .before .before .before .before .number .result) (c .before .before .before .loop .i) (c .before .before .before .loop .inv) (c .before .before .loop-test .taken) (ne-eqb _ _ (λ e. c .if1 .left (c .before .number2 .ensures ∙ e)))
 
 returns-2 : tie.Need-returns-2 Inv-loop μ-loop
-returns-2 c = let a = c .before .before .before .before .before .before .before .before .args in test-done (climbs (sightOf (a .shapes .now) (a .buildable .now) (a .blocked .now) (a .children .now) (a .parents .now) (a .many))) (a .v) (a .tuples .now) (a .children .now) (a .parents .now) (a .many) (c .before .loop .i) (c .before .loop .inv) (c .loop-test .left)
+returns-2 c = let a = c .before .before .before .before .before .args in test-done (climbs (sightOf (a .shapes .now) (a .graph .now))) (a .v) (a .graph .now) (c .before .before .number .result) (c .before .loop .i) (c .before .loop .inv) (c .loop-test .left) ∙ ap (λ n. tuplesClimb (climbs (sightOf (a .shapes .now) (a .graph .now))) (a .v) (tuplesDown (a .graph .now) n)) (c .before .before .number .ensures)
 
 pub tuple-parents-spec : {M : Type 1} → statement M
 tuple-parents-spec =
@@ -64,12 +80,17 @@ tuple-parents-spec =
     (tie.spec
     Inv-loop
     μ-loop
+    number-requires
     loop-holds
     sub-i
-    cast-at
-    flag-requires
-    number-requires
+    cast-e
+    mul-e
+    add-e
+    add-number
     number-requires-2
+    number-requires-3
+    add-number-2
+    number-requires-4
     can-scalarize-requires
     returns
     loop-less

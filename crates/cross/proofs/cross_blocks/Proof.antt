@@ -1,7 +1,6 @@
 use borrow.Author.Needs.{needs}
 use Rattle.cross.proofs.cross_blocks.Statement.{statement}
 use Rattle.cross.proofs.cross_blocks.Tie as tie
-use native.Mathlib.Omega.{arith}
 use Rattle.cross.proofs.Crossing.{crossed-all}
 
 note-readers-requires : tie.Need-note-readers-requires
@@ -17,7 +16,7 @@ same-length-2 : tie.Need-same-length-2
 same-length-2 c = search needs
 
 returns : tie.Need-returns
-returns c = let a = c .before .before .before .before .before .before .before .before .before .before .before .before .before .before .before .before .before .args in λ most σ τ ks ta tm v n fa code l few each small er ec. crossed-all σ τ ks (a .shapes .now) (a .eligible .now) (a .readers .now) _ (a .b .next) (a .marks .now) _ (c .before .before .before .before .before .before .before .note-readers .ensures ks code l small (omega arith)) er ec fa v n (λ ready long. c .before .before .cross-read .ensures most σ τ ks ready ta tm code l (omega arith) each long)
+returns c = let a = c .before .before .before .before .before .before .before .before .before .before .before .before .before .before .before .args in λ e. crossed-all (a .b) (a .s .now) (a .facts .now) (a .shapes .now) (a .eligible .now) _ (a .readers .now) (a .marks .now) _ e (c .before .before .before .before .before .before .before .note-readers .ensures) (λ σ τ ks. c .before .before .cross-read .ensures τ ks σ)
 
 pub cross-blocks-spec : {M : Type 1} → statement M
 cross-blocks-spec =

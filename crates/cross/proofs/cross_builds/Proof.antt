@@ -1,41 +1,60 @@
+use borrow.Author.Needs.{needs}
 use Rattle.cross.proofs.cross_builds.Statement.{statement}
 use Rattle.cross.proofs.cross_builds.Tie as tie
-use borrow.Author.Needs.{needs}
 use Prim.Native.Nat.{_-_}
+use native.Mathlib.Omega.{arith}
 use Rattle.cross.proofs.Crossing.{Building, building-start, building-again, building-done}
 
 abbrev Inv-loop : tie.InvT-loop
-Inv-loop own s b places count sources dests asked copied shapes eligible readers marks₀ k₀ marks k = Building s b places count sources dests asked copied shapes eligible readers own marks₀ marks k
+Inv-loop k s b facts copies shapes eligible readers marks₀ own count rows j₀ marks j = Building b s facts shapes eligible readers copies k count marks₀ marks j
 
 abbrev μ-loop : tie.MeasureT-loop
-μ-loop own s b places count sources dests asked copied shapes eligible readers marks₀ k₀ marks k = count - k
+μ-loop k s b facts copies shapes eligible readers marks₀ own count rows j₀ marks j = count - j
+
+block-number-requires : tie.Need-block-number-requires Inv-loop μ-loop
+block-number-requires c κs = search needs
+
+instruction-count-requires : tie.Need-instruction-count-requires Inv-loop μ-loop
+instruction-count-requires c κs = search needs
+
+first-slot-requires : tie.Need-first-slot-requires Inv-loop μ-loop
+first-slot-requires c κs = search needs
+
+row-place-requires : tie.Need-row-place-requires Inv-loop μ-loop
+row-place-requires c κs = search needs
 
 loop-holds : tie.Need-loop-holds Inv-loop μ-loop
-loop-holds c = building-start _ _ _ _ _ _ _ _ _ _ _ _ _
+loop-holds c = building-start _ _ _ _ _ _ _ _ _ _
 
-place-at-requires : tie.Need-place-at-requires Inv-loop μ-loop
-place-at-requires c κs = search needs
+cast-eligible-build : tie.Need-cast-eligible-build Inv-loop μ-loop
+cast-eligible-build c = search needs
 
-tail-requires : tie.Need-tail-requires Inv-loop μ-loop
-tail-requires c κs = search needs
+mul-eligible-build : tie.Need-mul-eligible-build Inv-loop μ-loop
+mul-eligible-build c = search needs
+
+add-eligible-build : tie.Need-add-eligible-build Inv-loop μ-loop
+add-eligible-build c = omega (arith, c .before .before .row-place .ensures)
+
+eligible-build-requires : tie.Need-eligible-build-requires Inv-loop μ-loop
+eligible-build-requires c κs = omega (arith, c .before .before .row-place .ensures)
 
 cross-build-requires : tie.Need-cross-build-requires Inv-loop μ-loop
-cross-build-requires c κs = c .before .before .before .before .before .before .before .before .before .before .before .before .before .before .pre
+cross-build-requires c κs = c .before .before .before .before .before .before .before .block-number .ensures .0
 
-add-k : tie.Need-add-k Inv-loop μ-loop
-add-k c = search needs
+add-j : tie.Need-add-j Inv-loop μ-loop
+add-j c = search needs
 
 loop-less : tie.Need-loop-less Inv-loop μ-loop
 loop-less c = search needs
 
 loop-again : tie.Need-loop-again Inv-loop μ-loop
-loop-again c = let a = c .before .before .before .before .before .before .before .before .before .before .before .before .before .before .before .before .before .args in let l = c .before .before .before .before .before .before .before .loop in building-again (a .s .now) (a .b) (a .places .now) (a .count) (a .sources .now) (a .dests .now) (a .asked .now) (a .copied) (a .shapes .now) (a .eligible .now) (a .readers .now) (a .own) _ (l .marks) (c .before .before .cross-build .last .1 .1 .1 .1 .1 .1 .1 .1 .1 .1 .1 .0) (l .k) _ _ (l .inv) (c .before .before .before .before .before .before .loop-test .taken) (c .before .before .before .before .before .place-at .ensures) (c .before .before .before .before .tail .ensures) (c .before .before .cross-build .ensures) (search needs)
+loop-again c = let a = c .before .before .before .before .before .before .before .before .before .before .before .before .before .before .before .before .before .before .args in let l = c .before .before .before .before .before .before .loop in building-again (a .b) (a .s .now) (a .facts .now) (a .shapes .now) (a .eligible .now) (a .readers .now) (a .copies .now) (a .k) _ _ _ _ (c .before .before .before .before .before .before .before .before .before .before .block-number .ensures .1) (c .before .before .before .before .before .before .before .before .first-slot .ensures) (c .before .before .before .before .before .before .before .row-place .ensures) (c .before .before .before .before .before .before .before .before .before .instruction-count .ensures) _ (l .marks) _ (l .j) (c .before .before .before .before .eligible-build .result) (l .inv) (c .before .before .before .before .before .loop-test .taken) (c .before .before .before .before .eligible-build .ensures) (c .before .before .cross-build .ensures) (search needs)
 
 same-length : tie.Need-same-length Inv-loop μ-loop
 same-length c = search needs
 
 returns : tie.Need-returns Inv-loop μ-loop
-returns c = let a = c .before .before .before .before .before .before .before .before .before .before .before .args in let l = c .before .loop in building-done (a .s .now) (a .b) (a .places .now) (a .count) (a .sources .now) (a .dests .now) (a .asked .now) (a .copied) (a .shapes .now) (a .eligible .now) (a .readers .now) (a .own) _ (l .marks) (l .k) (l .inv) (c .loop-test .left)
+returns c = let a = c .before .before .before .before .before .before .before .before .before .before .before .before .before .args in let l = c .before .loop in λ τ ks p cp σ r lc. building-done (a .b) (a .s .now) (a .facts .now) (a .shapes .now) (a .eligible .now) (a .readers .now) (a .copies .now) (a .k) _ _ _ _ (c .before .before .before .before .before .block-number .ensures .1) (c .before .before .before .first-slot .ensures) (c .before .before .row-place .ensures) (c .before .before .before .before .instruction-count .ensures) _ (l .marks) (l .j) (l .inv) (c .loop-test .left) σ τ ks r p cp lc
 
 pub cross-builds-spec : {M : Type 1} → statement M
 cross-builds-spec =
@@ -43,11 +62,17 @@ cross-builds-spec =
     (tie.spec
     Inv-loop
     μ-loop
+    block-number-requires
+    instruction-count-requires
+    first-slot-requires
+    row-place-requires
     loop-holds
-    place-at-requires
-    tail-requires
+    cast-eligible-build
+    mul-eligible-build
+    add-eligible-build
+    eligible-build-requires
     cross-build-requires
-    add-k
+    add-j
     loop-less
     loop-again
     same-length

@@ -5,7 +5,7 @@ use native.Mathlib.Omega.{arith}
 use Rattle.cross.proofs.Uniting.{clear-part}
 
 returns : tie.Need-returns
-returns c = let t = c .if1 .taken in λ σ τ ks ta tm v n. absurd (omega arith)
+returns c = let t = c .if1 .taken in λ σ τ ks k. absurd (omega (arith, k .ground .few))
 
 cast-n : tie.Need-cast-n
 cast-n c = search needs
@@ -26,7 +26,7 @@ same-length : tie.Need-same-length
 same-length c = search needs
 
 returns-2 : tie.Need-returns-2
-returns-2 c = let a = c .before .before .before .before .before .before .before .before .before .before .before .before .before .before .before .before .args in λ σ τ ks ta tm v n fa code l few each small ec. c .before .before .before .cross-blocks .ensures (a .b .list) σ τ ks ta tm v n fa code l few each small (clear-part 0 (a .b .next) 256 n) ec
+returns-2 c = let a = c .before .before .before .before .before .before .before .before .before .before .before .before .before .before .args in λ σ τ ks k. c .before .before .before .cross-blocks .ensures (clear-part 0 (a .b .next) 256 (k .ground .few)) σ τ ks k
 
 pub cross-marks-spec : {M : Type 1} → statement M
 cross-marks-spec =

@@ -7,7 +7,7 @@ family-requires : tie.Need-family-requires
 family-requires c κs = search needs
 
 read-elsewhere-requires : tie.Need-read-elsewhere-requires
-read-elsewhere-requires c κs = search needs
+read-elsewhere-requires c κs = c .before .before .before .before .before .before .before .before .before .pre
 
 unite-requires : tie.Need-unite-requires
 unite-requires c κs = search needs
@@ -19,13 +19,13 @@ same-length-2 : tie.Need-same-length-2
 same-length-2 c = search needs
 
 returns : tie.Need-returns
-returns c = let a = c .before .before .before .before .before .before .before .before .before .before .before .before .before .before .before .before .before .before .args in λ τ ks x cp l sh m r lm. family-crosses (a .own) (a .v) _ (a .marks .now) (a .readers .now) _ (c .before .before .before .before .before .before .read-elsewhere .ensures .1) (c .before .before .before .before .before .if1 .taken) _ (c .before .before .unite .ensures) τ ks x (c .before .before .before .before .before .before .before .before .before .before .family .ensures τ (x .instructions) cp l sh m) r lm
+returns c = let a = c .before .before .before .before .before .before .before .before .before .before .before .before .before .before .before .before .args in λ next e τ ks x k s h l. family-crosses (a .own) (a .v) (a .copies .now) (a .count) (a .shape) (a .members .now) _ (a .marks .now) (a .readers .now) _ (c .before .before .before .before .before .before .before .before .before .before .family .ensures) (c .before .before .before .before .before .before .read-elsewhere .ensures .1) τ ks x next k s e (c .before .before .before .before .before .if1 .taken) _ (c .before .before .unite .ensures) l
 
 same-length-3 : tie.Need-same-length-3
 same-length-3 c = search needs
 
 returns-2 : tie.Need-returns-2
-returns-2 c = let a = c .before .before .before .before .before .before .before .before .before .before .before .before .before .args in λ τ ks x cp l sh m r lm. family-apart (a .own) (a .v) _ (a .marks .now) (a .readers .now) _ (c .before .read-elsewhere .ensures .1) (c .if1 .left) τ ks x (c .before .before .before .before .before .family .ensures τ (x .instructions) cp l sh m) r
+returns-2 c = let a = c .before .before .before .before .before .before .before .before .before .before .before .args in λ next e τ ks x k s h l. family-apart (a .own) (a .v) (a .copies .now) (a .count) (a .shape) (a .members .now) _ (a .marks .now) (a .readers .now) _ (c .before .before .before .before .before .family .ensures) (c .before .read-elsewhere .ensures .1) τ ks x next k s e (c .if1 .left)
 
 pub cross-members-spec : {M : Type 1} → statement M
 cross-members-spec =

@@ -1,27 +1,60 @@
 use borrow.Author.Needs.{needs}
 use Rattle.cross.proofs.eligible_build.Statement.{statement}
 use Rattle.cross.proofs.eligible_build.Tie as tie
-use Rattle.cross.proofs.Idle.{idle-none, idle-dest}
+use native.Mathlib.Omega.{arith}
+use mathlib.Core.Path.{refl}
+use Rattle.family.proofs.Scan.{headed}
+use Rattle.cross.proofs.Builds.{found-none, found-root, found-idle}
 
-build-dest-requires : tie.Need-build-dest-requires
-build-dest-requires c κs = search needs
+add-number : tie.Need-add-number
+add-number c = omega (arith, c .before .before .before .pre)
 
-enum-told : tie.Need-enum-told
-enum-told c = search needs
+number-requires : tie.Need-number-requires
+number-requires c κs = search needs
 
-enum-known-v : tie.Need-enum-known-v
-enum-known-v c = search needs
+place-requires : tie.Need-place-requires
+place-requires c κs = search needs
 
-is-marked-requires : tie.Need-is-marked-requires
-is-marked-requires c κs = search needs
+tail-requires : tie.Need-tail-requires
+tail-requires c κs = search needs
+
+fields-place-requires : tie.Need-fields-place-requires
+fields-place-requires c κs = search needs
+
+tail-requires-2 : tie.Need-tail-requires-2
+tail-requires-2 c κs = search needs
+
+u16-at-requires : tie.Need-u16-at-requires
+u16-at-requires c κs = search needs
+
+cast-flag : tie.Need-cast-flag
+cast-flag c = search needs
+
+flag-requires : tie.Need-flag-requires
+flag-requires c κs = search needs
 
 returns : tie.Need-returns
-returns c = λ h b i n e. idle-none (c .before .before .before .before .before .args .eligible .now) (b .next) (i .kind) (c .before .before .build-dest .ensures b i n e) (c .enum-told .given .1)
+returns c = let a = c .before .before .before .before .before .before .before .before .before .before .before .before .args in λ b slot i q h. found-root b _ _ _ _ _ (a .eligible .now) _ (c .before .before .before .before .fields-place .ensures) (c .before .before .before .tail2 .ensures) (c .before .before .u16-at .ensures) (c .before .flag .ensures) (c .before .before .before .before .before .before .before .match .keys1) i (headed b (a .s .now) (a .facts .now) slot (a .row) i _ _ _ q (c .before .before .before .before .before .before .before .before .number .ensures) (c .before .before .before .before .before .before .place .ensures) (c .before .before .before .before .before .tail .ensures) h) (c .if1 .taken)
 
 returns-2 : tie.Need-returns-2
-returns-2 c = λ h b i n e. idle-dest (c .before .before .before .before .before .before .before .args .eligible .now) (b .next) (i .kind) _ (c .before .before .before .before .build-dest .ensures b i n e) (c .before .before .v .given .1) (c .is-marked .ensures) h
+returns-2 c = let a = c .before .before .before .before .before .before .before .before .before .before .before .before .args in λ b slot i q h. found-idle b _ _ _ _ _ (a .eligible .now) _ (c .before .before .before .before .fields-place .ensures) (c .before .before .before .tail2 .ensures) (c .before .before .u16-at .ensures) (c .before .flag .ensures) (c .before .before .before .before .before .before .before .match .keys1) i (headed b (a .s .now) (a .facts .now) slot (a .row) i _ _ _ q (c .before .before .before .before .before .before .before .before .number .ensures) (c .before .before .before .before .before .before .place .ensures) (c .before .before .before .before .before .tail .ensures) h) (c .if1 .left)
+
+returns-3 : tie.Need-returns-3
+returns-3 c = let a = c .before .before .before .before .before .args in λ b slot i q h. found-none b _ _ (a .eligible .now) (c .match .rest .1) i (headed b (a .s .now) (a .facts .now) slot (a .row) i _ _ _ q (c .before .number .ensures) refl refl h)
 
 pub eligible-build-spec : {M : Type 1} → statement M
 eligible-build-spec =
     tie.close
-    (tie.spec build-dest-requires enum-told enum-known-v is-marked-requires returns returns-2)
+    (tie.spec
+    add-number
+    number-requires
+    place-requires
+    tail-requires
+    fields-place-requires
+    tail-requires-2
+    u16-at-requires
+    cast-flag
+    flag-requires
+    returns
+    returns-2
+    returns-3)

@@ -1,30 +1,43 @@
-use mathlib.Core.Bool.{true≢false}
+use borrow.Author.Needs.{needs}
 use Rattle.cross.proofs.has_build.Statement.{statement}
 use Rattle.cross.proofs.has_build.Tie as tie
-use borrow.Author.Needs.{needs}
 use Prim.Native.Nat.{_-_}
+use native.Mathlib.Omega.{arith}
+use mathlib.Core.Bool.{true≢false}
 use Rattle.cross.proofs.Idle.{Idling, idling-start, idling-again, idling-done}
 
 abbrev Inv-loop : tie.InvT-loop
-Inv-loop s places count eligible k₀ k = Idling s places count eligible k
+Inv-loop s facts first count eligible rows k₀ k = Idling s facts first count eligible k
 
 abbrev μ-loop : tie.MeasureT-loop
-μ-loop s places count eligible k₀ k = count - k
+μ-loop s facts first count eligible rows k₀ k = count - k
+
+row-place-requires : tie.Need-row-place-requires Inv-loop μ-loop
+row-place-requires c κs = search needs
 
 loop-holds : tie.Need-loop-holds Inv-loop μ-loop
-loop-holds c = idling-start _ _ _ _
+loop-holds c = idling-start _ _ _ _ _
 
-place-at-requires : tie.Need-place-at-requires Inv-loop μ-loop
-place-at-requires c κs = search needs
+cast-eligible-build : tie.Need-cast-eligible-build Inv-loop μ-loop
+cast-eligible-build c = search needs
 
-tail-requires : tie.Need-tail-requires Inv-loop μ-loop
-tail-requires c κs = search needs
+mul-eligible-build : tie.Need-mul-eligible-build Inv-loop μ-loop
+mul-eligible-build c = search needs
+
+add-eligible-build : tie.Need-add-eligible-build Inv-loop μ-loop
+add-eligible-build c = omega (arith, c .before .before .row-place .ensures)
 
 eligible-build-requires : tie.Need-eligible-build-requires Inv-loop μ-loop
-eligible-build-requires c κs = search needs
+eligible-build-requires c κs = omega (arith, c .before .before .row-place .ensures)
+
+enum-told : tie.Need-enum-told Inv-loop μ-loop
+enum-told c = search needs
 
 returns : tie.Need-returns Inv-loop μ-loop
 returns c = λ h. absurd (true≢false h)
+
+enum-told-2 : tie.Need-enum-told-2 Inv-loop μ-loop
+enum-told-2 c = search needs
 
 add-k : tie.Need-add-k Inv-loop μ-loop
 add-k c = search needs
@@ -33,10 +46,10 @@ loop-less : tie.Need-loop-less Inv-loop μ-loop
 loop-less c = search needs
 
 loop-again : tie.Need-loop-again Inv-loop μ-loop
-loop-again c = let a = c .before .before .before .before .before .before .before .before .before .args in let l = c .before .before .before .before .before .loop in idling-again (a .s .now) (a .places .now) (a .count) (a .eligible .now) (l .k) _ _ _ (l .inv) (c .before .before .before .before .loop-test .taken) (c .before .before .before .place-at .ensures) (c .before .before .tail .ensures) (c .before .eligible-build .ensures) (c .if1 .left)
+loop-again c = let a = c .before .before .before .before .before .before .before .before .before .args in let l = c .before .before .before .before .loop in idling-again (a .s .now) (a .facts .now) (a .first) (a .count) (a .eligible .now) _ (l .k) _ (c .before .before .before .before .before .row-place .ensures) (l .inv) (c .before .before .before .loop-test .taken) (c .before .before .eligible-build .ensures) (c .enum-told2 .given .1)
 
 returns-2 : tie.Need-returns-2 Inv-loop μ-loop
-returns-2 c = let a = c .before .before .before .before .before .args in let l = c .before .loop in λ h. idling-done (a .s .now) (a .places .now) (a .count) (a .eligible .now) (l .k) (l .inv) (c .loop-test .left)
+returns-2 c = let a = c .before .before .before .before .before .before .args in let l = c .before .loop in λ h. idling-done (a .s .now) (a .facts .now) (a .first) (a .count) (a .eligible .now) (l .k) (l .inv) (c .loop-test .left)
 
 pub has-build-spec : {M : Type 1} → statement M
 has-build-spec =
@@ -44,11 +57,15 @@ has-build-spec =
     (tie.spec
     Inv-loop
     μ-loop
+    row-place-requires
     loop-holds
-    place-at-requires
-    tail-requires
+    cast-eligible-build
+    mul-eligible-build
+    add-eligible-build
     eligible-build-requires
+    enum-told
     returns
+    enum-told-2
     add-k
     loop-less
     loop-again

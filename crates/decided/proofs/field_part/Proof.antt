@@ -1,6 +1,7 @@
 use borrow.Author.Needs.{needs}
 use Rattle.decided.proofs.field_part.Statement.{statement}
 use Rattle.decided.proofs.field_part.Tie as tie
+use native.Mathlib.Omega.{arith}
 use Rattle.decided.proofs.Actions.{init-none}
 use Rattle.decided.proofs.Structs.{field-literal, field-error, field-unknown, field-part}
 
@@ -12,6 +13,9 @@ enum-told-2 c = search needs
 
 enum-known-x : tie.Need-enum-known-x
 enum-known-x c = search needs
+
+recorded-requires : tie.Need-recorded-requires
+recorded-requires c κs = search needs
 
 value-field-index-requires : tie.Need-value-field-index-requires
 value-field-index-requires c κs = search needs
@@ -26,16 +30,16 @@ part-requires : tie.Need-part-requires
 part-requires c κs = search needs
 
 returns : tie.Need-returns
-returns c = λ most τ next used S g l w r. init-none (field-literal τ _ _ _ (c .enum-told .given .1))
+returns c = λ τ used S g w r. init-none (field-literal τ _ _ _ (c .enum-told .given .1))
 
 returns-2 : tie.Need-returns-2
-returns-2 c = λ most τ next used S g l w r. init-none (field-error τ _ _ _ (c .enum-told2 .given .1))
+returns-2 c = λ τ used S g w r. init-none (field-error τ _ _ _ (c .enum-told2 .given .1))
 
 returns-3 : tie.Need-returns-3
-returns-3 c = λ most τ next used S g l w r. init-none (field-unknown τ _ _ _ (c .before .before .before .before .x .given .1) (c .enum-told3 .given .1) (c .before .before .value-field-index .ensures most τ g l (w .each _ (c .before .before .before .before .x .given .1))))
+returns-3 c = λ τ used S g w r. init-none (field-unknown τ _ _ _ (c .before .before .before .before .before .x .given .1) (c .enum-told3 .given .1) (c .before .before .value-field-index .ensures (c .before .before .before .before .before .before .before .before .before .before .before .args .b .list) τ (rw (c .before .before .before .recorded .ensures) (g .known)) (g .rows) (omega (arith, g .values, w .each _ (c .before .before .before .before .before .x .given .1)))))
 
 returns-4 : tie.Need-returns-4
-returns-4 c = λ most τ next used S g l w r. field-part S τ _ _ (c .before .before .before .before .before .before .x .given .1) (c .before .before .k .given .1) (c .before .before .before .before .value-field-index .ensures most τ g l (w .each _ (c .before .before .before .before .before .before .x .given .1))) (c .part .ensures next _ used S r)
+returns-4 c = λ τ used S g w r. field-part S τ _ _ (c .before .before .before .before .before .before .before .x .given .1) (c .before .before .k .given .1) (c .before .before .before .before .value-field-index .ensures (c .before .before .before .before .before .before .before .before .before .before .before .before .before .args .b .list) τ (rw (c .before .before .before .before .before .recorded .ensures) (g .known)) (g .rows) (omega (arith, g .values, w .each _ (c .before .before .before .before .before .before .before .x .given .1)))) (c .part .ensures _ _ used S r)
 
 pub field-part-spec : {M : Type 1} → statement M
 field-part-spec =
@@ -44,6 +48,7 @@ field-part-spec =
     enum-told
     enum-told-2
     enum-known-x
+    recorded-requires
     value-field-index-requires
     enum-told-3
     enum-known-k

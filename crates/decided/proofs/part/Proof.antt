@@ -22,16 +22,16 @@ cast-if1 : tie.Need-cast-if1
 cast-if1 c = search needs
 
 returns : tie.Need-returns
-returns c = λ next s used S r. elim (has-parts (c .before .before .before .before .before .tracked-source .ensures next s _ _ _ S r) (c .before .before .before .v .given .1)) [ has xs e f ↦ part-past S _ _ xs e (omega (arith, c .if1 .taken, c .before .part-count .ensures .1 next s _ _ S xs r f)) ]
+returns c = λ next s used S r. elim (has-parts (c .before .before .before .before .before .tracked-source .ensures next s _ _ S r) (c .before .before .before .v .given .1)) [ has xs e f ↦ part-past S _ _ xs e (omega (arith, c .if1 .taken, c .before .part-count .ensures .1 next s _ _ S xs r f)) ]
 
 part-place-requires : tie.Need-part-place-requires
 part-place-requires c κs = search needs
 
 returns-2 : tie.Need-returns-2
-returns-2 c = λ next s used S r. part-none S _ _ (no-parts (c .before .before .tracked-source .ensures next s _ _ _ S r) (c .enum-told .given .1))
+returns-2 c = λ next s used S r. part-none S _ _ (no-parts (c .before .before .tracked-source .ensures next s _ _ S r) (c .enum-told .given .1))
 
 returns-3 : tie.Need-returns-3
-returns-3 c = λ next s used S r. elim (has-parts (c .before .before .before .before .before .before .tracked-source .ensures next s _ _ _ S r) (c .before .before .before .before .v .given .1)) [ has xs e f ↦ let k : c .before .before .before .before .before .before .before .before .before .before .args .k < length xs = omega (arith, c .before .if1 .left, c .before .before .part-count .ensures .1 next s _ _ S xs r f) in part-some S _ _ xs e k (c .part-place .ensures next s _ used S xs r f k) ]
+returns-3 c = λ next s used S r. elim (has-parts (c .before .before .before .before .before .before .tracked-source .ensures next s _ _ S r) (c .before .before .before .before .v .given .1)) [ has xs e f ↦ let k : c .before .before .before .before .before .before .before .before .before .args .k < length xs = omega (arith, c .before .if1 .left, c .before .before .part-count .ensures .1 next s _ _ S xs r f) in part-some S _ _ xs e k (c .part-place .ensures next s _ used S xs r f k) ]
 
 pub part-spec : {M : Type 1} → statement M
 part-spec =

@@ -1,12 +1,15 @@
 use borrow.Author.Needs.{needs}
 use Rattle.deciding.proofs.find_spot.Statement.{statement}
 use Rattle.deciding.proofs.find_spot.Tie as tie
+use mathlib.Core.Path.{_≡_, ap, _∙_}
 use native.Mathlib.Omega.{arith}
-use mathlib.Core.Path.{refl, ap, _∙_}
-use Prim.Native.Nat.{_+_}
-use lib.ListN.{getD}
+use lib.ListN.{drop}
+use Rattle.index.specs.Table.{placeIn}
 use Rattle.lookup.specs.Fields.{fieldsPlace}
-use Rattle.deciding.proofs.Rest.{fields-near}
+use Rattle.chains.proofs.Stored.{fields-near}
+
+place-requires : tie.Need-place-requires
+place-requires c κs = search needs
 
 tail-requires : tie.Need-tail-requires
 tail-requires c κs = search needs
@@ -15,18 +18,29 @@ fields-place-requires : tie.Need-fields-place-requires
 fields-place-requires c κs = search needs
 
 add-off : tie.Need-add-off
-add-off c = omega (arith, c .fields-place .ensures, fields-near (c .before .tail .result .now))
+add-off c = omega (arith, fields-near (c .before .tail .result .now), c .fields-place .ensures, c .before .before .place .ensures .1)
+
+end-requires : tie.Need-end-requires
+end-requires c κs = search needs
 
 u16-at-requires : tie.Need-u16-at-requires
 u16-at-requires c κs = search needs
 
-byte-at-requires : tie.Need-byte-at-requires
-byte-at-requires c κs = search needs
-
 returns : tie.Need-returns
-returns c = (omega (arith, c .before .before .fields-place .ensures, fields-near (c .before .before .before .tail .result .now)), record { place = refl; fields = ap (λ n. c .before .before .before .before .before .args .at + n) (c .before .before .fields-place .ensures ∙ ap fieldsPlace (c .before .before .before .tail .ensures)); dest = c .before .u16-at .ensures; kind = c .byte-at .ensures ∙ ap (λ l. getD l 1 0) (c .before .before .before .tail .ensures) })
+returns c =
+    let s = c .before .before .before .before .before .before .before .args .s .now in
+    let a = placeIn (c .before .before .before .before .before .before .before .args .facts .now) (c .before .before .before .before .before .before .before .args .slot) in
+    let f : c .before .before .fields-place .result ≡ fieldsPlace (drop a s) = c .before .before .fields-place .ensures ∙ ap fieldsPlace (c .before .before .before .tail .ensures ∙ ap (λ o. drop o s) (c .before .before .before .before .place .ensures .0)) in
+    (omega (arith, fields-near (c .before .before .before .tail .result .now), c .before .before .fields-place .ensures, c .before .before .before .before .place .ensures .1), record { fields = omega (arith, f, c .before .before .before .before .place .ensures .0); ends = c .before .end .ensures .0; dest = c .u16-at .ensures })
 
 pub find-spot-spec : {M : Type 1} → statement M
 find-spot-spec =
     tie.close
-    (tie.spec tail-requires fields-place-requires add-off u16-at-requires byte-at-requires returns)
+    (tie.spec
+    place-requires
+    tail-requires
+    fields-place-requires
+    add-off
+    end-requires
+    u16-at-requires
+    returns)

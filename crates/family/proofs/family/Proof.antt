@@ -3,19 +3,22 @@ use Rattle.family.proofs.family.Statement.{statement}
 use Rattle.family.proofs.family.Tie as tie
 use Prim.Native.Nat.{_-_}
 use borrow.Author.Tests.{not-true}
-use Rattle.family.proofs.Members.{Rounding, round-start, round-again, round-done, round-still}
+use Rattle.family.proofs.Members.{Rounding, round-start, round-again, round-still, round-done}
 
 abbrev Inv-loop : tie.InvT-loop
-Inv-loop sources dests asked count instructions shape marks₀ k₀ marks k = Rounding sources dests asked count shape instructions marks₀ marks k
+Inv-loop copies instructions shape marks₀ k₀ marks k = Rounding copies shape instructions marks₀ marks k
 
 abbrev μ-loop : tie.MeasureT-loop
-μ-loop sources dests asked count instructions shape marks₀ k₀ marks k = instructions - k
+μ-loop copies instructions shape marks₀ k₀ marks k = instructions - k
 
-mark-requires : tie.Need-mark-requires Inv-loop μ-loop
-mark-requires c κs = search needs
+cast-set-flag : tie.Need-cast-set-flag Inv-loop μ-loop
+cast-set-flag c = search needs
+
+set-flag-requires : tie.Need-set-flag-requires Inv-loop μ-loop
+set-flag-requires c κs = search needs
 
 loop-holds : tie.Need-loop-holds Inv-loop μ-loop
-loop-holds c = round-start _ _ _ _ _ _ _
+loop-holds c = round-start _ _ _ _
 
 sweep-requires : tie.Need-sweep-requires Inv-loop μ-loop
 sweep-requires c κs = search needs
@@ -24,7 +27,7 @@ same-length : tie.Need-same-length Inv-loop μ-loop
 same-length c = search needs
 
 returns : tie.Need-returns Inv-loop μ-loop
-returns c = let a = c .before .before .before .before .before .before .before .before .before .before .before .before .before .before .before .args in let l = c .before .before .before .before .before .before .loop in round-still (a .sources .now) (a .dests .now) (a .asked .now) (a .count) (a .shape) (a .instructions) (a .v) (a .marks .now) _ (l .marks) _ (l .k) (c .before .before .before .before .before .before .before .before .before .mark .ensures) (l .inv) (c .before .before .before .sweep .ensures .0) (c .before .before .before .sweep .ensures .1 (not-true _ (c .if1 .taken)))
+returns c = let a = c .before .before .before .before .before .before .before .before .before .before .before .before .before .before .args in let l = c .before .before .before .before .before .before .loop in round-still (a .copies .now) (a .shape) (a .instructions) (a .v) (a .marks .now) _ (l .marks) _ (l .k) (c .before .before .before .before .before .before .before .before .before .set-flag .ensures) (l .inv) (c .before .before .before .sweep .ensures .0) (c .before .before .before .sweep .ensures .1 (not-true _ (c .if1 .taken)))
 
 add-k : tie.Need-add-k Inv-loop μ-loop
 add-k c = search needs
@@ -33,13 +36,13 @@ loop-less : tie.Need-loop-less Inv-loop μ-loop
 loop-less c = search needs
 
 loop-again : tie.Need-loop-again Inv-loop μ-loop
-loop-again c = let a = c .before .before .before .before .before .before .before .before .before .before .before .before .before .before .before .args in let l = c .before .before .before .before .before .before .loop in round-again (a .sources .now) (a .dests .now) (a .asked .now) (a .count) (a .shape) (a .instructions) _ (l .marks) _ (l .k) (l .inv) (c .before .before .before .before .before .loop-test .taken) (c .before .before .before .sweep .ensures .0) (c .before .before .before .sweep .kept .1 .1 .1 .1 .1 .0)
+loop-again c = let a = c .before .before .before .before .before .before .before .before .before .before .before .before .before .before .args in let l = c .before .before .before .before .before .before .loop in round-again (a .copies .now) (a .shape) (a .instructions) _ (l .marks) _ (l .k) (l .inv) (c .before .before .before .before .before .loop-test .taken) (c .before .before .before .sweep .ensures .0) (c .before .before .before .sweep .kept .1 .1 .0)
 
 same-length-2 : tie.Need-same-length-2 Inv-loop μ-loop
 same-length-2 c = search needs
 
 returns-2 : tie.Need-returns-2 Inv-loop μ-loop
-returns-2 c = let a = c .before .before .before .before .before .before .before .before .before .before .args in let l = c .before .loop in round-done (a .sources .now) (a .dests .now) (a .asked .now) (a .count) (a .shape) (a .instructions) (a .v) (a .marks .now) _ (l .marks) (l .k) (c .before .before .before .before .mark .ensures) (l .inv) (c .loop-test .left)
+returns-2 c = let a = c .before .before .before .before .before .before .before .before .before .args in let l = c .before .loop in round-done (a .copies .now) (a .shape) (a .instructions) (a .v) (a .marks .now) _ (l .marks) (l .k) (c .before .before .before .before .set-flag .ensures) (l .inv) (c .loop-test .left)
 
 pub family-spec : {M : Type 1} → statement M
 family-spec =
@@ -47,7 +50,8 @@ family-spec =
     (tie.spec
     Inv-loop
     μ-loop
-    mark-requires
+    cast-set-flag
+    set-flag-requires
     loop-holds
     sweep-requires
     same-length

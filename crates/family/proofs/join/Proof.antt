@@ -1,67 +1,83 @@
+use mathlib.Core.Path.{refl}
 use borrow.Author.Needs.{needs}
 use Rattle.family.proofs.join.Statement.{statement}
 use Rattle.family.proofs.join.Tie as tie
-use mathlib.Core.Path.{refl}
 use mathlib.Core.Bool.{true≢false}
-use Rattle.family.proofs.Members.{join-unasked, join-outside, join-known, join-new}
+use Rattle.family.proofs.Members.{join-unasked, join-outside, join-new, join-known}
 
-shape-at-requires : tie.Need-shape-at-requires
-shape-at-requires c κs = search needs
+mul-at : tie.Need-mul-at
+mul-at c = search needs
+
+add-number : tie.Need-add-number
+add-number c = search needs
+
+number-requires : tie.Need-number-requires
+number-requires c κs = search needs
 
 asks-requires : tie.Need-asks-requires
 asks-requires c κs = search needs
 
 returns : tie.Need-returns
-returns c = let a = c .before .before .before .before .before .before .before .args in (join-unasked (a .shape) (a .marks .now) (a .sources .now) (a .dests .now) (a .asked .now) (a .k) _ _ (c .before .before .shape-at .ensures) (c .before .asks .ensures) (c .if1 .taken), λ z. refl)
+returns c = let a = c .before .before .before .before .before .args in (join-unasked (a .shape) (a .marks .now) (a .copies .now) (a .k) _ _ (c .before .before .number .ensures) (c .before .asks .ensures) (c .if1 .taken), λ z. refl)
 
-number-requires : tie.Need-number-requires
-number-requires c κs = search needs
+add-place : tie.Need-add-place
+add-place c = search needs
 
-is-marked-requires : tie.Need-is-marked-requires
-is-marked-requires c κs = search needs
+place-requires : tie.Need-place-requires
+place-requires c κs = search needs
+
+flag-requires : tie.Need-flag-requires
+flag-requires c κs = search needs
 
 same-length : tie.Need-same-length
 same-length c = search needs
 
 returns-2 : tie.Need-returns-2
-returns-2 c = let a = c .before .before .before .before .before .before .before .before .before .before .before .args in (join-outside (a .shape) (a .marks .now) (a .sources .now) (a .dests .now) (a .asked .now) (a .k) _ _ (c .before .before .before .before .before .before .shape-at .ensures) (c .before .before .before .before .before .asks .ensures) _ _ (c .before .before .number .ensures) (c .before .is-marked .ensures) (c .before .before .before .before .if1 .left) (c .if2 .taken), λ z. refl)
+returns-2 c = let a = c .before .before .before .before .before .before .before .before .before .args in (join-outside (a .shape) (a .marks .now) (a .copies .now) (a .k) _ _ (c .before .before .before .before .before .before .number .ensures) (c .before .before .before .before .before .asks .ensures) _ _ (c .before .before .place .ensures) (c .before .flag .ensures) (c .before .before .before .before .if1 .left) (c .if2 .taken), λ z. refl)
 
-number-requires-2 : tie.Need-number-requires-2
-number-requires-2 c κs = search needs
+add-place-2 : tie.Need-add-place-2
+add-place-2 c = search needs
 
-is-marked-requires-2 : tie.Need-is-marked-requires-2
-is-marked-requires-2 c κs = search needs
+place-requires-2 : tie.Need-place-requires-2
+place-requires-2 c κs = search needs
+
+flag-requires-2 : tie.Need-flag-requires-2
+flag-requires-2 c κs = search needs
 
 same-length-2 : tie.Need-same-length-2
 same-length-2 c = search needs
 
 returns-3 : tie.Need-returns-3
-returns-3 c = let a = c .before .before .before .before .before .before .before .before .before .before .before .before .before .before .before .args in (join-known (a .shape) (a .marks .now) (a .sources .now) (a .dests .now) (a .asked .now) (a .k) _ _ (c .before .before .before .before .before .before .before .before .before .before .shape-at .ensures) (c .before .before .before .before .before .before .before .before .before .asks .ensures) _ _ (c .before .before .before .before .before .before .number .ensures) (c .before .before .before .before .before .is-marked .ensures) (c .before .before .before .before .before .before .before .before .if1 .left) _ _ (c .before .before .before .number2 .ensures) (c .before .is-marked2 .ensures) (c .before .before .before .before .if2 .left) (c .if3 .taken), λ z. refl)
+returns-3 c = let a = c .before .before .before .before .before .before .before .before .before .before .before .before .before .args in (join-known (a .shape) (a .marks .now) (a .copies .now) (a .k) _ _ (c .before .before .before .before .before .before .before .before .before .before .number .ensures) (c .before .before .before .before .before .before .before .before .before .asks .ensures) _ _ (c .before .before .before .before .before .before .place .ensures) (c .before .before .before .before .before .flag .ensures) (c .before .before .before .before .before .before .before .before .if1 .left) _ _ (c .before .before .before .place2 .ensures) (c .before .flag2 .ensures) (c .before .before .before .before .if2 .left) (c .if3 .taken), λ z. refl)
 
-mark-requires : tie.Need-mark-requires
-mark-requires c κs = search needs
+set-flag-requires : tie.Need-set-flag-requires
+set-flag-requires c κs = search needs
 
 same-length-3 : tie.Need-same-length-3
 same-length-3 c = search needs
 
 returns-4 : tie.Need-returns-4
-returns-4 c = let a = c .before .before .before .before .before .before .before .before .before .before .before .before .before .before .before .before .before .before .before .args in (join-new (a .shape) (a .marks .now) (a .sources .now) (a .dests .now) (a .asked .now) (a .k) _ _ (c .before .before .before .before .before .before .before .before .before .before .before .before .before .before .shape-at .ensures) (c .before .before .before .before .before .before .before .before .before .before .before .before .before .asks .ensures) _ _ (c .before .before .before .before .before .before .before .before .before .before .number .ensures) (c .before .before .before .before .before .before .before .before .before .is-marked .ensures) (c .before .before .before .before .before .before .before .before .before .before .before .before .if1 .left) _ _ (c .before .before .before .before .before .before .before .number2 .ensures) (c .before .before .before .before .before .is-marked2 .ensures) (c .before .before .before .before .before .before .before .before .if2 .left) (c .before .before .mark .ensures), λ z. absurd (true≢false z))
+returns-4 c = let a = c .before .before .before .before .before .before .before .before .before .before .before .before .before .before .before .before .before .args in (join-new (a .shape) (a .marks .now) (a .copies .now) (a .k) _ _ (c .before .before .before .before .before .before .before .before .before .before .before .before .before .before .number .ensures) (c .before .before .before .before .before .before .before .before .before .before .before .before .before .asks .ensures) _ _ (c .before .before .before .before .before .before .before .before .before .before .place .ensures) (c .before .before .before .before .before .before .before .before .before .flag .ensures) (c .before .before .before .before .before .before .before .before .before .before .before .before .if1 .left) _ _ (c .before .before .before .before .before .before .before .place2 .ensures) (c .before .before .before .before .before .flag2 .ensures) (c .before .before .before .before .before .before .before .before .if2 .left) (c .before .before .set-flag .ensures), λ z. absurd (true≢false z))
 
 pub join-spec : {M : Type 1} → statement M
 join-spec =
     tie.close
     (tie.spec
-    shape-at-requires
+    mul-at
+    add-number
+    number-requires
     asks-requires
     returns
-    number-requires
-    is-marked-requires
+    add-place
+    place-requires
+    flag-requires
     same-length
     returns-2
-    number-requires-2
-    is-marked-requires-2
+    add-place-2
+    place-requires-2
+    flag-requires-2
     same-length-2
     returns-3
-    mark-requires
+    set-flag-requires
     same-length-3
     returns-4)

@@ -6,16 +6,25 @@ use Rattle.family.specs.Copies.{asCopy}
 use Rattle.family.proofs.Scan.{Scanning, scan-start, scan-again, scan-done}
 
 abbrev Inv-loop : tie.InvT-loop
-Inv-loop s types many b places count sources₀ dests₀ asked₀ dynamic₀ n₀ k₀ sources dests asked dynamic n k = Scanning s types many b places count sources₀ dests₀ asked₀ dynamic₀ sources dests asked dynamic n k
+Inv-loop s b facts first count copies₀ dynamic₀ n₀ k₀ row₀ copies dynamic n k row = Scanning s b facts first count copies₀ dynamic₀ copies dynamic n k row
 
 abbrev μ-loop : tie.MeasureT-loop
-μ-loop s types many b places count sources₀ dests₀ asked₀ dynamic₀ n₀ k₀ sources dests asked dynamic n k = count - k
+μ-loop s b facts first count copies₀ dynamic₀ n₀ k₀ row₀ copies dynamic n k row = count - k
+
+row-place-requires : tie.Need-row-place-requires Inv-loop μ-loop
+row-place-requires c κs = search needs
 
 loop-holds : tie.Need-loop-holds Inv-loop μ-loop
-loop-holds c = scan-start _ _ _ _ _ _ _ _ _ _
+loop-holds c = let a = c .before .before .before .before .before .args in scan-start (a .s .now) (a .b) (a .facts .now) (a .first) (a .count) _ _ _ (c .row-place .ensures)
 
-place-at-requires : tie.Need-place-at-requires Inv-loop μ-loop
-place-at-requires c κs = search needs
+add-number : tie.Need-add-number Inv-loop μ-loop
+add-number c = search needs
+
+number-requires : tie.Need-number-requires Inv-loop μ-loop
+number-requires c κs = search needs
+
+place-requires : tie.Need-place-requires Inv-loop μ-loop
+place-requires c κs = search needs
 
 tail-requires : tie.Need-tail-requires Inv-loop μ-loop
 tail-requires c κs = search needs
@@ -29,6 +38,9 @@ note-copy-requires c κs = search needs
 note-dynamic-requires : tie.Need-note-dynamic-requires Inv-loop μ-loop
 note-dynamic-requires c κs = search needs
 
+add-row : tie.Need-add-row Inv-loop μ-loop
+add-row c = search needs
+
 add-k : tie.Need-add-k Inv-loop μ-loop
 add-k c = search needs
 
@@ -36,7 +48,10 @@ loop-less : tie.Need-loop-less Inv-loop μ-loop
 loop-less c = search needs
 
 loop-again : tie.Need-loop-again Inv-loop μ-loop
-loop-again c = let a = c .before .before .before .before .before .before .before .before .before .before .before .before .before .before .before .before .before .before .before .before .before .before .before .before .before .before .args in let l = c .before .before .before .before .before .before .before .before .before .before .before .before .before .before .before .before .before .before .loop in scan-again (a .s .now) (a .types .now) (a .many) (a .b) (a .places .now) (a .count) _ _ _ _ (l .sources) (l .dests) (l .asked) (l .dynamic) (l .n) (l .k) _ _ _ _ _ _ _ (asCopy (c .before .before .before .before .before .before .before .before .before .before .before .before .before .before .copy-at .result)) (l .inv) (c .before .before .before .before .before .before .before .before .before .before .before .before .before .before .before .before .before .loop-test .taken) (c .before .before .before .before .before .before .before .before .before .before .before .before .before .before .before .before .place-at .ensures) (c .before .before .before .before .before .before .before .before .before .before .before .before .before .before .before .tail .ensures) (c .before .before .before .before .before .before .before .before .before .before .before .before .before .before .copy-at .ensures) (c .before .before .before .before .before .before .before .before .before .before .note-copy .ensures .0) (c .before .before .before .before .before .before .before .before .before .before .note-copy .ensures .1) (c .before .before .note-dynamic .ensures) (c .before .before .before .before .before .before .before .before .before .before .note-copy .kept .1 .1 .0) (c .before .before .before .before .before .before .before .before .before .before .note-copy .kept .1 .1 .1 .0) (c .before .before .before .before .before .before .before .before .before .before .note-copy .kept .1 .1 .1 .1 .0) (c .before .before .note-dynamic .kept .1 .1 .0)
+loop-again c = let a = c .before .before .before .before .before .before .before .before .before .before .before .before .before .before .before .before .before .before .before .args in let l = c .before .before .before .before .before .before .before .before .before .before .before .before .before .loop in scan-again (a .s .now) (a .b) (a .facts .now) (a .first) (a .count) _ _ (l .copies) (l .dynamic) (l .n) (l .k) (l .row) _ _ _ _ _ _ (asCopy (c .before .before .before .before .before .before .before .before .copy-at .result)) (l .inv) (c .before .before .before .before .before .before .before .before .before .before .before .before .loop-test .taken) (c .before .before .before .before .before .before .before .before .before .before .before .number .ensures) (c .before .before .before .before .before .before .before .before .before .before .place .ensures) (c .before .before .before .before .before .before .before .before .before .tail .ensures) (c .before .before .before .before .before .before .before .before .copy-at .ensures) (c .before .before .before .before .before .before .note-copy .ensures .0) (c .before .before .before .before .before .before .note-copy .ensures .1) (c .before .before .note-dynamic .ensures) (c .before .before .before .before .before .before .note-copy .kept .1 .1 .0) (c .before .before .note-dynamic .kept .1 .1 .1 .0)
+
+set-number-requires : tie.Need-set-number-requires Inv-loop μ-loop
+set-number-requires c κs = search needs
 
 same-length : tie.Need-same-length Inv-loop μ-loop
 same-length c = search needs
@@ -44,14 +59,8 @@ same-length c = search needs
 same-length-2 : tie.Need-same-length-2 Inv-loop μ-loop
 same-length-2 c = search needs
 
-same-length-3 : tie.Need-same-length-3 Inv-loop μ-loop
-same-length-3 c = search needs
-
-same-length-4 : tie.Need-same-length-4 Inv-loop μ-loop
-same-length-4 c = search needs
-
 returns : tie.Need-returns Inv-loop μ-loop
-returns c = let a = c .before .before .before .before .before .before .before .before .before .args in let l = c .before .loop in scan-done (a .s .now) (a .types .now) (a .many) (a .b) (a .places .now) (a .count) _ _ _ _ (l .sources) (l .dests) (l .asked) (l .dynamic) (l .n) (l .k) (l .inv) (c .loop-test .left)
+returns c = let a = c .before .before .before .before .before .before .before .before .before .before .before .args in let l = c .before .before .before .before .before .loop in scan-done (a .s .now) (a .b) (a .facts .now) (a .first) (a .count) _ _ (l .copies) (l .dynamic) (l .n) (l .k) (l .row) (l .inv) (c .before .before .before .before .loop-test .left) (c .before .before .set-number .ensures)
 
 pub scan-copies-spec : {M : Type 1} → statement M
 scan-copies-spec =
@@ -59,17 +68,20 @@ scan-copies-spec =
     (tie.spec
     Inv-loop
     μ-loop
+    row-place-requires
     loop-holds
-    place-at-requires
+    add-number
+    number-requires
+    place-requires
     tail-requires
     copy-at-requires
     note-copy-requires
     note-dynamic-requires
+    add-row
     add-k
     loop-less
     loop-again
+    set-number-requires
     same-length
     same-length-2
-    same-length-3
-    same-length-4
     returns)

@@ -5,13 +5,16 @@ use Prim.Native.Nat.{_-_}
 use Rattle.family.proofs.Members.{Sweeping, sweep-start, sweep-again, sweep-done}
 
 abbrev Inv-loop : tie.InvT-loop
-Inv-loop sources dests asked count shape marks₀ changed₀ k₀ marks changed k = Sweeping sources dests asked count shape marks₀ marks changed k
+Inv-loop copies shape marks₀ count changed₀ k₀ marks changed k = Sweeping copies count shape marks₀ marks changed k
 
 abbrev μ-loop : tie.MeasureT-loop
-μ-loop sources dests asked count shape marks₀ changed₀ k₀ marks changed k = count - k
+μ-loop copies shape marks₀ count changed₀ k₀ marks changed k = count - k
+
+number-requires : tie.Need-number-requires Inv-loop μ-loop
+number-requires c κs = search needs
 
 loop-holds : tie.Need-loop-holds Inv-loop μ-loop
-loop-holds c = sweep-start _ _ _ _ _ _
+loop-holds c = sweep-start _ _ _ _
 
 join-requires : tie.Need-join-requires Inv-loop μ-loop
 join-requires c κs = search needs
@@ -26,13 +29,13 @@ loop-less : tie.Need-loop-less Inv-loop μ-loop
 loop-less c = search needs
 
 loop-again : tie.Need-loop-again Inv-loop μ-loop
-loop-again c = let a = c .before .before .before .before .before .before .before .before .before .before .before .args in let l = c .before .before .before .before .before .before .loop in sweep-again (a .sources .now) (a .dests .now) (a .asked .now) (a .count) (a .shape) _ (l .marks) _ (l .changed) _ _ (l .k) (l .inv) (c .before .before .before .before .before .loop-test .taken) (c .before .before .before .join .ensures .0) (c .before .before .before .join .ensures .1) (c .before .before .before .join .kept .1 .1 .1 .1 .1 .0) (c .either .ensures)
+loop-again c = let a = c .before .before .before .before .before .before .before .before .before .before .args in let l = c .before .before .before .before .before .before .loop in sweep-again (a .copies .now) _ (a .shape) _ (l .marks) _ (l .changed) _ _ (l .k) (l .inv) (c .before .before .before .before .before .loop-test .taken) (c .before .before .before .join .ensures .0) (c .before .before .before .join .ensures .1) (c .before .before .before .join .kept .1 .1 .1 .0) (c .either .ensures)
 
 same-length : tie.Need-same-length Inv-loop μ-loop
 same-length c = search needs
 
 returns : tie.Need-returns Inv-loop μ-loop
-returns c = let a = c .before .before .before .before .before .before .args in let l = c .before .loop in (sweep-done (a .sources .now) (a .dests .now) (a .asked .now) (a .count) (a .shape) _ (l .marks) (l .changed) (l .k) (l .inv) (c .loop-test .left), l .inv .still)
+returns c = let a = c .before .before .before .before .before .args in let l = c .before .loop in (sweep-done (a .copies .now) _ (a .shape) _ (l .marks) (l .changed) (l .k) (l .inv) (c .loop-test .left) (c .before .before .number .ensures), l .inv .still)
 
 pub sweep-spec : {M : Type 1} → statement M
 sweep-spec =
@@ -40,6 +43,7 @@ sweep-spec =
     (tie.spec
     Inv-loop
     μ-loop
+    number-requires
     loop-holds
     join-requires
     either-requires

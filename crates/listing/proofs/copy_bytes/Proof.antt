@@ -4,23 +4,18 @@ use Rattle.listing.proofs.copy_bytes.Tie as tie
 use native.Mathlib.Omega.{arith}
 use Rattle.listing.proofs.Copying.{copied}
 
--- src/lib.rt:72:9
 returns : tie.Need-returns
 returns c = (omega arith, λ h l. absurd (omega (arith, c .if1 .taken)))
 
--- src/lib.rt:75:9
 returns-2 : tie.Need-returns-2
 returns-2 c = (omega arith, λ h l. absurd (omega (arith, c .if2 .taken)))
 
--- src/lib.rt:77:5
 copy-requires : tie.Need-copy-requires
 copy-requires c κs = search needs
 
--- src/lib.rt:66:1
 same-length : tie.Need-same-length
 same-length c = search needs
 
--- src/lib.rt:66:1
 returns-3 : tie.Need-returns-3
 returns-3 c = (omega (arith, c .before .before .copy .ensures .0, c .before .before .before .before .before .if1 .left), λ h l. copied _ _ _ _ _ _ l (c .before .before .copy .ensures .0) (c .before .before .copy .ensures .1))
 

@@ -4,11 +4,9 @@ use native.Mathlib.Omega.{arith}
 use mathlib.Core.Path.{sym}
 use Rattle.listing.proofs.Copying.{line-none, line-one}
 
--- src/lib.rt:59:1
 returns : tie.Need-returns
 returns c = (sym (line-none _ _ (c .if1 .taken)), omega arith)
 
--- src/lib.rt:59:1
 returns-2 : tie.Need-returns-2
 returns-2 c = (sym (line-one _ _ (c .if1 .left)), omega arith)
 

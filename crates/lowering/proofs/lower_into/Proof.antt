@@ -2,8 +2,8 @@ use borrow.Author.Needs.{needs}
 use Rattle.lowering.proofs.lower_into.Statement.{statement}
 use Rattle.lowering.proofs.lower_into.Tie as tie
 use native.Mathlib.Omega.{arith}
-use Rattle.writing.proofs.Accepted.{accepted-read, refused-read}
-use Rattle.writing.proofs.Answered.{answers-large, answers-input}
+use Rattle.keeping.proofs.Accepted.{accepted-read, refused-read}
+use Rattle.keeping.proofs.Given.{answers-large, answers-input}
 
 returns : tie.Need-returns
 returns c = answers-large (c .before .before .before .before .args .settings) (c .before .before .before .before .args .input .now) (c .before .before .before .before .args .out .now) (c .if1 .taken)
@@ -11,38 +11,23 @@ returns c = answers-large (c .before .before .before .before .args .settings) (c
 slice-aggregate-read-routine : tie.Need-slice-aggregate-read-routine
 slice-aggregate-read-routine c = search needs
 
-slice-aggregate-read-routine-2 : tie.Need-slice-aggregate-read-routine-2
-slice-aggregate-read-routine-2 c = search needs
-
-slice-aggregate-read-routine-3 : tie.Need-slice-aggregate-read-routine-3
-slice-aggregate-read-routine-3 c = search needs
-
 read-routine-requires : tie.Need-read-routine-requires
 read-routine-requires c κs = search needs
 
 enum-known-c : tie.Need-enum-known-c
 enum-known-c c = search needs
 
-enum-known-l : tie.Need-enum-known-l
-enum-known-l c = search needs
-
-bounds-of-requires : tie.Need-bounds-of-requires
-bounds-of-requires c κs = search needs
+enum-known-b : tie.Need-enum-known-b
+enum-known-b c = search needs
 
 slice-aggregate-lower-read : tie.Need-slice-aggregate-lower-read
 slice-aggregate-lower-read c = search needs
 
-slice-aggregate-lower-read-2 : tie.Need-slice-aggregate-lower-read-2
-slice-aggregate-lower-read-2 c = search needs
-
-slice-aggregate-lower-read-3 : tie.Need-slice-aggregate-lower-read-3
-slice-aggregate-lower-read-3 c = search needs
-
 lower-read-requires : tie.Need-lower-read-requires
-lower-read-requires c κs = (accepted-read (c .before .before .before .before .before .before .before .before .before .before .before .before .before .before .before .before .before .before .before .args .input .now) _ _ _ (λ j. omega (arith, c .before .before .before .before .before .before .before .before .before .before .before .before .before .before .before .before .before .before .shared-slice-known .given j)) _ (c .before .before .before .before .before .before .before .before .before .before .before .read-routine .ensures) (c .before .before .before .before .before .before .l .given .0 .0) _ (c .before .before .before .before .before .before .l .given .1) (c .before .before .before .before .bounds-of .ensures) (omega (arith, c .before .before .before .before .before .before .before .before .before .recorded2 .given)), c .before .before .before .before .before .before .before .before .before .before .before .before .before .before .before .if1 .left)
+lower-read-requires c κs = (accepted-read (c .before .before .before .before .before .before .before .before .before .before .before .before .args .input .now) _ (λ j. omega (arith, c .before .before .before .before .before .before .before .before .before .before .before .shared-slice-known .given j)) _ (c .before .before .before .before .before .before .read-routine .ensures) _ (c .before .before .before .b .given .1), c .before .before .before .before .before .before .before .before .if1 .left)
 
 returns-2 : tie.Need-returns-2
-returns-2 c = answers-input (c .before .before .before .before .before .before .before .before .before .before .before .before .before .before .args .settings) (c .before .before .before .before .before .before .before .before .before .before .before .before .before .before .args .input .now) (c .before .before .before .before .before .before .before .before .before .before .before .before .before .before .args .out .now) (c .before .c .given .0 .0) _ (c .before .before .before .before .before .before .before .before .before .before .if1 .left) (refused-read (c .before .before .before .before .before .before .before .before .before .before .before .before .before .before .args .input .now) _ _ _ (λ j. omega (arith, c .before .before .before .before .before .before .before .before .before .before .before .before .before .shared-slice-known .given j)) _ (c .before .before .before .before .before .before .read-routine .ensures) _ _ (c .before .c .given .1))
+returns-2 c = answers-input (c .before .before .before .before .before .before .before .before .before .before .args .settings) (c .before .before .before .before .before .before .before .before .before .before .args .input .now) (c .before .before .before .before .before .before .before .before .before .before .args .out .now) (c .before .c .given .0 .0) _ (c .before .before .before .before .before .before .if1 .left) (refused-read (c .before .before .before .before .before .before .before .before .before .before .args .input .now) _ (λ j. omega (arith, c .before .before .before .before .before .before .before .before .before .shared-slice-known .given j)) _ (c .before .before .before .before .read-routine .ensures) _ _ (c .before .c .given .1))
 
 same-length : tie.Need-same-length
 same-length c = search needs
@@ -56,15 +41,10 @@ lower-into-spec =
     (tie.spec
     returns
     slice-aggregate-read-routine
-    slice-aggregate-read-routine-2
-    slice-aggregate-read-routine-3
     read-routine-requires
     enum-known-c
-    enum-known-l
-    bounds-of-requires
+    enum-known-b
     slice-aggregate-lower-read
-    slice-aggregate-lower-read-2
-    slice-aggregate-lower-read-3
     lower-read-requires
     returns-2
     same-length

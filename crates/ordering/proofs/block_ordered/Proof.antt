@@ -1,27 +1,32 @@
+use borrow.Author.Needs.{needs}
 use Rattle.ordering.proofs.block_ordered.Statement.{statement}
 use Rattle.ordering.proofs.block_ordered.Tie as tie
-use borrow.Author.Needs.{needs}
 use mathlib.Core.Path.{refl}
-use mathlib.Core.Bool.{false}
 use Rattle.marking.proofs.Backwards.{Backward, backward-start, backward-again, backward-stop, backward-done}
 
 abbrev Inv-loop : tie.InvT-loop
-Inv-loop s b places count phis marks₀ k₀ marks k = Backward false s b places count phis marks k
+Inv-loop s facts k front slot₀ marks₀ slot marks = Backward s facts k marks slot
 
 abbrev μ-loop : tie.MeasureT-loop
-μ-loop s b places count phis marks₀ k₀ marks k = k
+μ-loop s facts k front slot₀ marks₀ slot marks = slot
 
-phi-count-requires : tie.Need-phi-count-requires Inv-loop μ-loop
-phi-count-requires c κs = search needs
+behind-phis-requires : tie.Need-behind-phis-requires Inv-loop μ-loop
+behind-phis-requires c κs = search needs
+
+last-slot-requires : tie.Need-last-slot-requires Inv-loop μ-loop
+last-slot-requires c κs = search needs
 
 loop-holds : tie.Need-loop-holds Inv-loop μ-loop
-loop-holds c = let a = c .before .before .before .args in backward-start false (a .s .now) (a .b) (a .places .now) (a .count) _ _ (c .phi-count .ensures .0) refl refl
+loop-holds c = let a = c .before .before .before .before .args in backward-start (a .s .now) (a .facts .now) (a .k) (c .last-slot .ensures) (c .before .behind-phis .ensures) _ refl refl
 
-sub-k : tie.Need-sub-k Inv-loop μ-loop
-sub-k c = search needs
+sub-slot : tie.Need-sub-slot Inv-loop μ-loop
+sub-slot c = search needs
 
-place-at-requires : tie.Need-place-at-requires Inv-loop μ-loop
-place-at-requires c κs = search needs
+kind-requires : tie.Need-kind-requires Inv-loop μ-loop
+kind-requires c κs = search needs
+
+place-requires : tie.Need-place-requires Inv-loop μ-loop
+place-requires c κs = search needs
 
 tail-requires : tie.Need-tail-requires Inv-loop μ-loop
 tail-requires c κs = search needs
@@ -39,16 +44,16 @@ counted-clear-requires : tie.Need-counted-clear-requires Inv-loop μ-loop
 counted-clear-requires c κs = search needs
 
 returns : tie.Need-returns Inv-loop μ-loop
-returns c = let a = c .before .before .before .before .before .before .before .before .before .before .before .before .before .args in let l = c .before .before .before .before .before .before .before .before .before .loop in backward-stop false (a .s .now) (a .b) (a .places .now) (a .count) _ (l .marks) _ (l .k) _ _ _ (l .inv) (c .before .before .before .before .before .before .before .before .loop-test .taken) (c .before .before .before .before .before .before .before .place-at .ensures) (c .before .before .before .before .before .before .tail .ensures) (c .before .before .before .before .mark-dests .ensures) (c .before .counted-clear .ensures) (c .if1 .taken) (c .before .before .before .before .before .before .before .before .before .before .phi-count .ensures .1)
+returns c = let a = c .before .before .before .before .before .before .before .before .before .before .before .before .before .before .before .args in backward-stop (a .s .now) (a .facts .now) (a .k) (c .before .before .before .before .before .before .before .before .before .before .before .last-slot .ensures) (c .before .before .before .before .before .before .before .before .before .before .before .before .behind-phis .ensures) (c .before .before .before .before .before .before .before .before .before .before .loop .inv) (c .before .before .before .before .before .before .before .before .before .loop-test .taken) (c .before .before .before .before .before .before .before .before .kind .ensures) (c .before .before .before .before .before .before .before .place .ensures .0) (c .before .before .before .before .before .before .tail .ensures) (c .before .before .before .before .mark-dests .ensures) (λ b. c .before .counted-clear .ensures b (a .s .now)) (c .if1 .taken)
 
 loop-less : tie.Need-loop-less Inv-loop μ-loop
 loop-less c = search needs
 
 loop-again : tie.Need-loop-again Inv-loop μ-loop
-loop-again c = let a = c .before .before .before .before .before .before .before .before .before .before .before .before .before .args in let l = c .before .before .before .before .before .before .before .before .before .loop in backward-again false (a .s .now) (a .b) (a .places .now) (a .count) _ (l .marks) _ (l .k) _ _ _ (l .inv) (c .before .before .before .before .before .before .before .before .loop-test .taken) (c .before .before .before .before .before .before .before .place-at .ensures) (c .before .before .before .before .before .before .tail .ensures) (c .before .before .before .before .mark-dests .ensures) (c .before .counted-clear .ensures) (c .if1 .left) (search needs)
+loop-again c = let a = c .before .before .before .before .before .before .before .before .before .before .before .before .before .before .before .args in backward-again (a .s .now) (a .facts .now) (a .k) (c .before .before .before .before .before .before .before .before .before .before .before .last-slot .ensures) (c .before .before .before .before .before .before .before .before .before .before .before .before .behind-phis .ensures) (c .before .before .before .before .before .before .before .before .before .before .loop .inv) (c .before .before .before .before .before .before .before .before .before .loop-test .taken) (c .before .before .before .before .before .before .before .before .kind .ensures) (c .before .before .before .before .before .before .before .place .ensures .0) (c .before .before .before .before .before .before .tail .ensures) (c .before .before .before .before .mark-dests .ensures) (λ b. c .before .counted-clear .ensures b (a .s .now)) (c .if1 .left) (search needs)
 
 returns-2 : tie.Need-returns-2 Inv-loop μ-loop
-returns-2 c = let a = c .before .before .before .before .before .args in let l = c .before .loop in backward-done false (a .s .now) (a .b) (a .places .now) (a .count) _ (l .marks) (l .k) (l .inv) (c .loop-test .left) (c .before .before .phi-count .ensures .1)
+returns-2 c = let a = c .before .before .before .before .before .before .args in backward-done (a .s .now) (a .facts .now) (a .k) (c .before .before .last-slot .ensures) (c .before .before .before .behind-phis .ensures) (c .before .loop .inv) (c .loop-test .left)
 
 pub block-ordered-spec : {M : Type 1} → statement M
 block-ordered-spec =
@@ -56,10 +61,12 @@ block-ordered-spec =
     (tie.spec
     Inv-loop
     μ-loop
-    phi-count-requires
+    behind-phis-requires
+    last-slot-requires
     loop-holds
-    sub-k
-    place-at-requires
+    sub-slot
+    kind-requires
+    place-requires
     tail-requires
     slice-aggregate-mark-dests
     mark-dests-requires

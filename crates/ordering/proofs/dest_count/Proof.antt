@@ -1,6 +1,6 @@
+use borrow.Author.Needs.{needs}
 use Rattle.ordering.proofs.dest_count.Statement.{statement}
 use Rattle.ordering.proofs.dest_count.Tie as tie
-use borrow.Author.Needs.{needs}
 use mathlib.Core.Path.{refl}
 use Rattle.marking.proofs.Backwards.{count-call, count-none, count-one}
 
@@ -23,16 +23,8 @@ returns-5 : tie.Need-returns-5
 returns-5 c = count-none (c .before .before .args .u .now) 17 _ refl (c .match .keys5)
 
 returns-6 : tie.Need-returns-6
-returns-6 c = count-one (c .before .before .args .u .now) _ (c .match .rest .0 .0 .0 .0 .1) (c .match .rest .0 .0 .0 .1) (c .match .rest .0 .0 .1) (c .match .rest .0 .1) (c .match .rest .1)
+returns-6 c = let m = c .match .rest in count-one (c .before .before .args .u .now) _ (m .0 .0 .0 .0 .1) (m .0 .0 .0 .1) (m .0 .0 .1) (m .0 .1) (m .1)
 
 pub dest-count-spec : {M : Type 1} → statement M
 dest-count-spec =
-    tie.close
-    (tie.spec
-    byte-at-requires
-    returns
-    returns-2
-    returns-3
-    returns-4
-    returns-5
-    returns-6)
+    tie.close (tie.spec byte-at-requires returns returns-2 returns-3 returns-4 returns-5 returns-6)

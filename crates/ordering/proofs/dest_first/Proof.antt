@@ -14,13 +14,7 @@ returns-3 : tie.Need-returns-3
 returns-3 c = (first-one 3 _ refl (c .match .keys3), omega arith)
 
 returns-4 : tie.Need-returns-4
-returns-4 c = (first-zero _ (c .match .rest .0 .0 .1) (c .match .rest .0 .1) (c .match .rest .1), omega arith)
+returns-4 c = let m = c .match .rest in (first-zero _ (m .0 .0 .1) (m .0 .1) (m .1), omega arith)
 
 pub dest-first-spec : {M : Type 1} → statement M
-dest-first-spec =
-    tie.close
-    (tie.spec
-    returns
-    returns-2
-    returns-3
-    returns-4)
+dest-first-spec = tie.close (tie.spec returns returns-2 returns-3 returns-4)

@@ -1,6 +1,7 @@
 use Rattle.parts.proofs.clear.Statement.{statement}
 use Rattle.parts.proofs.clear.Tie as tie
 use borrow.Author.Needs.{needs}
+use mathlib.Core.Path.{_∙_}
 use Prim.Native.Nat.{_-_}
 use lib.ListN.{length}
 use Rattle.parts.proofs.Tables.{rep-clear}
@@ -31,7 +32,7 @@ same-length : tie.Need-same-length Inv-loop μ-loop
 same-length c = c .before .loop .inv .size
 
 returns : tie.Need-returns Inv-loop μ-loop
-returns c = λ next s firsts pool used h. rep-clear (cleared-all (c .before .loop .inv) (c .loop-test .left)) h
+returns c = λ next s rows used h b m l. rep-clear (cleared-all (c .before .loop .inv) (c .loop-test .left)) h b (c .before .loop .inv .size ∙ m) l
 
 pub clear-spec : {M : Type 1} → statement M
 clear-spec =

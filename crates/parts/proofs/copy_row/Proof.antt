@@ -6,31 +6,31 @@ use native.Mathlib.Omega.{arith}
 use Rattle.parts.proofs.Loops.{Copying, copying, copied-more}
 
 abbrev Inv-loop : tie.InvT-loop
-Inv-loop pool₀ from to n i₀ pool i = Copying pool₀ from to n pool i
+Inv-loop rows₀ from to n i₀ rows i = Copying rows₀ from to n rows i
 
 abbrev μ-loop : tie.MeasureT-loop
-μ-loop pool₀ from to n i₀ pool i = n - i
+μ-loop rows₀ from to n i₀ rows i = n - i
 
 loop-holds : tie.Need-loop-holds Inv-loop μ-loop
 loop-holds c = copying _ _ _ _
 
-cast-place : tie.Need-cast-place Inv-loop μ-loop
-cast-place c = search needs
+cast-number : tie.Need-cast-number Inv-loop μ-loop
+cast-number c = search needs
 
-add-place : tie.Need-add-place Inv-loop μ-loop
-add-place c = search needs
+add-number : tie.Need-add-number Inv-loop μ-loop
+add-number c = search needs
 
-place-requires : tie.Need-place-requires Inv-loop μ-loop
-place-requires c κs = search needs
+number-requires : tie.Need-number-requires Inv-loop μ-loop
+number-requires c κs = search needs
 
-cast-set-place : tie.Need-cast-set-place Inv-loop μ-loop
-cast-set-place c = search needs
+cast-set-number : tie.Need-cast-set-number Inv-loop μ-loop
+cast-set-number c = search needs
 
-add-set-place : tie.Need-add-set-place Inv-loop μ-loop
-add-set-place c = search needs
+add-set-number : tie.Need-add-set-number Inv-loop μ-loop
+add-set-number c = search needs
 
-set-place-requires : tie.Need-set-place-requires Inv-loop μ-loop
-set-place-requires c κs = search needs
+set-number-requires : tie.Need-set-number-requires Inv-loop μ-loop
+set-number-requires c κs = search needs
 
 add-i : tie.Need-add-i Inv-loop μ-loop
 add-i c = search needs
@@ -39,7 +39,7 @@ loop-less : tie.Need-loop-less Inv-loop μ-loop
 loop-less c = search needs
 
 loop-again : tie.Need-loop-again Inv-loop μ-loop
-loop-again c = copied-more (c .before .before .before .before .before .before .before .loop .inv) (c .before .before .before .before .before .before .loop-test .taken) (c .before .before .before .before .place .ensures) (c .before .before .set-place .ensures)
+loop-again c = copied-more (c .before .before .before .before .before .before .before .loop .inv) (c .before .before .before .before .before .before .loop-test .taken) (c .before .before .before .before .number .ensures) (c .before .before .set-number .ensures)
 
 same-length : tie.Need-same-length Inv-loop μ-loop
 same-length c = c .before .loop .inv .grown .size
@@ -54,12 +54,12 @@ copy-row-spec =
     Inv-loop
     μ-loop
     loop-holds
-    cast-place
-    add-place
-    place-requires
-    cast-set-place
-    add-set-place
-    set-place-requires
+    cast-number
+    add-number
+    number-requires
+    cast-set-number
+    add-set-number
+    set-number-requires
     add-i
     loop-less
     loop-again

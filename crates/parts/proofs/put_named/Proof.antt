@@ -6,10 +6,10 @@ use borrow.Author.Tests.{not-true, not-false}
 use Rattle.parts.proofs.ByName.{Naming, naming, named-more, named-missing, named-all}
 
 abbrev Inv-loop : tie.InvT-loop
-Inv-loop s at n types names m pool₀ to i₀ pool i = Naming s at n types names m pool₀ to pool i
+Inv-loop s at n types names m rows₀ to i₀ rows i = Naming s at n types names m rows₀ to rows i
 
 abbrev μ-loop : tie.MeasureT-loop
-μ-loop s at n types names m pool₀ to i₀ pool i = m - i
+μ-loop s at n types names m rows₀ to i₀ rows i = m - i
 
 loop-holds : tie.Need-loop-holds Inv-loop μ-loop
 loop-holds c = naming _ _ _ _ _ _ _ _

@@ -6,10 +6,10 @@ use native.Mathlib.Omega.{arith}
 use Rattle.parts.proofs.Loops.{Laying, laying, laid-more}
 
 abbrev Inv-loop : tie.InvT-loop
-Inv-loop s pool₀ to at n before here₀ i₀ pool here i = Laying s before n at pool₀ to pool here i
+Inv-loop s rows₀ to at n before here₀ i₀ rows here i = Laying s before n at rows₀ to rows here i
 
 abbrev μ-loop : tie.MeasureT-loop
-μ-loop s pool₀ to at n before here₀ i₀ pool here i = n - i
+μ-loop s rows₀ to at n before here₀ i₀ rows here i = n - i
 
 loop-holds : tie.Need-loop-holds Inv-loop μ-loop
 loop-holds c = laying _ _ _ _ _ _
@@ -42,7 +42,7 @@ same-length : tie.Need-same-length Inv-loop μ-loop
 same-length c = c .before .loop .inv .grown .size
 
 returns : tie.Need-returns Inv-loop μ-loop
-returns c = (c .before .loop .inv .grown, λ next xs v l r. record { each = λ j h. c .before .loop .inv .filled next xs v l r .each j (omega arith) })
+returns c = (c .before .loop .inv .grown, λ next xs v l short r. record { each = λ j h. c .before .loop .inv .filled next xs v l short r .each j (omega arith) })
 
 pub put-places-spec : {M : Type 1} → statement M
 put-places-spec =

@@ -17,11 +17,8 @@ cast-if1 c = search needs
 same-length : tie.Need-same-length
 same-length c = search needs
 
-same-length-2 : tie.Need-same-length-2
-same-length-2 c = search needs
-
 returns : tie.Need-returns
-returns c = (omega arith, λ next s S xs ys y r q e f w. absurd (omega (arith, c .if1 .taken, c .before .part-count .ensures .1 next s _ _ S xs r e, replaced-below xs _ y f)))
+returns c = (omega arith, λ next s S xs ys y r q b e f w. absurd (omega (arith, c .if1 .taken, c .before .part-count .ensures .1 next s _ _ S xs r e, replaced-below xs _ y f)))
 
 cast-number : tie.Need-cast-number
 cast-number c = search needs
@@ -71,27 +68,24 @@ cast-result c = search needs
 add-result-2 : tie.Need-add-result-2
 add-result-2 c = search needs
 
+same-length-2 : tie.Need-same-length-2
+same-length-2 c = search needs
+
 same-length-3 : tie.Need-same-length-3
 same-length-3 c = search needs
 
-same-length-4 : tie.Need-same-length-4
-same-length-4 c = search needs
-
-same-length-5 : tie.Need-same-length-5
-same-length-5 c = search needs
-
 returns-2 : tie.Need-returns-2
 returns-2 c =
-    let a = c .before .before .before .before .before .before .before .before .before .before .before .before .before .before .before .before .before .before .before .before .before .before .before .before .before .before .before .before .args in
+    let a = c .before .before .before .before .before .before .before .before .before .before .before .before .before .before .before .before .before .before .before .before .before .before .before .before .before .before .args in
     let many = c .before .before .before .before .before .before .before .before .before .before .before .before .before .before .before .before .before .before .before .before .before .before .part-count .ensures in
     let from = c .before .before .before .before .before .before .before .before .before .before .before .before .before .before .before .before .before .number .ensures in (
       omega (arith, many .0),
-      λ next s S xs ys y r q e f w.
+      λ next s S xs ys y r q b e f w.
           let l = many .1 next s _ _ S xs r e in
           let held = found-row r (a .v .0) e in
-          let row = c .before .before .before .before .before .before .before .before .before .before .before .before .before .before .before .before .copy-row .ensures .1 (omega (arith, held .below, from)) (omega (arith, held .most, q .places)) in
+          let row = c .before .before .before .before .before .before .before .before .before .before .before .before .before .before .before .before .copy-row .ensures .1 (omega (arith, held .below, from)) (omega (arith, held .most, q)) in
           simp (c .before .before .set-number .ensures, c .before .before .before .before .before .before .before .set-flag .ensures, c .before .before .before .before .before .before .before .before .before .before .before .before .set-place .ensures)
-          (rep-replace (a .d) (a .v) (a .k) _ (a .place) r q e f w (sym l) (c .before .before .before .before .before .before .before .before .before .before .before .before .before .before .before .before .copy-row .ensures .0) (λ j h. row j h ∙ ap (λ m. getD (a .pool .now) (m + j) 0) from) (omega (arith, c .before .before .before .before .before .before .before .before .before .before .before .before .before .before .before .before .before .before .before .before .before .if1 .left))),
+          (rep-replace (a .d) (a .v) (a .k) _ (a .place) r q b e f w (sym l) (c .before .before .before .before .before .before .before .before .before .before .before .before .before .before .before .before .copy-row .ensures .0) (λ j h. row j h ∙ ap (λ m. getD (a .rows .now) (m + j) 0) from) (omega (arith, c .before .before .before .before .before .before .before .before .before .before .before .before .before .before .before .before .before .before .before .before .before .if1 .left))),
     )
 
 pub replace-spec : {M : Type 1} → statement M
@@ -101,7 +95,6 @@ replace-spec =
     part-count-requires
     cast-if1
     same-length
-    same-length-2
     returns
     cast-number
     number-requires
@@ -119,7 +112,6 @@ replace-spec =
     add-result
     cast-result
     add-result-2
+    same-length-2
     same-length-3
-    same-length-4
-    same-length-5
     returns-2)

@@ -28,7 +28,7 @@ same-length-2 : tie.Need-same-length-2
 same-length-2 c = search needs
 
 returns : tie.Need-returns
-returns c = λ next s pool used S xs r e hc hf. simp (c .before .before .set-number .ensures, c .before .before .before .before .before .before .before .set-flag .ensures, c .before .before .before .before .before .before .before .before .before .before .number .ensures) (rep-share _ _ r e hc hf)
+returns c = λ next s used S xs r e h. simp (c .before .before .set-number .ensures, c .before .before .before .before .before .before .before .set-flag .ensures, c .before .before .before .before .before .before .before .before .before .before .number .ensures) (rep-share r _ _ e h)
 
 pub share-spec : {M : Type 1} → statement M
 share-spec =

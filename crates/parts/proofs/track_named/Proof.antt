@@ -8,10 +8,10 @@ use Rattle.parts.proofs.Loops.{grown-row, row-number}
 use Rattle.parts.proofs.ByName.{rep-named, rep-missing}
 
 returns : tie.Need-returns
-returns c = (omega arith, λ next S fs ts r q v l w k m. absurd (omega (arith, c .if1 .taken)))
+returns c = (omega arith, λ next S fs ts r q b v l w k m. absurd (omega (arith, c .if1 .taken)))
 
-set-place-requires : tie.Need-set-place-requires
-set-place-requires c κs = search needs
+set-number-requires : tie.Need-set-number-requires
+set-number-requires c κs = search needs
 
 add-put-named : tie.Need-add-put-named
 add-put-named c = search needs
@@ -24,11 +24,11 @@ same-length c = search needs
 
 returns-2 : tie.Need-returns-2
 returns-2 c =
-    let a = c .before .before .before .before .before .before .before .before .before .before .before .before .before .before .before .args in
+    let a = c .before .before .before .before .before .before .before .before .before .before .before .before .before .before .args in
     let p = c .before .before .before .put-named .ensures in (
       omega arith,
-      λ next S fs ts r q v l w k m.
-          rep-missing _ _ r (grown-row (a .pool .now) (a .used) (a .m) (c .before .before .before .before .before .before .before .set-place .ensures) (p .0)) (sym (not-true _ (c .if2 .taken)) ∙ p .1 next fs ts v l w k (omega (arith, q .places, c .before .before .before .before .before .before .pool .given)) .told),
+      λ next S fs ts r q b v l w k m.
+          rep-missing _ _ r (grown-row (a .rows .now) (a .used) (a .m) (c .before .before .before .before .before .before .before .set-number .ensures) (p .0)) (sym (not-true _ (c .if2 .taken)) ∙ p .1 next fs ts v l w k (r .short) (omega (arith, q, c .before .before .before .before .before .before .rows .given)) .told),
     )
 
 cast-set-flag : tie.Need-cast-set-flag
@@ -43,14 +43,14 @@ cast-set-number c = search needs
 cast-set-number-2 : tie.Need-cast-set-number-2
 cast-set-number-2 c = search needs
 
-set-number-requires : tie.Need-set-number-requires
-set-number-requires c κs = search needs
+set-number-requires-2 : tie.Need-set-number-requires-2
+set-number-requires-2 c κs = search needs
 
-add-t17 : tie.Need-add-t17
-add-t17 c = search needs
+add-t19 : tie.Need-add-t19
+add-t19 c = search needs
 
-add-t26 : tie.Need-add-t26
-add-t26 c = search needs
+add-t25 : tie.Need-add-t25
+add-t25 c = search needs
 
 same-length-2 : tie.Need-same-length-2
 same-length-2 c = search needs
@@ -58,18 +58,15 @@ same-length-2 c = search needs
 same-length-3 : tie.Need-same-length-3
 same-length-3 c = search needs
 
-same-length-4 : tie.Need-same-length-4
-same-length-4 c = search needs
-
 returns-3 : tie.Need-returns-3
 returns-3 c =
-    let a = c .before .before .before .before .before .before .before .before .before .before .before .before .before .before .before .before .before .before .before .before .before .before .before .before .before .args in
-    let e = c .before .before .before .before .before .before .before .before .before .before .before .before .before .before .before .before .before .set-place .ensures in
+    let a = c .before .before .before .before .before .before .before .before .before .before .before .before .before .before .before .before .before .before .before .before .before .before .before .before .args in
+    let e = c .before .before .before .before .before .before .before .before .before .before .before .before .before .before .before .before .before .set-number .ensures in
     let p = c .before .before .before .before .before .before .before .before .before .before .before .before .before .put-named .ensures in (
       omega (arith, c .before .before .before .before .before .before .before .before .before .before .before .before .before .before .before .before .before .before .before .if1 .left),
-      λ next S fs ts r q v l w k m.
-          simp (c .before .before .set-number .ensures, c .before .before .before .before .before .before .before .set-flag .ensures)
-          (rep-named fs ts _ (a .d) r q (grown-row (a .pool .now) (a .used) (a .m) e (p .0)) k m (row-number (a .pool .now) (a .used) (a .m) (omega (arith, q .places)) e (p .0)) (not-false _ (c .before .before .before .before .before .before .before .before .before .before .if2 .left)) (p .1 next fs ts v l w k (omega (arith, q .places, c .before .before .before .before .before .before .before .before .before .before .before .before .before .before .before .before .pool .given)))),
+      λ next S fs ts r q b v l w k m.
+          simp (c .before .before .set-number2 .ensures, c .before .before .before .before .before .before .before .set-flag .ensures)
+          (rep-named fs ts _ (a .d) r q b (grown-row (a .rows .now) (a .used) (a .m) e (p .0)) k m (row-number (a .rows .now) (a .used) (a .m) (omega (arith, q)) e (p .0)) (not-false _ (c .before .before .before .before .before .before .before .before .before .before .if2 .left)) (p .1 next fs ts v l w k (r .short) (omega (arith, q, c .before .before .before .before .before .before .before .before .before .before .before .before .before .before .before .before .rows .given)))),
     )
 
 pub track-named-spec : {M : Type 1} → statement M
@@ -77,7 +74,7 @@ track-named-spec =
     tie.close
     (tie.spec
     returns
-    set-place-requires
+    set-number-requires
     add-put-named
     put-named-requires
     same-length
@@ -86,10 +83,9 @@ track-named-spec =
     set-flag-requires
     cast-set-number
     cast-set-number-2
-    set-number-requires
-    add-t17
-    add-t26
+    set-number-requires-2
+    add-t19
+    add-t25
     same-length-2
     same-length-3
-    same-length-4
     returns-3)

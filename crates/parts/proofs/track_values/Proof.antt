@@ -6,10 +6,10 @@ use Rattle.parts.proofs.Tables.{rep-track}
 use Rattle.parts.proofs.Loops.{grown-row, row-number}
 
 returns : tie.Need-returns
-returns c = (omega arith, λ next S xs r q v l m. absurd (omega (arith, c .if1 .taken)))
+returns c = (omega arith, λ next S xs r q b v l m. absurd (omega (arith, c .if1 .taken)))
 
-set-place-requires : tie.Need-set-place-requires
-set-place-requires c κs = search needs
+set-number-requires : tie.Need-set-number-requires
+set-number-requires c κs = search needs
 
 add-put-places : tie.Need-add-put-places
 add-put-places c = search needs
@@ -29,8 +29,8 @@ cast-set-number c = search needs
 cast-set-number-2 : tie.Need-cast-set-number-2
 cast-set-number-2 c = search needs
 
-set-number-requires : tie.Need-set-number-requires
-set-number-requires c κs = search needs
+set-number-requires-2 : tie.Need-set-number-requires-2
+set-number-requires-2 c κs = search needs
 
 add-result : tie.Need-add-result
 add-result c = search needs
@@ -44,18 +44,15 @@ same-length c = search needs
 same-length-2 : tie.Need-same-length-2
 same-length-2 c = search needs
 
-same-length-3 : tie.Need-same-length-3
-same-length-3 c = search needs
-
 returns-2 : tie.Need-returns-2
 returns-2 c =
-    let a = c .before .before .before .before .before .before .before .before .before .before .before .before .before .before .before .before .before .before .before .before .before .before .before .args in
-    let e = c .before .before .before .before .before .before .before .before .before .before .before .before .before .before .before .before .set-place .ensures in
+    let a = c .before .before .before .before .before .before .before .before .before .before .before .before .before .before .before .before .before .before .before .before .before .before .args in
+    let e = c .before .before .before .before .before .before .before .before .before .before .before .before .before .before .before .before .set-number .ensures in
     let p = c .before .before .before .before .before .before .before .before .before .before .before .before .put-places .ensures in (
       omega (arith, c .before .before .before .before .before .before .before .before .before .before .before .before .before .before .before .before .before .before .if1 .left),
-      λ next S xs r q v l m.
-          simp (c .before .before .set-number .ensures, c .before .before .before .before .before .before .before .set-flag .ensures)
-          (rep-track xs _ (a .d) r q (grown-row (a .pool .now) (a .used) (a .n) e (p .0)) l m (row-number (a .pool .now) (a .used) (a .n) (omega (arith, q .places)) e (p .0)) (p .1 next xs v l (omega (arith, q .places, c .before .before .before .before .before .before .before .before .before .before .before .before .before .before .before .pool .given)))),
+      λ next S xs r q b v l m.
+          simp (c .before .before .set-number2 .ensures, c .before .before .before .before .before .before .before .set-flag .ensures)
+          (rep-track r xs _ (a .d) q b (grown-row (a .rows .now) (a .used) (a .n) e (p .0)) l m (row-number (a .rows .now) (a .used) (a .n) (omega (arith, q)) e (p .0)) (p .1 next xs v l (r .short) (omega (arith, q, c .before .before .before .before .before .before .before .before .before .before .before .before .before .before .before .rows .given)))),
     )
 
 pub track-values-spec : {M : Type 1} → statement M
@@ -63,17 +60,16 @@ track-values-spec =
     tie.close
     (tie.spec
     returns
-    set-place-requires
+    set-number-requires
     add-put-places
     put-places-requires
     cast-set-flag
     set-flag-requires
     cast-set-number
     cast-set-number-2
-    set-number-requires
+    set-number-requires-2
     add-result
     add-result-2
     same-length
     same-length-2
-    same-length-3
     returns-2)

@@ -11,7 +11,7 @@ flag-requires : tie.Need-flag-requires
 flag-requires c κs = search needs
 
 returns : tie.Need-returns
-returns c = λ next s firsts pool used S r. c .flag .ensures ∙ found-mark r _
+returns c = λ next s rows used S r. c .flag .ensures ∙ found-mark r _
 
 pub tracked-spec : {M : Type 1} → statement M
 tracked-spec =

@@ -1,7 +1,7 @@
 use borrow.Author.Needs.{needs}
-use native.Mathlib.Omega.{arith}
 use Rattle.pass.proofs.lower.Statement.{statement}
 use Rattle.pass.proofs.lower.Tie as tie
+use native.Mathlib.Omega.{arith}
 use Rattle.pass.proofs.Entry.{lowers}
 
 settings-of-requires : tie.Need-settings-of-requires
@@ -10,8 +10,11 @@ settings-of-requires c κs = search needs
 lower-into-requires : tie.Need-lower-into-requires
 lower-into-requires c κs = search needs
 
-put-answer-requires : tie.Need-put-answer-requires
-put-answer-requires c κs = search needs
+numbers-of-requires : tie.Need-numbers-of-requires
+numbers-of-requires c κs = search needs
+
+put-numbers-requires : tie.Need-put-numbers-requires
+put-numbers-requires c κs = search needs
 
 same-length : tie.Need-same-length
 same-length c = search needs
@@ -20,9 +23,8 @@ same-length-2 : tie.Need-same-length-2
 same-length-2 c = search needs
 
 returns : tie.Need-returns
-returns c =
-    let a = c .before .before .before .before .before .before .before .before .before .before .before .before .args in
-    lowers _ _ (a .input .now) (a .output .now) _ (a .answer .now) _ _ (λ j. omega (arith, c .before .before .before .before .before .before .before .before .before .before .before .shared-slice-known .given j)) (c .before .before .before .before .before .before .before .before .settings-of .ensures _ _) (c .before .before .before .before .before .before .lower-into .ensures) (c .before .before .put-answer .ensures)
+returns c = let a = c .before .before .before .before .before .before .before .before .before .before .before .before .before .args in
+    lowers _ _ (a .input .now) (a .output .now) _ (a .answer .now) _ _ _ (λ j. omega (arith, c .before .before .before .before .before .before .before .before .before .before .before .before .shared-slice-known .given j)) (c .before .before .before .before .before .before .before .before .before .settings-of .ensures _ _) (c .before .before .before .before .before .before .before .lower-into .ensures) (c .before .before .before .numbers-of .ensures) (c .before .before .put-numbers .ensures)
 
 pub lower-spec : {M : Type 1} → statement M
 lower-spec =
@@ -30,7 +32,8 @@ lower-spec =
     (tie.spec
     settings-of-requires
     lower-into-requires
-    put-answer-requires
+    numbers-of-requires
+    put-numbers-requires
     same-length
     same-length-2
     returns)

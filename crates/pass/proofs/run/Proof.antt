@@ -42,14 +42,14 @@ use denote.Exit.{yes}
 use Rattle.eligibility.specs.declared.Settings.{Settings}
 use Rattle.eligibility.proofs.Settings as S
 use Rattle.eligibility.proofs.Settings.Laws as S′
-use Rattle.writing.specs.declared.Answer.{Answer}
-use Rattle.writing.proofs.Answer as N
-use Rattle.writing.proofs.Answer.Laws as N′
+use Rattle.answers.specs.declared.Answer.{Answer}
+use Rattle.answers.proofs.Answer as N
+use Rattle.answers.proofs.Answer.Laws as N′
 use Rattle.pass.specs.Promise.{Counted}
-use Rattle.pass.specs.declared.Totals.{Totals}
+use Rattle.numbers.specs.declared.Totals.{Totals}
 use Rattle.pass.specs.declared.Ran.{Ran}
-use Rattle.pass.proofs.Totals as T
-use Rattle.pass.proofs.Totals.Laws as T′
+use Rattle.numbers.proofs.Totals as T
+use Rattle.numbers.proofs.Totals.Laws as T′
 use Rattle.pass.proofs.Ran as R
 use Rattle.pass.proofs.Ran.Laws as R′
 use Rattle.pass.proofs.lower_counted as core

@@ -1,26 +1,33 @@
+use borrow.Author.Needs.{needs}
 use Rattle.readers.proofs.note_block.Statement.{statement}
 use Rattle.readers.proofs.note_block.Tie as tie
-use borrow.Author.Needs.{needs}
 use Prim.Native.Nat.{_-_}
+use native.Mathlib.Omega.{arith}
 use Rattle.readers.proofs.Blocks.{Reading, reading-start, reading-again, reading-done}
 
 abbrev Inv-loop : tie.InvT-loop
-Inv-loop own s b places count readers₀ k₀ readers k = Reading s b places count own readers₀ readers k
+Inv-loop own facts first count readers₀ rows k₀ readers k = Reading own facts first count readers₀ readers k
 
 abbrev μ-loop : tie.MeasureT-loop
-μ-loop own s b places count readers₀ k₀ readers k = count - k
+μ-loop own facts first count readers₀ rows k₀ readers k = count - k
+
+row-place-requires : tie.Need-row-place-requires Inv-loop μ-loop
+row-place-requires c κs = search needs
 
 loop-holds : tie.Need-loop-holds Inv-loop μ-loop
-loop-holds c = reading-start _ _ _ _ _ _
+loop-holds c = let a = c .before .before .before .args in reading-start (a .own) (a .facts .now) (a .first) (a .count) _
 
-place-at-requires : tie.Need-place-at-requires Inv-loop μ-loop
-place-at-requires c κs = search needs
+cast-note-instruction : tie.Need-cast-note-instruction Inv-loop μ-loop
+cast-note-instruction c = search needs
 
-tail-requires : tie.Need-tail-requires Inv-loop μ-loop
-tail-requires c κs = search needs
+mul-note-instruction : tie.Need-mul-note-instruction Inv-loop μ-loop
+mul-note-instruction c = search needs
+
+add-note-instruction : tie.Need-add-note-instruction Inv-loop μ-loop
+add-note-instruction c = omega (arith, c .before .before .row-place .ensures)
 
 note-instruction-requires : tie.Need-note-instruction-requires Inv-loop μ-loop
-note-instruction-requires c κs = c .before .before .before .before .before .before .before .before .pre
+note-instruction-requires c κs = (c .before .before .before .before .before .before .pre, omega (arith, c .before .before .before .row-place .ensures))
 
 add-k : tie.Need-add-k Inv-loop μ-loop
 add-k c = search needs
@@ -29,22 +36,22 @@ loop-less : tie.Need-loop-less Inv-loop μ-loop
 loop-less c = search needs
 
 loop-again : tie.Need-loop-again Inv-loop μ-loop
-loop-again c = let a = c .before .before .before .before .before .before .before .before .before .before .before .args in let l = c .before .before .before .before .before .before .before .loop in reading-again (a .s .now) (a .b) (a .places .now) (a .count) (a .own) _ (l .readers) _ (l .k) _ _ (l .inv) (c .before .before .before .before .before .before .loop-test .taken) (c .before .before .before .before .before .place-at .ensures) (c .before .before .before .before .tail .ensures) (c .before .before .note-instruction .ensures) (search needs)
+loop-again c = let a = c .before .before .before .before .before .before .before .before .before .args in let l = c .before .before .before .before .before .loop in reading-again (a .own) (a .facts .now) (a .first) (a .count) _ (l .readers) _ _ (l .k) (c .before .before .before .before .before .before .row-place .ensures) (l .inv) (c .before .before .before .before .loop-test .taken) (c .before .before .note-instruction .ensures) (search needs)
 
-place-at-requires-2 : tie.Need-place-at-requires-2 Inv-loop μ-loop
-place-at-requires-2 c κs = search needs
+mul-note-reads : tie.Need-mul-note-reads Inv-loop μ-loop
+mul-note-reads c = search needs
 
-tail-requires-2 : tie.Need-tail-requires-2 Inv-loop μ-loop
-tail-requires-2 c κs = search needs
+add-note-reads : tie.Need-add-note-reads Inv-loop μ-loop
+add-note-reads c = omega (arith, c .before .before .row-place .ensures)
 
-note-terminator-requires : tie.Need-note-terminator-requires Inv-loop μ-loop
-note-terminator-requires c κs = c .before .before .before .before .before .before .before .before .pre
+note-reads-requires : tie.Need-note-reads-requires Inv-loop μ-loop
+note-reads-requires c κs = (c .before .before .before .before .before .before .pre, omega (arith, c .before .before .before .row-place .ensures))
 
 same-length : tie.Need-same-length Inv-loop μ-loop
 same-length c = search needs
 
 returns : tie.Need-returns Inv-loop μ-loop
-returns c = let a = c .before .before .before .before .before .before .before .before .before .before .before .args in let l = c .before .before .before .before .before .before .before .loop in reading-done (a .s .now) (a .b) (a .places .now) (a .count) (a .own) _ (l .readers) _ (l .k) _ _ (l .inv) (c .before .before .before .before .before .before .loop-test .left) (c .before .before .before .before .before .place-at2 .ensures) (c .before .before .before .before .tail2 .ensures) (c .before .before .note-terminator .ensures)
+returns c = let a = c .before .before .before .before .before .before .before .before .before .args in let l = c .before .before .before .before .before .loop in reading-done (a .own) (a .facts .now) (a .first) (a .count) _ (l .readers) _ _ (l .k) (c .before .before .before .before .before .before .row-place .ensures) (l .inv) (c .before .before .before .before .loop-test .left) (c .before .before .note-reads .ensures)
 
 pub note-block-spec : {M : Type 1} → statement M
 note-block-spec =
@@ -52,15 +59,17 @@ note-block-spec =
     (tie.spec
     Inv-loop
     μ-loop
+    row-place-requires
     loop-holds
-    place-at-requires
-    tail-requires
+    cast-note-instruction
+    mul-note-instruction
+    add-note-instruction
     note-instruction-requires
     add-k
     loop-less
     loop-again
-    place-at-requires-2
-    tail-requires-2
-    note-terminator-requires
+    mul-note-reads
+    add-note-reads
+    note-reads-requires
     same-length
     returns)

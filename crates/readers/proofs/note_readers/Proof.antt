@@ -1,20 +1,20 @@
+use borrow.Author.Needs.{needs}
 use Rattle.readers.proofs.note_readers.Statement.{statement}
 use Rattle.readers.proofs.note_readers.Tie as tie
-use borrow.Author.Needs.{needs}
 use Prim.Native.Nat.{_-_}
 use Rattle.readers.proofs.Blocks.{Noting, noting-start, noting-again, noting-done}
 
 abbrev Inv-loop : tie.InvT-loop
-Inv-loop s b places starts many readers₀ k₀ readers k = Noting s b places starts many readers₀ readers k
+Inv-loop facts many readers₀ k₀ readers k = Noting facts many readers₀ readers k
 
 abbrev μ-loop : tie.MeasureT-loop
-μ-loop s b places starts many readers₀ k₀ readers k = many - k
+μ-loop facts many readers₀ k₀ readers k = many - k
 
 loop-holds : tie.Need-loop-holds Inv-loop μ-loop
-loop-holds c = noting-start _ _ _ _ _ _
+loop-holds c = noting-start _ _ _
 
-block-places-requires : tie.Need-block-places-requires Inv-loop μ-loop
-block-places-requires c κs = search needs
+first-slot-requires : tie.Need-first-slot-requires Inv-loop μ-loop
+first-slot-requires c κs = search needs
 
 instruction-count-requires : tie.Need-instruction-count-requires Inv-loop μ-loop
 instruction-count-requires c κs = search needs
@@ -32,13 +32,13 @@ loop-less : tie.Need-loop-less Inv-loop μ-loop
 loop-less c = search needs
 
 loop-again : tie.Need-loop-again Inv-loop μ-loop
-loop-again c = let a = c .before .before .before .before .before .before .before .before .before .before .before .before .before .args in let l = c .before .before .before .before .before .before .before .before .loop in noting-again (a .s .now) (a .b) (a .places .now) (a .starts .now) (a .many) _ (l .readers) _ (l .k) _ _ _ (l .inv) (c .before .before .before .before .before .before .before .loop-test .taken) (c .before .before .before .before .block-number .ensures .1) (c .before .before .before .before .before .before .block-places .ensures) (c .before .before .before .before .before .instruction-count .ensures) (c .before .before .note-block .ensures) (search needs)
+loop-again c = let a = c .before .before .before .before .before .before .before .before .before .before .before .args in let l = c .before .before .before .before .before .before .before .before .loop in noting-again (a .facts .now) (a .many) _ (l .readers) _ (l .k) _ _ _ (l .inv) (c .before .before .before .before .before .before .before .loop-test .taken) (c .before .before .before .before .block-number .ensures .1) (c .before .before .before .before .before .before .first-slot .ensures) (c .before .before .before .before .before .instruction-count .ensures) (c .before .before .note-block .ensures) (search needs)
 
 same-length : tie.Need-same-length Inv-loop μ-loop
 same-length c = search needs
 
 returns : tie.Need-returns Inv-loop μ-loop
-returns c = let a = c .before .before .before .before .before .before .args in let l = c .before .loop in noting-done (a .s .now) (a .b) (a .places .now) (a .starts .now) (a .many) _ (l .readers) (l .k) (l .inv) (c .loop-test .left)
+returns c = let a = c .before .before .before .before .args in let l = c .before .loop in noting-done (a .facts .now) (a .many) _ (l .readers) (l .k) (l .inv) (c .loop-test .left)
 
 pub note-readers-spec : {M : Type 1} → statement M
 note-readers-spec =
@@ -47,7 +47,7 @@ note-readers-spec =
     Inv-loop
     μ-loop
     loop-holds
-    block-places-requires
+    first-slot-requires
     instruction-count-requires
     block-number-requires
     note-block-requires

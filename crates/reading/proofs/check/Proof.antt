@@ -1,18 +1,12 @@
-use borrow.Author.Needs.{needs}
 use Rattle.reading.proofs.check.Statement.{statement}
 use Rattle.reading.proofs.check.Tie as tie
+use borrow.Author.Needs.{needs}
 use lib.ListN.{length}
 use Rattle.routine.specs.Decode.{mosts, wholeOf}
 use Rattle.routine.proofs.Whole.{verdict-of}
 
 slice-aggregate-read-routine : tie.Need-slice-aggregate-read-routine
 slice-aggregate-read-routine c = search needs
-
-slice-aggregate-read-routine-2 : tie.Need-slice-aggregate-read-routine-2
-slice-aggregate-read-routine-2 c = search needs
-
-slice-aggregate-read-routine-3 : tie.Need-slice-aggregate-read-routine-3
-slice-aggregate-read-routine-3 c = search needs
 
 read-routine-requires : tie.Need-read-routine-requires
 read-routine-requires c κs = search needs
@@ -27,18 +21,16 @@ cause-number-requires : tie.Need-cause-number-requires
 cause-number-requires c κs = search needs
 
 returns : tie.Need-returns
-returns c = verdict-of (wholeOf mosts (c .before .before .before .before .before .before .before .before .before .before .args .input .now)) (length (c .before .before .before .before .before .before .before .before .before .before .args .input .now)) (c .before .before .before .before .before .read-routine .ensures .answers) (c .enum-told .given .1)
+returns c = let s = c .before .before .before .before .before .before .args .input .now in verdict-of (wholeOf mosts s) (length s) (c .before .before .before .read-routine .ensures .answers) (c .enum-told .given .1)
 
 returns-2 : tie.Need-returns-2
-returns-2 c = rw (c .cause-number .ensures) (verdict-of (wholeOf mosts (c .before .before .before .before .before .before .before .before .before .before .before .before .args .input .now)) (length (c .before .before .before .before .before .before .before .before .before .before .before .before .args .input .now)) (c .before .before .before .before .before .before .before .read-routine .ensures .answers) (c .before .before .c .given .1))
+returns-2 c = let s = c .before .before .before .before .before .before .before .before .args .input .now in rw (c .cause-number .ensures) (verdict-of (wholeOf mosts s) (length s) (c .before .before .before .before .before .read-routine .ensures .answers) (c .before .before .c .given .1))
 
 pub check-spec : {M : Type 1} → statement M
 check-spec =
     tie.close
     (tie.spec
     slice-aggregate-read-routine
-    slice-aggregate-read-routine-2
-    slice-aggregate-read-routine-3
     read-routine-requires
     enum-told
     enum-known-c

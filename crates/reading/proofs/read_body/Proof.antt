@@ -1,6 +1,6 @@
-use borrow.Author.Needs.{needs}
 use Rattle.reading.proofs.read_body.Statement.{statement}
 use Rattle.reading.proofs.read_body.Tie as tie
+use borrow.Author.Needs.{needs}
 use Rattle.routine.proofs.Body.{none-marked}
 
 cast-n : tie.Need-cast-n
@@ -16,13 +16,10 @@ part-marks-end : tie.Need-part-marks-end
 part-marks-end c = search needs
 
 read-marked-requires : tie.Need-read-marked-requires
-read-marked-requires c κs = (c .before .before .before .before .before .before .before .pre .0, none-marked (c .before .before .before .before .before .before .before .args .b .next) 256 (c .before .before .before .before .before .before .before .pre .1), c .before .before .before .before .before .before .before .pre .2)
+read-marked-requires c κs = let a = c .before .before .before .before .before .args in (c .before .before .before .before .before .pre .0, none-marked (a .b .next) 256 (c .before .before .before .before .before .pre .1), c .before .before .before .before .before .pre .1, c .before .before .before .before .before .pre .2, c .before .before .before .before .before .pre .3)
 
 same-length : tie.Need-same-length
 same-length c = search needs
-
-same-length-2 : tie.Need-same-length-2
-same-length-2 c = search needs
 
 returns : tie.Need-returns
 returns c = search needs
@@ -37,5 +34,4 @@ read-body-spec =
     part-marks-end
     read-marked-requires
     same-length
-    same-length-2
     returns)

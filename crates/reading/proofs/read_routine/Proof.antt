@@ -1,8 +1,10 @@
-use borrow.Author.Needs.{needs}
 use Rattle.reading.proofs.read_routine.Statement.{statement}
 use Rattle.reading.proofs.read_routine.Tie as tie
+use borrow.Author.Needs.{needs}
 use native.Mathlib.Omega.{arith}
+use Rattle.routine.specs.Decode.{mosts}
 use Rattle.routine.proofs.Whole.{tabled, fitted, sizes-size, whole-types, whole-sizes, whole-body}
+use Rattle.whole.proofs.Whole.{whole-short}
 
 read-types-requires : tie.Need-read-types-requires
 read-types-requires c κs = search needs
@@ -14,13 +16,13 @@ enum-known-at : tie.Need-enum-known-at
 enum-known-at c = search needs
 
 sub-read-sizes : tie.Need-sub-read-sizes
-sub-read-sizes c = let a = c .before .before .before .before .before .before .before .before .before .before .before .args in
-    let u = tabled (a .m) (a .s .now) (c .before .before .before .before .before .read-types .ensures) (c .before .at .given .1) in
+sub-read-sizes c = let a = c .before .before .before .before .before .before .before .before .before .args in
+    let u = tabled (a .s .now) (c .before .before .before .before .before .read-types .ensures) (c .before .at .given .1) in
     omega (arith, u .in-s)
 
 part-read-sizes-start : tie.Need-part-read-sizes-start
-part-read-sizes-start c = let a = c .before .before .before .before .before .before .before .before .before .before .before .args in
-    let u = tabled (a .m) (a .s .now) (c .before .before .before .before .before .read-types .ensures) (c .before .at .given .1) in
+part-read-sizes-start c = let a = c .before .before .before .before .before .before .before .before .before .args in
+    let u = tabled (a .s .now) (c .before .before .before .before .before .read-types .ensures) (c .before .at .given .1) in
     omega (arith, u .in-s)
 
 part-read-sizes-end : tie.Need-part-read-sizes-end
@@ -32,10 +34,10 @@ read-sizes-requires c κs = search needs
 enum-known-c-2 : tie.Need-enum-known-c-2
 enum-known-c-2 c = search needs
 
-add-t25 : tie.Need-add-t25
-add-t25 c = let a = c .before .before .before .before .before .before .before .before .before .before .before .before .before .before .before .before .args in
-    let u = tabled (a .m) (a .s .now) (c .before .before .before .before .before .before .before .before .before .before .read-types .ensures) (c .before .before .before .before .before .before .at .given .1) in
-    omega (arith, sizes-size (a .m) (a .s .now) (c .before .before .before .before .before .before .at .given .0 .0) (u .in-s) (c .before .before .before .read-sizes .ensures) (c .before .c2 .given .1))
+add-t22 : tie.Need-add-t22
+add-t22 c = let a = c .before .before .before .before .before .before .before .before .before .before .before .before .before .before .args in
+    let u = tabled (a .s .now) (c .before .before .before .before .before .before .before .before .before .before .read-types .ensures) (c .before .before .before .before .before .before .at .given .1) in
+    omega (arith, sizes-size mosts (a .s .now) (c .before .before .before .before .before .before .at .given .0 .0) (u .in-s) (c .before .before .before .read-sizes .ensures) (c .before .c2 .given .1))
 
 enum-known-next : tie.Need-enum-known-next
 enum-known-next c = search needs
@@ -44,45 +46,40 @@ u16-at-requires : tie.Need-u16-at-requires
 u16-at-requires c κs = search needs
 
 add-read-body : tie.Need-add-read-body
-add-read-body c = let a = c .before .before .before .before .before .before .before .before .before .before .before .before .before .before .before .before .before .args in
-    let u = tabled (a .m) (a .s .now) (c .before .before .before .before .before .before .before .before .before .before .before .read-types .ensures) (c .before .before .before .before .before .before .before .at .given .1) in
-    let v = fitted (a .m) (a .s .now) (c .before .before .before .before .before .before .before .at .given .0 .0) (u .in-s) (c .before .before .before .before .read-sizes .ensures) (c .before .before .next .given .1) in
+add-read-body c = let a = c .before .before .before .before .before .before .before .before .before .before .before .before .before .before .before .args in
+    let u = tabled (a .s .now) (c .before .before .before .before .before .before .before .before .before .before .before .read-types .ensures) (c .before .before .before .before .before .before .before .at .given .1) in
+    let v = fitted mosts (a .s .now) (c .before .before .before .before .before .before .before .at .given .0 .0) (u .in-s) (c .before .before .before .before .read-sizes .ensures) (c .before .before .next .given .1) in
     omega (arith, v .in-s)
 
 read-body-requires : tie.Need-read-body-requires
-read-body-requires c κs = let a = c .before .before .before .before .before .before .before .before .before .before .before .before .before .before .before .before .before .before .before .args in
-    let u = tabled (a .m) (a .s .now) (c .before .before .before .before .before .before .before .before .before .before .before .before .before .read-types .ensures) (c .before .before .before .before .before .before .before .before .before .at .given .1) in
-    let v = fitted (a .m) (a .s .now) (c .before .before .before .before .before .before .before .before .before .at .given .0 .0) (u .in-s) (c .before .before .before .before .before .before .read-sizes .ensures) (c .before .before .before .before .next .given .1) in
-    (v .in-s, omega (arith, v .next, c .before .before .before .before .before .before .before .before .before .before .before .before .before .before .before .before .before .before .before .pre .1), omega (arith, v .blocks, c .before .before .before .before .before .before .before .before .before .before .before .before .before .before .before .before .before .before .before .pre .2))
+read-body-requires c κs = let a = c .before .before .before .before .before .before .before .before .before .before .before .before .before .before .before .before .args in
+    let u = tabled (a .s .now) (c .before .before .before .before .before .before .before .before .before .before .before .before .read-types .ensures) (c .before .before .before .before .before .before .before .before .at .given .1) in
+    let v = fitted mosts (a .s .now) (c .before .before .before .before .before .before .before .before .at .given .0 .0) (u .in-s) (c .before .before .before .before .before .read-sizes .ensures) (c .before .before .before .next .given .1) in
+    (v .in-s, v .next, v .blocks, omega (arith, c .before .before .before .before .before .before .before .before .before .before .before .before .read-types .ensures .long, c .before .before .before .before .before .before .before .before .before .before .before .before .before .before .before .before .pre))
 
 same-length : tie.Need-same-length
 same-length c = search needs
 
 returns : tie.Need-returns
-returns c = let a = c .before .before .before .before .before .before .before .before .before .before .before .args in whole-types (a .m) (a .s .now) (c .before .before .before .before .before .read-types .ensures) (c .before .c .given .1)
+returns c = let a = c .before .before .before .before .before .before .before .before .before .args in
+    whole-types (a .s .now) (c .before .before .before .before .before .read-types .ensures) (c .before .c .given .1)
 
 same-length-2 : tie.Need-same-length-2
 same-length-2 c = search needs
 
 returns-2 : tie.Need-returns-2
-returns-2 c = let a = c .before .before .before .before .before .before .before .before .before .before .before .before .before .before .before .before .args in
-    let u = tabled (a .m) (a .s .now) (c .before .before .before .before .before .before .before .before .before .before .read-types .ensures) (c .before .before .before .before .before .before .at .given .1) in
-    whole-sizes (a .m) (a .s .now) u (c .before .before .before .read-sizes .ensures) (c .before .c2 .given .1)
+returns-2 c = let a = c .before .before .before .before .before .before .before .before .before .before .before .before .before .before .args in
+    let u = tabled (a .s .now) (c .before .before .before .before .before .before .before .before .before .before .read-types .ensures) (c .before .before .before .before .before .before .at .given .1) in
+    whole-sizes (a .s .now) u (c .before .before .before .read-sizes .ensures) (c .before .c2 .given .1)
 
 same-length-3 : tie.Need-same-length-3
 same-length-3 c = search needs
 
-same-length-4 : tie.Need-same-length-4
-same-length-4 c = search needs
-
-same-length-5 : tie.Need-same-length-5
-same-length-5 c = search needs
-
 returns-3 : tie.Need-returns-3
-returns-3 c = let a = c .before .before .before .before .before .before .before .before .before .before .before .before .before .before .before .before .before .before .before .before .before .before .before .before .args in
-    let u = tabled (a .m) (a .s .now) (c .before .before .before .before .before .before .before .before .before .before .before .before .before .before .before .before .before .before .read-types .ensures) (c .before .before .before .before .before .before .before .before .before .before .before .before .before .before .at .given .1) in
-    let v = fitted (a .m) (a .s .now) (c .before .before .before .before .before .before .before .before .before .before .before .before .before .before .at .given .0 .0) (u .in-s) (c .before .before .before .before .before .before .before .before .before .before .before .read-sizes .ensures) (c .before .before .before .before .before .before .before .before .before .next .given .1) in
-    whole-body (a .m) (a .s .now) u _ v _ (c .before .before .before .before .before .before .before .u16-at .ensures) (c .before .before .before .before .read-body .ensures)
+returns-3 c = let a = c .before .before .before .before .before .before .before .before .before .before .before .before .before .before .before .before .before .before .before .args in
+    let u = tabled (a .s .now) (c .before .before .before .before .before .before .before .before .before .before .before .before .before .before .before .read-types .ensures) (c .before .before .before .before .before .before .before .before .before .before .before .at .given .1) in
+    let v = fitted mosts (a .s .now) (c .before .before .before .before .before .before .before .before .before .before .before .at .given .0 .0) (u .in-s) (c .before .before .before .before .before .before .before .before .read-sizes .ensures) (c .before .before .before .before .before .before .next .given .1) in
+    whole-body (a .s .now) u _ v _ _ _ (c .before .before .before .before .u16-at .ensures) (search needs) (λ r n h e. whole-short (a .s .now) h e) (c .before .before .read-body .ensures)
 
 pub read-routine-spec : {M : Type 1} → statement M
 read-routine-spec =
@@ -96,7 +93,7 @@ read-routine-spec =
     part-read-sizes-end
     read-sizes-requires
     enum-known-c-2
-    add-t25
+    add-t22
     enum-known-next
     u16-at-requires
     add-read-body
@@ -106,6 +103,4 @@ read-routine-spec =
     same-length-2
     returns-2
     same-length-3
-    same-length-4
-    same-length-5
     returns-3)

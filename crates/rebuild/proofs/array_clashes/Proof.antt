@@ -8,13 +8,13 @@ byte-at-requires : tie.Need-byte-at-requires
 byte-at-requires c κs = search needs
 
 returns : tie.Need-returns
-returns c = λ most own n T xs h e l. no-array most own n _ T xs h e (λ g. c .if1 .taken (c .before .byte-at .ensures ∙ g))
+returns c = λ most own n T h e xs l. no-array most own n _ T xs h e (λ g. c .if1 .taken (c .before .byte-at .ensures ∙ g))
 
 u32-at-requires : tie.Need-u32-at-requires
 u32-at-requires c κs = search needs
 
 returns-2 : tie.Need-returns-2
-returns-2 c = λ most own n T xs h e l. rw (← l, c .u32-at .ensures) (array-size most own n _ T xs h e (sym (c .before .before .byte-at .ensures) ∙ c .before .if1 .left))
+returns-2 c = λ most own n T h e xs l. rw (← l, c .u32-at .ensures) (array-size most own n _ T xs h e (sym (c .before .before .byte-at .ensures) ∙ c .before .if1 .left))
 
 pub array-clashes-spec : {M : Type 1} → statement M
 array-clashes-spec = tie.close (tie.spec byte-at-requires returns u32-at-requires returns-2)

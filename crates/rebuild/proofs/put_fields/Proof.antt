@@ -6,10 +6,10 @@ use native.Mathlib.Omega.{arith}
 use Rattle.rebuild.proofs.Writing.{Fields, fields-start, fields-again, fields-done}
 
 abbrev Inv-loop : tie.InvT-loop
-Inv-loop out₀ to s next pool from have row want p₀ i₀ out p i = Fields next s pool from have row want out₀ p₀ out p i
+Inv-loop out₀ to s next rows from have row want p₀ i₀ out p i = Fields next s rows from have row want out₀ p₀ out p i
 
 abbrev μ-loop : tie.MeasureT-loop
-μ-loop out₀ to s next pool from have row want p₀ i₀ out p i = want - i
+μ-loop out₀ to s next rows from have row want p₀ i₀ out p i = want - i
 
 loop-holds : tie.Need-loop-holds Inv-loop μ-loop
 loop-holds c = fields-start _ _ _ _ _ _ _ _ _

@@ -6,10 +6,10 @@ use native.Mathlib.Omega.{arith}
 use Rattle.rebuild.proofs.Writing.{Parts, parts-start, parts-again, parts-done}
 
 abbrev Inv-loop : tie.InvT-loop
-Inv-loop out₀ to s next pool from have want p₀ i₀ out p i = Parts next s pool from have want out₀ p₀ out p i
+Inv-loop out₀ to s next rows from have want p₀ i₀ out p i = Parts next s rows from have want out₀ p₀ out p i
 
 abbrev μ-loop : tie.MeasureT-loop
-μ-loop out₀ to s next pool from have want p₀ i₀ out p i = want - i
+μ-loop out₀ to s next rows from have want p₀ i₀ out p i = want - i
 
 loop-holds : tie.Need-loop-holds Inv-loop μ-loop
 loop-holds c = parts-start _ _ _ _ _ _ _ _

@@ -14,7 +14,7 @@ array-clashes-requires : tie.Need-array-clashes-requires
 array-clashes-requires c κs = search needs
 
 returns : tie.Need-returns
-returns c = (omega arith, λ most τ xs h k l r n m. rebuild-clash most τ _ _ _ _ _ (c .before .before .before .type-place .ensures) (c .before .before .tail .ensures) h k l _ xs _ _ _ (λ i o j U b e. c .before .array-clashes .ensures i o j U xs b e n) (c .if1 .taken))
+returns c = (omega arith, λ most τ h k l xs r n m. rebuild-clash most τ _ _ _ _ _ (c .before .before .before .type-place .ensures) (c .before .before .tail .ensures) h k l _ xs _ _ _ (λ i o j U b e. c .before .array-clashes .ensures i o j U b e xs n) (c .if1 .taken))
 
 put-make-requires : tie.Need-put-make-requires
 put-make-requires c κs = search needs
@@ -23,7 +23,7 @@ same-length : tie.Need-same-length
 same-length c = search needs
 
 returns-2 : tie.Need-returns-2
-returns-2 c = (c .before .before .put-make .ensures .0, λ most τ xs h k l r n m. rebuild-made most τ _ _ _ _ _ (c .before .before .before .before .before .before .before .type-place .ensures) (c .before .before .before .before .before .before .tail .ensures) h k l _ xs _ _ _ (λ i o j U b e. c .before .before .before .before .before .array-clashes .ensures i o j U xs b e n) (c .before .before .before .before .if1 .left) _ _ (λ i o j U b e. c .before .before .put-make .ensures .1 i o j U xs b e r n m))
+returns-2 c = (c .before .before .put-make .ensures .0, λ most τ h k l xs r n m. rebuild-made most τ _ _ _ _ _ (c .before .before .before .before .before .before .before .type-place .ensures) (c .before .before .before .before .before .before .tail .ensures) h k l _ xs _ _ _ (λ i o j U b e. c .before .before .before .before .before .array-clashes .ensures i o j U b e xs n) (c .before .before .before .before .if1 .left) _ _ (λ i o j U b e. c .before .before .put-make .ensures .1 i o j U b e xs r n m))
 
 pub put-rebuild-spec : {M : Type 1} → statement M
 put-rebuild-spec =

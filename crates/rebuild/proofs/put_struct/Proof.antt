@@ -27,7 +27,7 @@ same-length : tie.Need-same-length
 same-length c = search needs
 
 returns : tie.Need-returns
-returns c = (omega (arith, c .before .before .before .before .before .before .put-fields .ensures .0), λ fs xs r l m n. let k = m ∙ sym (c .before .before .before .before .before .before .before .before .before .before .before .before .byte-at .ensures) in struct-writes _ _ (c .before .before .before .before .before .before .before .before .before .before .before .before .before .before .before .before .before .args .d) (c .before .before .before .before .before .before .before .before .before .before .before .before .before .before .before .before .before .args .out .now) _ _ xs _ _ fs (c .before .before .before .before .before .before .before .before .before .before .before .before .before .before .before .before .before .args .t) k (c .before .before .before .before .before .before .before .before .before .before .put-head .ensures) (c .before .before .before .before .before .before .put-fields .ensures .1 fs xs r l k n) (c .before .before .put-type-id .ensures))
+returns c = (omega (arith, c .before .before .before .before .before .before .put-fields .ensures .0), λ xs r l fs m n. let k = m ∙ sym (c .before .before .before .before .before .before .before .before .before .before .before .before .byte-at .ensures) in struct-writes _ _ (c .before .before .before .before .before .before .before .before .before .before .before .before .before .before .before .before .before .args .d) (c .before .before .before .before .before .before .before .before .before .before .before .before .before .before .before .before .before .args .out .now) _ _ xs _ _ fs (c .before .before .before .before .before .before .before .before .before .before .before .before .before .before .before .before .before .args .t) k (c .before .before .before .before .before .before .before .before .before .before .put-head .ensures) (c .before .before .before .before .before .before .put-fields .ensures .1 xs r l fs k n) (c .before .before .put-type-id .ensures))
 
 pub put-struct-spec : {M : Type 1} → statement M
 put-struct-spec =

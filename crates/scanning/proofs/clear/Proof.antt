@@ -1,38 +1,37 @@
+use borrow.Author.Needs.{needs}
 use Rattle.scanning.proofs.clear.Statement.{statement}
 use Rattle.scanning.proofs.clear.Tie as tie
-use borrow.Author.Needs.{needs}
 use Prim.Native.Nat.{_-_}
 use mathlib.Core.Path.{refl}
 use native.Mathlib.Omega.{arith}
-use lib.ListN.{length}
-use Rattle.climb.proofs.Noting.{Clearing, clear-step, clear-done}
+use Rattle.scanning.proofs.Graph.{Clearing, clear-step}
 
 abbrev Inv-loop : tie.InvT-loop
-Inv-loop l₀ i₀ l i = Clearing l₀ i l
+Inv-loop graph₀ i₀ graph i = Clearing graph₀ i graph
 
 abbrev μ-loop : tie.MeasureT-loop
-μ-loop l₀ i₀ l i = length l₀ - i
+μ-loop graph₀ i₀ graph i = 513 - i
 
 loop-holds : tie.Need-loop-holds Inv-loop μ-loop
-loop-holds c = record { long = refl; clear = λ v h. absurd (omega arith) }
+loop-holds c = record { low = omega arith; long = refl; clear = λ at l. absurd (omega arith) }
 
-slice-write-l : tie.Need-slice-write-l Inv-loop μ-loop
-slice-write-l c = search needs
+set-number-requires : tie.Need-set-number-requires Inv-loop μ-loop
+set-number-requires c κs = search needs
 
 add-i : tie.Need-add-i Inv-loop μ-loop
 add-i c = search needs
 
 loop-less : tie.Need-loop-less Inv-loop μ-loop
-loop-less c = search needs
+loop-less c = omega (arith, c .before .before .before .before .loop-test .taken)
 
 loop-again : tie.Need-loop-again Inv-loop μ-loop
-loop-again c = clear-step (c .before .before .args .l .now) (c .before .loop .i) (c .before .loop .l) (c .before .loop .inv) (c .loop-test .taken)
+loop-again c = rw (c .before .before .set-number .ensures) (clear-step (c .before .before .before .before .before .before .before .args .graph .now) (c .before .before .before .before .before .loop .i) (c .before .before .before .before .before .loop .graph) (c .before .before .before .before .before .loop .inv) (c .before .before .before .before .loop-test .taken))
 
 same-length : tie.Need-same-length Inv-loop μ-loop
 same-length c = search needs
 
 returns : tie.Need-returns Inv-loop μ-loop
-returns c = (c .before .loop .inv .long, clear-done (c .before .before .args .l .now) (c .before .loop .i) (c .before .loop .l) (c .before .loop .inv) (c .loop-test .left))
+returns c = λ at l. c .before .loop .inv .clear at (omega (arith, c .loop-test .left))
 
 pub clear-spec : {M : Type 1} → statement M
 clear-spec =
@@ -41,7 +40,7 @@ clear-spec =
     Inv-loop
     μ-loop
     loop-holds
-    slice-write-l
+    set-number-requires
     add-i
     loop-less
     loop-again

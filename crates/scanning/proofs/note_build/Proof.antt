@@ -1,51 +1,38 @@
 use borrow.Author.Needs.{needs}
 use Rattle.scanning.proofs.note_build.Statement.{statement}
 use Rattle.scanning.proofs.note_build.Tie as tie
-use mathlib.Core.Path.{sym, ap, _∙_}
-use Prim.Native.Nat.{ℕ}
+use mathlib.Core.Path.{ap, _∙_}
+use Rattle.scanning.specs.Noted.{notedReads}
+use Prim.Native.Nat.{ℕ, _+_}
 use lib.ListN.{set}
+use Rattle.scanning.proofs.Graph.{as-number}
 
-u16-at-requires : tie.Need-u16-at-requires
-u16-at-requires c κs = search needs
+add-set-number : tie.Need-add-set-number
+add-set-number c = search needs
 
-cast-set-flag : tie.Need-cast-set-flag
-cast-set-flag c = search needs
+cast-set-number : tie.Need-cast-set-number
+cast-set-number c = search needs
 
-set-flag-requires : tie.Need-set-flag-requires
-set-flag-requires c κs = search needs
+set-number-requires : tie.Need-set-number-requires
+set-number-requires c κs = search needs
 
-byte-at-requires : tie.Need-byte-at-requires
-byte-at-requires c κs = search needs
-
-note-parts-requires : tie.Need-note-parts-requires
-note-parts-requires c κs = search needs
+note-reads-requires : tie.Need-note-reads-requires
+note-reads-requires c κs = search needs
 
 same-length : tie.Need-same-length
 same-length c = search needs
 
-same-length-2 : tie.Need-same-length-2
-same-length-2 c = search needs
-
-same-length-3 : tie.Need-same-length-3
-same-length-3 c = search needs
-
-same-length-4 : tie.Need-same-length-4
-same-length-4 c = search needs
-
 returns : tie.Need-returns
-returns c = (c .before .before .before .before .before .before .before .before .before .before .before .before .before .set-flag .ensures ∙ ap (λ (x : ℕ). set (c .before .before .before .before .before .before .before .before .before .before .before .before .before .before .before .before .before .before .before .before .before .before .args .buildable .now) x (c .before .before .before .before .before .before .before .before .before .before .before .before .before .before .before .before .before .before .before .before .before .before .args .good)) (c .before .before .before .before .before .before .before .before .before .before .before .before .before .before .before .u16-at .ensures), rw (sym (c .before .before .before .before .before .before .before .before .before .before .before .before .before .before .before .u16-at .ensures), sym (c .before .before .before .before .before .before .before .before .before .before .byte-at .ensures)) (c .before .before .before .before .before .before .note-parts .ensures))
+returns c = let a = c .before .before .before .before .before .before .before .before .before .before .args in λ ws r.
+    c .before .before .note-reads .ensures ws r ∙ ap (λ g. notedReads (a .kind) (a .d) g ws) (c .before .before .before .before .before .before .set-number .ensures ∙ ap (λ (n : ℕ). set (a .graph .now) (1 + a .d) n) (as-number (a .good)))
 
 pub note-build-spec : {M : Type 1} → statement M
 note-build-spec =
     tie.close
     (tie.spec
-    u16-at-requires
-    cast-set-flag
-    set-flag-requires
-    byte-at-requires
-    note-parts-requires
+    add-set-number
+    cast-set-number
+    set-number-requires
+    note-reads-requires
     same-length
-    same-length-2
-    same-length-3
-    same-length-4
     returns)

@@ -1,37 +1,79 @@
+use borrow.Author.Needs.{needs}
 use Rattle.shallow.proofs.is_shallow.Statement.{statement}
 use Rattle.shallow.proofs.is_shallow.Tie as tie
-use borrow.Author.Needs.{needs}
-use Rattle.marking.proofs.Storing.{shallow-other, shallow-near, shallow-deep}
+use mathlib.Core.Path.{ap}
+use Rattle.lookup.specs.Fields.{asStep}
+use Rattle.marking.proofs.Storing.{shallow-other, shallow-kept, shallow-near, shallow-deep}
 
-byte-at-requires : tie.Need-byte-at-requires
-byte-at-requires c κs = search needs
+kind-requires : tie.Need-kind-requires
+kind-requires c κs = search needs
 
 returns : tie.Need-returns
-returns c = let a = c .before .before .before .before .args in λ i n e g. shallow-other (a .b) (a .t .now) (a .dropped .now) _ (c .before .byte-at .ensures) (c .if1 .taken) i n e
+returns c = let a = c .before .before .before .before .before .args in shallow-other (a .b) (a .s .now) (a .facts .now) (a .slot) (a .dropped .now) (c .before .kind .ensures) (c .if1 .taken)
 
-is-deep-requires : tie.Need-is-deep-requires
-is-deep-requires c κs = search needs
+read-requires : tie.Need-read-requires
+read-requires c κs = search needs
+
+cast-flag : tie.Need-cast-flag
+cast-flag c = search needs
+
+flag-requires : tie.Need-flag-requires
+flag-requires c κs = search needs
 
 returns-2 : tie.Need-returns-2
-returns-2 c = let a = c .before .before .before .before .before .before .args in λ i n e g. shallow-near (a .b) (a .t .now) (a .dropped .now) _ (c .before .before .before .byte-at .ensures) (c .before .before .if1 .left) _ (c .before .is-deep .ensures) (c .if2 .taken) i n e
+returns-2 c = let a = c .before .before .before .before .before .before .before .before .args in shallow-kept (a .b) (a .s .now) (a .facts .now) (a .slot) (a .dropped .now) (c .before .before .before .before .kind .ensures) (c .before .before .before .if1 .left) (c .before .before .read .ensures) (c .before .flag .ensures) (c .if2 .taken)
 
-store-base-requires : tie.Need-store-base-requires
-store-base-requires c κs = search needs
+place-requires : tie.Need-place-requires
+place-requires c κs = search needs
 
-is-marked-requires : tie.Need-is-marked-requires
-is-marked-requires c κs = search needs
+tail-requires : tie.Need-tail-requires
+tail-requires c κs = search needs
+
+projection-requires : tie.Need-projection-requires
+projection-requires c κs = search needs
+
+enum-told : tie.Need-enum-told
+enum-told c = search needs
+
+enum-told-2 : tie.Need-enum-told-2
+enum-told-2 c = search needs
+
+enum-told-3 : tie.Need-enum-told-3
+enum-told-3 c = search needs
+
+enum-told-4 : tie.Need-enum-told-4
+enum-told-4 c = search needs
 
 returns-3 : tie.Need-returns-3
-returns-3 c = let a = c .before .before .before .before .before .before .before .before .args in shallow-deep (a .b) (a .t .now) (a .dropped .now) _ (c .before .before .before .before .before .byte-at .ensures) (c .before .before .before .before .if1 .left) _ (c .before .before .before .is-deep .ensures) (c .before .before .if2 .left) _ _ (c .before .store-base .ensures) (c .is-marked .ensures)
+returns-3 c = let a = c .before .before .before .before .before .before .before .before .before .before .before .before .before .args in shallow-deep (a .b) (a .s .now) (a .facts .now) (a .slot) (a .dropped .now) (c .before .before .before .before .before .before .before .before .before .kind .ensures) (c .before .before .before .before .before .before .before .before .if1 .left) (c .before .before .before .before .before .before .before .read .ensures) (c .before .before .before .before .before .before .flag .ensures) (c .before .before .before .before .before .if2 .left) (c .before .before .projection .result) (c .before .before .before .before .place .ensures .0) (c .before .before .before .tail .ensures) (c .before .before .projection .ensures) (ap asStep (c .enum-told .given .1))
+
+returns-4 : tie.Need-returns-4
+returns-4 c = let a = c .before .before .before .before .before .before .before .before .before .before .before .before .before .args in shallow-deep (a .b) (a .s .now) (a .facts .now) (a .slot) (a .dropped .now) (c .before .before .before .before .before .before .before .before .before .kind .ensures) (c .before .before .before .before .before .before .before .before .if1 .left) (c .before .before .before .before .before .before .before .read .ensures) (c .before .before .before .before .before .before .flag .ensures) (c .before .before .before .before .before .if2 .left) (c .before .before .projection .result) (c .before .before .before .before .place .ensures .0) (c .before .before .before .tail .ensures) (c .before .before .projection .ensures) (ap asStep (c .enum-told2 .given .1))
+
+returns-5 : tie.Need-returns-5
+returns-5 c = let a = c .before .before .before .before .before .before .before .before .before .before .before .before .before .args in shallow-deep (a .b) (a .s .now) (a .facts .now) (a .slot) (a .dropped .now) (c .before .before .before .before .before .before .before .before .before .kind .ensures) (c .before .before .before .before .before .before .before .before .if1 .left) (c .before .before .before .before .before .before .before .read .ensures) (c .before .before .before .before .before .before .flag .ensures) (c .before .before .before .before .before .if2 .left) (c .before .before .projection .result) (c .before .before .before .before .place .ensures .0) (c .before .before .before .tail .ensures) (c .before .before .projection .ensures) (ap asStep (c .enum-told3 .given .1))
+
+returns-6 : tie.Need-returns-6
+returns-6 c = let a = c .before .before .before .before .before .before .before .before .before .before .before .before .before .args in shallow-near (a .b) (a .s .now) (a .facts .now) (a .slot) (a .dropped .now) (c .before .before .before .before .before .before .before .before .before .kind .ensures) (c .before .before .before .before .before .before .before .before .if1 .left) (c .before .before .before .before .before .before .before .read .ensures) (c .before .before .before .before .before .before .flag .ensures) (c .before .before .before .before .before .if2 .left) (c .before .before .projection .result) (c .before .before .before .before .place .ensures .0) (c .before .before .before .tail .ensures) (c .before .before .projection .ensures) (c .enum-told4 .given .1)
 
 pub is-shallow-spec : {M : Type 1} → statement M
 is-shallow-spec =
     tie.close
     (tie.spec
-    byte-at-requires
+    kind-requires
     returns
-    is-deep-requires
+    read-requires
+    cast-flag
+    flag-requires
     returns-2
-    store-base-requires
-    is-marked-requires
-    returns-3)
+    place-requires
+    tail-requires
+    projection-requires
+    enum-told
+    enum-told-2
+    enum-told-3
+    enum-told-4
+    returns-3
+    returns-4
+    returns-5
+    returns-6)

@@ -1,33 +1,26 @@
+use borrow.Author.Needs.{needs}
 use Rattle.shallow.proofs.no_deep_store.Statement.{statement}
 use Rattle.shallow.proofs.no_deep_store.Tie as tie
-use borrow.Author.Needs.{needs}
+use mathlib.Core.Path.{refl, _∙_}
 use Prim.Native.Nat.{_-_}
-use Rattle.marking.proofs.Scanning.{Blocks, blocks-start, blocks-again, blocks-stop, blocks-done}
 use Rattle.marking.specs.Tests.{shallowIn, eachKind}
-use Prim.Native.Nat.{_+_, _≤_}
-use mathlib.Core.Path.{_∙_}
-use Rattle.marking.proofs.Apart.{shallow-all}
+use Rattle.marking.proofs.Scanning.{Tested, tested-again, tested-stop, tested-done}
+use Rattle.marking.proofs.Storing.{shallow-all}
 
 abbrev Inv-loop : tie.InvT-loop
-Inv-loop s b places starts many dropped k₀ k = Blocks s b places starts many (b .list + b .projections ≤ 30) (eachKind (shallowIn dropped)) k
+Inv-loop s b facts dropped k₀ k = Tested b s facts (λ τ x. eachKind (shallowIn dropped) (x .instructions)) k
 
 abbrev μ-loop : tie.MeasureT-loop
-μ-loop s b places starts many dropped k₀ k = many - k
+μ-loop s b facts dropped k₀ k = b .blocks - k
 
 loop-holds : tie.Need-loop-holds Inv-loop μ-loop
-loop-holds c = blocks-start _ _ _ _ _ _ _
-
-block-places-requires : tie.Need-block-places-requires Inv-loop μ-loop
-block-places-requires c κs = search needs
-
-instruction-count-requires : tie.Need-instruction-count-requires Inv-loop μ-loop
-instruction-count-requires c κs = search needs
+loop-holds c = λ τ ks a. refl
 
 shallow-block-requires : tie.Need-shallow-block-requires Inv-loop μ-loop
 shallow-block-requires c κs = search needs
 
 returns : tie.Need-returns Inv-loop μ-loop
-returns c = let a = c .before .before .before .before .before .before .before .before .before .before .args in let l = c .before .before .before .before .before .loop in λ ks ds e m g h. (blocks-stop (a .s .now) (a .b) (a .places .now) (a .starts .now) (a .many) ((a .b) .list + (a .b) .projections ≤ 30) (eachKind (shallowIn (a .dropped .now))) (l .k) _ _ _ (l .inv) (c .before .before .before .before .loop-test .taken) (c .before .before .before .block-places .ensures) (c .before .before .instruction-count .ensures) (c .before .shallow-block .ensures) (c .if1 .taken) ks e m g) ∙ shallow-all (a .dropped .now) ds h ks
+returns c = let a = c .before .before .before .before .before .before .before .before .args in λ ds h τ ks e. tested-stop (a .b) (a .s .now) (a .facts .now) (λ τ x. eachKind (shallowIn (a .dropped .now)) (x .instructions)) (c .before .before .before .before .loop .inv) (c .before .before .if1 .taken) (c .before .shallow-block .ensures) (c .if2 .taken) τ ks e ∙ shallow-all (a .dropped .now) ds h ks
 
 add-k : tie.Need-add-k Inv-loop μ-loop
 add-k c = search needs
@@ -36,10 +29,10 @@ loop-less : tie.Need-loop-less Inv-loop μ-loop
 loop-less c = search needs
 
 loop-again : tie.Need-loop-again Inv-loop μ-loop
-loop-again c = let a = c .before .before .before .before .before .before .before .before .before .before .args in let l = c .before .before .before .before .before .loop in blocks-again (a .s .now) (a .b) (a .places .now) (a .starts .now) (a .many) ((a .b) .list + (a .b) .projections ≤ 30) (eachKind (shallowIn (a .dropped .now))) (l .k) _ _ _ (l .inv) (c .before .before .before .before .loop-test .taken) (c .before .before .before .block-places .ensures) (c .before .before .instruction-count .ensures) (c .before .shallow-block .ensures) (c .if1 .left)
+loop-again c = let a = c .before .before .before .before .before .before .before .before .args in tested-again (a .b) (a .s .now) (a .facts .now) (λ τ x. eachKind (shallowIn (a .dropped .now)) (x .instructions)) (c .before .before .before .before .loop .inv) (c .before .before .if1 .taken) (c .before .shallow-block .ensures) (c .if2 .left)
 
 returns-2 : tie.Need-returns-2 Inv-loop μ-loop
-returns-2 c = let a = c .before .before .before .before .before .before .args in let l = c .before .loop in λ ks ds e m g h. (blocks-done (a .s .now) (a .b) (a .places .now) (a .starts .now) (a .many) ((a .b) .list + (a .b) .projections ≤ 30) (eachKind (shallowIn (a .dropped .now))) (l .k) (l .inv) (c .loop-test .left) ks e m g) ∙ shallow-all (a .dropped .now) ds h ks
+returns-2 c = let a = c .before .before .before .before .before .before .args in λ ds h τ ks e. tested-done (a .b) (a .s .now) (a .facts .now) (λ τ x. eachKind (shallowIn (a .dropped .now)) (x .instructions)) (c .before .before .loop .inv) (c .if1 .left) τ ks e ∙ shallow-all (a .dropped .now) ds h ks
 
 pub no-deep-store-spec : {M : Type 1} → statement M
 no-deep-store-spec =
@@ -48,8 +41,6 @@ no-deep-store-spec =
     Inv-loop
     μ-loop
     loop-holds
-    block-places-requires
-    instruction-count-requires
     shallow-block-requires
     returns
     add-k

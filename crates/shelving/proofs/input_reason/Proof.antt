@@ -1,6 +1,5 @@
-use mathlib.Core.Path.{refl}
 use Rattle.rewriting.specs.Run.{typesIn}
-use Rattle.shelving.proofs.Reasons.{told, of-order, of-apart, lists-few, input-1, input-2, input-3, input-0}
+use Rattle.shelving.proofs.Reasons.{told, of-order, of-apart, input-1, input-2, input-3, input-0}
 use borrow.Author.Needs.{needs}
 use Rattle.shelving.proofs.input_reason.Statement.{statement}
 use Rattle.shelving.proofs.input_reason.Tie as tie
@@ -10,22 +9,22 @@ types-agree-requires : tie.Need-types-agree-requires
 types-agree-requires c κs = search needs
 
 returns : tie.Need-returns
-returns c = λ x h. input-1 false x (told _ _ _ (c .before .types-agree .ensures (typesIn x) x (h .used) (h .ground) refl (h .code) (h .many) (h .given)) (c .if1 .taken))
+returns c = λ x h. input-1 false x (told _ _ _ (c .before .types-agree .ensures x (h .used) (h .coded) (h .given)) (c .if1 .taken))
 
 in-order-requires : tie.Need-in-order-requires
 in-order-requires c κs = search needs
 
 returns-2 : tie.Need-returns-2
-returns-2 c = λ x h. input-2 false x (told _ _ _ (c .before .before .before .types-agree .ensures (typesIn x) x (h .used) (h .ground) refl (h .code) (h .many) (h .given)) (c .before .before .if1 .left)) (told _ _ _ (of-order false x _ (c .before .in-order .ensures (x .blocks) (h .code) (h .many) (h .ground .few) (lists-few (h .ground)))) (c .if2 .taken))
+returns-2 c = λ x h. input-2 false x (told _ _ _ (c .before .before .before .types-agree .ensures x (h .used) (h .coded) (h .given)) (c .before .before .if1 .left)) (told _ _ _ (of-order x _ (c .before .in-order .ensures (typesIn x) (x .blocks) (h .coded))) (c .if2 .taken))
 
 kept-apart-requires : tie.Need-kept-apart-requires
 kept-apart-requires c κs = search needs
 
 returns-3 : tie.Need-returns-3
-returns-3 c = λ x h. input-3 false x (told _ _ _ (c .before .before .before .before .before .types-agree .ensures (typesIn x) x (h .used) (h .ground) refl (h .code) (h .many) (h .given)) (c .before .before .before .before .if1 .left)) (told _ _ _ (of-order false x _ (c .before .before .before .in-order .ensures (x .blocks) (h .code) (h .many) (h .ground .few) (lists-few (h .ground)))) (c .before .before .if2 .left)) (told _ _ _ (of-apart x _ (c .before .kept-apart .ensures (typesIn x) (x .blocks) (h .ground) (h .code) (h .many))) (c .if3 .taken))
+returns-3 c = λ x h. input-3 false x (told _ _ _ (c .before .before .before .before .before .types-agree .ensures x (h .used) (h .coded) (h .given)) (c .before .before .before .before .if1 .left)) (told _ _ _ (of-order x _ (c .before .before .before .in-order .ensures (typesIn x) (x .blocks) (h .coded))) (c .before .before .if2 .left)) (told _ _ _ (of-apart x _ (c .before .kept-apart .ensures (typesIn x) (x .blocks) (h .coded))) (c .if3 .taken))
 
 returns-4 : tie.Need-returns-4
-returns-4 c = λ x h. input-0 false x (told _ _ _ (c .before .before .before .before .before .types-agree .ensures (typesIn x) x (h .used) (h .ground) refl (h .code) (h .many) (h .given)) (c .before .before .before .before .if1 .left)) (told _ _ _ (of-order false x _ (c .before .before .before .in-order .ensures (x .blocks) (h .code) (h .many) (h .ground .few) (lists-few (h .ground)))) (c .before .before .if2 .left)) (told _ _ _ (of-apart x _ (c .before .kept-apart .ensures (typesIn x) (x .blocks) (h .ground) (h .code) (h .many))) (c .if3 .left))
+returns-4 c = λ x h. input-0 false x (told _ _ _ (c .before .before .before .before .before .types-agree .ensures x (h .used) (h .coded) (h .given)) (c .before .before .before .before .if1 .left)) (told _ _ _ (of-order x _ (c .before .before .before .in-order .ensures (typesIn x) (x .blocks) (h .coded))) (c .before .before .if2 .left)) (told _ _ _ (of-apart x _ (c .before .kept-apart .ensures (typesIn x) (x .blocks) (h .coded))) (c .if3 .left))
 
 pub input-reason-spec : {M : Type 1} → statement M
 input-reason-spec =

@@ -1,11 +1,12 @@
 use mathlib.Core.Path.{_∙_, sym}
 use Rattle.table.proofs.Flags.{none-stands}
-use Rattle.shelving.proofs.Reasons.{told, of-deep, lists-few, reason-first, reason-undropped, reason-4, reason-5, reason-0}
+use Rattle.shelving.proofs.Reasons.{told, of-deep, blocks-written, reason-first, reason-undropped, reason-4, reason-5, reason-0}
 use borrow.Author.Tests.{not-true}
 use borrow.Author.Needs.{needs}
 use Rattle.shelving.proofs.reason.Statement.{statement}
 use Rattle.shelving.proofs.reason.Tie as tie
 use mathlib.Core.Bool.{false}
+use Rattle.rewriting.specs.Run.{typesIn}
 
 input-reason-requires : tie.Need-input-reason-requires
 input-reason-requires c κs = search needs
@@ -26,19 +27,16 @@ no-deep-store-requires : tie.Need-no-deep-store-requires
 no-deep-store-requires c κs = search needs
 
 returns-3 : tie.Need-returns-3
-returns-3 c = λ x w h. reason-4 false x w (sym (c .before .before .before .before .if1 .left) ∙ c .before .before .before .before .before .reason-number .ensures ∙ c .before .before .before .before .before .before .input-reason .ensures x (h .input)) (told _ _ _ (of-deep x (w .dropped) _ (c .before .no-deep-store .ensures (x .blocks) (w .dropped) (h .input .code) (h .input .many) (lists-few (h .input .ground)) (h .marked))) (c .if3 .taken))
-
-widened-requires : tie.Need-widened-requires
-widened-requires c κs = search needs
+returns-3 c = λ x w h. reason-4 false x w (sym (c .before .before .before .before .if1 .left) ∙ c .before .before .before .before .before .reason-number .ensures ∙ c .before .before .before .before .before .before .input-reason .ensures x (h .input)) (told _ _ _ (of-deep x (w .dropped) _ (c .before .no-deep-store .ensures (w .dropped) (h .marked) (typesIn x) (x .blocks) (h .input .coded))) (c .if3 .taken))
 
 reads-no-dropped-requires : tie.Need-reads-no-dropped-requires
 reads-no-dropped-requires c κs = search needs
 
 returns-4 : tie.Need-returns-4
-returns-4 c = λ x w h. reason-5 false x w (sym (c .before .before .before .before .before .before .before .if1 .left) ∙ c .before .before .before .before .before .before .before .before .reason-number .ensures ∙ c .before .before .before .before .before .before .before .before .before .input-reason .ensures x (h .input)) (told _ _ _ (of-deep x (w .dropped) _ (c .before .before .before .before .no-deep-store .ensures (x .blocks) (w .dropped) (h .input .code) (h .input .many) (lists-few (h .input .ground)) (h .marked))) (c .before .before .before .if3 .left)) (told _ _ _ (c .before .reads-no-dropped .ensures (w .blocks) (w .dropped) (h .rest) (h .mosts) (h .total) (h .seen) (h .written) (h .as-many) (rw (c .before .before .widened .ensures) (h .fits)) (h .counted) (rw (c .before .before .widened .ensures) (h .wide)) (rw (c .before .before .widened .ensures) (lists-few (h .input .ground))) (h .marked)) (c .if4 .taken))
+returns-4 c = λ x w h. reason-5 false x w (sym (c .before .before .before .before .before .before .if1 .left) ∙ c .before .before .before .before .before .before .before .reason-number .ensures ∙ c .before .before .before .before .before .before .before .before .input-reason .ensures x (h .input)) (told _ _ _ (of-deep x (w .dropped) _ (c .before .before .before .no-deep-store .ensures (w .dropped) (h .marked) (typesIn x) (x .blocks) (h .input .coded))) (c .before .before .if3 .left)) (told _ _ _ (c .before .reads-no-dropped .ensures (w .blocks) (w .dropped) (blocks-written h) (h .marked)) (c .if4 .taken))
 
 returns-5 : tie.Need-returns-5
-returns-5 c = λ x w h. reason-0 false x w (sym (c .before .before .before .before .before .before .before .if1 .left) ∙ c .before .before .before .before .before .before .before .before .reason-number .ensures ∙ c .before .before .before .before .before .before .before .before .before .input-reason .ensures x (h .input)) (told _ _ _ (of-deep x (w .dropped) _ (c .before .before .before .before .no-deep-store .ensures (x .blocks) (w .dropped) (h .input .code) (h .input .many) (lists-few (h .input .ground)) (h .marked))) (c .before .before .before .if3 .left)) (told _ _ _ (c .before .reads-no-dropped .ensures (w .blocks) (w .dropped) (h .rest) (h .mosts) (h .total) (h .seen) (h .written) (h .as-many) (rw (c .before .before .widened .ensures) (h .fits)) (h .counted) (rw (c .before .before .widened .ensures) (h .wide)) (rw (c .before .before .widened .ensures) (lists-few (h .input .ground))) (h .marked)) (c .if4 .left))
+returns-5 c = λ x w h. reason-0 false x w (sym (c .before .before .before .before .before .before .if1 .left) ∙ c .before .before .before .before .before .before .before .reason-number .ensures ∙ c .before .before .before .before .before .before .before .before .input-reason .ensures x (h .input)) (told _ _ _ (of-deep x (w .dropped) _ (c .before .before .before .no-deep-store .ensures (w .dropped) (h .marked) (typesIn x) (x .blocks) (h .input .coded))) (c .before .before .if3 .left)) (told _ _ _ (c .before .reads-no-dropped .ensures (w .blocks) (w .dropped) (blocks-written h) (h .marked)) (c .if4 .left))
 
 pub reason-spec : {M : Type 1} → statement M
 reason-spec =
@@ -51,7 +49,6 @@ reason-spec =
     returns-2
     no-deep-store-requires
     returns-3
-    widened-requires
     reads-no-dropped-requires
     returns-4
     returns-5)

@@ -1,9 +1,8 @@
+use borrow.Author.Needs.{needs}
 use Rattle.unread.proofs.walk_block.Statement.{statement}
 use Rattle.unread.proofs.walk_block.Tie as tie
 use Prim.Native.Nat.{_-_}
 use native.Mathlib.Omega.{arith}
-use borrow.Author.Needs.{needs}
-use borrow.Author.Tests.{not-true, not-false}
 use Rattle.unread.proofs.Walk.{Walking, walk-start, no-room, walk-reads, walk-again, walk-done}
 
 abbrev Inv-loop : tie.InvT-loop
@@ -30,17 +29,17 @@ add-here c = search needs
 loop-holds : tie.Need-loop-holds Inv-loop μ-loop
 loop-holds c = let a = c .before .before .before .before .before .args in walk-start (a .b) (a .s .now) (a .at) (a .dropped .now) (c .u16-at .ensures)
 
-tail-requires : tie.Need-tail-requires Inv-loop μ-loop
-tail-requires c κs = search needs
+walk-instruction-requires : tie.Need-walk-instruction-requires Inv-loop μ-loop
+walk-instruction-requires c κs = search needs
 
-clean-instruction-requires : tie.Need-clean-instruction-requires Inv-loop μ-loop
-clean-instruction-requires c κs = search needs
+enum-known-end : tie.Need-enum-known-end Inv-loop μ-loop
+enum-known-end c = search needs
+
+enum-told : tie.Need-enum-told Inv-loop μ-loop
+enum-told c = search needs
 
 returns-3 : tie.Need-returns-3 Inv-loop μ-loop
-returns-3 c = let a = c .before .before .before .before .before .before .before .before .before .before .args in let l = c .before .before .before .before .loop in walk-reads (a .b) (a .s .now) (a .at) (a .dropped .now) _ (l .k) (l .here) (l .inv) (c .before .before .before .loop-test .taken) _ (c .before .before .tail .ensures) _ (c .before .clean-instruction .ensures) (not-true _ (c .if3 .taken))
-
-instruction-end-requires : tie.Need-instruction-end-requires Inv-loop μ-loop
-instruction-end-requires c κs = search needs
+returns-3 c = let a = c .before .before .before .before .before .before .before .before .before .before .args in let l = c .before .before .before .before .loop in walk-reads (a .b) (a .s .now) (a .at) (a .dropped .now) _ (l .k) (l .here) (l .inv) (c .before .before .before .loop-test .taken) _ (c .before .before .walk-instruction .ensures) (c .enum-told .given .1)
 
 add-k : tie.Need-add-k Inv-loop μ-loop
 add-k c = search needs
@@ -49,7 +48,7 @@ loop-less : tie.Need-loop-less Inv-loop μ-loop
 loop-less c = search needs
 
 loop-again : tie.Need-loop-again Inv-loop μ-loop
-loop-again c = let a = c .before .before .before .before .before .before .before .before .before .before .before .args in let l = c .before .before .before .before .before .loop in walk-again (a .b) (a .s .now) (a .at) (a .dropped .now) _ (l .k) (l .here) (l .inv) (c .before .before .before .before .loop-test .taken) _ (c .before .before .before .tail .ensures) _ (c .before .before .clean-instruction .ensures) (not-false _ (c .before .if3 .left)) _ (c .instruction-end .ensures .1)
+loop-again c = let a = c .before .before .before .before .before .before .before .before .before .before .before .args in let l = c .before .before .before .before .before .loop in walk-again (a .b) (a .s .now) (a .at) (a .dropped .now) _ (l .k) (l .here) (l .inv) (c .before .before .before .before .loop-test .taken) _ (c .before .before .before .walk-instruction .ensures) _ (c .before .end .given .1)
 
 walk-terminator-requires : tie.Need-walk-terminator-requires Inv-loop μ-loop
 walk-terminator-requires c κs = search needs
@@ -69,10 +68,10 @@ walk-block-spec =
     u16-at-requires
     add-here
     loop-holds
-    tail-requires
-    clean-instruction-requires
+    walk-instruction-requires
+    enum-known-end
+    enum-told
     returns-3
-    instruction-end-requires
     add-k
     loop-less
     loop-again

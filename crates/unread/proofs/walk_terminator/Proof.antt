@@ -1,8 +1,8 @@
 use borrow.Author.Needs.{needs}
 use Rattle.unread.proofs.walk_terminator.Statement.{statement}
 use Rattle.unread.proofs.walk_terminator.Tie as tie
-use native.Mathlib.Omega.{arith}
 use mathlib.Core.Path.{refl}
+use native.Mathlib.Omega.{arith}
 use Rattle.unread.proofs.Buffer.{last-within, last-refused, last-behind, last-reads}
 
 tail-requires : tie.Need-tail-requires
@@ -30,16 +30,16 @@ clean-buffer-requires : tie.Need-clean-buffer-requires
 clean-buffer-requires c κs = search needs
 
 add-t19 : tie.Need-add-t19
-add-t19 c = let a = c .before .before .before .before .before .before .before .before .before .before .before .before .before .before .args in omega (arith, last-within (a .b) (a .s .now) _ (a .at) (a .dropped .now) _ _ _ _ (c .before .before .before .before .before .before .before .before .read-terminator .ensures) (c .before .before .before .before .before .before .before .before .before .before .before .tail .ensures) refl (c .before .before .before .before .took .given .1))
+add-t19 c = let a = c .before .before .before .before .before .before .before .before .before .before .before .before .before .before .args in omega (arith, last-within (a .b) (a .s .now) _ (a .at) (a .dropped .now) _ _ _ _ (c .before .before .before .before .before .before .before .before .before .before .before .tail .ensures) refl (c .before .before .before .before .before .before .before .before .read-terminator .ensures) (c .before .before .before .before .took .given .1))
 
 returns : tie.Need-returns
-returns c = let a = c .before .before .before .before .before .before .before .before .before .before .before .before .before .before .args in last-behind (a .b) (a .s .now) _ (a .at) (a .dropped .now) _ _ _ _ (c .before .before .before .before .before .before .before .before .read-terminator .ensures) (c .before .before .before .before .before .before .before .before .before .before .before .tail .ensures) refl (c .before .before .before .before .took .given .1) _ (c .before .clean-buffer .ensures) (c .if1 .taken)
+returns c = let a = c .before .before .before .before .before .before .before .before .before .before .before .before .before .before .args in last-behind (a .b) (a .s .now) _ (a .at) (a .dropped .now) _ _ _ _ (c .before .before .before .before .before .before .before .before .before .before .before .tail .ensures) refl (c .before .before .before .before .before .before .before .before .read-terminator .ensures) (c .before .before .before .before .took .given .1) (c .before .clean-buffer .ensures) (c .if1 .taken)
 
 returns-2 : tie.Need-returns-2
-returns-2 c = let a = c .before .before .before .before .before .before .before .before .before .before .args in last-refused (a .b) (a .s .now) _ (a .at) (a .dropped .now) _ _ _ _ (c .before .before .before .before .read-terminator .ensures) (c .before .before .before .before .before .before .before .tail .ensures) refl (c .enum-told .given .1)
+returns-2 c = let a = c .before .before .before .before .before .before .before .before .before .before .args in last-refused (a .b) (a .s .now) _ (a .at) (a .dropped .now) _ _ _ _ (c .before .before .before .before .before .before .before .tail .ensures) refl (c .before .before .before .before .read-terminator .ensures) (c .enum-told .given .1)
 
 returns-3 : tie.Need-returns-3
-returns-3 c = let a = c .before .before .before .before .before .before .before .before .before .before .before .before .before .before .args in last-reads (a .b) (a .s .now) _ (a .at) (a .dropped .now) _ _ _ _ (c .before .before .before .before .before .before .before .before .read-terminator .ensures) (c .before .before .before .before .before .before .before .before .before .before .before .tail .ensures) refl (c .before .before .before .before .took .given .1) _ (c .before .clean-buffer .ensures) (c .if1 .left)
+returns-3 c = let a = c .before .before .before .before .before .before .before .before .before .before .before .before .before .before .args in last-reads (a .b) (a .s .now) _ (a .at) (a .dropped .now) _ _ _ _ (c .before .before .before .before .before .before .before .before .before .before .before .tail .ensures) refl (c .before .before .before .before .before .before .before .before .read-terminator .ensures) (c .before .before .before .before .took .given .1) (c .before .clean-buffer .ensures) (c .if1 .left)
 
 pub walk-terminator-spec : {M : Type 1} → statement M
 walk-terminator-spec =

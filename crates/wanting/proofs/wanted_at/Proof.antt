@@ -1,46 +1,61 @@
 use borrow.Author.Needs.{needs}
 use Rattle.wanting.proofs.wanted_at.Statement.{statement}
 use Rattle.wanting.proofs.wanted_at.Tie as tie
-use mathlib.Core.Path.{_∙_, sym}
+use mathlib.Core.Path.{_∙_, sym, ap}
 use native.Mathlib.Omega.{arith}
+use borrow.Author.Tests.{not-true, not-false}
 use Rattle.wire.specs.declared.Value.{Value}
+use Rattle.routine.specs.Index.{asRecorded}
 use Rattle.parts.specs.Rows.{ValueAt}
-use Rattle.wanting.proofs.Asking.{literal-stays, error-stays, operand-below}
+use Rattle.wanting.proofs.Asking.{literal-stays, error-stays, untracked-stays, unasked-stays, tracked-build, asked-within, operand-below}
 
--- src/lib.rt:174:11
 value-at-requires : tie.Need-value-at-requires
 value-at-requires c κs = search needs
 
--- src/lib.rt:175:30
 enum-told : tie.Need-enum-told
 enum-told c = search needs
 
--- src/lib.rt:176:24
 enum-known-v : tie.Need-enum-known-v
 enum-known-v c = search needs
 
--- src/lib.rt:176:30
-wants-operand-requires : tie.Need-wants-operand-requires
-wants-operand-requires c κs = search needs
+tracked-requires : tie.Need-tracked-requires
+tracked-requires c κs = search needs
 
--- src/lib.rt:177:25
+returns : tie.Need-returns
+returns c = λ τ S rows x e h. rw (sym (c .before .before .before .before .before .value-at .ensures x h) ∙ c .before .before .before .v .given .1) (untracked-stays τ S _ _ (sym (c .before .tracked .ensures _ _ _ _ S (e .rep)) ∙ not-true _ (c .if1 .taken)))
+
+asked-type-requires : tie.Need-asked-type-requires
+asked-type-requires c κs = search needs
+
+enum-known-u : tie.Need-enum-known-u
+enum-known-u c = search needs
+
 enum-told-2 : tie.Need-enum-told-2
 enum-told-2 c = search needs
 
--- src/lib.rt:161:1
-returns : tie.Need-returns
-returns c = λ τ S table firsts pool used x g f r v. rw (sym (c .before .before .value-at .ensures x v) ∙ c .enum-told .given .1) (literal-stays τ S _ _)
+enum-told-3 : tie.Need-enum-told-3
+enum-told-3 c = search needs
 
--- src/lib.rt:161:1
 returns-2 : tie.Need-returns-2
-returns-2 c = λ τ S table firsts pool used x g f r v.
-    let z = sym (c .before .before .before .before .value-at .ensures x v) ∙ c .before .before .v .given .1 in
-    let y : ValueAt _ _ _ (Value.Operand _) = rw z at v in
-    rw z (c .wants-operand .ensures τ S table firsts pool used g f r (operand-below _ _ _ _ (λ j. omega (arith, c .before .before .before .before .before .before .before .shared-slice-known3 .given j)) (g .few) y))
+returns-2 c = λ τ S rows x e h. rw (sym (c .before .before .value-at .ensures x h) ∙ c .enum-told .given .1) (literal-stays τ S _ _)
 
--- src/lib.rt:161:1
 returns-3 : tie.Need-returns-3
-returns-3 c = λ τ S table firsts pool used x g f r v. rw (sym (c .before .before .value-at .ensures x v) ∙ c .enum-told2 .given .1) (error-stays τ S _)
+returns-3 c = λ τ S rows x e h.
+    let a = c .before .before .before .before .before .before .before .before .before .before .before .before .before .before .args in
+    let z = sym (c .before .before .before .before .before .before .before .before .before .value-at .ensures x h) ∙ c .before .before .before .before .before .before .before .v .given .1 in
+    let y : ValueAt _ _ _ (Value.Operand _) = rw z at h in
+    let l = operand-below _ _ _ _ (λ j. omega (arith, c .before .before .before .before .before .before .before .before .before .before .before .shared-slice-known3 .given j)) (e .ground .few) y in
+    rw z (tracked-build τ S _ _ _ (sym (c .before .before .before .before .before .tracked .ensures _ _ _ _ S (e .rep)) ∙ not-false _ (c .before .before .before .before .if1 .left)) (sym (ap asRecorded (c .before .u .given .1)) ∙ c .before .before .before .asked-type .ensures τ (e .ground) l) (λ w. asked-within _ _ _ _ τ (e .ground) (a .t .now) (a .asks) (a .i) _ _ w))
+
+returns-4 : tie.Need-returns-4
+returns-4 c = λ τ S rows x e h.
+    let z = sym (c .before .before .before .before .before .before .before .before .value-at .ensures x h) ∙ c .before .before .before .before .before .before .v .given .1 in
+    let y : ValueAt _ _ _ (Value.Operand _) = rw z at h in
+    let l = operand-below _ _ _ _ (λ j. omega (arith, c .before .before .before .before .before .before .before .before .before .before .shared-slice-known3 .given j)) (e .ground .few) y in
+    rw z (unasked-stays τ S _ _ (sym (ap asRecorded (c .enum-told2 .given .1)) ∙ c .before .before .asked-type .ensures τ (e .ground) l))
+
+returns-5 : tie.Need-returns-5
+returns-5 c = λ τ S rows x e h. rw (sym (c .before .before .value-at .ensures x h) ∙ c .enum-told3 .given .1) (error-stays τ S _)
 
 pub wanted-at-spec : {M : Type 1} → statement M
 wanted-at-spec =
@@ -49,8 +64,13 @@ wanted-at-spec =
     value-at-requires
     enum-told
     enum-known-v
-    wants-operand-requires
-    enum-told-2
+    tracked-requires
     returns
+    asked-type-requires
+    enum-known-u
+    enum-told-2
+    enum-told-3
     returns-2
-    returns-3)
+    returns-3
+    returns-4
+    returns-5)

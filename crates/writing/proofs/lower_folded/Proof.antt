@@ -1,11 +1,11 @@
-use Prim.Native.Nat.{ℕ}
-use lib.ListN.{length-replicate}
-use native.Mathlib.Omega.{arith}
-use Rattle.writing.proofs.Accepted.{blocks-few, short-input}
-use Rattle.writing.proofs.Answered.{measured, answers-clash}
 use borrow.Author.Needs.{needs}
 use Rattle.writing.proofs.lower_folded.Statement.{statement}
 use Rattle.writing.proofs.lower_folded.Tie as tie
+use Prim.Native.Nat.{ℕ}
+use native.Mathlib.Omega.{arith}
+use lib.ListN.{length-replicate, length-drop, replicate}
+use Rattle.keeping.proofs.Accepted.{blocks-few}
+use Rattle.writing.proofs.Answered.{fresh-part, measured, answers-clash}
 
 slice-aggregate-run-blocks : tie.Need-slice-aggregate-run-blocks
 slice-aggregate-run-blocks c = search needs
@@ -17,14 +17,22 @@ slice-aggregate-run-blocks-3 : tie.Need-slice-aggregate-run-blocks-3
 slice-aggregate-run-blocks-3 c = search needs
 
 run-blocks-requires : tie.Need-run-blocks-requires
-run-blocks-requires c κs = let a = c .before .before .before .before .before .before .before .before .before .before .before .before .pre .accepted in
-    (omega arith, (blocks-few a, omega (arith, short-input a)))
+run-blocks-requires c κs = (omega arith, (blocks-few (c .before .before .before .before .before .before .before .pre .accepted), omega (arith, length-replicate {A = ℕ} 7040 0)))
 
 enum-told : tie.Need-enum-told
 enum-told c = search needs
 
 enum-known-p : tie.Need-enum-known-p
 enum-known-p c = search needs
+
+sub-write-measured : tie.Need-sub-write-measured
+sub-write-measured c = search needs
+
+part-write-measured-start : tie.Need-part-write-measured-start
+part-write-measured-start c = search needs
+
+part-write-measured-end : tie.Need-part-write-measured-end
+part-write-measured-end c = search needs
 
 slice-aggregate-write-measured : tie.Need-slice-aggregate-write-measured
 slice-aggregate-write-measured c = search needs
@@ -33,10 +41,10 @@ slice-aggregate-write-measured-2 : tie.Need-slice-aggregate-write-measured-2
 slice-aggregate-write-measured-2 c = search needs
 
 write-measured-requires : tie.Need-write-measured-requires
-write-measured-requires c κs = measured (c .before .before .before .before .before .before .before .before .before .before .before .before .before .before .before .before .before .before .before .before .before .before .pre) _ _ _ _ _ _ _ _ (omega (arith, length-replicate {A = ℕ} 4608 0)) (c .before .before .before .before .before .before .before .before .before .run-blocks .ensures .0) (c .before .before .before .before .before .before .before .before .before .run-blocks .ensures .1 (c .before .before .before .before .before .before .before .before .before .before .before .before .before .before .before .before .before .before .before .before .before .before .pre)) (c .before .before .before .before .p .given .1)
+write-measured-requires c κs = measured (c .before .before .before .before .before .before .before .before .before .before .before .before .before .before .before .before .before .before .before .pre) _ _ _ _ _ _ _ _ (omega (arith, length-drop 2432 (replicate {A = ℕ} 7040 0), length-replicate {A = ℕ} 7040 0)) (c .before .before .before .before .before .before .before .before .before .before .before .run-blocks .ensures .0) (c .before .before .before .before .before .before .before .before .before .before .before .run-blocks .ensures .1 (c .before .before .before .before .before .before .before .before .before .before .before .before .before .before .before .before .before .before .before .pre)) (c .before .before .before .before .before .before .p .given .1) (fresh-part (c .before .before .before .before .before .before .before .before .before .before .before .run-blocks .last .1 .1 .1 .1 .1 .1 .0) (omega (arith, c .before .before .before .before .before .before .before .before .before .work2 .given)))
 
 returns : tie.Need-returns
-returns c = answers-clash (c .before .before .before .before .before .before .before .before .before .before .before .before .before .before .before .before .before .before .pre) (c .before .before .before .before .before .before .before .before .before .before .before .before .before .before .before .before .before .before .args .out .now) (c .before .before .before .before .before .run-blocks .ensures .1 (c .before .before .before .before .before .before .before .before .before .before .before .before .before .before .before .before .before .before .pre) .clashed (c .enum-told .given .1))
+returns c = answers-clash (c .before .before .before .before .before .before .before .before .before .before .before .before .before .pre) (c .before .before .before .before .before .before .before .before .before .before .before .before .before .args .out .now) (c .before .before .before .before .before .run-blocks .ensures .1 (c .before .before .before .before .before .before .before .before .before .before .before .before .before .pre) .clashed (c .enum-told .given .1))
 
 same-length : tie.Need-same-length
 same-length c = search needs
@@ -54,6 +62,9 @@ lower-folded-spec =
     run-blocks-requires
     enum-told
     enum-known-p
+    sub-write-measured
+    part-write-measured-start
+    part-write-measured-end
     slice-aggregate-write-measured
     slice-aggregate-write-measured-2
     write-measured-requires

@@ -18,4 +18,6 @@ returns-2 : tie.Need-returns-2
 returns-2 c = λ τ S q w h e. part-some _ _ (c .before .before .before .step-part .ensures τ S q w h e) (not-false _ (c .before .if1 .left)) (λ x a. c .operand-at .ensures x (w .ground .bytes) (omega (arith, w .ground .few)) a)
 
 pub step-operand-spec : {M : Type 1} → statement M
-step-operand-spec = tie.close (tie.spec step-part-requires returns operand-at-requires returns-2)
+step-operand-spec =
+    tie.close
+    (tie.spec step-part-requires returns operand-at-requires returns-2)

@@ -5,10 +5,10 @@ use Rattle.chains.proofs.path.walk.Tie as tie
 use Rattle.chains.proofs.Walks.{Going, going, going-more, going-ends, going-done, looked}
 
 abbrev Inv-loop : tie.InvT-loop
-Inv-loop s t b types recorded tracked firsts pool k v₀ i₀ v i = Going b s t types recorded tracked firsts pool (record { 0 = v₀ }) k v i
+Inv-loop s t b facts tracked rows k v₀ i₀ v i = Going b s t facts tracked rows (record { 0 = v₀ }) k v i
 
 abbrev μ-loop : tie.MeasureT-loop
-μ-loop s t b types recorded tracked firsts pool k v₀ i₀ v i = k - i
+μ-loop s t b facts tracked rows k v₀ i₀ v i = k - i
 
 loop-holds : tie.Need-loop-holds Inv-loop μ-loop
 loop-holds c = going

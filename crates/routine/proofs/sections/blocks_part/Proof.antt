@@ -2,91 +2,98 @@ use Rattle.routine.proofs.sections.blocks_part.Statement.{statement}
 use Rattle.routine.proofs.sections.blocks_part.Tie as tie
 use borrow.Author.Needs.{needs}
 use Prim.Native.Nat.{_-_}
-use mathlib.Core.Path.{_∙_}
+use mathlib.Core.Path.{_≡_, refl}
 use native.Mathlib.Omega.{arith}
-use lib.ListN.{length-set}
-use Rattle.routine.proofs.Coding.{Coding, coding-start, coding-stop, coding-few, coding-again, coding-done, block-told, block-size}
+use lib.ListN.{length}
+use Rattle.routine.proofs.Coding.{Coding, start-kept, coding-start, coding-stop, coding-few, coding-again, coding-done}
 
 abbrev Inv-loop : tie.InvT-loop
-Inv-loop s at m b many seen₀ starts₀ here₀ total₀ k₀ seen starts here total k = Coding m b many at s seen₀ starts₀ starts k here total seen
+Inv-loop s at b seen₀ facts₀ many here₀ total₀ k₀ seen facts here total k = (length seen ≡ length seen₀) × (length facts ≡ length facts₀) × Coding b at s seen₀ facts₀ facts k here total seen
 
 abbrev μ-loop : tie.MeasureT-loop
-μ-loop s at m b many seen₀ starts₀ here₀ total₀ k₀ seen starts here total k = many - k
+μ-loop s at b seen₀ facts₀ many here₀ total₀ k₀ seen facts here total k = b .blocks - k
 
-slice-write-starts : tie.Need-slice-write-starts Inv-loop μ-loop
-slice-write-starts c = search needs
+set-place-requires : tie.Need-set-place-requires Inv-loop μ-loop
+set-place-requires c κs = search needs
+
+set-number-requires : tie.Need-set-number-requires Inv-loop μ-loop
+set-number-requires c κs = search needs
 
 loop-holds : tie.Need-loop-holds Inv-loop μ-loop
-loop-holds c = let a = c .before .before .before .args in coding-start (a .m) (a .b) (a .many) (a .at) (a .s .now) (a .seen .now) (a .starts .now) (c .before .before .before .pre .0) (c .before .before .before .pre .1)
+loop-holds c = let a = c .before .before .before .before .before .before .before .before .before .before .before .args in (refl, refl, coding-start (a .b) (a .at) (a .s .now) (a .facts .now) _ _ (c .before .before .before .before .before .before .set-place .ensures) (c .before .before .set-number .ensures) (a .seen .now) (c .before .before .before .before .before .before .before .before .before .before .before .pre))
 
-sub-read-block : tie.Need-sub-read-block Inv-loop μ-loop
-sub-read-block c = search needs
-
-part-read-block-start : tie.Need-part-read-block-start Inv-loop μ-loop
-part-read-block-start c = search needs
-
-part-read-block-end : tie.Need-part-read-block-end Inv-loop μ-loop
-part-read-block-end c = search needs
+add-read-block : tie.Need-add-read-block Inv-loop μ-loop
+add-read-block c = omega (arith, c .before .loop .inv .2 .few, c .loop-test .taken, c .before .before .before .before .before .before .before .before .before .before .before .before .before .pre .1)
 
 read-block-requires : tie.Need-read-block-requires Inv-loop μ-loop
-read-block-requires c κs = search needs
+read-block-requires c κs = (c .before .before .before .loop .inv .2 .in-s, omega (arith, c .before .before .before .loop .inv .2 .few, c .before .before .loop-test .taken, c .before .before .before .before .before .before .before .before .before .before .before .before .before .before .before .pre .1))
 
 enum-known-c : tie.Need-enum-known-c Inv-loop μ-loop
 enum-known-c c = search needs
-
-add-t25 : tie.Need-add-t25 Inv-loop μ-loop
-add-t25 c = let a = c .before .before .before .before .before .before .before .before .before .before .before .before .before .args in let l = c .before .before .before .before .before .before .before .before .before .loop in
-    omega (arith, block-size (a .m) (a .b) (l .total) (l .here) (a .s .now) (l .seen) (c .before .before .before .before .before .read-block .last .1 .1 .1 .1 .0) (c .before .before .before .before .before .read-block .ensures) (c .before .c .given .1) (l .inv .in-s))
 
 same-length : tie.Need-same-length Inv-loop μ-loop
 same-length c = search needs
 
 same-length-2 : tie.Need-same-length-2 Inv-loop μ-loop
-same-length-2 c = let a = c .before .before .before .before .before .before .before .before .before .before .before .before .before .args in c .before .before .before .before .before .before .before .before .before .loop .inv .long ∙ length-set (a .starts .now) 0 (a .at)
+same-length-2 c = search needs
 
 returns : tie.Need-returns Inv-loop μ-loop
-returns c = let a = c .before .before .before .before .before .before .before .before .before .before .before .before .before .args in let l = c .before .before .before .before .before .before .before .before .before .loop in
-    coding-stop (a .m) (a .b) (a .many) (a .at) (a .s .now) (a .seen .now) _ (l .starts) (l .k) (l .here) (l .total) (l .seen) (l .inv) (c .before .before .before .before .before .before .before .before .loop-test .taken) (a .starts .now) (length-set (a .starts .now) 0 (a .at))
-    (block-told (a .m) (a .b) (l .total) (l .here) (a .s .now) (l .seen) (c .before .before .before .before .before .read-block .last .1 .1 .1 .1 .0) (c .before .before .before .before .before .read-block .ensures) (c .before .c .given .1))
+returns c = let a = c .before .before .before .before .before .before .before .before .before .before .before .before .before .before .before .before .before .before .before .before .before .before .before .args in
+    let l = c .before .before .before .before .before .before .before .before .before .before .before .loop in
+    coding-stop (a .b) (a .at) (a .s .now) (a .seen .now) _ (l .facts) (l .k) (l .here) (l .total) (l .seen) (l .inv .2) (c .before .before .before .before .before .before .before .before .before .before .loop-test .taken) _ _ _ (c .before .before .before .before .before .before .before .read-block .ensures) (a .facts .now) (c .before .c .given .1)
 
-enum-known-n : tie.Need-enum-known-n Inv-loop μ-loop
-enum-known-n c = search needs
-
-add-here : tie.Need-add-here Inv-loop μ-loop
-add-here c = let a = c .before .before .before .before .before .before .before .before .before .before .before .before .before .args in let l = c .before .before .before .before .before .before .before .before .before .loop in
-    omega (arith, block-size (a .m) (a .b) (l .total) (l .here) (a .s .now) (l .seen) (c .before .before .before .before .before .read-block .last .1 .1 .1 .1 .0) (c .before .before .before .before .before .read-block .ensures) (c .before .n .given .1) (l .inv .in-s))
+enum-known-end : tie.Need-enum-known-end Inv-loop μ-loop
+enum-known-end c = search needs
 
 add-total : tie.Need-add-total Inv-loop μ-loop
-add-total c = let a = c .before .before .before .before .before .before .before .before .before .before .before .before .before .args in let l = c .before .before .before .before .before .before .before .before .before .loop in
-    omega (arith, coding-few (a .m) (a .b) (a .many) (a .at) (a .s .now) (a .seen .now) _ (l .starts) (l .k) (l .here) (l .total) (l .seen) (l .inv) (c .before .before .before .before .before .before .before .before .loop-test .taken) (block-told (a .m) (a .b) (l .total) (l .here) (a .s .now) (l .seen) (c .before .before .before .before .before .read-block .last .1 .1 .1 .1 .0) (c .before .before .before .before .before .read-block .ensures) (c .before .n .given .1)))
+add-total c = let a = c .before .before .before .before .before .before .before .before .before .before .before .before .before .before .before .before .before .before .before .before .before .before .before .args in
+    let l = c .before .before .before .before .before .before .before .before .before .before .before .loop in
+    omega (arith, coding-few (a .b) (a .at) (a .s .now) (a .seen .now) _ (l .facts) (l .k) (l .here) (l .total) (l .seen) (l .inv .2) (c .before .before .before .before .before .before .before .before .before .before .loop-test .taken) _ _ _ (c .before .before .before .before .before .before .before .read-block .ensures) (c .before .end .given .1))
 
 add-k : tie.Need-add-k Inv-loop μ-loop
 add-k c = search needs
 
-cast-i : tie.Need-cast-i Inv-loop μ-loop
-cast-i c = search needs
+cast-set-place : tie.Need-cast-set-place Inv-loop μ-loop
+cast-set-place c = search needs
 
-mul-starts : tie.Need-mul-starts Inv-loop μ-loop
-mul-starts c = search needs
+add-set-place : tie.Need-add-set-place Inv-loop μ-loop
+add-set-place c = search needs
 
-slice-write-starts-2 : tie.Need-slice-write-starts-2 Inv-loop μ-loop
-slice-write-starts-2 c = search needs
+set-place-requires-2 : tie.Need-set-place-requires-2 Inv-loop μ-loop
+set-place-requires-2 c κs = search needs
+
+cast-set-number : tie.Need-cast-set-number Inv-loop μ-loop
+cast-set-number c = search needs
+
+add-set-number : tie.Need-add-set-number Inv-loop μ-loop
+add-set-number c = search needs
+
+add-set-number-2 : tie.Need-add-set-number-2 Inv-loop μ-loop
+add-set-number-2 c = let a = c .before .before .before .before .before .before .before .before .before .before .before .before .before .before .before .before .before .before .before .before .before .before .before .before .before .before .before .before .args in
+    let l = c .before .before .before .before .before .before .before .before .before .before .before .before .before .before .before .before .loop in
+    omega (arith, coding-few (a .b) (a .at) (a .s .now) (a .seen .now) _ (l .facts) (l .k) (l .here) (l .total) (l .seen) (l .inv .2) (c .before .before .before .before .before .before .before .before .before .before .before .before .before .before .before .loop-test .taken) _ _ _ (c .before .before .before .before .before .before .before .before .before .before .before .before .read-block .ensures) (c .before .before .before .before .before .before .end .given .1), c .before .before .before .before .before .before .before .before .before .before .before .before .before .before .before .loop-test .taken, c .before .before .before .before .before .before .before .before .before .before .before .before .before .before .before .before .before .before .before .before .before .before .before .before .before .before .before .before .pre .1)
+
+set-number-requires-2 : tie.Need-set-number-requires-2 Inv-loop μ-loop
+set-number-requires-2 c κs = search needs
 
 loop-less : tie.Need-loop-less Inv-loop μ-loop
 loop-less c = search needs
 
 loop-again : tie.Need-loop-again Inv-loop μ-loop
-loop-again c = let a = c .before .before .before .before .before .before .before .before .before .before .before .before .before .args in let l = c .before .before .before .before .before .before .before .before .before .loop in
-    coding-again (a .m) (a .b) (a .many) (a .at) (a .s .now) (a .seen .now) _ (l .starts) (l .k) (l .here) (l .total) (l .seen) (l .inv) (c .before .before .before .before .before .before .before .before .loop-test .taken) (block-told (a .m) (a .b) (l .total) (l .here) (a .s .now) (l .seen) (c .before .before .before .before .before .read-block .last .1 .1 .1 .1 .0) (c .before .before .before .before .before .read-block .ensures) (c .before .n .given .1)) (search needs)
+loop-again c = let a = c .before .before .before .before .before .before .before .before .before .before .before .before .before .before .before .before .before .before .before .before .before .before .before .before .before .before .before .before .before .before .before .args in
+    let l = c .before .before .before .before .before .before .before .before .before .before .before .before .before .before .before .before .before .before .before .loop in
+    (search needs, search needs, coding-again (a .b) (a .at) (a .s .now) (a .seen .now) _ (l .facts) (l .k) (l .here) (l .total) (l .seen) (l .inv .2) (c .before .before .before .before .before .before .before .before .before .before .before .before .before .before .before .before .before .before .loop-test .taken) _ _ _ (c .before .before .before .before .before .before .before .before .before .before .before .before .before .before .before .read-block .ensures) (c .before .before .before .before .before .before .before .before .before .end .given .1) _ _ (c .before .before .before .before .before .before .before .before .before .before .before .before .before .before .before .before .before .before .before .before .before .before .before .before .before .before .before .before .before .before .before .pre .1) (c .before .before .before .before .before .before .set-place2 .ensures) (c .before .before .set-number2 .ensures))
 
 same-length-3 : tie.Need-same-length-3 Inv-loop μ-loop
 same-length-3 c = search needs
 
 same-length-4 : tie.Need-same-length-4 Inv-loop μ-loop
-same-length-4 c = let a = c .before .before .before .before .before .args in c .before .loop .inv .long ∙ length-set (a .starts .now) 0 (a .at)
+same-length-4 c = search needs
 
 returns-2 : tie.Need-returns-2 Inv-loop μ-loop
-returns-2 c = let a = c .before .before .before .before .before .args in let l = c .before .loop in coding-done (a .m) (a .b) (a .many) (a .at) (a .s .now) (a .seen .now) _ (l .starts) (l .k) (l .here) (l .total) (l .seen) (l .inv) (c .loop-test .left) (a .starts .now) (length-set (a .starts .now) 0 (a .at))
+returns-2 c = let a = c .before .before .before .before .before .before .before .before .before .before .before .before .before .args in
+    let l = c .before .loop in
+    coding-done (a .b) (a .at) (a .s .now) (a .seen .now) _ (l .facts) (l .k) (l .here) (l .total) (l .seen) (l .inv .2) (c .loop-test .left) (a .facts .now) (start-kept (a .b) (a .at) (a .s .now) (a .facts .now) _ _ (c .before .before .before .before .before .before .before .before .set-place .ensures) (c .before .before .before .before .set-number .ensures))
 
 pub blocks-part-spec : {M : Type 1} → statement M
 blocks-part-spec =
@@ -94,24 +101,25 @@ blocks-part-spec =
     (tie.spec
     Inv-loop
     μ-loop
-    slice-write-starts
+    set-place-requires
+    set-number-requires
     loop-holds
-    sub-read-block
-    part-read-block-start
-    part-read-block-end
+    add-read-block
     read-block-requires
     enum-known-c
-    add-t25
     same-length
     same-length-2
     returns
-    enum-known-n
-    add-here
+    enum-known-end
     add-total
     add-k
-    cast-i
-    mul-starts
-    slice-write-starts-2
+    cast-set-place
+    add-set-place
+    set-place-requires-2
+    cast-set-number
+    add-set-number
+    add-set-number-2
+    set-number-requires-2
     loop-less
     loop-again
     same-length-3

@@ -1,6 +1,6 @@
-use borrow.Author.Needs.{needs}
 use Rattle.routine.proofs.sections.recorded_one.Statement.{statement}
 use Rattle.routine.proofs.sections.recorded_one.Tie as tie
+use borrow.Author.Needs.{needs}
 use mathlib.Core.Path.{sym, _∙_}
 use native.Mathlib.Omega.{arith}
 use borrow.Author.Tests.{not-true, not-false}
@@ -8,6 +8,9 @@ use lib.ListN.{drop}
 use Rattle.wire.specs.Number.{u16Of, as16}
 use Rattle.wire.proofs.Laws.{told, told-size, size-number}
 use Rattle.routine.proofs.Recording.{recorded-no, recorded-some, recorded-bad, recorded-past}
+
+add-place : tie.Need-add-place
+add-place c = search needs
 
 map-bit-requires : tie.Need-map-bit-requires
 map-bit-requires c κs = search needs
@@ -19,7 +22,7 @@ same-length : tie.Need-same-length
 same-length c = search needs
 
 returns : tie.Need-returns
-returns c = let a = c .before .before .before .before .before .before .before .before .args in recorded-no (a .types) (drop (a .map) (a .s .now)) (a .v) (a .here) (a .s .now) (a .recorded .now) (sym (c .before .before .before .before .before .map-bit .ensures) ∙ not-true _ (c .before .before .before .before .if1 .taken)) (c .before .before .set-number .ensures)
+returns c = let a = c .before .before .before .before .before .before .before .before .args in recorded-no (a .types) (drop (a .map) (a .s .now)) (a .v) (a .here) (a .s .now) (a .facts .now) (sym (c .before .before .before .before .before .map-bit .ensures) ∙ not-true _ (c .before .before .before .before .if1 .taken)) (c .before .before .set-number .ensures)
 
 sub-read-u16 : tie.Need-sub-read-u16
 sub-read-u16 c = search needs
@@ -43,7 +46,7 @@ enum-known-t : tie.Need-enum-known-t
 enum-known-t c = search needs
 
 returns-2 : tie.Need-returns-2
-returns-2 c = let a = c .before .before .before .before .before .before .before .before .before .before .args in recorded-past (a .types) (drop (a .map) (a .s .now)) (a .v) (a .here) (a .s .now) (a .recorded .now) (sym (c .before .before .before .before .before .before .before .map-bit .ensures) ∙ not-false _ (c .before .before .before .before .before .before .if1 .left)) (told as16 u16Of (a .here) (a .s .now) (c .before .before .before .before .read-u16 .ensures) (c .before .before .t .given .1)) (c .if2 .taken)
+returns-2 c = let a = c .before .before .before .before .before .before .before .before .before .before .args in recorded-past (a .types) (drop (a .map) (a .s .now)) (a .v) (a .here) (a .s .now) (a .facts .now) (sym (c .before .before .before .before .before .before .before .map-bit .ensures) ∙ not-false _ (c .before .before .before .before .before .before .if1 .left)) (told as16 u16Of (a .here) (a .s .now) (c .before .before .before .before .read-u16 .ensures) (c .before .before .t .given .1)) (c .if2 .taken)
 
 add-set-number : tie.Need-add-set-number
 add-set-number c = search needs
@@ -51,22 +54,23 @@ add-set-number c = search needs
 set-number-requires-2 : tie.Need-set-number-requires-2
 set-number-requires-2 c κs = search needs
 
-add-t29 : tie.Need-add-t29
-add-t29 c = let a = c .before .before .before .before .before .before .before .before .before .before .before .before .before .before .args in omega (arith, told-size as16 u16Of (a .here) (a .s .now) (λ t. size-number 2 t) (c .before .before .before .before .before .before .before .before .before .before .before .before .before .before .pre) (c .before .before .before .before .before .before .before .before .read-u16 .ensures) (c .before .before .before .before .before .before .t .given .1))
+add-t30 : tie.Need-add-t30
+add-t30 c = let a = c .before .before .before .before .before .before .before .before .before .before .before .before .before .before .args in omega (arith, told-size as16 u16Of (a .here) (a .s .now) (λ t. size-number 2 t) (c .before .before .before .before .before .before .before .before .before .before .before .before .before .before .pre) (c .before .before .before .before .before .before .before .before .read-u16 .ensures) (c .before .before .before .before .before .before .t .given .1))
 
 returns-3 : tie.Need-returns-3
-returns-3 c = let a = c .before .before .before .before .before .before .before .before .before .args in recorded-bad (a .types) (drop (a .map) (a .s .now)) (a .v) (a .here) (a .s .now) (a .recorded .now) (sym (c .before .before .before .before .before .before .map-bit .ensures) ∙ not-false _ (c .before .before .before .before .before .if1 .left)) (told as16 u16Of (a .here) (a .s .now) (c .before .before .before .read-u16 .ensures) (c .before .c .given .1))
+returns-3 c = let a = c .before .before .before .before .before .before .before .before .before .args in recorded-bad (a .types) (drop (a .map) (a .s .now)) (a .v) (a .here) (a .s .now) (a .facts .now) (sym (c .before .before .before .before .before .before .map-bit .ensures) ∙ not-false _ (c .before .before .before .before .before .if1 .left)) (told as16 u16Of (a .here) (a .s .now) (c .before .before .before .read-u16 .ensures) (c .before .c .given .1))
 
 same-length-2 : tie.Need-same-length-2
 same-length-2 c = search needs
 
 returns-4 : tie.Need-returns-4
-returns-4 c = let a = c .before .before .before .before .before .before .before .before .before .before .before .before .before .before .args in recorded-some (a .types) (drop (a .map) (a .s .now)) (a .v) (a .here) (a .s .now) (a .recorded .now) (sym (c .before .before .before .before .before .before .before .before .before .before .before .map-bit .ensures) ∙ not-false _ (c .before .before .before .before .before .before .before .before .before .before .if1 .left)) (told as16 u16Of (a .here) (a .s .now) (c .before .before .before .before .before .before .before .before .read-u16 .ensures) (c .before .before .before .before .before .before .t .given .1)) (c .before .before .before .before .if2 .left) (c .before .before .set-number2 .ensures)
+returns-4 c = let a = c .before .before .before .before .before .before .before .before .before .before .before .before .before .before .args in recorded-some (a .types) (drop (a .map) (a .s .now)) (a .v) (a .here) (a .s .now) (a .facts .now) (sym (c .before .before .before .before .before .before .before .before .before .before .before .map-bit .ensures) ∙ not-false _ (c .before .before .before .before .before .before .before .before .before .before .if1 .left)) (told as16 u16Of (a .here) (a .s .now) (c .before .before .before .before .before .before .before .before .read-u16 .ensures) (c .before .before .before .before .before .before .t .given .1)) (c .before .before .before .before .if2 .left) (c .before .before .set-number2 .ensures)
 
 pub recorded-one-spec : {M : Type 1} → statement M
 recorded-one-spec =
     tie.close
     (tie.spec
+    add-place
     map-bit-requires
     set-number-requires
     same-length
@@ -81,7 +85,7 @@ recorded-one-spec =
     returns-2
     add-set-number
     set-number-requires-2
-    add-t29
+    add-t30
     returns-3
     same-length-2
     returns-4)

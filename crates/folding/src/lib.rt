@@ -1,0 +1,58 @@
+// The choice: which builds are folded and which blocks are skipped.
+use progress::Setup;
+ghost use mathlib.Core.Path.{_≡_};
+ghost use mathlib.Core.Bool.{false};
+ghost use Prim.Native.Nat.{_≤_};
+ghost use lib.ListN.{replicate};
+ghost use Rattle.routine.specs.Routine.{Routine};
+ghost use Rattle.eligibility.specs.Tables.{FactsAt};
+ghost use Rattle.rewriting.specs.Run.{typesIn};
+ghost use Rattle.folding.specs.Folds.{Chooses};
+
+// Chooses by the aggregates that are used across blocks; `marks` has a place for each value, and none stands.
+fn choose_crossed(
+    s: &[u8],
+    setup: Setup,
+    facts: &[u16],
+    shapes: &[u8],
+    eligible: &[bool],
+    marks: &mut [bool],
+    choice: &mut [bool],
+)
+    ensures { λ _. ⌜ ((r : Routine) → FactsAt (setup .settings) (typesIn r) (now (shapes .entry)) (now (eligible .entry)) → now (marks .entry) ≡ replicate (setup .bounds .next) false → Chooses setup (now (s .entry)) (now (facts .entry)) (now (choice .entry)) (now (choice .exit)) r) ⌝ }
+{
+    let b = setup.bounds;
+    cross::cross_marks(s, b, facts, shapes, eligible, marks);
+    choosing::choose(s, b, setup.settings, facts, shapes, eligible, marks, choice);
+}
+
+// Which builds are folded and which blocks are skipped.
+pub fn choose_folds(s: &[u8], setup: Setup, facts: &[u16], choice: &mut [bool])
+    requires { ⌜ setup .bounds .next ≤ 256 ⌝ }
+    ensures { λ _. ⌜ ((r : Routine) → Chooses setup (now (s .entry)) (now (facts .entry)) (now (choice .entry)) (now (choice .exit)) r) ⌝ }
+{
+    let b = setup.bounds;
+    let n = b.next as usize;
+    let mut shapes: [u8; 256] = [0; 256];
+    let mut eligible: [bool; 256] = [false; 256];
+    facts::value_facts(
+        s,
+        facts,
+        b.types,
+        index::recorded(facts),
+        b.next,
+        setup.settings,
+        &mut shapes,
+        &mut eligible,
+    );
+    let mut marks: [bool; 256] = [false; 256];
+    choose_crossed(
+        s,
+        setup,
+        facts,
+        &shapes,
+        &eligible,
+        &mut marks[0..n],
+        choice,
+    );
+}

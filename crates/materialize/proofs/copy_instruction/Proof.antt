@@ -1,0 +1,39 @@
+use borrow.Author.Needs.{needs}
+use Rattle.materialize.proofs.copy_instruction.Statement.{statement}
+use Rattle.materialize.proofs.copy_instruction.Tie as tie
+use Prim.Native.Nat.{_-_}
+use mathlib.Core.Path.{_∙_, ap}
+use Rattle.materialize.proofs.Writing.{instruction-copied}
+
+place-requires : tie.Need-place-requires
+place-requires c κs = search needs
+
+tail-requires : tie.Need-tail-requires
+tail-requires c κs = search needs
+
+end-requires : tie.Need-end-requires
+end-requires c κs = search needs
+
+minus-requires : tie.Need-minus-requires
+minus-requires c κs = search needs
+
+copy-bytes-requires : tie.Need-copy-bytes-requires
+copy-bytes-requires c κs = search needs
+
+same-length : tie.Need-same-length
+same-length c = search needs
+
+returns : tie.Need-returns
+returns c = (c .before .before .copy-bytes .ensures .0, instruction-copied _ _ _ _ _ _ _ _ _ _ (c .before .before .before .before .before .before .before .place .ensures .0) (c .before .before .before .before .before .tail .ensures) (c .before .before .before .minus .ensures ∙ ap (λ k. k - c .before .before .before .before .before .before .before .place .result) (c .before .before .before .before .end .ensures .0)) (c .before .before .copy-bytes .ensures .1))
+
+pub copy-instruction-spec : {M : Type 1} → statement M
+copy-instruction-spec =
+    tie.close
+    (tie.spec
+    place-requires
+    tail-requires
+    end-requires
+    minus-requires
+    copy-bytes-requires
+    same-length
+    returns)

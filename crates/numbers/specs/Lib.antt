@@ -1,0 +1,2 @@
+pub mod Ten
+pub mod Totals

@@ -1,0 +1,3 @@
+pub mod Lows
+pub mod Performing
+pub mod Counting

@@ -1,0 +1,5 @@
+pub mod Sorts
+pub mod Graph
+pub mod Extend
+pub mod One
+pub mod Blocks

@@ -19,7 +19,9 @@ fn choose_crossed(
     marks: &mut [bool],
     choice: &mut [bool],
 )
-    ensures { λ _. ⌜ ((r : Routine) → FactsAt (setup .settings) (typesIn r) (now (shapes .entry)) (now (eligible .entry)) → now (marks .entry) ≡ replicate (setup .bounds .next) false → Chooses setup (now (s .entry)) (now (facts .entry)) (now (choice .entry)) (now (choice .exit)) r) ⌝ }
+    ensures { λ _. ⌜ ((r : Routine) → FactsAt (setup .settings) (typesIn r) (now (shapes .entry)) (now (eligible .entry))
+        → now (marks .entry) ≡ replicate (setup .bounds .next) false
+        → Chooses setup (now (s .entry)) (now (facts .entry)) (now (choice .entry)) (now (choice .exit)) r) ⌝ }
 {
     let b = setup.bounds;
     cross::cross_marks(s, b, facts, shapes, eligible, marks);

@@ -107,7 +107,8 @@ pub fn first_slot(facts: &[u16], k: u16) -> u16
 
 // How many instructions block `k` has.
 pub fn instruction_count(facts: &[u16], k: u16) -> u16
-    ensures { λ r. ⌜ ((b : Bounds) (s : List ℕ) (ks : List Block) → CodeIn b s (now (facts .entry)) ks → k < length ks → r ≡ length (getD ks k noBlock .instructions)) ⌝ }
+    ensures { λ r. ⌜ ((b : Bounds) (s : List ℕ) (ks : List Block)
+        → CodeIn b s (now (facts .entry)) ks → k < length ks → r ≡ length (getD ks k noBlock .instructions)) ⌝ }
 {
     let from = first_slot(facts, k);
     let to = table::number(facts, STARTS + 1 + k as usize);

@@ -23,7 +23,8 @@ pub fn put_opening(
     out: &mut [u8],
 ) -> Opened
     requires { ⌜ Opens (now s) (now facts) (now fresh) b many size ⌝ }
-    ensures { λ r. ⌜ ((h : Opens (now (s .entry)) (now (facts .entry)) (now (fresh .entry)) b many size) → Opening (headBytes (widened (h .routine) (h .types))) size (now (out .entry)) (now (out .exit)) r) ⌝ }
+    ensures { λ r. ⌜ ((h : Opens (now (s .entry)) (now (facts .entry)) (now (fresh .entry)) b many size)
+        → Opening (headBytes (widened (h .routine) (h .types))) size (now (out .entry)) (now (out .exit)) r) ⌝ }
 {
     let at = table::place(facts, b.types as usize);
     let recorded = index::recorded(facts);

@@ -32,7 +32,9 @@ fn run_blocks(
 ) -> Put
     requires { ⌜ (to ≤ 67108864) × ((setup .bounds .blocks ≤ 32) × (2432 ≤ length (now work))) ⌝ }
     ensures { λ r. ⌜ PutLow 4300 r ⌝ }
-    ensures { λ r. ⌜ ((h : Chosen (setup .settings) (now (s .entry)) (now (facts .entry)) (setup .bounds) (now (choice .entry))) → Runs (rewrittenBlocks (setup .settings) (h .accepted .routine)) to (now (out .entry)) (freshIn (now (work .entry))) (now (dropped .entry)) (now (out .exit)) (freshIn (now (work .exit))) (now (dropped .exit)) r) ⌝ }
+    ensures { λ r. ⌜ ((h : Chosen (setup .settings) (now (s .entry)) (now (facts .entry)) (setup .bounds) (now (choice .entry)))
+        → Runs (rewrittenBlocks (setup .settings) (h .accepted .routine)) to (now (out .entry)) (freshIn (now (work .entry))) (now (dropped .entry))
+        (now (out .exit)) (freshIn (now (work .exit))) (now (dropped .exit)) r) ⌝ }
 {
     let none = Counts {
         builds: 0,
@@ -74,7 +76,9 @@ fn put_body(
     to: usize,
 )
     requires { ⌜ (to ≤ 67108864) × ((setup .bounds .blocks ≤ 32) × (to + size ≤ length (now out))) ⌝ }
-    ensures { λ _. ⌜ ((h : Chosen (setup .settings) (now (s .entry)) (now (facts .entry)) (setup .bounds) (now (choice .entry))) → Begun (rewrittenBlocks (setup .settings) (h .accepted .routine)) (now (body .entry)) size → now (out .exit) ≡ sets (now (out .entry)) to (bodyOf (rewrittenBlocks (setup .settings) (h .accepted .routine)))) ⌝ }
+    ensures { λ _. ⌜ ((h : Chosen (setup .settings) (now (s .entry)) (now (facts .entry)) (setup .bounds) (now (choice .entry)))
+        → Begun (rewrittenBlocks (setup .settings) (h .accepted .routine)) (now (body .entry)) size
+        → now (out .exit) ≡ sets (now (out .entry)) to (bodyOf (rewrittenBlocks (setup .settings) (h .accepted .routine)))) ⌝ }
 {
     if size <= body.len() {
         keeping::copy_whole(&body[..size], out, to);

@@ -1,5 +1,6 @@
-/* The entries of the proved static libraries, for C: link libreading.a for `check`, libpass.a for `lower`
- * (`rt staticlib reading`, `rt staticlib pass` in the repository's root write them to target/staticlib). */
+/* The entries of the proved archive, for C: link libpoelvigu.a (`rt staticlib poelvigu` in the repository's root writes it to
+ * target/staticlib). A slice is a pointer and then a length. Any lengths and any bytes may be given; the slices lent to one call
+ * are apart from one another, and no pointer is kept. */
 #ifndef POELVIGU_H
 #define POELVIGU_H
 
@@ -10,7 +11,7 @@
 extern "C" {
 #endif
 
-/* The places of the numbers that `lower` answers. */
+/* The places of the numbers that `poelvigu_lower` answers. */
 enum poelvigu_answer {
     POELVIGU_NUMBER,           /* 0, or the number of the refusal */
     POELVIGU_OFFSET,           /* of the refusal */
@@ -26,13 +27,13 @@ enum poelvigu_answer {
 };
 
 /* Whether the bytes are a routine: 0 and offset 0, or the number of the refusal and its offset. */
-uint8_t check(const uint8_t *input, size_t input_len, uint64_t *offset);
+uint8_t poelvigu_check(const uint8_t *input, size_t input_len, uint64_t *offset);
 
 /* Rewrites the routine in `input` into `output`. A flag is on when it is not 0; `most` above 16 is refused. A refusal leaves
  * the output as it was; else the routine stands from its first byte on and the bytes behind it stay. As many of the
- * POELVIGU_ANSWERS numbers are written as `answer_len` has room for. Any lengths and any bytes may be given. */
-void lower(const uint8_t *input, size_t input_len, uint8_t *output, size_t output_len, uint64_t tuples,
-           uint64_t structs, uint64_t most, uint64_t *answer, size_t answer_len);
+ * POELVIGU_ANSWERS numbers are written as `answer_len` has room for. */
+void poelvigu_lower(const uint8_t *input, size_t input_len, uint8_t *output, size_t output_len, uint64_t tuples,
+                    uint64_t structs, uint64_t most, uint64_t *answer, size_t answer_len);
 
 #ifdef __cplusplus
 }

@@ -1,20 +1,8 @@
-// Says whether the bytes on standard input are a routine: 'accepted', or 'refused', the number and the offset.
-fn show(input: &[u8]) {
-    let mut offset: u64 = 0;
-    let number = reading::check(input, &mut offset);
-    if number == 0 {
-        io::write_all(1, b"accepted\n");
-        return;
-    }
-    io::write_all(1, b"refused ");
-    io::print_decimal(1, number as u64);
-    io::write_all(1, b" ");
-    io::print_decimal(1, offset);
-    io::write_all(1, b"\n");
-}
-
+// Says whether the bytes on standard input are a routine: prints what crate bytes_text makes of the first 65,536.
 fn main() {
-    let mut buffer = [0u8; 65536];
-    let n = io::read_full(0, &mut buffer);
-    show(&buffer[..n]);
+    let mut input = [0u8; 65536];
+    let n = io::read_full(0, &mut input);
+    let mut text = [0u8; bytes_text::LONGEST];
+    let size = bytes_text::check_text(&input[..n], &mut text);
+    io::write_all(1, &text[..size]);
 }

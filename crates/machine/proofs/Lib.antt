@@ -1,1 +1,4 @@
-pub mod Examples
+pub mod Words
+pub mod ValueRows
+pub mod OutsideRows
+pub mod RunRows

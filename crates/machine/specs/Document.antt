@@ -1,18 +1,17 @@
--- Document 01's own machine: a literal is what it is at every type, an operation gives a value, Debug does nothing, and a
--- value is of a type as document 01 says ("Error, Unknown and no type have none").
+-- Document 01's own machine: a literal is what it is at every type, an operation gives a value, no aggregate is too large,
+-- Debug does nothing, and a value is of a type as document 01 says ("Error, Unknown and no type have none").
 use Prim.Native.Nat.{ℕ, zero, suc}
 use mathlib.Core.Path.{_≡_}
 use mathlib.Core.Option.{Option, none, some}
 use mathlib.Core.List.{List, [], _∷_}
 use mathlib.Core.Bool.{true, false, cond, _&&_}
 use mathlib.Core.Bool as B
-use Rattle.wire.specs.declared.TypeId.{TypeId}
-use Rattle.wire.specs.declared.Literal.{Literal}
-use Rattle.wire.specs.declared.Value.{Value}
-use Rattle.typetable.specs.Syntax.{MirType, Felt, Bool, U32, Tuple, Struct, FixedArray, Pointer, Function, Unit, Error, Unknown}
-use Rattle.eligibility.specs.Lookup.{Types, rowOf, asConstInteger}
+use Rattle.mir.specs.declared.TypeId.{TypeId}
+use Rattle.mir.specs.declared.Literal.{Literal}
+use Rattle.mir.specs.MirType.{MirType, Felt, Bool, U32, Tuple, Struct, FixedArray, Pointer, Function, Unit, Error, Unknown}
+use Rattle.mir.specs.Lookup.{Types, rowOf}
 use Rattle.machine.specs.Values.{Val, scalar, aggregate, Vals, ends, then}
-use Rattle.shelf.specs.Parts.{partType, partCount, counts}
+use Rattle.mir.specs.Parts.{partType, partCount, counts}
 use Rattle.machine.specs.Meaning.{Meaning, gives, says, Taken, took, refuses, exhausted}
 
 -- the part of a meaning that document 01 leaves open
@@ -24,7 +23,7 @@ pub record Operations (A : Type 0) : Type 0 where
   pub truth : Val A → B.Bool
   pub same : A → A → B.Bool
   pub position : Val A → Option ℕ
-  pub literal-position : (l : Literal) (k : ℕ) → asConstInteger (Value.Literal l) ≡ some k → position (literal l) ≡ some k
+  pub literal-position : (k : ℕ) → position (literal (Literal.Integer k)) ≡ some k
   pub has : MirType → A → B.Bool  -- the scalars of a scalar type
 
 -- the scalars of a type; an aggregate type has none, "Error, Unknown and no type have none"
@@ -80,5 +79,6 @@ document01 O =
       position = O .position;
       literal-position = O .literal-position;
       take = λ rows t w. takeFirst (λ y. isOf (O .has) (onRows rows) y t) w;
+      large = λ rows t. false;
       debug = false;
     }

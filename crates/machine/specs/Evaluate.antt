@@ -2,9 +2,9 @@
 use Prim.Native.Nat.{ℕ, zero, suc}
 use mathlib.Core.Option.{Option, none, some}
 use mathlib.Core.List.{List, [], _∷_}
-use Rattle.wire.specs.declared.Value.{Value}
-use Rattle.typetable.specs.Syntax.{MirType}
-use Rattle.form.specs.Syntax.{Projection, Index, Field, Tuple}
+use Rattle.mir.specs.declared.Value.{Value}
+use Rattle.mir.specs.MirType.{MirType}
+use Rattle.mir.specs.Syntax.{Projection, Index, Field, Tuple}
 use Rattle.machine.specs.Values.{Val, Vals, ends, consVal}
 use Rattle.machine.specs.Meaning.{Meaning}
 use Rattle.machine.specs.Records.{Env, Step, index, field, tuple}

@@ -3,15 +3,16 @@ use Prim.Native.Nat.{ℕ}
 use mathlib.Core.Option.{Option, none, some}
 use mathlib.Core.List.{List, [], _∷_}
 use mathlib.Core.Bool.{Bool, true, false}
-use Rattle.wire.specs.declared.ValueId.{ValueId}
-use Rattle.form.specs.Syntax.{InstructionKind, Assign, UnaryOp, BinaryOp, Call, Cast, Load, Store, Debug, Nop, Phi}
-use Rattle.form.specs.Syntax.{MakeTuple, ExtractTupleElement, MakeStruct, ExtractStructField, InsertField, InsertTuple, MakeFixedArray, AssertEq, HeapAllocCells}
-use Rattle.eligibility.specs.Lookup.{Types, rowOf, recordedType, valueRow, fieldIndex}
-use Rattle.eligibility.specs.Climb.{structRow, structParts}
+use Rattle.mir.specs.declared.ValueId.{ValueId}
+use Rattle.mir.specs.Syntax.{InstructionKind, Assign, UnaryOp, BinaryOp, Call, Cast, Load, Store, Debug, Nop, Phi}
+use Rattle.mir.specs.Syntax.{MakeTuple, ExtractTupleElement, MakeStruct, ExtractStructField, InsertField, InsertTuple, MakeFixedArray}
+use Rattle.mir.specs.Syntax.{AssertEq, HeapAllocCells}
+use Rattle.mir.specs.Lookup.{Types, rowOf, recordedType, valueRow, fieldIndex}
+use Rattle.mir.specs.Parts.{structRow, operandRow, isPointer, structParts}
 use Rattle.machine.specs.Values.{Val, Vals, aggregate, equal, partOf, withPart}
 use Rattle.machine.specs.Meaning.{Meaning, Answer, gives, fails, asks, Taken, took, refuses, exhausted}
-use Rattle.machine.specs.Records.{Env, Writes, Event, called, allocated, loaded, stored, asserted, printed, Cause, noValue, noSource, noReply, unwritten, missing, own, unequalSides, Out, goes, ends, stops}
-use Rattle.shelf.specs.Parts.{operandRow, isPointer}
+use Rattle.machine.specs.Records.{Env, Writes, Event, called, allocated, loaded, stored, asserted, printed}
+use Rattle.machine.specs.Records.{Cause, noValue, noSource, noReply, unwritten, missing, tooLarge, own, unequalSides, Out, goes, ends, stops}
 use Rattle.machine.specs.Places.{partRow, argumentRow, noRow, rowAt, walked, changed}
 use Rattle.machine.specs.Evaluate.{eval, evalAll, evalSteps}
 
@@ -37,10 +38,12 @@ asserting true w ev = goes [] w ev
 asserting false w ev = ends unequalSides ev
 
 module _ {A : Type 0} (M : Meaning A) (τ : Types) where
-  -- "then one for each dest of an outside event, as they are met"
+  -- "then one for each dest of an outside event, as they are met"; a dest too large for the machine stops it first
   unfoldable pub replies : List ValueId → List (Val A) → Writes A → List (Event A) → Out A
   replies [] w ws ev = goes ws w ev
-  replies (d ∷ ds) w ws ev = received (M .take (τ .rows) (recordedType τ d) w) ev (λ y w′. replies ds w′ ((d, y) ∷ ws) ev)
+  replies (d ∷ ds) w ws ev =
+      choose (M .large (τ .rows) (recordedType τ d)) (stops tooLarge ev)
+      (received (M .take (τ .rows) (recordedType τ d) w) ev (λ y w′. replies ds w′ ((d, y) ∷ ws) ev))
 
   -- an operation's answer; a result that is asked for comes from the replies and is not recorded
   unfoldable pub answered : ValueId → List (Val A) → Answer A → Out A
@@ -48,9 +51,9 @@ module _ {A : Type 0} (M : Meaning A) (τ : Types) where
   answered d w (fails c) = stops (own c) []
   answered d w asks = replies (d ∷ []) w [] []
 
-  -- a build's parts, each at its type
+  -- a build's parts, each at its type; one too large for the machine stops it behind its reads
   unfoldable pub built : ValueId → Option (Vals A) → List (Val A) → Out A
-  built d o w = need unwritten o (λ ys. goes ((d, aggregate ys) ∷ []) w [])
+  built d o w = need unwritten o (λ ys. choose (M .large (τ .rows) (recordedType τ d)) (stops tooLarge []) (goes ((d, aggregate ys) ∷ []) w []))
 
   -- a part taken out, and a part put in
   unfoldable pub extracted : ValueId → Val A → Option ℕ → List (Val A) → Out A
@@ -65,7 +68,8 @@ module _ {A : Type 0} (M : Meaning A) (τ : Types) where
   exec (Assign d x t) E w = need unwritten (eval M E (rowOf τ (some t)) x) (λ y. goes ((d, y) ∷ []) w [])
   exec (UnaryOp op d x) E w = need unwritten (eval M E none x) (λ y. answered d w (M .unary op (valueRow τ d) y))
   exec (BinaryOp op d x y) E w =
-      need unwritten (eval M E (operandRow τ y) x) (λ a. need unwritten (eval M E (operandRow τ x) y) (λ b. answered d w (M .binary op (valueRow τ d) a b)))
+      need unwritten (eval M E (operandRow τ y) x) (λ a.
+      need unwritten (eval M E (operandRow τ x) y) (λ b. answered d w (M .binary op (valueRow τ d) a b)))
   exec (Call ds f xs ps rs) E w = need unwritten (evalAll M E (argumentRow τ ps) xs) (λ ys. replies ds w [] (called f ys ∷ []))
   exec (Cast d x t u) E w = need unwritten (eval M E none x) (λ y. answered d w (M .cast (rowOf τ (some t)) (rowOf τ (some u)) y))
   exec (Load d p t) E w =

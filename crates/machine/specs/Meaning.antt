@@ -4,11 +4,9 @@ use mathlib.Core.Path.{_≡_}
 use mathlib.Core.Bool.{Bool}
 use mathlib.Core.Option.{Option, none, some}
 use mathlib.Core.List.{List}
-use Rattle.wire.specs.declared.TypeId.{TypeId}
-use Rattle.wire.specs.declared.Literal.{Literal}
-use Rattle.wire.specs.declared.Value.{Value}
-use Rattle.typetable.specs.Syntax.{MirType}
-use Rattle.eligibility.specs.Lookup.{asConstInteger}
+use Rattle.mir.specs.declared.TypeId.{TypeId}
+use Rattle.mir.specs.declared.Literal.{Literal}
+use Rattle.mir.specs.MirType.{MirType}
 use Rattle.machine.specs.Values.{Val}
 
 -- what an operation answers: a value, a stop with a cause of its own, or that its result is the next reply
@@ -29,7 +27,8 @@ pub data Taken (A : Type 0) : Type 0 where
   refuses : Taken A
   exhausted : Taken A
 
--- all that is left open; demand 3 is for every one. Its one law: an Index literal names the part of its number
+-- all that is left open; demand 3 is for every one. Its one law: an Integer literal that is an Index names the part of its number.
+-- Of a Boolean as an Index nothing is asked: shelf reason 0 has none ("its value is Integer, Felt or U32")
 pub record Meaning (A : Type 0) : Type 0 where
   pub literal : Literal → Option MirType → Val A  -- a literal, where it stands at a type
   pub unary : ℕ → Option MirType → Val A → Answer A  -- by the operation and the type of the dest
@@ -39,6 +38,7 @@ pub record Meaning (A : Type 0) : Type 0 where
   pub compare : ℕ → Val A → Val A → Verdict  -- of BranchCmp
   pub same : A → A → Bool  -- equal scalars
   pub position : Val A → Option ℕ  -- the part that an Index value names
-  pub literal-position : (l : Literal) (k : ℕ) → asConstInteger (Value.Literal l) ≡ some k → position (literal l none) ≡ some k
+  pub literal-position : (k : ℕ) → position (literal (Literal.Integer k) none) ≡ some k
   pub take : List MirType → Option TypeId → List (Val A) → Taken A  -- "a reply or parameter .. of its recorded type"
+  pub large : List MirType → Option TypeId → Bool  -- whether the machine cannot hold an aggregate of that type; document 01's holds all
   pub debug : Bool  -- whether Debug is recorded

@@ -3,11 +3,10 @@ use Prim.Native.Nat.{ℕ}
 use mathlib.Core.Option.{Option, none, some}
 use mathlib.Core.List.{List, [], _∷_}
 use lib.ListN.{getElem?}
-use Rattle.wire.specs.declared.TypeId.{TypeId}
-use Rattle.typetable.specs.Syntax.{MirType}
-use Rattle.eligibility.specs.Lookup.{Types, rowOf, fieldIndex}
-use Rattle.shelf.specs.Parts.{partType}
-use Rattle.rewriting.specs.State.{onSome}
+use Rattle.mir.specs.declared.TypeId.{TypeId}
+use Rattle.mir.specs.MirType.{MirType}
+use Rattle.mir.specs.Lookup.{Types, rowOf, fieldIndex, onSome}
+use Rattle.mir.specs.Parts.{partType}
 use Rattle.machine.specs.Values.{Val, partOf, withPart}
 use Rattle.machine.specs.Meaning.{Meaning}
 use Rattle.machine.specs.Records.{Step, index, field, tuple}

@@ -4,9 +4,9 @@ use mathlib.Core.Option.{Option, some}
 use mathlib.Core.List.{List, [], _∷_, _++_}
 use mathlib.Core.Bool.{cond}
 use lib.Dec.{eqb}
-use Rattle.wire.specs.declared.ValueId.{ValueId}
-use Rattle.wire.specs.declared.BlockId.{BlockId}
-use Rattle.wire.specs.declared.NameId.{NameId}
+use Rattle.mir.specs.declared.ValueId.{ValueId}
+use Rattle.mir.specs.declared.BlockId.{BlockId}
+use Rattle.mir.specs.declared.NameId.{NameId}
 use Rattle.machine.specs.Values.{Val, Vals}
 
 -- a place's step, an Index with its value
@@ -26,9 +26,10 @@ pub data Event (A : Type 0) : Type 0 where
   printed : ℕ → Vals A → Event A
   returned : Vals A → Event A
 
--- "has stopped (no value of its type, no source, no reply left, unwritten value, missing part)"; an operation's own causes
+-- "has stopped (no value of its type, no source, no reply left, unwritten value, missing part)"; an aggregate too large for the
+-- machine, which document 01's never meets; an operation's own causes
 pub data Cause : Type 0 where
-  noValue noSource noReply unwritten missing : Cause
+  noValue noSource noReply unwritten missing tooLarge : Cause
   own : ℕ → Cause
 
 -- "has ended (Return, Unreachable, unequal sides)"

@@ -5,20 +5,18 @@ use mathlib.Core.List.{List, [], _∷_, _++_}
 use mathlib.Core.Bool.{Bool, true, false, cond}
 use lib.Dec.{eqb}
 use lib.ListN.{getElem?}
-use Rattle.wire.specs.declared.ValueId.{ValueId}
-use Rattle.wire.specs.declared.BlockId.{BlockId}
-use Rattle.wire.specs.declared.TypeId.{TypeId}
-use Rattle.wire.specs.declared.Value.{Value}
-use Rattle.form.specs.Syntax.{Source, Instruction, InstructionKind, Terminator, Jump, If, BranchCmp, Return, Unreachable, Block}
-use Rattle.form.specs.Syntax.{Assign, UnaryOp, BinaryOp, Call, Cast, Load, Store, Debug, Nop, Phi}
-use Rattle.form.specs.Syntax.{MakeTuple, ExtractTupleElement, MakeStruct, ExtractStructField, InsertField, InsertTuple, MakeFixedArray, AssertEq, HeapAllocCells}
-use Rattle.routine.specs.Routine.{Routine}
-use Rattle.eligibility.specs.Lookup.{Types, rowOf, recordedType}
-use Rattle.eligibility.specs.Fold.{behindPhis, phisOf}
+use Rattle.mir.specs.declared.ValueId.{ValueId}
+use Rattle.mir.specs.declared.BlockId.{BlockId}
+use Rattle.mir.specs.declared.Value.{Value}
+use Rattle.mir.specs.Syntax.{Source, Instruction, Terminator, Jump, If, BranchCmp, Return, Unreachable, Block}
+use Rattle.mir.specs.Routine.{Routine}
+use Rattle.mir.specs.Lookup.{Types, rowOf, recordedType}
+use Rattle.mir.specs.Phis.{behindPhis, phisOf, PhiOf, phiOf}
 use Rattle.machine.specs.Values.{Val}
 use Rattle.machine.specs.Meaning.{Meaning, Verdict, says, balks, Taken, took, refuses, exhausted}
-use Rattle.machine.specs.Records.{Env, write, Writes, writeAll, Event, returned, Cause, noValue, noSource, noReply, unwritten, own, atReturn, atUnreachable, standsAt, ended, stopped, Trace, Out, goes, ends, stops, Left, next, over, halt, log}
-use Rattle.shelf.specs.Parts.{operandRow}
+use Rattle.machine.specs.Records.{Env, write, Writes, writeAll, Event, returned, Cause, noValue, noSource, noReply, unwritten, tooLarge, own}
+use Rattle.machine.specs.Records.{atReturn, atUnreachable, standsAt, ended, stopped, Trace, Out, goes, ends, stops, Left, next, over, halt, log}
+use Rattle.mir.specs.Parts.{operandRow}
 use Rattle.machine.specs.Places.{noRow}
 use Rattle.machine.specs.Evaluate.{eval, evalAll}
 use Rattle.machine.specs.Exec.{exec}
@@ -49,38 +47,10 @@ unfoldable pub sourceFor : BlockId → List Source → Option Value
 sourceFor b [] = none
 sourceFor b (s ∷ ss) = cond (eqb (b .0) (s .block .0)) (some (s .value)) (sourceFor b ss)
 
--- the block just left, if any: "Phis in the entry block at the start: no source"
+-- the block just left, if any: at the start there is none, so that a phi of the entry block has no source then
 unfoldable pub sourceFrom : Option BlockId → List Source → Option Value
 sourceFrom none ss = none
 sourceFrom (some b) ss = sourceFor b ss
-
--- a Phi's fields
-pub record PhiOf : Type 0 where
-  pub dest : ValueId
-  pub type : TypeId
-  pub sources : List Source
-
--- the fields of a Phi, none of any other kind
-unfoldable pub phiOf : InstructionKind → Option PhiOf
-phiOf (Assign d x t) = none
-phiOf (UnaryOp op d x) = none
-phiOf (BinaryOp op d x y) = none
-phiOf (Call ds f xs ps rs) = none
-phiOf (Cast d x t u) = none
-phiOf (Load d p t) = none
-phiOf (Store p x t) = none
-phiOf (Debug m xs) = none
-phiOf Nop = none
-phiOf (Phi d t ss) = some (record { dest = d; type = t; sources = ss })
-phiOf (MakeTuple d xs) = none
-phiOf (ExtractTupleElement d x k t) = none
-phiOf (MakeStruct d fs t) = none
-phiOf (ExtractStructField d x n t) = none
-phiOf (InsertField d x n y t) = none
-phiOf (InsertTuple d x k y t) = none
-phiOf (MakeFixedArray d xs t c) = none
-phiOf (AssertEq x y) = none
-phiOf (HeapAllocCells d x) = none
 
 module _ {A : Type 0} (M : Meaning A) (τ : Types) where
   -- one phi's write, behind those before it
@@ -140,10 +110,12 @@ module _ {A : Type 0} (M : Meaning A) (τ : Types) where
   taking refuses k = record { recorded = []; standing = stopped noValue }
   taking exhausted k = record { recorded = []; standing = stopped noReply }
 
-  -- "the parameters first"
+  -- "the parameters first"; one too large for the machine has stopped the run before any block
   unfoldable pub takeAll : List ValueId → List (Val A) → Env A → (Env A → List (Val A) → Trace A) → Trace A
   takeAll [] w E k = k E w
-  takeAll (p ∷ ps) w E k = taking (M .take (τ .rows) (recordedType τ p) w) (λ y w′. takeAll ps w′ (write E p y) k)
+  takeAll (p ∷ ps) w E k =
+      cond (M .large (τ .rows) (recordedType τ p)) (record { recorded = []; standing = stopped tooLarge })
+      (taking (M .take (τ .rows) (recordedType τ p) w) (λ y w′. takeAll ps w′ (write E p y) k))
 
 -- "nothing written"
 unfoldable pub noneWritten : {A : Type 0} → Env A

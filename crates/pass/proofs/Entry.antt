@@ -1,26 +1,26 @@
 -- The entries keep their promises.
 use Prim.Native.Nat.{ℕ}
-use mathlib.Core.Path.{_≡_, ap, _∙_}
+use mathlib.Core.Path.{_≡_, refl, ap, _∙_}
 use mathlib.Core.List.{List}
 use mathlib.Core.Bool.{Bool, false}
 use lib.ListN.{length, take}
 use lib.Seq.{sets}
-use Rattle.wire.specs.WellFormed.{Bytes}
-use Rattle.eligibility.specs.declared.Settings.{Settings}
-use Rattle.rewriting.specs.declared.Counts.{Counts}
+use Rattle.bytes_wire.specs.WellFormed.{Bytes}
+use Rattle.fold.specs.declared.Settings.{Settings}
+use Rattle.rewrite.specs.declared.Counts.{Counts}
 use Rattle.shelf.specs.Answer.{lowered, answer as given}
-use Rattle.numbers.specs.declared.Numbers.{Numbers}
-use Rattle.numbers.specs.declared.Totals.{Totals}
-use Rattle.numbers.specs.Ten.{tenNumbers}
-use Rattle.numbers.proofs.Laws.{Fit}
-use Rattle.answers.specs.declared.Answer.{Answer}
-use Rattle.answers.specs.Numbers.{numbersOf, leaves, asAnswer, Answers}
-use Rattle.answers.specs.Totals.{afterAnswer}
-use Rattle.answers.proofs.Laws.{as-given}
-use Rattle.keeping.proofs.Copied.{take-sets}
+use Rattle.pass_numbers.specs.declared.Numbers.{Numbers}
+use Rattle.pass_numbers.specs.declared.Totals.{Totals}
+use Rattle.pass_numbers.specs.Ten.{tenNumbers}
+use Rattle.pass_numbers.proofs.Laws.{Fit}
+use Rattle.pass_answers.specs.declared.Answer.{Answer}
+use Rattle.pass_answers.specs.Numbers.{numbersOf, leaves, asAnswer, Answers}
+use Rattle.pass_answers.specs.Totals.{afterAnswer}
+use Rattle.pass_answers.proofs.Laws.{as-given}
+use Rattle.pass_input.proofs.Copied.{take-sets}
 use Rattle.machine.specs.Meaning.{Meaning}
-use Rattle.claim.specs.Claim.{Indistinguishable}
-use Rattle.claim.proofs.Theorem.{indistinguishable, with-room}
+use Rattle.machine_claim.specs.Claim.{Indistinguishable}
+use Rattle.machine_claim.proofs.Theorem.{indistinguishable, with-room}
 use Rattle.pass.specs.Promise.{Lowers, Counted}
 
 -- the output begins with the rewritten routine
@@ -29,7 +29,7 @@ stands σ s out out′ w c k bytes e f = ap (take (length bytes)) (f ∙ ap (λ 
 
 -- demand 3, for scalars of any type
 unseen : {A : Type 0} (σ : Settings) (s out out′ : List ℕ) → Bytes s → out′ ≡ leaves (given σ (length out) s) out → (w : Bool) (c : Counts) (bytes : List ℕ) → given σ (length out) s ≡ lowered w c 0 bytes → (M : Meaning A) → M .debug ≡ false → Indistinguishable M s (take (length bytes) out′)
-unseen σ s out out′ b f w c bytes e M d = rw (stands σ s out out′ w c 0 bytes e f) (indistinguishable M d σ (length out) s w c bytes b e)
+unseen σ s out out′ b f w c bytes e M d = rw (stands σ s out out′ w c 0 bytes e f) (indistinguishable M d σ (length out) s w c 0 bytes b e refl)
 
 -- so it follows from what the entries promise
 pub for-every-meaning : {A : Type 0} {σ : Settings} {input out out′ numbers numbers′ : List ℕ} → Bytes input → Lowers σ input out out′ numbers numbers′ → (w : Bool) (c : Counts) (bytes : List ℕ) → given σ (length out) input ≡ lowered w c 0 bytes → (M : Meaning A) → M .debug ≡ false → Indistinguishable M input (take (length bytes) out′)

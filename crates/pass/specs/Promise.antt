@@ -5,21 +5,26 @@ use mathlib.Core.List.{List}
 use mathlib.Core.Bool.{Bool, false}
 use lib.ListN.{length, take}
 use lib.Seq.{sets}
-use Rattle.eligibility.specs.declared.Settings.{Settings}
-use Rattle.rewriting.specs.declared.Counts.{Counts}
+use Rattle.fold.specs.declared.Settings.{Settings}
+use Rattle.rewrite.specs.declared.Counts.{Counts}
 use Rattle.shelf.specs.Answer.{lowered, answer}
-use Rattle.numbers.specs.declared.Totals.{Totals}
-use Rattle.numbers.specs.Ten.{tenNumbers}
-use Rattle.answers.specs.declared.Answer.{Answer}
-use Rattle.answers.specs.Numbers.{numbersOf, leaves, Answers}
-use Rattle.answers.specs.Totals.{totalsAfter}
+use Rattle.pass_numbers.specs.declared.Totals.{Totals}
+use Rattle.pass_numbers.specs.Ten.{tenNumbers}
+use Rattle.pass_answers.specs.declared.Answer.{Answer}
+use Rattle.pass_answers.specs.Numbers.{numbersOf, leaves, Answers}
+use Rattle.pass_answers.specs.Totals.{totalsAfter}
 use Rattle.machine.specs.Meaning.{Meaning}
-use Rattle.claim.specs.Claim.{Indistinguishable}
+use Rattle.machine_claim.specs.Claim.{Indistinguishable}
 
 -- demand 3: with shelf reason 0, whoever runs what now stands in the output cannot tell it from the input. Scalars are numbered here, since
 -- a contract speaks of no collection of all types; `for-every-meaning` (proofs/Entry.antt) has scalars of any type
 abbrev pub Unseen : Settings → List ℕ → List ℕ → List ℕ → Type 0
-Unseen σ input out out′ = (w : Bool) (c : Counts) (bytes : List ℕ) → answer σ (length out) input ≡ lowered w c 0 bytes → (M : Meaning ℕ) → M .debug ≡ false → Indistinguishable M input (take (length bytes) out′)
+Unseen σ input out out′ =
+    (w : Bool) (c : Counts) (bytes : List ℕ)
+    → answer σ (length out) input ≡ lowered w c 0 bytes
+    → (M : Meaning ℕ)
+    → M .debug ≡ false
+    → Indistinguishable M input (take (length bytes) out′)
 
 -- a call for any caller: of the input, of the output before and after it, and of the caller's numbers before and after it
 pub record Lowers (σ : Settings) (input out out′ numbers numbers′ : List ℕ) : Type 0 where

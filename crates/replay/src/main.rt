@@ -4,20 +4,22 @@
 // A row: enable_tuples, enable_structs, max_aggregate_size (u8 each), the lent length (u32), the input's length (u32) and bytes;
 // then ten u32 (refusal number and offset, result, five counts, shelf reason, the output's length) and the output's bytes.
 
+mod compared;
+
 ghost use Prim.Native.Nat.{_≤_, _<_};
 ghost use lib.ListN.{length};
 
 // Calls the pass; whether it answers as is told. `row` begins with the settings.
 fn replayed(row: &[u8], input: &[u8], told: &[u8], bytes: &[u8], out: &mut [u8]) -> bool {
     let mut answer: [u64; 10] = [0; 10];
-    let tuples = wire::byte_at(row, 0) as u64;
-    let structs = wire::byte_at(row, 1) as u64;
-    let most = wire::byte_at(row, 2) as u64;
+    let tuples = bytes_wire::byte_at(row, 0) as u64;
+    let structs = bytes_wire::byte_at(row, 1) as u64;
+    let most = bytes_wire::byte_at(row, 2) as u64;
     pass::lower(input, out, tuples, structs, most, &mut answer);
-    if !showing::same_numbers(&answer, told) {
+    if !compared::same_numbers(&answer, told) {
         return false;
     }
-    showing::same_bytes(out, bytes)
+    compared::same_bytes(out, bytes)
 }
 
 // Replays the row at the head of `row`, whose input has `n` bytes and whose output has `size`, with an output of its own, of the
@@ -26,11 +28,11 @@ fn otherwise(row: &[u8], n: usize, size: usize) -> u64
     requires { ⌜ n < 4294967296 ⌝ }
     ensures { λ r. ⌜ r ≤ 1 ⌝ }
 {
-    let input = showing::part(row, 11, n);
-    let told = showing::part(row, 11 + n, 40);
-    let bytes = showing::part(row, 11 + n + 40, size);
+    let input = compared::part(row, 11, n);
+    let told = compared::part(row, 11 + n, 40);
+    let bytes = compared::part(row, 11 + n + 40, size);
     let mut out = [165u8; 65536];
-    let lent = wire::u32_at(row, 3) as usize;
+    let lent = bytes_wire::u32_at(row, 3) as usize;
     if 65536 < lent {
         return 1;
     }
@@ -40,6 +42,13 @@ fn otherwise(row: &[u8], n: usize, size: usize) -> u64
     1
 }
 
+// Prints how many rows there are and how many were answered otherwise.
+fn tell(rows: u64, others: u64) {
+    let mut text = [0u8; text_lines::LONGEST_REPLAYED];
+    let size = text_lines::replayed_line(&mut text, rows, others);
+    io::write_all(1, &text[..size]);
+}
+
 fn replay(s: &[u8])
     requires { ⌜ length (now s) < 1048576 ⌝ }
 {
@@ -47,17 +56,14 @@ fn replay(s: &[u8])
     let mut others: u64 = 0;
     let mut at: usize = 0;
     while at < s.len() {
-        let row = showing::part(s, at, s.len());
-        let n = wire::u32_at(row, 7) as usize;
-        let size = wire::u32_at(row, 11 + n + 36) as usize;
+        let row = compared::part(s, at, s.len());
+        let n = bytes_wire::u32_at(row, 7) as usize;
+        let size = bytes_wire::u32_at(row, 11 + n + 36) as usize;
         others = others + otherwise(row, n, size);
         rows = rows + 1;
         at = at + (11 + n + 40 + size);
     }
-    io::print_decimal(1, rows);
-    io::write_all(1, b" stored answers, ");
-    io::print_decimal(1, others);
-    io::write_all(1, b" otherwise\n");
+    tell(rows, others);
 }
 
 fn main() {

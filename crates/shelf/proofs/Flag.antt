@@ -3,10 +3,10 @@ use Prim.Native.Nat.{ℕ}
 use mathlib.Core.List.{List, [], _∷_}
 use mathlib.Core.Bool.{Bool, true, false, cond, not}
 use lib.Dec.{T}
-use Rattle.wire.specs.declared.ValueId.{ValueId}
-use Rattle.form.specs.Syntax.{Instruction, InstructionKind}
-use Rattle.form.specs.Reads.{reads, counted}
-use Rattle.eligibility.specs.Lookup.{Types}
+use Rattle.mir.specs.declared.ValueId.{ValueId}
+use Rattle.mir.specs.Syntax.{Instruction, InstructionKind}
+use Rattle.mir.specs.Reads.{reads, counted}
+use Rattle.mir.specs.Lookup.{Types}
 use Rattle.shelf.specs.Lists.{every, among}
 use Rattle.shelf.specs.Reads.{countedReads, definedIn, ordered, clean}
 use Rattle.shelf.specs.Agrees.{agrees, countedAgrees}

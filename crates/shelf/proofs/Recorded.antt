@@ -5,14 +5,13 @@ use mathlib.Core.List.{List, [], _∷_}
 use mathlib.Core.Bool.{true, false, _&&_}
 use mathlib.Core.Bool as B
 use lib.Dec.{T, eqb, eqb·zero-suc}
-use Rattle.wire.specs.declared.ValueId.{ValueId}
-use Rattle.wire.specs.declared.TypeId.{TypeId}
-use Rattle.wire.specs.declared.Value.{Value}
-use Rattle.form.specs.Syntax.{InstructionKind, Assign, UnaryOp, BinaryOp, Call, Cast, Load, Store, Debug, Nop, Phi}
-use Rattle.form.specs.Syntax.{MakeTuple, ExtractTupleElement, MakeStruct, ExtractStructField, InsertField, InsertTuple, MakeFixedArray, AssertEq, HeapAllocCells}
-use Rattle.form.specs.Reads.{operands, reads, dests}
-use Rattle.eligibility.specs.Lookup.{Types, rowOf, recordedType, valueRow, isTuple, isArray, shape}
-use Rattle.eligibility.specs.Climb.{isSome}
+use Rattle.mir.specs.declared.ValueId.{ValueId}
+use Rattle.mir.specs.declared.TypeId.{TypeId}
+use Rattle.mir.specs.declared.Value.{Value}
+use Rattle.mir.specs.Syntax.{InstructionKind, Assign, UnaryOp, BinaryOp, Call, Cast, Load, Store, Debug, Nop, Phi}
+use Rattle.mir.specs.Syntax.{MakeTuple, ExtractTupleElement, MakeStruct, ExtractStructField, InsertField, InsertTuple, MakeFixedArray, AssertEq, HeapAllocCells}
+use Rattle.mir.specs.Reads.{operands, reads, dests}
+use Rattle.mir.specs.Lookup.{Types, rowOf, recordedType, valueRow, isTuple, isArray, shape, isSome}
 use Rattle.shelf.specs.Lists.{every}
 use Rattle.shelf.specs.Fits.{sameType, fits, argumentsFit}
 use Rattle.shelf.specs.Agrees.{isScalarType, isScalar, destsFit, agrees, countedAgrees, isKnown}

@@ -1,4 +1,4 @@
--- Shelf reason 1, "Types disagree", as a test for each kind that passes where they agree. "A value read or defined lacks a
+-- Shelf reason 1, "Types disagree", as a test for each kind that passes where they agree. "A value read or defined .. lacks a
 -- recorded type, or Error stands as a value" is a test of its own for Debug and Return alone: what fits a type or is a scalar
 -- has a recorded type or is a literal, and so do the dests (proofs/Recorded.antt).
 use mathlib.Core.Option.{Option, none, some}
@@ -7,19 +7,18 @@ use mathlib.Core.Bool.{true, false, cond, not, _&&_}
 use mathlib.Core.Bool as B
 use lib.Dec.{eqb}
 use lib.ListN.{length}
-use Rattle.wire.specs.declared.ValueId.{ValueId}
-use Rattle.wire.specs.declared.TypeId.{TypeId}
-use Rattle.wire.specs.declared.Value.{Value}
-use Rattle.typetable.specs.Syntax.{MirType, Felt, Bool, U32, Tuple, Struct, FixedArray, Pointer, Function, Unit, Error, Unknown}
-use Rattle.form.specs.Syntax.{Projection, Index, Field, Place, InstructionKind, Assign, UnaryOp, BinaryOp, Call, Cast, Load, Store, Debug, Nop, Phi}
-use Rattle.form.specs.Syntax.{MakeTuple, ExtractTupleElement, MakeStruct, ExtractStructField, InsertField, InsertTuple, MakeFixedArray, AssertEq, HeapAllocCells}
-use Rattle.form.specs.Syntax.{Terminator, Jump, If, BranchCmp, Return, Unreachable, Block}
-use Rattle.form.specs.Syntax as S
-use Rattle.form.specs.Reads.{counted}
-use Rattle.eligibility.specs.Lookup.{Types, rowOf, recordedType, valueRow, isTuple, isStruct, isArray, isAggregate, structFieldsOf}
-use Rattle.eligibility.specs.Climb.{isSome}
+use Rattle.mir.specs.declared.ValueId.{ValueId}
+use Rattle.mir.specs.declared.TypeId.{TypeId}
+use Rattle.mir.specs.declared.Value.{Value}
+use Rattle.mir.specs.MirType.{MirType, Felt, Bool, U32, Tuple, Struct, FixedArray, Pointer, Function, Unit, Error, Unknown}
+use Rattle.mir.specs.Syntax.{Projection, Index, Field, Place, InstructionKind, Assign, UnaryOp, BinaryOp, Call, Cast, Load, Store, Debug, Nop, Phi}
+use Rattle.mir.specs.Syntax.{MakeTuple, ExtractTupleElement, MakeStruct, ExtractStructField, InsertField, InsertTuple, MakeFixedArray, AssertEq, HeapAllocCells}
+use Rattle.mir.specs.Syntax.{Terminator, Jump, If, BranchCmp, Return, Unreachable, Block}
+use Rattle.mir.specs.Syntax as S
+use Rattle.mir.specs.Reads.{counted}
+use Rattle.mir.specs.Lookup.{Types, rowOf, recordedType, valueRow, isTuple, isStruct, isArray, isAggregate, structFieldsOf, isSome}
 use Rattle.shelf.specs.Lists.{every}
-use Rattle.shelf.specs.Parts.{partType, operandRow}
+use Rattle.mir.specs.Parts.{partType, operandRow}
 use Rattle.shelf.specs.Fits.{literalKind, scalarKind, sameType, fits, partsFit, fieldTypeOf, placeType, fieldsFit, argumentsFit}
 
 -- a value with a recorded type, or a literal

@@ -2,13 +2,13 @@
 use Prim.Native.Nat.{ℕ}
 use mathlib.Core.List.{List}
 use mathlib.Core.Bool.{Bool, false}
-use Rattle.wire.specs.Parse.{Parse, ok, bad}
-use Rattle.routine.specs.Routine.{Routine}
-use Rattle.routine.specs.Decode.{mosts, wholeOf}
-use Rattle.eligibility.specs.declared.Settings.{Settings}
-use Rattle.rewriting.specs.declared.Counts.{Counts}
-use Rattle.rewriting.specs.Run.{rewrittenBlocks}
-use Rattle.rewriting.specs.Outcome.{Outcome, outcome}
+use Rattle.bytes_wire.specs.Parse.{Parse, ok, bad}
+use Rattle.mir.specs.Routine.{Routine}
+use Rattle.bytes_sections.specs.Decode.{mosts, wholeOf}
+use Rattle.fold.specs.declared.Settings.{Settings}
+use Rattle.rewrite.specs.declared.Counts.{Counts}
+use Rattle.rewrite.specs.Run.{rewrittenBlocks}
+use Rattle.rewrite.specs.Outcome.{Outcome, outcome}
 use Rattle.shelf.specs.Reason.{shelfReason}
 
 -- a refusal's number and offset, or the result, the counts, the shelf reason and the bytes of the rewritten routine

@@ -6,17 +6,15 @@ use mathlib.Core.Bool.{true, false, cond, _&&_}
 use mathlib.Core.Bool as B
 use lib.Dec.{eqb}
 use lib.ListN.{length}
-use Rattle.wire.specs.declared.TypeId.{TypeId}
-use Rattle.wire.specs.declared.NameId.{NameId}
-use Rattle.wire.specs.declared.Literal.{Literal}
-use Rattle.wire.specs.declared.Value.{Value}
-use Rattle.typetable.specs.Syntax.{StructField, MirType, Felt, Bool, U32, Tuple, Struct, FixedArray, Pointer, Function, Unit, Error, Unknown}
-use Rattle.form.specs.Syntax.{Projection, Index, Field, FieldInit}
-use Rattle.form.specs.Syntax as S
-use Rattle.eligibility.specs.Lookup.{Types, rowOf, recordedType, isTuple, isArray, fieldIndex}
-use Rattle.eligibility.specs.Climb.{given}
-use Rattle.shelf.specs.Parts.{partType, partCount, counts}
-use Rattle.rewriting.specs.State.{onSome}
+use Rattle.mir.specs.declared.TypeId.{TypeId}
+use Rattle.mir.specs.declared.NameId.{NameId}
+use Rattle.mir.specs.declared.Literal.{Literal}
+use Rattle.mir.specs.declared.Value.{Value}
+use Rattle.mir.specs.MirType.{StructField, MirType, Felt, Bool, U32, Tuple, Struct, FixedArray, Pointer, Function, Unit, Error, Unknown}
+use Rattle.mir.specs.Syntax.{Projection, Index, Field, FieldInit}
+use Rattle.mir.specs.Syntax as S
+use Rattle.mir.specs.Lookup.{Types, rowOf, recordedType, isTuple, isArray, fieldIndex, onSome}
+use Rattle.mir.specs.Parts.{given, partType, partCount, counts}
 
 -- 1, 2 and 3 for what an Integer, a Boolean and Unit fit
 unfoldable pub literalKind : Literal → ℕ

@@ -1,10 +1,11 @@
 -- Tests on lists that compute.
 use Prim.Native.Nat.{ℕ}
-use mathlib.Core.Bool.{Bool, false, _||_}
+use mathlib.Core.Bool.{Bool, false, not, _||_}
 use mathlib.Core.List.{List, [], _∷_}
+use lib.ListN.{getD}
 use lib.Dec.{eqb}
-use Rattle.wire.specs.declared.ValueId.{ValueId}
-pub use Rattle.eligibility.specs.Lookup.{every}
+use Rattle.mir.specs.declared.ValueId.{ValueId}
+pub use Rattle.mir.specs.Lookup.{every}
 
 -- each element, as a statement
 abbrev pub All : {A : Type 0} → (A → Type 0) → List A → Type 0
@@ -15,3 +16,7 @@ All P (x ∷ xs) = P x × All P xs
 abbrev pub among : ℕ → List ValueId → Bool
 among x [] = false
 among x (v ∷ vs) = eqb x (v .0) || among x vs
+
+-- none of the values is marked; past the marks none is
+abbrev pub clear : List Bool → List ValueId → Bool
+clear marks vs = every (λ v. not (getD marks (v .0) false)) vs

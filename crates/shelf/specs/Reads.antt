@@ -4,12 +4,12 @@ use mathlib.Core.Option.{Option, none, some}
 use mathlib.Core.List.{List, [], _∷_, _++_}
 use mathlib.Core.Bool.{true, false, cond, not, _&&_}
 use mathlib.Core.Bool as B
-use Rattle.wire.specs.declared.ValueId.{ValueId}
-use Rattle.form.specs.Syntax.{Projection, Instruction, InstructionKind, Terminator, Block, Assign, UnaryOp, BinaryOp, Call, Cast, Load, Store, Debug, Nop, Phi}
-use Rattle.form.specs.Syntax.{MakeTuple, ExtractTupleElement, MakeStruct, ExtractStructField, InsertField, InsertTuple, MakeFixedArray, AssertEq, HeapAllocCells}
-use Rattle.form.specs.Reads.{operand, operands, initValues, reads, dests, storeBase, counted, terminatorReads}
-use Rattle.eligibility.specs.Lookup.{Types, valueRow, isAggregate}
-use Rattle.eligibility.specs.Fold.{behindPhis}
+use Rattle.mir.specs.declared.ValueId.{ValueId}
+use Rattle.mir.specs.Syntax.{Projection, Instruction, InstructionKind, Terminator, Block, Assign, UnaryOp, BinaryOp, Call, Cast, Load, Store, Debug, Nop, Phi}
+use Rattle.mir.specs.Syntax.{MakeTuple, ExtractTupleElement, MakeStruct, ExtractStructField, InsertField, InsertTuple, MakeFixedArray, AssertEq, HeapAllocCells}
+use Rattle.mir.specs.Reads.{operand, operands, initValues, reads, dests, storeBase, counted, terminatorReads}
+use Rattle.mir.specs.Lookup.{Types, valueRow, isAggregate}
+use Rattle.mir.specs.Phis.{behindPhis}
 use Rattle.shelf.specs.Lists.{every, among}
 
 -- the values that an instruction reads, Debug's only under the flag

@@ -3,13 +3,12 @@
 use Prim.Native.Nat.{ℕ}
 use mathlib.Core.List.{List}
 use mathlib.Core.Bool.{Bool, cond, _&&_}
-use Rattle.wire.specs.declared.ValueId.{ValueId}
-use Rattle.form.specs.Syntax.{Block}
-use Rattle.routine.specs.Routine.{Routine}
-use Rattle.eligibility.specs.Lookup.{recordedType}
-use Rattle.eligibility.specs.Climb.{isSome}
-use Rattle.eligibility.specs.Fold.{behindPhis}
-use Rattle.rewriting.specs.Run.{Rewritten, typesIn}
+use Rattle.mir.specs.declared.ValueId.{ValueId}
+use Rattle.mir.specs.Syntax.{Block}
+use Rattle.mir.specs.Routine.{Routine}
+use Rattle.mir.specs.Lookup.{recordedType, isSome, typesIn}
+use Rattle.mir.specs.Phis.{behindPhis}
+use Rattle.rewrite.specs.Run.{Rewritten}
 use Rattle.shelf.specs.Lists.{every, among}
 use Rattle.shelf.specs.Reads.{ordered, bases, apart, shallow, clean, cleanTerminator}
 use Rattle.shelf.specs.Agrees.{blockAgrees}

@@ -1,5 +1,5 @@
 // Reads and stores of tables that ask for no room: past the end a read gives 0 or false, and a store does nothing.
-// (wire::byte_at reads a table of bytes.)
+// (The reader of bytes stands in bytes_wire: byte_at.)
 ghost use mathlib.Core.Path.{_≡_};
 ghost use mathlib.Core.Bool.{false};
 ghost use Prim.Native.Nat.{_%_};

@@ -17,7 +17,7 @@ pub struct Encoded {
     tables: Tables,
 }
 
-/// Bytes that are no rewriting of the function: the static library is another than this crate is
+/// Bytes that are no rewriting of the function: the archive is another than this crate is
 /// made for.
 #[derive(Debug, Clone, Copy, PartialEq, Eq, Hash)]
 pub struct Foreign;

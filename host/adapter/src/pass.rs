@@ -20,7 +20,7 @@ pub enum Outcome {
     Refused(Refusal),
     /// The byte form has no room for it.
     NoRoom(Misfit),
-    /// What came back is no rewriting of it: the static library is another than this crate is made
+    /// What came back is no rewriting of it: the archive is another than this crate is made
     /// for.
     Foreign,
 }

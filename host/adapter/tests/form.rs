@@ -1,5 +1,5 @@
 //! Functions go to bytes and back, or the byte form has no room for them. What rewrites the bytes
-//! here is the Rust, so that no static library is needed.
+//! here is the Rust, so that no archive is needed.
 
 mod common;
 

@@ -1,4 +1,4 @@
-//! The static library's `check` against the oracle's reader.
+//! The archive's `check` against the oracle's reader.
 
 use gen::{Sort, SORTS};
 use oracle::rows::ROWS;

@@ -22,12 +22,12 @@ use std::process::ExitCode;
 use args::Args;
 
 const USAGE: &str = "usage: driver COMMAND [--NAME VALUE]...
-  check-diff  --count N --seed S [--sort SORT]   the static library's check against the oracle's reader
+  check-diff  --count N --seed S [--sort SORT]   the archive's check against the oracle's reader
   histogram   --count N --seed S [--sort SORT]   how often each case is met
   coverage    --count N --seed S [--sort SORT]   the lines of sroa.rs that no routine reaches
   bench       --count N --seed S                 check against the oracle's reader, in time
   lower-diff  --count N --seed S [--sort SORT] [--calls one]
-                                                 the static library's lower against the Rust
+                                                 the archive's lower against the Rust
   lower-small [--routines N] [--from FILE]       the same on all short inputs, and on all that is
                                                  one step from stored routines
   bench-lower --count N --seed S                 lower against the Rust, in time
@@ -39,25 +39,26 @@ const USAGE: &str = "usage: driver COMMAND [--NAME VALUE]...
                                                  what the Rust makes of one input
 sorts: typed, wild, near, damaged, bytes; without one, a mix of all";
 
-/// The static library's `check`, where the driver was built with it.
+/// The archive's `check`.
 type Check = fn(&[u8]) -> (u8, u64);
-#[cfg(feature = "check")]
-const CHECK: Option<Check> = Some(poelvigu::check_numbers);
-#[cfg(not(feature = "check"))]
-const CHECK: Option<Check> = None;
 
 /// How many numbers `lower` answers: refusal number, offset, result, the five counts, shelf reason,
 /// output length.
 const NUMBERS: usize = 10;
 type Answer = [u64; NUMBERS];
 
-/// The static library's `lower`, where the driver was built with it: input, output, and the
-/// settings tuples, structs and most.
+/// The archive's `lower`: input, output, and the settings tuples, structs and most.
 type Lower = fn(&[u8], &mut [u8], [u64; 3]) -> Answer;
-#[cfg(feature = "lower")]
-const LOWER: Option<Lower> = Some(poelvigu::numbers);
-#[cfg(not(feature = "lower"))]
-const LOWER: Option<Lower> = None;
+
+/// Both, where the driver was built with the archive.
+#[cfg(feature = "archive")]
+const ARCHIVE: (Option<Check>, Option<Lower>) =
+    (Some(poelvigu::check_numbers), Some(poelvigu::lower_numbers));
+#[cfg(not(feature = "archive"))]
+const ARCHIVE: (Option<Check>, Option<Lower>) = (None, None);
+
+/// What is said where a command needs it and it is not there.
+const WITHOUT: &str = "built without the archive: add `--features archive`";
 
 fn main() -> ExitCode {
     let mut words = std::env::args().skip(1);
@@ -75,16 +76,15 @@ fn main() -> ExitCode {
 
 /// Runs a command: whether all is well, or what is wrong with the words.
 fn dispatch(command: &str, args: &Args) -> Result<bool, String> {
-    let check = || CHECK.ok_or("built without `check`: add `--features check`");
-    let lower = || LOWER.ok_or("built without `lower`: add `--features lower`");
+    let (check, lower) = ARCHIVE;
     match command {
-        "check-diff" => check_diff::command(args, check()?),
+        "check-diff" => check_diff::command(args, check.ok_or(WITHOUT)?),
         "histogram" => histogram::command(args),
         "coverage" => coverage::command(args),
-        "bench" => bench::command(args, CHECK),
-        "lower-diff" => lower_diff::command(args, lower()?),
-        "lower-small" => lower_diff::small::command(args, lower()?),
-        "bench-lower" => bench_lower::command(args, LOWER),
+        "bench" => bench::command(args, check),
+        "lower-diff" => lower_diff::command(args, lower.ok_or(WITHOUT)?),
+        "lower-small" => lower_diff::small::command(args, lower.ok_or(WITHOUT)?),
+        "bench-lower" => bench_lower::command(args, lower),
         "runs" => runs::command(args),
         "store" => store::command(args),
         "examples" => examples::command(args),

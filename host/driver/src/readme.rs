@@ -15,14 +15,20 @@ fn text(name: &str) -> String {
 }
 
 /// The columns of the picture that hold names.
-const NAMES: usize = 28;
+const NAMES: usize = 36;
 
-/// The crates of the picture, from its top, each line from the left.
-fn pictured(readme: &str) -> Vec<&str> {
+/// The lines of the picture, from its top, each with its names.
+fn pictured(readme: &str) -> Vec<Vec<&str>> {
     let (_, behind) = readme.split_once("## The stack").expect("there is a stack");
     let (stack, _) = behind.split_once("\n## ").expect("a section is behind it");
     let lines = stack.lines().filter_map(|line| line.strip_prefix("    "));
-    lines.flat_map(|line| line.get(..NAMES).unwrap_or(line).split_whitespace()).collect()
+    lines.map(|line| line.get(..NAMES).unwrap_or(line).split_whitespace().collect()).collect()
+}
+
+/// Whether a name of the picture stands for a crate: `fold` for its own, `fold_*` for all that
+/// begin so.
+fn stands_for(name: &str, own: &str) -> bool {
+    name.strip_suffix('*').map_or(name == own, |start| own.starts_with(start))
 }
 
 /// The crates of crates.txt, each with what it uses.
@@ -31,18 +37,22 @@ fn listed(crates: &str) -> Vec<(&str, Vec<&str>)> {
     lines.map(|(name, uses)| (name.trim(), uses.split_whitespace().collect())).collect()
 }
 
-/// The picture has each crate once, above or left of all that it uses.
+/// The picture has each crate, above or beside all that it uses, and no name for nothing.
 #[test]
 fn the_stack_is_that_of_crates_txt() {
     let (readme, crates) = (text("README.md"), text("crates.txt"));
     let (pictured, listed) = (pictured(&readme), listed(&crates));
-    let place = |name: &str| pictured.iter().position(|own| *own == name);
-    assert_eq!(pictured.len(), listed.len());
+    let place = |own: &str| {
+        pictured.iter().position(|names| names.iter().any(|name| stands_for(name, own)))
+    };
     for (name, uses) in &listed {
         assert!(place(name).is_some(), "{name} is not in the picture");
         for used in uses.iter().filter(|used| listed.iter().any(|(own, _)| own == *used)) {
-            assert!(place(name) < place(used), "{name} uses {used}, which stands above it");
+            assert!(place(name) <= place(used), "{name} uses {used}, which stands above it");
         }
+    }
+    for name in pictured.iter().flatten() {
+        assert!(listed.iter().any(|(own, _)| stands_for(name, own)), "{name} stands for no crate");
     }
 }
 

@@ -102,7 +102,7 @@ fn structure(rng: &mut Rng, width: usize, mut part: impl FnMut(&mut Rng) -> Type
     Type::Struct { name, fields }
 }
 
-/// "A FixedArray's size is no count: any u32."
+/// A FixedArray's size is no count: it may be any u32.
 fn size(rng: &mut Rng, width: usize) -> u32 {
     match rng.below(10) {
         0 => rng.number(),

@@ -104,7 +104,7 @@ mod tests {
         assert!(row(1).iter().any(Result::is_err));
     }
 
-    /// "An Index literal names the part of its number": it stands at no type.
+    /// An Index literal names the part of its number: it stands at no type.
     #[test]
     fn an_integer_at_no_type_is_its_number() {
         let meaning = Hashed { seed: 9, stops: false };

@@ -2,9 +2,8 @@
 //!
 //! A routine in the byte form goes in; the rewritten routine comes out, with what was done and
 //! whether anybody can tell the two apart, or a [`Refusal`] that says what is wrong and where. Any
-//! bytes may be given. The functions are those of the static libraries `libreading.a` ([`check`])
-//! and `libpass.a` ([`lower`]), in which they are proved; this crate only hands slices and numbers
-//! over.
+//! bytes may be given. The functions are those of the archive `libpoelvigu.a`, in which they are
+//! proved; this crate only hands slices and numbers over.
 //!
 //! ```
 //! use poelvigu::{check, lower, Cause, Settings};
@@ -28,26 +27,24 @@
 //! # Ok::<(), poelvigu::Refusal>(())
 //! ```
 //!
-//! Each function stands behind the feature of its name, which needs the function's static library;
-//! the types need none.
+//! The functions stand behind the feature `archive`, which needs that archive and is on unless it
+//! is turned off; the types need nothing.
 
 #![deny(missing_docs)]
 #![deny(unsafe_code)]
 
 mod answer;
-#[cfg(any(feature = "check", feature = "lower"))]
+#[cfg(feature = "archive")]
 #[allow(unsafe_code)]
 mod entries;
-#[cfg(feature = "lower")]
+#[cfg(feature = "archive")]
 mod lower;
 mod refusal;
 
 pub use answer::{Counts, Lowered, Settings, ShelfReason};
-#[cfg(feature = "check")]
-pub use entries::check_numbers;
-#[cfg(feature = "lower")]
-pub use entries::{numbers, ANSWER};
-#[cfg(feature = "lower")]
+#[cfg(feature = "archive")]
+pub use entries::{check_numbers, lower_numbers, ANSWER};
+#[cfg(feature = "archive")]
 pub use lower::{lower, lower_into, LONGEST_OUTPUT};
 pub use refusal::{Cause, Refusal};
 
@@ -61,7 +58,7 @@ pub use refusal::{Cause, Refusal};
 /// assert_eq!(check(&routine), Ok(()));
 /// assert_eq!(check(&routine[..3]).unwrap_err().cause, Cause::Ends);
 /// ```
-#[cfg(feature = "check")]
+#[cfg(feature = "archive")]
 pub fn check(input: &[u8]) -> Result<(), Refusal> {
     let (number, offset) = check_numbers(input);
     Refusal::of(number.into(), offset).map_or(Ok(()), Err)

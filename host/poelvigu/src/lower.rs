@@ -1,6 +1,6 @@
 //! The pass, bytes to bytes.
 
-use crate::entries::{numbers, ANSWER};
+use crate::entries::{lower_numbers, ANSWER};
 use crate::{Cause, Counts, Lowered, Refusal, Settings, ShelfReason};
 
 /// How many bytes the longest routine has that is accepted: 4,841 of types and values, 256 Calls of
@@ -45,7 +45,7 @@ pub fn lower_into(
     settings: &Settings,
 ) -> Result<Lowered, Refusal> {
     let Settings { tuples, structs, most } = *settings;
-    answer(numbers(input, output, [tuples.into(), structs.into(), most]))
+    answer(lower_numbers(input, output, [tuples.into(), structs.into(), most]))
 }
 
 /// Rewrites the routine in `input`, and gives the rewritten one with what was done.

@@ -1,7 +1,7 @@
 //! Any bytes, any lengths, any settings: an answer, and never a byte that is not the answer's.
 
 use poelvigu::{check, lower, lower_into, Cause, Counts, Refusal, Settings, ShelfReason};
-use poelvigu::{check_numbers, numbers, LONGEST_OUTPUT};
+use poelvigu::{check_numbers, lower_numbers, LONGEST_OUTPUT};
 
 /// A tuple of 7 and 8 is built, and its part 1 is returned.
 const PAIR: [u8; 56] = [
@@ -114,8 +114,8 @@ fn the_functions_agree_on_damaged_bytes() {
 #[test]
 fn the_numbers_are_those_of_the_typed_answers() {
     let mut output = [0; 100];
-    assert_eq!(numbers(&PAIR, &mut output, [1, 1, 8]), [0, 0, 1, 1, 1, 0, 0, 0, 0, 39]);
-    assert_eq!(numbers(&PAIR, &mut [], [1, 1, 8]), [11, 0, 0, 0, 0, 0, 0, 0, 0, 0]);
+    assert_eq!(lower_numbers(&PAIR, &mut output, [1, 1, 8]), [0, 0, 1, 1, 1, 0, 0, 0, 0, 39]);
+    assert_eq!(lower_numbers(&PAIR, &mut [], [1, 1, 8]), [11, 0, 0, 0, 0, 0, 0, 0, 0, 0]);
     assert_eq!((check_numbers(&PAIR), check_numbers(&PAIR[..20])), ((0, 0), (1, 19)));
 }
 

@@ -1,4 +1,4 @@
-//! The declarations for C: a C program is compiled against them and the static libraries, and run.
+//! The declarations for C: a C program is compiled against them and the archive, and run.
 
 use std::path::{Path, PathBuf};
 use std::process::Command;
@@ -22,7 +22,7 @@ fn a_c_program_calls_the_entries() {
         .args(["-std=c99", "-pedantic", "-Wall", "-Wextra", "-Werror", "-I"])
         .arg(here.join(".."))
         .arg(here.join("tests/c/pair.c"))
-        .args(["-L", env!("POELVIGU_ARCHIVES"), "-lreading", "-lpass", "-o"])
+        .args(["-L", env!("POELVIGU_FOLDER"), "-lpoelvigu", "-o"])
         .arg(&program)
         .output()
         .expect("cc can be run");

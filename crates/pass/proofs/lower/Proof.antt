@@ -23,8 +23,13 @@ same-length-2 : tie.Need-same-length-2
 same-length-2 c = search needs
 
 returns : tie.Need-returns
-returns c = let a = c .before .before .before .before .before .before .before .before .before .before .before .before .before .args in
-    lowers _ _ (a .input .now) (a .output .now) _ (a .answer .now) _ _ _ (λ j. omega (arith, c .before .before .before .before .before .before .before .before .before .before .before .before .shared-slice-known .given j)) (c .before .before .before .before .before .before .before .before .before .settings-of .ensures _ _) (c .before .before .before .before .before .before .before .lower-into .ensures) (c .before .before .before .numbers-of .ensures) (c .before .before .put-numbers .ensures)
+returns c =
+    let made = c .before .before .before in
+    let ran = made .before .before .before .before in
+    let set = ran .before .before in
+    let known = set .before .before .before in
+    let a = known .before .args in
+    lowers _ _ (a .input .now) (a .output .now) _ (a .answer .now) _ _ _ (λ j. omega (arith, known .shared-slice-known .given j)) (set .settings-of .ensures _ _) (ran .lower-into .ensures) (made .numbers-of .ensures) (c .before .before .put-numbers .ensures)
 
 pub lower-spec : {M : Type 1} → statement M
 lower-spec =

@@ -3,6 +3,7 @@ use borrow.Author.Needs.{needs}
 use native.Mathlib.Omega.{arith}
 use Rattle.pass.proofs.lower_counted.Statement.{statement}
 use Rattle.pass.proofs.lower_counted.Tie as tie
+use Rattle.pass_numbers.proofs.Laws.{Fit}
 use Rattle.pass.proofs.Entry.{counted}
 
 lower-into-requires : tie.Need-lower-into-requires
@@ -16,8 +17,11 @@ same-length c = search needs
 
 returns : tie.Need-returns
 returns c =
-    let f = c .before .before .before .before .before .before .before .good .1 .1 .1 .0 .1 .1 in
-    counted _ (c .before .before .before .before .before .before .before .args .input .now) (c .before .before .before .before .before .before .before .args .output .now) _ _ _ _ (λ j. omega (arith, c .before .before .before .before .before .before .shared-slice-known .given j)) (record { builds = f .0 .1; extracts = f .1 .0 .1; inserts = f .1 .1 .0 .1; assigns = f .1 .1 .1 .0 .1; materializations = f .1 .1 .1 .1 .0 .1 }) (c .before .before .before .lower-into .ensures) (c .totals-after .ensures)
+    let known = c .before .before .before .before .before .before in
+    let start = known .before in
+    let f = start .good .1 .1 .1 .0 .1 .1 in
+    let fit : Fit (start .args .totals) = record { builds = f .0 .1; extracts = f .1 .0 .1; inserts = f .1 .1 .0 .1; assigns = f .1 .1 .1 .0 .1; materializations = f .1 .1 .1 .1 .0 .1 } in
+    counted _ (start .args .input .now) (start .args .output .now) _ _ _ _ (λ j. omega (arith, known .shared-slice-known .given j)) fit (c .before .before .before .lower-into .ensures) (c .totals-after .ensures)
 
 pub lower-counted-spec : {M : Type 1} → statement M
 lower-counted-spec =

@@ -39,17 +39,17 @@ use denote.Triple.Spec.{Meets, tripleOf}
 use denote.Triple.Table.{entered, cited}
 use denote.Triple.Walked.{says, Stays, stay-ref, stay-none, stay-none-slice, gave-slice, walkOf, AllGo, goes-none, goes-none-slice, goes-gave-slice, goes-ref, Walks, ends-at, walked, walk-meets}
 use denote.Exit.{yes}
-use Rattle.eligibility.specs.declared.Settings.{Settings}
-use Rattle.eligibility.proofs.Settings as S
-use Rattle.eligibility.proofs.Settings.Laws as S′
-use Rattle.answers.specs.declared.Answer.{Answer}
-use Rattle.answers.proofs.Answer as N
-use Rattle.answers.proofs.Answer.Laws as N′
+use Rattle.fold.specs.declared.Settings.{Settings}
+use Rattle.fold.proofs.Settings as S
+use Rattle.fold.proofs.Settings.Laws as S′
+use Rattle.pass_answers.specs.declared.Answer.{Answer}
+use Rattle.pass_answers.proofs.Answer as N
+use Rattle.pass_answers.proofs.Answer.Laws as N′
 use Rattle.pass.specs.Promise.{Counted}
-use Rattle.numbers.specs.declared.Totals.{Totals}
+use Rattle.pass_numbers.specs.declared.Totals.{Totals}
 use Rattle.pass.specs.declared.Ran.{Ran}
-use Rattle.numbers.proofs.Totals as T
-use Rattle.numbers.proofs.Totals.Laws as T′
+use Rattle.pass_numbers.proofs.Totals as T
+use Rattle.pass_numbers.proofs.Totals.Laws as T′
 use Rattle.pass.proofs.Ran as R
 use Rattle.pass.proofs.Ran.Laws as R′
 use Rattle.pass.proofs.lower_counted as core

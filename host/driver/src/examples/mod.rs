@@ -7,21 +7,39 @@ mod refused;
 
 use std::path::Path;
 
-use oracle::{to_hex, write};
+use oracle::{to_hex, write, Settings, LENT};
 
 use crate::args::Args;
+use crate::judged::Judged;
+use crate::one::printed;
 
-/// Writes the examples into the folder `--to`.
+/// Writes the examples, and the lines that the program has to print of each, into the folder `--to`.
 pub fn command(args: &Args) -> Result<bool, String> {
     args.only(&["to"])?;
     let to = Path::new(args.text("to").ok_or("--to FOLDER is missing")?);
     for (name, bytes) in all() {
-        let file = to.join(name);
-        let text = format!("{}\n", to_hex(&bytes));
-        std::fs::write(&file, text).map_err(|e| format!("{}: {e}", file.display()))?;
-        println!("{}", file.display());
+        for (file, text) in [(name.to_string(), digits(&bytes)), (stored(name), lines(&bytes))] {
+            let file = to.join(file);
+            std::fs::write(&file, text).map_err(|e| format!("{}: {e}", file.display()))?;
+            println!("{}", file.display());
+        }
     }
     Ok(true)
+}
+
+/// The file of the lines that belong to an example.
+fn stored(name: &str) -> String {
+    name.replace(".hex", ".lines")
+}
+
+/// The text of an example's file.
+fn digits(bytes: &[u8]) -> String {
+    format!("{}\n", to_hex(bytes))
+}
+
+/// What the Rust makes of the bytes, as document 01's program prints it.
+fn lines(bytes: &[u8]) -> String {
+    printed(&Judged::of(bytes, Settings::default()), LENT)
 }
 
 /// Each file with its bytes.
@@ -31,6 +49,7 @@ fn all() -> Vec<(&'static str, Vec<u8>)> {
         ("struct.hex", write(&passed::nested_struct())),
         ("loop.hex", write(&passed::counting_loop())),
         ("counts.hex", write(&passed::every_count())),
+        ("long.hex", write(&passed::long_line())),
         ("unwritten.hex", write(&passed::unwritten())),
         ("reason-1.hex", write(&reasons::other_type())),
         ("reason-2.hex", write(&reasons::read_ahead())),

@@ -97,3 +97,24 @@ pub fn unwritten() -> Routine {
     let kinds = vec![tuple(1, vec![value(0)])];
     routine(types, &[FELT, TypeNo(1)], vec![block(kinds, Terminator::Return(Vec::new()))])
 }
+
+/// `let t = (1, 2, 3, 4, 5, 6, 7, 8);`, then so many Calls of 16 times `t`.
+pub fn calls(count: usize) -> Routine {
+    let types = vec![Type::Felt, Type::Tuple(vec![FELT; 8])];
+    let tuple_ty = TypeNo(1);
+    let call = Kind::Call(Call {
+        dests: Vec::new(),
+        callee: 0,
+        args: vec![value(0); most::LIST],
+        param_types: vec![tuple_ty; most::LIST],
+        return_types: Vec::new(),
+    });
+    let build = tuple(0, integers([1, 2, 3, 4, 5, 6, 7, 8]));
+    let kinds = [vec![build], vec![call; count]].concat();
+    routine(types, &[tuple_ty], vec![block(kinds, Terminator::Return(Vec::new()))])
+}
+
+/// Six Calls of them: the rewritten routine has more than 4,500 bytes.
+pub fn long_line() -> Routine {
+    calls(6)
+}

@@ -4,7 +4,7 @@ use oracle::form::*;
 use oracle::write;
 
 use super::draft::*;
-use super::passed::pair;
+use super::passed::{calls, pair};
 
 /// The pair's bytes with another byte at a place.
 fn changed(at: usize, byte: u8) -> Vec<u8> {
@@ -81,22 +81,6 @@ const CALLS: usize = 78;
 /// 11: a tuple of eight is handed to each of many Calls 16 times, and is built again each time.
 pub fn long_output() -> Vec<u8> {
     write(&calls(CALLS))
-}
-
-/// `let t = (1, 2, 3, 4, 5, 6, 7, 8);`, then so many Calls of 16 times `t`.
-fn calls(count: usize) -> Routine {
-    let types = vec![Type::Felt, Type::Tuple(vec![FELT; 8])];
-    let tuple_ty = TypeNo(1);
-    let call = Kind::Call(Call {
-        dests: Vec::new(),
-        callee: 0,
-        args: vec![value(0); most::LIST],
-        param_types: vec![tuple_ty; most::LIST],
-        return_types: Vec::new(),
-    });
-    let build = tuple(0, integers([1, 2, 3, 4, 5, 6, 7, 8]));
-    let kinds = [vec![build], vec![call; count]].concat();
-    routine(types, &[tuple_ty], vec![block(kinds, Terminator::Return(Vec::new()))])
 }
 
 #[cfg(test)]

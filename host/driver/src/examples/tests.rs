@@ -5,11 +5,9 @@ use std::path::PathBuf;
 
 use machine::{run, Cause, Datum, End, Event, List, Plain, Standing, Trace};
 use oracle::form::Routine;
-use oracle::{from_hex, run_routine, Settings, LENT};
+use oracle::{from_hex, run_routine};
 
 use super::*;
-use crate::judged::Judged;
-use crate::one::printed;
 
 fn folder() -> PathBuf {
     Path::new(env!("CARGO_MANIFEST_DIR")).join("../../examples")
@@ -32,18 +30,27 @@ fn row(line: &str) -> Option<[&str; 3]> {
     Some([cells.next()?, cells.next()?, cells.next()?])
 }
 
-/// No file of the folder was made otherwise.
+/// No file of the folder was made otherwise: the routines, and the lines that belong to them.
 #[test]
 fn the_files_are_what_is_made() {
     for (name, bytes) in all() {
-        assert_eq!(text(name).trim(), to_hex(&bytes), "{name}");
+        assert_eq!(text(name), digits(&bytes), "{name}");
+        assert_eq!(text(&stored(name)), lines(&bytes), "{name}");
     }
     let names = std::fs::read_dir(folder()).expect("the folder is there").map(|file| {
         let name = file.expect("its files can be listed").file_name();
         name.into_string().expect("their names are plain")
     });
-    let files: BTreeSet<String> = names.filter(|name| name.ends_with(".hex")).collect();
-    assert_eq!(files, all().into_iter().map(|(name, _)| name.to_string()).collect());
+    let files: BTreeSet<String> = names.filter(|name| name != "README.md").collect();
+    let made = all().into_iter().flat_map(|(name, _)| [name.to_string(), stored(name)]);
+    assert_eq!(files, made.collect());
+}
+
+/// One line is longer than any that a small buffer would hold.
+#[test]
+fn a_line_is_long() {
+    let second = lines(&write(&passed::long_line())).lines().nth(1).map(str::len);
+    assert!(second > Some(9000), "{second:?}");
 }
 
 /// Each file has one row, which says how many bytes it has and what the Rust makes of them.
@@ -53,8 +60,8 @@ fn the_table_says_what_the_rust_does() {
     let expected: Vec<[String; 3]> = all()
         .into_iter()
         .map(|(name, input)| {
-            let printed = printed(&Judged::of(&input, Settings::default()), LENT);
-            let line = printed.lines().next().expect("a line is printed");
+            let lines = lines(&input);
+            let line = lines.lines().next().expect("a line is printed");
             [name.to_string(), input.len().to_string(), line.to_string()]
         })
         .collect();

@@ -1,4 +1,4 @@
-//! The static library's `lower` against the Rust: every number of an outcome, every byte lent.
+//! The archive's `lower` against the Rust: every number of an outcome, every byte lent.
 
 mod comparison;
 mod outcome;

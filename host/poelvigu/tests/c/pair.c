@@ -19,7 +19,7 @@ int main(void) {
     size_t i;
 
     memset(output, 0x5a, sizeof output);
-    lower(pair, sizeof pair, output, sizeof output, 1, 1, 8, answer, POELVIGU_ANSWERS);
+    poelvigu_lower(pair, sizeof pair, output, sizeof output, 1, 1, 8, answer, POELVIGU_ANSWERS);
     if (answer[POELVIGU_NUMBER] != 0)
         return 1;
     for (i = POELVIGU_RESULT; i <= POELVIGU_REASON; i++)
@@ -27,17 +27,17 @@ int main(void) {
     for (i = 0; i < answer[POELVIGU_LENGTH]; i++)
         printf("%02x", output[i]);
     printf("\n");
-    if (check(output, answer[POELVIGU_LENGTH], &offset) != 0 || offset != 0)
+    if (poelvigu_check(output, answer[POELVIGU_LENGTH], &offset) != 0 || offset != 0)
         return 2;
     for (; i < sizeof output; i++)
         if (output[i] != 0x5a)
             return 3;
 
-    lower(pair, 55, output, sizeof output, 1, 1, 8, answer, POELVIGU_ANSWERS);
+    poelvigu_lower(pair, 55, output, sizeof output, 1, 1, 8, answer, POELVIGU_ANSWERS);
     printf("refused %" PRIu64 " %" PRIu64 "\n", answer[POELVIGU_NUMBER], answer[POELVIGU_OFFSET]);
-    if (check(pair, 55, &offset) != answer[POELVIGU_NUMBER] || offset != answer[POELVIGU_OFFSET])
+    if (poelvigu_check(pair, 55, &offset) != answer[POELVIGU_NUMBER] || offset != answer[POELVIGU_OFFSET])
         return 4;
-    lower(pair, sizeof pair, output, sizeof output, 1, 1, 17, answer, POELVIGU_ANSWERS);
+    poelvigu_lower(pair, sizeof pair, output, sizeof output, 1, 1, 17, answer, POELVIGU_ANSWERS);
     printf("refused %" PRIu64 " %" PRIu64 "\n", answer[POELVIGU_NUMBER], answer[POELVIGU_OFFSET]);
     return 0;
 }

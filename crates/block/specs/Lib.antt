@@ -1,4 +1,0 @@
-pub mod Decode
-pub mod Rows
-pub mod Encode
-pub mod WellFormed

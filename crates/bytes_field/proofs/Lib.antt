@@ -1,0 +1,7 @@
+pub mod Laws
+pub mod Numbers
+pub mod Sizes
+pub mod Atom
+pub mod Listing
+pub mod Fields
+pub mod Rows

@@ -1,0 +1,100 @@
+// The whole reader, and the entry that says whether a byte string is a routine.
+use bytes_field::Bounds;
+use bytes_field::Part;
+use bytes_sections::Checked;
+use bytes_sections::SizesRead;
+use bytes_sections::sections;
+use bytes_wire::Cause;
+ghost use mathlib.Core.Path.{_≡_};
+ghost use mathlib.Core.Bool.{false};
+ghost use Prim.Native.Nat.{_≤_};
+ghost use lib.ListN.{length, replicate};
+ghost use Rattle.bytes_sections.specs.Decode.{mosts, wholeOf};
+ghost use Rattle.bytes_sections.specs.Facts.{BodyRead, RoutineRead};
+ghost use Rattle.bytes_sections.specs.Index.{answered, verdict};
+
+// What stands behind the sizes: parameters, recorded types, blocks, and nothing more. No value is marked in `seen`.
+fn read_marked(s: &[u8], at: usize, b: Bounds, seen: &mut [bool], facts: &mut [u16]) -> Checked
+    requires { ⌜ (at ≤ length (now s)) × (now seen ≡ replicate (b .next) false) × (b .next ≤ 256) × (b .blocks ≤ 32) × (6147 ≤ length (now facts)) ⌝ }
+    ensures { λ r. ⌜ BodyRead b at (now (s .entry)) r (now (facts .entry)) (now (facts .exit)) ⌝ }
+{
+    let map = match sections::parameters_part(&s[at..], b, seen) {
+        Part::Used(k) => at + k,
+        Part::Refused(c, o) => {
+            return Checked::Refused(c, at + o);
+        }
+    };
+    let types_at = match sections::map_part(&s[map..], b.next) {
+        Part::Used(k) => map + k,
+        Part::Refused(c, o) => {
+            return Checked::Refused(c, map + o);
+        }
+    };
+    let code = match sections::recorded_part(s, types_at, map, b.next, b.types, facts) {
+        Part::Used(k) => k,
+        Part::Refused(c, o) => {
+            return Checked::Refused(c, o);
+        }
+    };
+    let end = match sections::blocks_part(s, code, b, seen, facts) {
+        Part::Used(k) => k,
+        Part::Refused(c, o) => {
+            return Checked::Refused(c, o);
+        }
+    };
+    if end < s.len() {
+        return Checked::Refused(Cause::Trailing, end);
+    }
+    Checked::Accepted(b)
+}
+
+// What stands behind the sizes, where no value is marked as defined yet: the marks are made here.
+fn read_body(s: &[u8], at: usize, b: Bounds, facts: &mut [u16]) -> Checked
+    requires { ⌜ (at ≤ length (now s)) × (b .next ≤ 256) × (b .blocks ≤ 32) × (6147 ≤ length (now facts)) ⌝ }
+    ensures { λ r. ⌜ BodyRead b at (now (s .entry)) r (now (facts .entry)) (now (facts .exit)) ⌝ }
+{
+    let n = b.next as usize;
+    let mut marks: [bool; 256] = [false; 256];
+    read_marked(s, at, b, &mut marks[0..n], facts)
+}
+
+// Reads a whole routine, and fills the table with its facts. What a refusal leaves in the table is free (`LeftFree`).
+pub fn read_routine(s: &[u8], facts: &mut [u16]) -> Checked
+    requires { ⌜ 6147 ≤ length (now facts) ⌝ }
+    ensures { λ r. ⌜ RoutineRead (now (s .entry)) r (now (facts .entry)) (now (facts .exit)) ⌝ }
+{
+    let m = bytes_sections::MOSTS;
+    match bytes_types::read_types(s, m.types, m.list, facts) {
+        Part::Refused(c, o) => Checked::Refused(c, o),
+        Part::Used(at) => match sections::read_sizes(&s[at..], m) {
+            SizesRead::Refused(c, o) => Checked::Refused(c, at + o),
+            SizesRead::Got(next, many, _) => {
+                let b = Bounds {
+                    types: bytes_wire::u16_at(s, 0),
+                    next: next,
+                    blocks: many,
+                    list: m.list,
+                    projections: m.projections,
+                };
+                read_body(s, at + 6, b, facts)
+            }
+        },
+    }
+}
+
+// Whether a byte string is a routine: 0 and offset 0, or the one number and offset of its refusal.
+pub fn check(input: &[u8], offset: &mut u64) -> u8
+    ensures { λ r. ⌜ answered r (now (offset .exit)) ≡ verdict (wholeOf mosts (now (input .entry))) ⌝ }
+{
+    let mut facts: [u16; bytes_index::SIZE] = [0; bytes_index::SIZE];
+    match read_routine(input, &mut facts) {
+        Checked::Accepted(_) => {
+            *offset = 0;
+            0
+        }
+        Checked::Refused(c, o) => {
+            *offset = o as u64;
+            bytes_wire::cause_number(c)
+        }
+    }
+}

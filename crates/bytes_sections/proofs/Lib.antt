@@ -1,0 +1,9 @@
+pub mod Laws
+pub mod Map
+pub mod Sizes
+pub mod Recording
+pub mod Parameters
+pub mod Coding
+pub mod Body
+pub mod Whole
+pub mod Examples

@@ -1,0 +1,4 @@
+pub mod Encode
+pub mod Decode
+pub mod Index
+pub mod WellFormed

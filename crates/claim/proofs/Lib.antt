@@ -1,6 +1,0 @@
-pub mod Typed
-pub mod Accepted
-pub mod Defined
-pub mod Facts
-pub mod Theorem
-pub mod Corners

@@ -1,5 +1,0 @@
-pub mod Syntax
-pub mod Reads
-pub mod Decode
-pub mod Encode
-pub mod Walk

@@ -1,9 +1,0 @@
-pub mod Fit
-pub mod TypesEnd
-pub mod Accepted
-pub mod Dropped
-pub mod Shelf
-pub mod Given
-pub mod Still
-pub mod Copied
-pub mod Untouched

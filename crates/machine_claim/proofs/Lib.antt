@@ -1,0 +1,5 @@
+pub mod Typed
+pub mod Accepted
+pub mod Defined
+pub mod Facts
+pub mod Theorem

@@ -1,0 +1,4 @@
+pub mod Fit
+pub mod TypesEnd
+pub mod Accepted
+pub mod Copied

@@ -1,0 +1,9 @@
+pub mod Parts
+pub mod Steps
+pub mod Unchanged
+pub mod Result
+pub mod Lowering
+pub mod Bound
+pub mod Flags
+pub mod Outcomes
+pub mod Open

@@ -1,0 +1,61 @@
+-- What the writers of a rebuild promise.
+use Prim.Native.Nat.{ℕ, _+_, _*_, _<_}
+use mathlib.Core.Path.{_≡_}
+use mathlib.Core.List.{List}
+use mathlib.Core.Bool.{true, false}
+use mathlib.Core.Option.{some}
+use lib.ListN.{length, getD}
+use lib.Seq.{sets}
+use Rattle.bytes_wire.specs.Parse.{ok}
+use Rattle.bytes_wire.specs.Number.{at16}
+use Rattle.bytes_wire.specs.WellFormed.{Bytes}
+use Rattle.mir.specs.declared.ValueId.{ValueId}
+use Rattle.mir.specs.declared.TypeId.{TypeId}
+use Rattle.mir.specs.declared.Value.{Value}
+use Rattle.bytes_field.specs.Encode.{eachBytes, instructionBytes, nameIdBytes}
+use Rattle.mir.specs.MirType.{StructField, MirType}
+use Rattle.bytes_types.specs.Decode.{typeOf}
+use Rattle.bytes_types.specs.Index.{TypesAt}
+use Rattle.mir.specs.Lookup.{Types, rowOf}
+use Rattle.rewrite.specs.Rebuild.{rebuildAt, clashes}
+use Rattle.rewrite_parts.specs.Rows.{RowAt, noField}
+use Rattle.rewrite_build.specs.declared.Rebuilt.{Rebuilt}
+
+-- `bytes` are written from `to` on, and r is the place behind them
+abbrev pub Writes : List ℕ → List ℕ → List ℕ → ℕ → ℕ → Type 0
+Writes bytes out out′ to r = (r ≡ to + length bytes) × (out′ ≡ sets out to bytes)
+
+-- the most bytes of a rebuild
+abbrev pub rebuildMost : ℕ
+rebuildMost = 1792
+
+-- the names of a struct's fields stand four bytes apart in its type's bytes, from the fifth on
+pub record NamesIn (row : List ℕ) (fs : List StructField) : Type 0 where
+  pub each : (k : ℕ) → k < length fs
+      → nameIdBytes (getD fs k noField .name) ≡ nameIdBytes (record { 0 = at16 row (4 + 4 * k) })
+
+-- P holds of the `have` parts whose places stand in the rows from `from` on
+abbrev pub OfParts : ℕ → List ℕ → List ℕ → ℕ → ℕ → (List Value → Type 0) → Type 0
+OfParts next s rows from have P = (xs : List Value) → RowAt next s rows from xs → length xs ≡ have → P xs
+
+-- P holds of the `want` fields whose names stand in a type's bytes
+abbrev pub OfFields : List ℕ → ℕ → (List StructField → Type 0) → Type 0
+OfFields row want P = (fs : List StructField) → length fs ≡ want → NamesIn row fs → P fs
+
+-- P holds of the type that is read from its bytes
+abbrev pub OfType : List ℕ → (MirType → Type 0) → Type 0
+OfType row P = (most own n : ℕ) (T : MirType) → Bytes row → typeOf most own row ≡ ok T n → P T
+
+-- P holds of types that stand at the places `types`, and have a type t
+abbrev pub OfTable : List ℕ → List ℕ → TypeId → (Types → Type 0) → Type 0
+OfTable s types t P = (most : ℕ) (τ : Types) → Bytes s → TypesAt most s types (τ .rows) → t .0 < length (τ .rows) → P τ
+
+-- the bytes of the rebuild of d from the parts xs at type t
+abbrev pub rebuildBytes : Types → ValueId → List Value → TypeId → List ℕ
+rebuildBytes τ d xs t = eachBytes instructionBytes (rebuildAt d xs t (rowOf τ (some t)))
+
+-- the answer tells a clash; without one the rebuild is written, and with one nothing is
+pub record Rebuilds (τ : Types) (d : ValueId) (xs : List Value) (t : TypeId) (out out′ : List ℕ) (to : ℕ) (r : Rebuilt) : Type 0 where
+  pub clashed : r .clash ≡ clashes xs (rowOf τ (some t))
+  pub written : r .clash ≡ false → Writes (rebuildBytes τ d xs t) out out′ to (r .to)
+  pub kept : r .clash ≡ true → (r .to ≡ to) × (out′ ≡ out)

@@ -1,9 +1,0 @@
-pub mod Examples
-pub mod Steps
-pub mod Unchanged
-pub mod Result
-pub mod Lowering
-pub mod Bound
-pub mod Flags
-pub mod Outcomes
-pub mod Corners

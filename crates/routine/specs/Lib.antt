@@ -1,5 +1,0 @@
-pub mod Routine
-pub mod Decode
-pub mod Encode
-pub mod Index
-pub mod Facts

@@ -1,0 +1,4 @@
+pub mod Open
+pub mod Table
+pub mod Neighbours
+pub mod Printed

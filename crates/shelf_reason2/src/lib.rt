@@ -1,0 +1,118 @@
+// Shelf reason 2: the order of reads and definitions.
+use bytes_field::Bounds;
+use mir::BlockId;
+ghost use mathlib.Core.Path.{_≡_};
+ghost use mathlib.Core.Bool.{false};
+ghost use mathlib.Core.List.{List};
+ghost use Prim.Native.Nat.{ℕ, _<_};
+ghost use Rattle.bytes_index.specs.Table.{kindIn};
+ghost use Rattle.bytes_block.specs.Decode.{marks as marksOf};
+ghost use Rattle.bytes_field.specs.declared.Bounds.{Bounds as AnyBounds};
+ghost use Rattle.shelf.specs.Reads.{countedReads};
+ghost use Rattle.shelf_marks.specs.Tests.{OfSlot, OfBlock, OfRoutine, BehindPhis, orderedBehind, allOrdered, destCount, destFirst, destsOf};
+ghost use Rattle.shelf.specs.Lists.{clear};
+
+// The most values of a routine.
+const VALUES: usize = 256;
+
+// How many dests an instruction of a kind has, whose fields are `u`.
+fn dest_count(u: &[u8], kind: u16) -> u8
+    ensures { λ r. ⌜ r ≡ destCount (now (u .entry)) kind ⌝ }
+{
+    match kind {
+        shelf::CALL => bytes_wire::byte_at(u, 0),
+        shelf::STORE => 0,
+        shelf::DEBUG => 0,
+        shelf::NOP => 0,
+        shelf::ASSERT_EQ => 0,
+        _ => 1,
+    }
+}
+
+// Where the first dest of an instruction of a kind stands.
+fn dest_first(kind: u16) -> usize
+    ensures { λ r. ⌜ (r ≡ destFirst kind) × (r < 2) ⌝ }
+{
+    match kind {
+        shelf::UNARY_OP => 1,
+        shelf::BINARY_OP => 1,
+        shelf::CALL => 1,
+        _ => 0,
+    }
+}
+
+// Marks the dests of the instruction of a kind at the head of `t`.
+fn mark_dests(t: &[u8], kind: u16, marks: &mut [bool])
+    ensures { λ _. ⌜ now (marks .exit) ≡ marksOf (now (marks .entry)) (destsOf (now (t .entry)) kind) ⌝ }
+{
+    let u = bytes_field::tail(t, bytes_operands::fields_place(t));
+    let n = dest_count(u, kind);
+    let mut at = dest_first(kind);
+    let mut j: u8 = 0;
+    while j < n {
+        table::set_flag(marks, bytes_wire::u16_at(u, at) as usize, true);
+        at = at + 2;
+        j = j + 1;
+    }
+}
+
+// Whether the instruction in a slot reads no marked value, a Debug aside.
+fn counted_clear(facts: &[u16], slot: u16, kind: u16, marks: &[bool]) -> bool
+    requires { ⌜ kind ≡ kindIn (now facts) slot ⌝ }
+    ensures { λ r. ⌜ ((b : AnyBounds) (s : List ℕ) → OfSlot b s (now (facts .entry)) slot (λ τ i. clear (now (marks .entry)) (countedReads false i)) r) ⌝ }
+{
+    if kind == shelf::DEBUG {
+        return true;
+    }
+    shelf_marks::reads_clear(facts, slot, marks)
+}
+
+// The first slot of block `k` behind its phis.
+fn behind_phis(facts: &[u16], k: BlockId) -> u16
+    ensures { λ r. ⌜ BehindPhis (now (facts .entry)) (k .0) r ⌝ }
+{
+    let block = k.0;
+    let last = shelf_marks::last_slot(facts, k);
+    let mut slot = bytes_index::first_slot(facts, block);
+    while slot < last {
+        if bytes_index::kind(facts, slot) != shelf::PHI {
+            return slot;
+        }
+        slot = slot + 1;
+    }
+    slot
+}
+
+// Whether no instruction of block `k`, phis aside, reads a value that it or a later one defines: from the last to the first.
+fn block_ordered(s: &[u8], facts: &[u16], k: BlockId) -> bool
+    ensures { λ r. ⌜ ((b : AnyBounds) → OfBlock b (now (s .entry)) (now (facts .entry)) (k .0) (λ τ x. orderedBehind false (x .instructions)) r) ⌝ }
+{
+    let block = k.0;
+    let front = behind_phis(facts, BlockId(block));
+    let mut slot = shelf_marks::last_slot(facts, BlockId(block));
+    let mut marks: [bool; VALUES] = [false; VALUES];
+    while front < slot {
+        slot = slot - 1;
+        let kind = bytes_index::kind(facts, slot);
+        let t = bytes_field::tail(s, bytes_index::place(facts, slot));
+        mark_dests(t, kind, &mut marks);
+        if !counted_clear(facts, slot, kind, &marks) {
+            return false;
+        }
+    }
+    true
+}
+
+// Whether no block reads a value that it defines there or later, phis and Debug aside (reason 2).
+pub fn in_order(s: &[u8], b: Bounds, facts: &[u16]) -> bool
+    ensures { λ r. ⌜ OfRoutine b (now (s .entry)) (now (facts .entry)) (λ τ. allOrdered) r ⌝ }
+{
+    let mut k: u16 = 0;
+    while k < b.blocks {
+        if !block_ordered(s, facts, BlockId(k)) {
+            return false;
+        }
+        k = k + 1;
+    }
+    true
+}

@@ -1,5 +1,0 @@
-pub mod Syntax
-pub mod Encode
-pub mod Decode
-pub mod Index
-pub mod WellFormed

@@ -1,4 +1,0 @@
-pub mod Told
-pub mod Bytes
-pub mod Numbers
-pub mod Fitted

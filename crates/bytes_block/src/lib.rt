@@ -14,6 +14,8 @@ ghost use Rattle.bytes_field.specs.Decode.{bit as bitOf, definedBits, metaOf, i
 ghost use Rattle.bytes_field.specs.Walk.{walkOf, passes, leaves, asScan, asPart};
 ghost use Rattle.bytes_block.specs.Decode.{headOf, skipped, asHead, asBlock};
 ghost use Rattle.bytes_block.specs.Rows.{rowEnded, InstructionsRead, TerminatorRead, CodeRead};
+ghost use Rattle.bytes_index.specs.Table.{rowAt, readsAt};
+ghost use Rattle.table.specs.Number.{numbersBelow};
 
 // How many of each a routine may have; document 01's numbers are MOSTS of bytes_sections.
 pub struct Mosts {
@@ -178,8 +180,8 @@ pub fn read_instruction(
 
 // Ends a slot's row, whose reads stand before `behind`: stores from which place to which it goes, its kind, how many reads.
 fn end_row(facts: &mut [u16], slot: u16, from: usize, to: usize, kind: u8, behind: usize)
-    requires { ⌜ 391 + 20 * slot ≤ behind ⌝ }
-    ensures { λ _. ⌜ now (facts .exit) ≡ rowEnded (now (facts .entry)) (387 + 20 * slot) from to kind (behind - (391 + 20 * slot)) ⌝ }
+    requires { ⌜ readsAt slot ≤ behind ⌝ }
+    ensures { λ _. ⌜ now (facts .exit) ≡ rowEnded (now (facts .entry)) (rowAt slot) from to kind (behind - readsAt slot) ⌝ }
 {
     let n = bytes_index::row_place(slot, 0);
     table::set_place(facts, n, from);
@@ -202,7 +204,7 @@ fn instruction_rows(
     seen: &mut [bool],
     facts: &mut [u16],
 ) -> Part
-    requires { ⌜ (at ≤ length (now s)) × (first + count < 65536) ⌝ }
+    requires { ⌜ (at ≤ length (now s)) × (first + count < numbersBelow) ⌝ }
     ensures { λ r. ⌜ InstructionsRead b at count first (now (s .entry)) (now (seen .entry)) (now (seen .exit))
         (asPart r) (now (facts .entry)) (now (facts .exit)) ⌝ }
 {
@@ -299,7 +301,7 @@ pub fn read_block(
     seen: &mut [bool],
     facts: &mut [u16],
 ) -> BlockRead
-    requires { ⌜ (at ≤ length (now s)) × (first + m .block < 65536) ⌝ }
+    requires { ⌜ (at ≤ length (now s)) × (first + m .block < numbersBelow) ⌝ }
     ensures { λ r. ⌜ CodeRead m b total at first (now (s .entry)) (now (seen .entry))
         (asBlock r (now (seen .exit))) (now (facts .entry)) (now (facts .exit)) ⌝ }
 {

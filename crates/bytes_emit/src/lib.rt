@@ -4,21 +4,22 @@ use mir::NameId;
 use mir::TypeId;
 use mir::Value;
 use mir::ValueId;
+use mir::kind;
 ghost use mathlib.Core.Path.{_≡_};
 ghost use mathlib.Core.List.{[], _∷_};
-ghost use Prim.Native.Nat.{_+_, _-_, _<_, _≤_};
+ghost use Prim.Native.Nat.{_+_, _<_, _≤_};
 ghost use lib.ListN.{length};
-ghost use lib.Seq.{sets, slice};
+ghost use lib.Seq.{sets};
 ghost use Rattle.bytes_wire.specs.Number.{toBytes};
 ghost use Rattle.bytes_wire.specs.Value.{valueBytes, boolByte};
-ghost use Rattle.mir.specs.Syntax.{Assign};
+ghost use Rattle.mir.specs.Syntax.{Assign, plain};
 ghost use Rattle.bytes_field.specs.Encode.{instructionBytes, valueIdBytes, typeIdBytes, nameIdBytes};
-ghost use Rattle.bytes_emit.specs.Plain.{plain, Put};
+ghost use Rattle.bytes_emit.specs.Written.{Writes, Copyable, Copies, numberRoom, wordRoom, valueRoom, instructionRoom};
 
 // The bit map of an instruction with nothing beside it, and the kind of an Assign.
 const NO_BITS: u8 = 0;
 
-const ASSIGN: u8 = 0;
+const ASSIGN: u8 = kind::ASSIGN as u8;
 
 // A number of one, two and four bytes, the lowest first.
 pub fn put_u8(out: &mut [u8], to: usize, b: u8)
@@ -28,7 +29,7 @@ pub fn put_u8(out: &mut [u8], to: usize, b: u8)
 }
 
 pub fn put_u16(out: &mut [u8], to: usize, x: u16)
-    requires { ⌜ to < 4398046511104 ⌝ }
+    requires { ⌜ to < numberRoom ⌝ }
     ensures { λ _. ⌜ now (out .exit) ≡ sets (now (out .entry)) to (toBytes 2 x) ⌝ }
 {
     put_u8(out, to, (x % 256) as u8);
@@ -36,7 +37,7 @@ pub fn put_u16(out: &mut [u8], to: usize, x: u16)
 }
 
 pub fn put_u32(out: &mut [u8], to: usize, x: u32)
-    requires { ⌜ to < 2199023255552 ⌝ }
+    requires { ⌜ to < wordRoom ⌝ }
     ensures { λ _. ⌜ now (out .exit) ≡ sets (now (out .entry)) to (toBytes 4 x) ⌝ }
 {
     put_u16(out, to, (x % 65536) as u16);
@@ -45,21 +46,21 @@ pub fn put_u32(out: &mut [u8], to: usize, x: u32)
 
 // The numbers of values, types and names.
 pub fn put_value_id(out: &mut [u8], to: usize, v: ValueId)
-    requires { ⌜ to < 2199023255552 ⌝ }
+    requires { ⌜ to < wordRoom ⌝ }
     ensures { λ _. ⌜ now (out .exit) ≡ sets (now (out .entry)) to (valueIdBytes v) ⌝ }
 {
     put_u16(out, to, v.0);
 }
 
 pub fn put_type_id(out: &mut [u8], to: usize, t: TypeId)
-    requires { ⌜ to < 2199023255552 ⌝ }
+    requires { ⌜ to < wordRoom ⌝ }
     ensures { λ _. ⌜ now (out .exit) ≡ sets (now (out .entry)) to (typeIdBytes t) ⌝ }
 {
     put_u16(out, to, t.0);
 }
 
 pub fn put_name_id(out: &mut [u8], to: usize, n: NameId)
-    requires { ⌜ to < 2199023255552 ⌝ }
+    requires { ⌜ to < wordRoom ⌝ }
     ensures { λ _. ⌜ now (out .exit) ≡ sets (now (out .entry)) to (nameIdBytes n) ⌝ }
 {
     put_u16(out, to, n.0);
@@ -74,8 +75,8 @@ fn bool_byte(b: bool) -> u8
 
 // Writes a literal, and returns the place behind it.
 fn put_literal(out: &mut [u8], to: usize, l: Literal) -> usize
-    requires { ⌜ to < 1099511627776 ⌝ }
-    ensures { λ r. ⌜ Put (now (out .entry)) to (valueBytes (Value.Literal l)) r (now (out .exit)) ⌝ }
+    requires { ⌜ to < valueRoom ⌝ }
+    ensures { λ r. ⌜ Writes (valueBytes (Value.Literal l)) (now (out .entry)) (now (out .exit)) to r ⌝ }
 {
     match l {
         Literal::Integer(x) => {
@@ -97,8 +98,8 @@ fn put_literal(out: &mut [u8], to: usize, l: Literal) -> usize
 
 // Writes a value, and returns the place behind it.
 pub fn put_value(out: &mut [u8], to: usize, x: Value) -> usize
-    requires { ⌜ to < 1099511627776 ⌝ }
-    ensures { λ r. ⌜ Put (now (out .entry)) to (valueBytes x) r (now (out .exit)) ⌝ }
+    requires { ⌜ to < valueRoom ⌝ }
+    ensures { λ r. ⌜ Writes (valueBytes x) (now (out .entry)) (now (out .exit)) to r ⌝ }
 {
     match x {
         Value::Literal(l) => put_literal(out, to, l),
@@ -116,8 +117,8 @@ pub fn put_value(out: &mut [u8], to: usize, x: Value) -> usize
 
 // An Assign without span, expression id and comment; returns the place behind it.
 pub fn put_assign(out: &mut [u8], to: usize, d: ValueId, x: Value, t: TypeId) -> usize
-    requires { ⌜ to < 549755813888 ⌝ }
-    ensures { λ r. ⌜ Put (now (out .entry)) to (instructionBytes (plain (Assign d x t))) r (now (out .exit)) ⌝ }
+    requires { ⌜ to < instructionRoom ⌝ }
+    ensures { λ r. ⌜ Writes (instructionBytes (plain (Assign d x t))) (now (out .entry)) (now (out .exit)) to r ⌝ }
 {
     put_u8(out, to, NO_BITS);
     put_u8(out, to + 1, ASSIGN);
@@ -127,10 +128,22 @@ pub fn put_assign(out: &mut [u8], to: usize, d: ValueId, x: Value, t: TypeId) ->
     at + 2
 }
 
-// Copies the bytes of s from `from` to `end`, and returns the place behind them.
-pub fn copy(out: &mut [u8], to: usize, s: &[u8], from: usize, end: usize) -> usize
-    requires { ⌜ (to < 1099511627776) × (from ≤ end) × (end ≤ length (now s)) × (end < 1099511627776) ⌝ }
-    ensures { λ r. ⌜ (r ≡ to + (end - from)) × (now (out .exit) ≡ sets (now (out .entry)) to (slice from end (now (s .entry)))) ⌝ }
+// Copies all of `s` to the places from `to` on, where there is room for it.
+pub fn copy_whole(s: &[u8], out: &mut [u8], to: usize)
+    requires { ⌜ to + length (now s) ≤ length (now out) ⌝ }
+    ensures { λ _. ⌜ now (out .exit) ≡ sets (now (out .entry)) to (now (s .entry)) ⌝ }
+{
+    let mut i = 0;
+    while i < s.len() {
+        out[to + i] = s[i];
+        i = i + 1;
+    }
+}
+
+// Copies the bytes of s from `from` to `end` one by one, as far as there is room, and returns the place behind them.
+fn copy_cut(out: &mut [u8], to: usize, s: &[u8], from: usize, end: usize) -> usize
+    requires { ⌜ Copyable to (now s) from end ⌝ }
+    ensures { λ r. ⌜ Copies (now (s .entry)) from end (now (out .entry)) (now (out .exit)) to r ⌝ }
 {
     let mut at = from;
     let mut p = to;
@@ -140,4 +153,17 @@ pub fn copy(out: &mut [u8], to: usize, s: &[u8], from: usize, end: usize) -> usi
         p = p + 1;
     }
     p
+}
+
+// Copies the bytes of s from `from` to `end`, and returns the place behind them.
+pub fn copy(out: &mut [u8], to: usize, s: &[u8], from: usize, end: usize) -> usize
+    requires { ⌜ Copyable to (now s) from end ⌝ }
+    ensures { λ r. ⌜ Copies (now (s .entry)) from end (now (out .entry)) (now (out .exit)) to r ⌝ }
+{
+    let behind = to + (end - from);
+    if behind <= out.len() {
+        copy_whole(&s[from..end], out, to);
+        return behind;
+    }
+    copy_cut(out, to, s, from, end)
 }

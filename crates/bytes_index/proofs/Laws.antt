@@ -10,7 +10,7 @@ use Rattle.mir.specs.declared.TypeId.{TypeId}
 use Rattle.mir.specs.Syntax.{Block}
 use Rattle.bytes_field.specs.declared.Bounds.{Bounds}
 use Rattle.bytes_index.specs.Table.{startsIn, rowNumber}
-use Rattle.bytes_index.specs.Code.{noBlock, CodeIn}
+use Rattle.bytes_index.specs.Code.{noBlock, CodeIn, LastSlot}
 use Rattle.bytes_index.specs.Recorded.{recordedFrom}
 
 -- a number of a section
@@ -32,6 +32,14 @@ module _ (b : Bounds) (s facts : List ℕ) (ks : List Block) (k : ℕ) (c : Code
 
   pub count-found : to - from - 1 ≡ length (getD ks k noBlock .instructions)
   count-found = omega (arith, next-slot)
+
+-- the slot of a terminator
+module _ (facts : List ℕ) (k : ℕ) {behind : ℕ} (e : behind ≡ getD facts (354 + 1 + k) 0) where
+  pub last-none : behind ≡ 0 → LastSlot facts k 0
+  last-none z b s ks c h = absurd (omega (arith, in-section 354 (suc k) facts (e ∙ ap (λ j. getD facts j 0) (omega arith)), c .next k h))
+
+  pub last-found : LastSlot facts k (behind - 1)
+  last-found b s ks c h = omega (arith, in-section 354 (suc k) facts (e ∙ ap (λ j. getD facts j 0) (omega arith)), c .next k h)
 
 -- the number of the table tells the type
 pub from-some : (t : ℕ) → 0 < t → some (record { 0 = t - 1 }) ≡ recordedFrom t

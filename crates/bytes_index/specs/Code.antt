@@ -49,3 +49,11 @@ pub record CodeIn (b : Bounds) (s facts : List ℕ) (ks : List Block) : Type 0 w
   pub next : (k : ℕ) → k < length ks → getD (startsIn facts) (suc k) 0 ≡ getD (startsIn facts) k 0 + suc (length (getD ks k noBlock .instructions))
   pub first : getD (startsIn facts) 0 0 ≡ 0
   pub within : getD (startsIn facts) (length ks) 0 ≤ 288
+
+-- the slot of block k's terminator
+abbrev pub LastSlot : List ℕ → ℕ → ℕ → Type 0
+LastSlot facts k r =
+    (b : Bounds) (s : List ℕ) (ks : List Block)
+    → CodeIn b s facts ks
+    → k < length ks
+    → r ≡ getD (startsIn facts) k 0 + length (getD ks k noBlock .instructions)

@@ -9,6 +9,10 @@ use mathlib.Core.List.{List}
 use lib.ListN.{length, getD, drop, set}
 use Rattle.mir.specs.declared.ValueId.{ValueId}
 
+-- how long it is
+abbrev pub factsSize : ℕ
+factsSize = 6147
+
 abbrev pub recordedIn : List ℕ → List ℕ
 recordedIn facts = drop 65 facts
 
@@ -23,9 +27,20 @@ startsIn facts = drop 354 facts
 abbrev pub blockSet : List ℕ → ℕ → ℕ → ℕ → List ℕ
 blockSet facts k place total = set (set facts (321 + k) (place % 65536)) (354 + k) (total + k)
 
+-- a place in a row can be added to where the row begins
+abbrev pub columnsBelow : ℕ
+columnsBelow = 1048576
+
+-- where a slot's row begins, and where its reads do
+abbrev pub rowAt : ℕ → ℕ
+rowAt slot = 387 + 20 * slot
+
+abbrev pub readsAt : ℕ → ℕ
+readsAt slot = 391 + 20 * slot
+
 -- number k of a slot's row
 abbrev pub rowNumber : List ℕ → ℕ → ℕ → ℕ
-rowNumber facts slot k = getD facts (387 + 20 * slot + k) 0
+rowNumber facts slot k = getD facts (rowAt slot + k) 0
 
 -- from which place to which the slot's instruction or terminator stands, its kind, how many values it reads, and which
 abbrev pub placeIn : List ℕ → ℕ → ℕ

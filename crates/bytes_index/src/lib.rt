@@ -1,4 +1,6 @@
 // The table of facts that the reader leaves of a routine (specs/Table.antt says what stands where), and lookups in it.
+use mir::BlockId;
+use mir::ValueId;
 ghost use mathlib.Core.Path.{_≡_};
 ghost use mathlib.Core.List.{List};
 ghost use Prim.Native.Nat.{ℕ, _+_, _*_, _<_};
@@ -6,8 +8,9 @@ ghost use lib.ListN.{length, getD, drop};
 ghost use Rattle.mir.specs.Syntax.{Block};
 ghost use Rattle.bytes_field.specs.declared.Bounds.{Bounds};
 ghost use Rattle.bytes_index.specs.Table.{recordedIn, blocksIn, startsIn, blockSet};
-ghost use Rattle.bytes_index.specs.Table.{rowNumber, placeIn, endIn, kindIn, readCount, readIn};
-ghost use Rattle.bytes_index.specs.Code.{noBlock, CodeIn};
+ghost use Rattle.bytes_index.specs.Table.{columnsBelow, rowAt, rowNumber, placeIn, endIn, kindIn, readCount, readIn};
+ghost use Rattle.bytes_index.specs.Code.{noBlock, CodeIn, LastSlot};
+ghost use Rattle.table.specs.Number.{numbersBelow};
 
 // Where the sections begin, and how long the table is.
 pub const RECORDED: usize = 65;
@@ -57,32 +60,32 @@ pub fn blocks(facts: &[u16]) -> &[u16]
 }
 
 // Stores that block `k` begins at a place, behind `total` instructions; for k the number of blocks, where the last ends.
-pub fn set_block(facts: &mut [u16], k: u16, place: usize, total: u16)
-    requires { ⌜ total + k < 65536 ⌝ }
-    ensures { λ _. ⌜ now (facts .exit) ≡ blockSet (now (facts .entry)) k place total ⌝ }
+pub fn set_block(facts: &mut [u16], k: BlockId, place: usize, total: u16)
+    requires { ⌜ total + k .0 < numbersBelow ⌝ }
+    ensures { λ _. ⌜ now (facts .exit) ≡ blockSet (now (facts .entry)) (k .0) place total ⌝ }
 {
-    table::set_place(facts, BLOCKS + k as usize, place);
-    table::set_number(facts, STARTS + k as usize, total + k);
+    table::set_place(facts, BLOCKS + k.0 as usize, place);
+    table::set_number(facts, STARTS + k.0 as usize, total + k.0);
 }
 
 // Where number `k` of a slot's row stands.
 pub fn row_place(slot: u16, k: usize) -> usize
-    requires { ⌜ k < 1048576 ⌝ }
-    ensures { λ r. ⌜ r ≡ 387 + 20 * slot + k ⌝ }
+    requires { ⌜ k < columnsBelow ⌝ }
+    ensures { λ r. ⌜ r ≡ rowAt slot + k ⌝ }
 {
     ROWS + WIDTH * slot as usize + k
 }
 
 // The place of a slot's instruction or terminator.
 pub fn place(facts: &[u16], slot: u16) -> usize
-    ensures { λ r. ⌜ (r ≡ placeIn (now (facts .entry)) slot) × (r < 65536) ⌝ }
+    ensures { λ r. ⌜ (r ≡ placeIn (now (facts .entry)) slot) × (r < numbersBelow) ⌝ }
 {
     table::number(facts, row_place(slot, 0)) as usize
 }
 
 // The place behind it.
 pub fn end(facts: &[u16], slot: u16) -> usize
-    ensures { λ r. ⌜ (r ≡ endIn (now (facts .entry)) slot) × (r < 65536) ⌝ }
+    ensures { λ r. ⌜ (r ≡ endIn (now (facts .entry)) slot) × (r < numbersBelow) ⌝ }
 {
     table::number(facts, row_place(slot, END)) as usize
 }
@@ -102,28 +105,39 @@ pub fn read_count(facts: &[u16], slot: u16) -> u16
 }
 
 // Value `k` of those.
-pub fn read(facts: &[u16], slot: u16, k: u16) -> u16
-    ensures { λ r. ⌜ r ≡ readIn (now (facts .entry)) slot k ⌝ }
+pub fn read(facts: &[u16], slot: u16, k: u16) -> ValueId
+    ensures { λ r. ⌜ r .0 ≡ readIn (now (facts .entry)) slot k ⌝ }
 {
-    table::number(facts, row_place(slot, READS + k as usize))
+    ValueId(table::number(facts, row_place(slot, READS + k as usize)))
 }
 
 // The slot of the first instruction of block `k`; for k the number of blocks, the slot behind the last.
-pub fn first_slot(facts: &[u16], k: u16) -> u16
-    ensures { λ r. ⌜ r ≡ getD (startsIn (now (facts .entry))) k 0 ⌝ }
+pub fn first_slot(facts: &[u16], k: BlockId) -> u16
+    ensures { λ r. ⌜ r ≡ getD (startsIn (now (facts .entry))) (k .0) 0 ⌝ }
 {
-    table::number(facts, STARTS + k as usize)
+    table::number(facts, STARTS + k.0 as usize)
 }
 
 // How many instructions block `k` has.
-pub fn instruction_count(facts: &[u16], k: u16) -> u16
+pub fn instruction_count(facts: &[u16], k: BlockId) -> u16
     ensures { λ r. ⌜ ((b : Bounds) (s : List ℕ) (ks : List Block)
-        → CodeIn b s (now (facts .entry)) ks → k < length ks → r ≡ length (getD ks k noBlock .instructions)) ⌝ }
+        → CodeIn b s (now (facts .entry)) ks → k .0 < length ks → r ≡ length (getD ks (k .0) noBlock .instructions)) ⌝ }
 {
     let from = first_slot(facts, k);
-    let to = table::number(facts, STARTS + 1 + k as usize);
+    let to = table::number(facts, STARTS + 1 + k.0 as usize);
     if to <= from {
         return 0;
     }
     to - from - 1
+}
+
+// The slot of block `k`'s terminator: behind those of its instructions.
+pub fn last_slot(facts: &[u16], k: BlockId) -> u16
+    ensures { λ r. ⌜ LastSlot (now (facts .entry)) (k .0) r ⌝ }
+{
+    let behind = table::number(facts, STARTS + 1 + k.0 as usize);
+    if behind == 0 {
+        return 0;
+    }
+    behind - 1
 }

@@ -1,5 +1,6 @@
 // The kinds of instructions and terminators: the row of fields of each, and when a Phi is late.
 use bytes_field::Scan;
+use mir::kind;
 ghost use mathlib.Core.Path.{_≡_};
 ghost use mathlib.Core.List.{List};
 ghost use mathlib.Core.Bool.{Bool};
@@ -14,10 +15,10 @@ pub const KINDS: u8 = 19;
 
 pub const TERMINATORS: u8 = 5;
 
-// Two of the kinds, in `InstructionKind` order.
-pub const PHI: u8 = 9;
+// Two of the kinds, as a byte.
+pub const PHI: u8 = kind::PHI as u8;
 
-pub const MAKE_FIXED_ARRAY: u8 = 16;
+pub const MAKE_FIXED_ARRAY: u8 = kind::MAKE_FIXED_ARRAY as u8;
 
 // The classes of each kind's fields (see `read_field` of bytes_row), in `InstructionKind` order.
 const ROWS: [u32; 19] = [

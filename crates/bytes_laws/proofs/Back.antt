@@ -17,7 +17,8 @@ use Rattle.bytes_wire.proofs.Inv.{no-ok}
 use Rattle.bytes_wire.proofs.RoundTrip.{length-toBytes, number-back}
 use Rattle.bytes_field.specs.Decode.{countOf, listOf}
 use Rattle.bytes_field.specs.Encode.{eachBytes, listBytes}
-use Rattle.bytes_laws.specs.WellFormed.{Each, FitList}
+use Rattle.mir.specs.Lists.{Each}
+use Rattle.bytes_laws.specs.WellFormed.{FitList}
 
 -- from w, whatever follows, the decoder reads a and takes all of w
 pub record Back {A : Type 0} (dec : List ℕ → Parse A) (w : List ℕ) (a : A) : Type 0 where

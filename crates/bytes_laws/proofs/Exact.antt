@@ -14,7 +14,8 @@ use Rattle.bytes_wire.specs.WellFormed.{Bytes}
 use Rattle.bytes_wire.specs.declared.Cause.{Cause}
 use Rattle.bytes_field.specs.Decode.{countOf, listOf}
 use Rattle.bytes_field.specs.Encode.{eachBytes, listBytes}
-use Rattle.bytes_laws.specs.WellFormed.{Each, FitList}
+use Rattle.mir.specs.Lists.{Each}
+use Rattle.bytes_laws.specs.WellFormed.{FitList}
 use Rattle.bytes_wire.proofs.Inv.{both, image, and-inv, map-inv, checked-inv, number-inv}
 use Rattle.bytes_wire.proofs.Canon.{Canon, bytes-drop, canon-and, number-canon, number-fit}
 

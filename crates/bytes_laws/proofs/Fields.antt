@@ -17,7 +17,8 @@ use Rattle.bytes_wire.proofs.Canon.{value-canon, value-fit, value-short}
 use Rattle.bytes_field.specs.Decode.{typeIdOf, blockIdOf, nameIdOf, listOf, mark, definedOf, definedSeq, definedsOf, operationOf, projectionOf, placeOf, sourceOf, fieldInitOf, optional, bit, spanOf, expressionOf, metaOf}
 use Rattle.bytes_field.specs.Encode.{valueIdBytes, typeIdBytes, blockIdBytes, nameIdBytes, eachBytes, listBytes, projectionBytes, placeBytes, sourceBytes, fieldInitBytes, optionBytes, spanBytes, expressionBytes, metaBytes, stands}
 use Rattle.bytes_field.specs.declared.Bounds.{Bounds}
-use Rattle.bytes_laws.specs.WellFormed.{Wide, Each, FitList, FitOption, FitType, FitBlock, FitName, FitNew, FitNews, FitProjection, FitPlace, FitSource, FitInit, FitSpan, FitExpression, FitMeta}
+use Rattle.mir.specs.Lists.{Each}
+use Rattle.bytes_laws.specs.WellFormed.{Wide, FitList, FitOption, FitType, FitBlock, FitName, FitNew, FitNews, FitProjection, FitPlace, FitSource, FitInit, FitSpan, FitExpression, FitMeta}
 use Rattle.bytes_laws.proofs.Exact.{Exact, then, last, alone, whole, within, tested, because, number, byte, counted, list}
 use Rattle.bytes_laws.proofs.Rows.{none, _&_, tag}
 

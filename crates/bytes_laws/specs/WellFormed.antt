@@ -6,6 +6,7 @@ use mathlib.Core.Bool.{Bool, true, false}
 use mathlib.Core.Option.{Option, none, some}
 use lib.ListN.{length, getD}
 use Rattle.bytes_wire.specs.WellFormed.{FitValue}
+use Rattle.mir.specs.Lists.{Each}
 use Rattle.mir.specs.declared.Value.{Value}
 use Rattle.mir.specs.declared.ValueId.{ValueId}
 use Rattle.mir.specs.declared.BlockId.{BlockId}
@@ -26,11 +27,6 @@ pub record Wide (b : Bounds) : Type 0 where
   pub blocks : b .blocks ≤ 65536
   pub list : b .list ≤ 255
   pub projections : b .projections ≤ 255
-
--- it holds of each thing in a list
-abbrev pub Each : {A : Type 0} → (A → Type 0) → List A → Type 0
-Each P [] = Unit {0}
-Each P (a ∷ xs) = P a × Each P xs
 
 -- at most so many, and it holds of each
 abbrev pub FitList : {A : Type 0} → ℕ → (A → Type 0) → List A → Type 0

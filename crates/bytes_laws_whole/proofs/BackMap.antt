@@ -16,7 +16,8 @@ use Rattle.bytes_wire.specs.declared.Cause.{Cause}
 use Rattle.mir.specs.declared.TypeId.{TypeId}
 use Rattle.bytes_wire.proofs.RoundTrip.{length-toBytes}
 use Rattle.bytes_field.specs.Encode.{typeIdBytes, eachBytes, optionBytes, stands}
-use Rattle.bytes_laws.specs.WellFormed.{Each, FitOption}
+use Rattle.mir.specs.Lists.{Each}
+use Rattle.bytes_laws.specs.WellFormed.{FitOption}
 use Rattle.bytes_laws.proofs.Back.{Back, then, last, alone, tested, byte, sequence}
 use Rattle.bytes_laws.proofs.BackFields.{type}
 use Rattle.bytes_types.specs.WellFormed.{FitPart}

@@ -10,7 +10,7 @@ use Rattle.bytes_wire.specs.Number.{toBytes, fromBytes}
 use Rattle.mir.specs.declared.TypeId.{TypeId}
 use Rattle.bytes_wire.specs.Value.{boolByte}
 use Rattle.bytes_field.specs.Encode.{stands}
-use Rattle.bytes_laws.specs.WellFormed.{Each}
+use Rattle.mir.specs.Lists.{Each}
 use Rattle.bytes_laws.proofs.Bits.{bit-byte}
 use Rattle.bytes_sections.specs.Decode.{hasRecorded}
 use Rattle.bytes_sections.specs.Encode.{mapNumber}

@@ -20,7 +20,8 @@ use Rattle.bytes_wire.proofs.Inv.{both, image, and-inv, map-inv, cond-inv}
 use Rattle.bytes_wire.proofs.Canon.{Canon, bytes-drop}
 use Rattle.bytes_field.specs.Decode.{definedsOf}
 use Rattle.bytes_field.specs.Encode.{blockIdBytes, typeIdBytes, eachBytes, optionBytes, stands}
-use Rattle.bytes_laws.specs.WellFormed.{Wide, Each, FitOption}
+use Rattle.mir.specs.Lists.{Each}
+use Rattle.bytes_laws.specs.WellFormed.{Wide, FitOption}
 use Rattle.bytes_laws.proofs.Exact.{Exact, After, then, last, alone, whole, within, tested, because, number, byte, sequence}
 use Rattle.bytes_laws.proofs.Fields.{type, block, dests}
 use Rattle.bytes_block.specs.Decode.{marks}

@@ -6,7 +6,8 @@ use mathlib.Core.Bool.{Bool, false}
 use lib.ListN.{length, replicate}
 use Rattle.mir.specs.Syntax.{Block}
 use Rattle.bytes_field.specs.declared.Bounds.{Bounds}
-use Rattle.bytes_laws.specs.WellFormed.{Each, FitOption, FitType, FitBlock, FitNews}
+use Rattle.mir.specs.Lists.{Each}
+use Rattle.bytes_laws.specs.WellFormed.{FitOption, FitType, FitBlock, FitNews}
 use Rattle.bytes_block.specs.Decode.{marks, blockMarks}
 use Rattle.bytes_block.specs.WellFormed.{FitCode}
 use Rattle.bytes_block.specs.declared.Mosts.{Mosts}

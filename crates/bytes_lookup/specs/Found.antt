@@ -1,8 +1,8 @@
 -- What a lookup's answer says.
 use mathlib.Core.Option.{Option, none, some}
 use Rattle.mir.specs.declared.TypeId.{TypeId}
-use Rattle.bytes_lookup.specs.declared.Recorded.{Recorded}
+use Rattle.bytes_lookup.specs.declared.TypeFound.{TypeFound}
 
-abbrev pub asRecorded : Recorded → Option TypeId
-asRecorded (Recorded.Type t) = some t
-asRecorded Recorded.Nothing = none
+abbrev pub asType : TypeFound → Option TypeId
+asType (TypeFound.Type t) = some t
+asType TypeFound.Nothing = none

@@ -14,10 +14,10 @@ ghost use Rattle.bytes_index.specs.Recorded.{recordedFrom};
 ghost use Rattle.bytes_block.specs.Encode.{blockBytes};
 ghost use Rattle.bytes_block.specs.Places.{BlocksAt};
 ghost use Rattle.bytes_block.specs.declared.Mosts.{Mosts};
-ghost use Rattle.bytes_lookup.specs.Found.{asRecorded};
+ghost use Rattle.bytes_lookup.specs.Found.{asType};
 
-// The recorded type of a value, where it has one.
-pub enum Recorded {
+// A type that a lookup finds, or none there.
+pub enum TypeFound {
     Type(TypeId),
     Nothing,
 }
@@ -41,12 +41,12 @@ pub fn type_place(starts: &[u16], t: TypeId) -> usize
 }
 
 // The recorded type of a value, where `recorded` has those of all values.
-pub fn recorded_type(recorded: &[u16], v: ValueId) -> Recorded
-    ensures { λ r. ⌜ asRecorded r ≡ recordedFrom (getD (now (recorded .entry)) (v .0) 0) ⌝ }
+pub fn recorded_type(recorded: &[u16], v: ValueId) -> TypeFound
+    ensures { λ r. ⌜ asType r ≡ recordedFrom (getD (now (recorded .entry)) (v .0) 0) ⌝ }
 {
     let t = table::number(recorded, v.0 as usize);
     if 0 < t {
-        return Recorded::Type(TypeId(t - 1));
+        return TypeFound::Type(TypeId(t - 1));
     }
-    Recorded::Nothing
+    TypeFound::Nothing
 }

@@ -3,6 +3,7 @@ use bytes_field::Bounds;
 use bytes_wire::ReadValue;
 use mir::NameId;
 use mir::Value;
+use mir::kind;
 ghost use mathlib.Core.Path.{_≡_};
 ghost use mathlib.Core.List.{List};
 ghost use mathlib.Core.Bool.{Bool, false, cond};
@@ -17,6 +18,7 @@ ghost use Rattle.mir.specs.Syntax.{Projection, Instruction};
 ghost use Rattle.bytes_field.specs.Decode.{projectionOf, instructionOf};
 ghost use Rattle.bytes_operands.specs.Fields.{ValueAt, operandFields, placeSteps, fieldsPlace, valueSize, valueEnd, projectionEnd};
 ghost use Rattle.bytes_operands.specs.Fields.{after, valueStep, operandRow, operandFirst, stepsAt, stepCount, asFound, asStep};
+ghost use Rattle.bytes_operands.specs.Reach.{valueReach, stepReach, listReach, operandReach};
 
 // A kind's operand fields, lists and places aside: how many, how far the first stands behind the kind's first field,
 // and how far the second stands behind the first. (A Store's one stands behind its place.)
@@ -44,10 +46,10 @@ pub const OPERANDS: [Operands; 19] = [
     Operands(1, 2, 0), // HeapAllocCells
 ];
 
-// The kinds with a place, and the kinds of values and projections that take more than their kind.
-const LOAD: u8 = 5;
+// The kinds with a place, as a byte.
+const LOAD: u8 = kind::LOAD as u8;
 
-const STORE: u8 = 6;
+const STORE: u8 = kind::STORE as u8;
 
 // A value that a lookup finds, or none there.
 pub enum Found {
@@ -103,7 +105,7 @@ fn value_size(kind: u8) -> usize
 
 // The place behind the value that stands at a place.
 pub fn value_end(t: &[u8], at: usize) -> usize
-    requires { ⌜ at < 9223372036854775808 ⌝ }
+    requires { ⌜ at < valueReach ⌝ }
     ensures { λ r. ⌜ (r ≡ valueEnd (now (t .entry)) at) × (r ≤ at + 5) ⌝ }
 {
     at + value_size(bytes_wire::byte_at(t, at))
@@ -131,7 +133,7 @@ fn found_at(t: &[u8], at: usize, next: u16) -> Found
 
 // The place behind the projection that stands at a place.
 pub fn projection_end(t: &[u8], at: usize) -> usize
-    requires { ⌜ at < 4611686018427387904 ⌝ }
+    requires { ⌜ at < stepReach ⌝ }
     ensures { λ r. ⌜ (r ≡ projectionEnd (now (t .entry)) at) × (r ≤ at + 6) ⌝ }
 {
     let kind = bytes_wire::byte_at(t, at);
@@ -144,7 +146,7 @@ pub fn projection_end(t: &[u8], at: usize) -> usize
 
 // The place behind `k` projections.
 pub fn projections_end(t: &[u8], at: usize, k: u8) -> usize
-    requires { ⌜ at < 1099511627776 ⌝ }
+    requires { ⌜ at < listReach ⌝ }
     ensures { λ r. ⌜ (r ≡ after (projectionEnd (now (t .entry))) k at) × (r ≤ at + 6 * k) ⌝ }
 {
     let mut here = at;
@@ -158,7 +160,7 @@ pub fn projections_end(t: &[u8], at: usize, k: u8) -> usize
 
 // The place behind `k` values with `before` bytes before each and `gap` behind it.
 pub fn values_end(t: &[u8], at: usize, before: u8, gap: u8, k: u8) -> usize
-    requires { ⌜ at < 1099511627776 ⌝ }
+    requires { ⌜ at < listReach ⌝ }
     ensures { λ r. ⌜ (r ≡ after (valueStep (now (t .entry)) before gap) k at) × (r ≤ at + 600 * k) ⌝ }
 {
     let mut here = at;
@@ -172,7 +174,7 @@ pub fn values_end(t: &[u8], at: usize, before: u8, gap: u8, k: u8) -> usize
 
 // Where the first operand field stands.
 fn operand_first(t: &[u8], kind: u8) -> usize
-    ensures { λ r. ⌜ (r ≡ operandFirst (now (t .entry)) kind) × (r < 2097152) ⌝ }
+    ensures { λ r. ⌜ (r ≡ operandFirst (now (t .entry)) kind) × (r < operandReach) ⌝ }
 {
     if kind == STORE {
         return projections_end(t, 3, bytes_wire::byte_at(t, 2));

@@ -5,6 +5,7 @@ use bytes_sections::Checked;
 use bytes_sections::SizesRead;
 use bytes_sections::sections;
 use bytes_wire::Cause;
+use mir::most;
 ghost use mathlib.Core.Path.{_≡_};
 ghost use mathlib.Core.Bool.{false};
 ghost use Prim.Native.Nat.{_≤_};
@@ -12,10 +13,13 @@ ghost use lib.ListN.{length, replicate};
 ghost use Rattle.bytes_sections.specs.Decode.{mosts, wholeOf};
 ghost use Rattle.bytes_sections.specs.Facts.{BodyRead, RoutineRead};
 ghost use Rattle.bytes_sections.specs.Index.{answered, verdict};
+ghost use Rattle.bytes_index.specs.Table.{factsSize};
+ghost use Rattle.mir.specs.Most.{mostValues, mostBlocks};
 
 // What stands behind the sizes: parameters, recorded types, blocks, and nothing more. No value is marked in `seen`.
 fn read_marked(s: &[u8], at: usize, b: Bounds, seen: &mut [bool], facts: &mut [u16]) -> Checked
-    requires { ⌜ (at ≤ length (now s)) × (now seen ≡ replicate (b .next) false) × (b .next ≤ 256) × (b .blocks ≤ 32) × (6147 ≤ length (now facts)) ⌝ }
+    requires { ⌜ (at ≤ length (now s)) × (now seen ≡ replicate (b .next) false)
+        × (b .next ≤ mostValues) × (b .blocks ≤ mostBlocks) × (factsSize ≤ length (now facts)) ⌝ }
     ensures { λ r. ⌜ BodyRead b at (now (s .entry)) r (now (facts .entry)) (now (facts .exit)) ⌝ }
 {
     let map = match sections::parameters_part(&s[at..], b, seen) {
@@ -50,17 +54,17 @@ fn read_marked(s: &[u8], at: usize, b: Bounds, seen: &mut [bool], facts: &mut [u
 
 // What stands behind the sizes, where no value is marked as defined yet: the marks are made here.
 fn read_body(s: &[u8], at: usize, b: Bounds, facts: &mut [u16]) -> Checked
-    requires { ⌜ (at ≤ length (now s)) × (b .next ≤ 256) × (b .blocks ≤ 32) × (6147 ≤ length (now facts)) ⌝ }
+    requires { ⌜ (at ≤ length (now s)) × (b .next ≤ mostValues) × (b .blocks ≤ mostBlocks) × (factsSize ≤ length (now facts)) ⌝ }
     ensures { λ r. ⌜ BodyRead b at (now (s .entry)) r (now (facts .entry)) (now (facts .exit)) ⌝ }
 {
     let n = b.next as usize;
-    let mut marks: [bool; 256] = [false; 256];
+    let mut marks: [bool; most::VALUES] = [false; most::VALUES];
     read_marked(s, at, b, &mut marks[0..n], facts)
 }
 
 // Reads a whole routine, and fills the table with its facts. What a refusal leaves in the table is free (`LeftFree`).
 pub fn read_routine(s: &[u8], facts: &mut [u16]) -> Checked
-    requires { ⌜ 6147 ≤ length (now facts) ⌝ }
+    requires { ⌜ factsSize ≤ length (now facts) ⌝ }
     ensures { λ r. ⌜ RoutineRead (now (s .entry)) r (now (facts .entry)) (now (facts .exit)) ⌝ }
 {
     let m = bytes_sections::MOSTS;

@@ -9,7 +9,8 @@ use Rattle.bytes_wire.specs.declared.Cause.{Cause}
 use Rattle.mir.specs.declared.BlockId.{BlockId}
 use Rattle.bytes_field.specs.Walk.{unit}
 use Rattle.bytes_field.specs.declared.Bounds.{Bounds}
-use Rattle.bytes_index.specs.Table.{recordedIn, blocksIn}
+use Rattle.table.specs.Number.{numbersBelow}
+use Rattle.bytes_index.specs.Table.{factsSize, recordedIn, blocksIn}
 use Rattle.bytes_index.specs.Code.{CodeIn}
 use Rattle.bytes_block.specs.Rows.{Kept, Tabular}
 use Rattle.mir.specs.MirType.{MirType}
@@ -22,11 +23,11 @@ use Rattle.bytes_sections.specs.declared.Checked.{Checked}
 -- the routine r, decoded from s, whose numbers stay below b
 pub record FactsOf (s facts : List ℕ) (b : Bounds) (r : Routine) : Type 0 where
   pub bounded : b ≡ boundsOf mosts (length (r .types)) (r .next) (length (r .blocks))
-  pub short : length s < 65536
+  pub short : length s < numbersBelow
   pub types : TypesAt 16 s facts (r .types)
   pub first : getD facts 0 0 ≡ 2
   pub recorded : RecordedAt (recordedIn facts) (r .recorded)
-  pub long : 6147 ≤ length facts
+  pub long : factsSize ≤ length facts
   pub blocks : BlocksAt mosts b s (blocksIn facts) (r .blocks)
   pub code : CodeIn b s facts (r .blocks)
 

@@ -16,6 +16,8 @@ ghost use Rattle.bytes_wire.specs.Parse.{mapParse};
 ghost use Rattle.bytes_field.specs.Walk.{asPart, unit};
 ghost use Rattle.bytes_sections.specs.Decode.{mapOf, hasRecorded, sizesOf};
 ghost use Rattle.bytes_sections.specs.Index.{RecordedOne, RecordedRead, ParametersRead, BlocksRead, asSizes};
+ghost use Rattle.bytes_index.specs.Table.{factsSize};
+ghost use Rattle.mir.specs.Most.{mostBlocks};
 
 // Where the number of blocks and the entry block stand behind the next value.
 const BLOCKS: usize = 2;
@@ -155,14 +157,14 @@ pub fn parameters_part(s: &[u8], b: Bounds, seen: &mut [bool]) -> Part
 
 // The blocks, from `at` on: the table is given each block's place, the slot of its first instruction, and its rows.
 pub fn blocks_part(s: &[u8], at: usize, b: Bounds, seen: &mut [bool], facts: &mut [u16]) -> Part
-    requires { ⌜ (at ≤ length (now s)) × (b .blocks ≤ 32) × (6147 ≤ length (now facts)) ⌝ }
+    requires { ⌜ (at ≤ length (now s)) × (b .blocks ≤ mostBlocks) × (factsSize ≤ length (now facts)) ⌝ }
     ensures { λ r. ⌜ BlocksRead b at (now (s .entry)) (now (seen .entry)) (asPart r) (now (facts .entry)) (now (facts .exit)) ⌝ }
 {
     let many = b.blocks;
     let mut here = at;
     let mut total: u16 = 0;
     let mut k: u16 = 0;
-    bytes_index::set_block(facts, 0, here, 0);
+    bytes_index::set_block(facts, BlockId(0), here, 0);
     while k < many {
         match bytes_block::read_block(s, here, MOSTS, b, total, total + k, seen, facts) {
             BlockRead::Refused(c, o) => {
@@ -174,7 +176,7 @@ pub fn blocks_part(s: &[u8], at: usize, b: Bounds, seen: &mut [bool], facts: &mu
             }
         }
         k = k + 1;
-        bytes_index::set_block(facts, k, here, total);
+        bytes_index::set_block(facts, BlockId(k), here, total);
     }
     Part::Used(here)
 }

@@ -7,7 +7,7 @@ use Rattle.bytes_wire.specs.Parse.{ok}
 use Rattle.bytes_wire.specs.WellFormed.{Bytes}
 use Rattle.mir.specs.declared.NameId.{NameId}
 use Rattle.mir.specs.declared.TypeId.{TypeId}
-use Rattle.bytes_laws.specs.WellFormed.{Each}
+use Rattle.mir.specs.Lists.{Each}
 use Rattle.mir.specs.MirType.{StructField, MirType}
 use Rattle.bytes_types.specs.Encode.{typeBytes}
 use Rattle.bytes_types.specs.Decode.{typeOf}

@@ -1,10 +1,13 @@
 // The type table of a routine.
+pub mod layout;
+
 use bytes_field::Bounds;
 use bytes_field::Part;
 use bytes_field::Scan;
 use bytes_wire::Cause;
 use bytes_wire::Read16;
 use mir::NameId;
+use mir::type_kind;
 ghost use mathlib.Core.Path.{_≡_};
 ghost use mathlib.Core.List.{List, []};
 ghost use mathlib.Core.Bool.{Bool};
@@ -20,10 +23,8 @@ ghost use Rattle.bytes_types.specs.Index.{fieldOf, TypesRead};
 // differ.
 pub const TYPE_ROWS: [u32; 11] = [0x0, 0x0, 0x0, 0xb, 0x0, 0x53, 0x3, 0x3b, 0x0, 0x0, 0x0];
 
-// How many kinds of types there are, and the kind of a Struct.
+// How many kinds of types there are.
 const KINDS: u8 = 11;
-
-const STRUCT: u8 = 4;
 
 // Field `i` of the fields that begin at `from`: a new name, then a type below the struct's own number.
 fn struct_field(s: &[u8], from: usize, i: u8, own: u16) -> Part
@@ -114,7 +115,7 @@ pub fn read_type(s: &[u8], most: u8, own: u16) -> Part
     if KINDS <= kind {
         return Part::Refused(Cause::Undefined, 0);
     }
-    if kind == STRUCT {
+    if kind == type_kind::STRUCT {
         return struct_type(s, most, own);
     }
     let b = Bounds {

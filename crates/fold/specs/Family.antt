@@ -91,26 +91,26 @@ buildDest (AssertEq x y) = none
 buildDest (HeapAllocCells d x) = none
 
 -- the place that a Load or Store walks
-unfoldable pub placeOf : InstructionKind → Option Place
-placeOf (Assign d x t) = none
-placeOf (UnaryOp op d x) = none
-placeOf (BinaryOp op d x y) = none
-placeOf (Call ds f xs ps rs) = none
-placeOf (Cast d x t u) = none
-placeOf (Load d p t) = some p
-placeOf (Store p x t) = some p
-placeOf (Debug n xs) = none
-placeOf Nop = none
-placeOf (Phi d t ss) = none
-placeOf (MakeTuple d xs) = none
-placeOf (ExtractTupleElement d x k t) = none
-placeOf (MakeStruct d fs t) = none
-placeOf (ExtractStructField d x n t) = none
-placeOf (InsertField d x n y t) = none
-placeOf (InsertTuple d x k y t) = none
-placeOf (MakeFixedArray d xs t c) = none
-placeOf (AssertEq x y) = none
-placeOf (HeapAllocCells d x) = none
+unfoldable pub accessed : InstructionKind → Option Place
+accessed (Assign d x t) = none
+accessed (UnaryOp op d x) = none
+accessed (BinaryOp op d x y) = none
+accessed (Call ds f xs ps rs) = none
+accessed (Cast d x t u) = none
+accessed (Load d p t) = some p
+accessed (Store p x t) = some p
+accessed (Debug n xs) = none
+accessed Nop = none
+accessed (Phi d t ss) = none
+accessed (MakeTuple d xs) = none
+accessed (ExtractTupleElement d x k t) = none
+accessed (MakeStruct d fs t) = none
+accessed (ExtractStructField d x n t) = none
+accessed (InsertField d x n y t) = none
+accessed (InsertTuple d x k y t) = none
+accessed (MakeFixedArray d xs t c) = none
+accessed (AssertEq x y) = none
+accessed (HeapAllocCells d x) = none
 
 -- the first projection is an Index that is no Integer literal
 unfoldable pub dynamicFirst : List Projection → Bool
@@ -126,7 +126,7 @@ dynamicAt m (some p) = marked m (p .base) && dynamicFirst (p .projections)
 
 -- sroa.rs 476, `array_family_has_dynamic_index_use`
 unfoldable pub hasDynamicIndex : Types → ValueId → List Instruction → Bool
-hasDynamicIndex τ v is = let m = family τ v is in any (λ i. dynamicAt m (placeOf (i .kind))) is
+hasDynamicIndex τ v is = let m = family τ v is in any (λ i. dynamicAt m (accessed (i .kind))) is
 
 -- a block reads one of the values; Debug's reads do not count here
 unfoldable pub readsOne : Marks → Block → Bool

@@ -9,7 +9,8 @@ use Rattle.mir.specs.Syntax.{Assign, UnaryOp, BinaryOp, Call, Cast, Load, Store
 use Rattle.mir.specs.Syntax.{MakeTuple, ExtractTupleElement, MakeStruct, ExtractStructField, InsertField, InsertTuple, MakeFixedArray, AssertEq, HeapAllocCells}
 use Rattle.mir.specs.Reads.{isPhi}
 use Rattle.fold.specs.declared.Settings.{Settings}
-use Rattle.mir.specs.Lookup.{Types, valueRow, isTuple, isStruct, isOperand, any, every}
+use Rattle.mir.specs.Lists.{every}
+use Rattle.mir.specs.Lookup.{Types, valueRow, isTuple, isStruct, isOperand, any}
 use Rattle.fold.specs.Family.{Marks, hasDynamicIndex}
 use Rattle.fold.specs.Climb.{buildable, canScalarize}
 

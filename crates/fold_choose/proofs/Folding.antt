@@ -19,7 +19,7 @@ use Rattle.bytes_index.specs.Table.{placeIn, kindIn}
 use Rattle.bytes_index.specs.Code.{InstructionIn}
 use Rattle.fold.specs.declared.Settings.{Settings}
 use Rattle.mir.specs.Lookup.{Types}
-use Rattle.fold.specs.Family.{Marks, buildDest, placeOf, hasDynamicIndex}
+use Rattle.fold.specs.Family.{Marks, buildDest, accessed, hasDynamicIndex}
 use Rattle.fold.specs.Climb.{buildOf}
 use Rattle.mir.specs.Phis.{behindPhis}
 use Rattle.rewrite.specs.Run.{foldsBuild}
@@ -102,8 +102,8 @@ no-build i v kind k f h =
     build-kind i v h (λ z. true-false (sym (eq-eqb kind 10 (k ∙ z)) ∙ w .0)) (λ z. true-false (sym (eq-eqb kind 12 (k ∙ z)) ∙ u .0)) (λ z. true-false (sym (eq-eqb kind 16 (k ∙ z)) ∙ u .1))
 
 -- a phi copies nothing and looks into nothing
-phi-plain : (τ : Types) (i : InstructionKind) → isPhi i ≡ true → (copyOf τ i ≡ none) × (placeOf i ≡ none)
-unfolding placeOf
+phi-plain : (τ : Types) (i : InstructionKind) → isPhi i ≡ true → (copyOf τ i ≡ none) × (accessed i ≡ none)
+unfolding accessed
 phi-plain τ (Assign d x t) h = absurd (true-false (sym h))
 phi-plain τ (UnaryOp op d x) h = absurd (true-false (sym h))
 phi-plain τ (BinaryOp op d x y) h = absurd (true-false (sym h))

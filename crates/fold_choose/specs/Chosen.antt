@@ -16,7 +16,8 @@ use Rattle.bytes_index.specs.Code.{noInstruction, noBlock, InstructionIn, Instr
 use Rattle.bytes_operands.specs.Fields.{listValues}
 use Rattle.fold.specs.declared.Settings.{Settings}
 use Rattle.mir.specs.Lookup.{Types, valueRow, shape}
-use Rattle.fold.specs.Numbers.{tupleKind, structKind, arrayKind, mostValues, mostSlots, mostBlocks, mostInstructions}
+use Rattle.mir.specs.Most.{mostValues, mostSlots, mostBlocks, mostInstructions}
+use Rattle.fold.specs.Numbers.{tupleKind, structKind, arrayKind}
 use Rattle.fold.specs.Family.{Marks, buildDest, hasDynamicIndex}
 use Rattle.fold.specs.Climb.{buildOf}
 use Rattle.mir.specs.Phis.{behindPhis}

@@ -3,19 +3,17 @@ use bytes_field::Bounds;
 use fold::Settings;
 use mir::BlockId;
 use mir::ValueId;
+use mir::kind;
+use mir::most;
+use rewrite_progress::SKIPS;
 ghost use mathlib.Core.Path.{_≡_};
 ghost use mathlib.Core.Bool.{false};
 ghost use Prim.Native.Nat.{_+_, _≤_};
 ghost use lib.ListN.{length};
-ghost use Rattle.fold.specs.Numbers.{arrayKind, mostSlots};
+ghost use Rattle.mir.specs.Most.{mostSlots};
+ghost use Rattle.fold.specs.Numbers.{arrayKind};
 ghost use Rattle.fold_choose.specs.Chosen.{SlotsOf, buildKind, NoneBuilds, AllBuildless, FamilyMeets, LooksInto, Answers, Flagged};
 ghost use Rattle.fold_choose.specs.Chosen.{DecidesAll, DecidesCopies, FillsGraph, DecidesBlock, ChoosesBlock, Chooses};
-
-// Where the blocks' flags begin: behind one for each slot.
-const SKIPS: usize = 288;
-
-// How many instructions a block has at most.
-const INSTRUCTIONS: usize = 128;
 
 // The slots of a block's instructions.
 pub struct Slots {
@@ -27,8 +25,8 @@ pub struct Slots {
 fn find_slots(facts: &[u16], k: BlockId) -> Slots
     ensures { λ r. ⌜ SlotsOf (now (facts .entry)) (k .0) r ⌝ }
 {
-    let first = bytes_index::first_slot(facts, k.0);
-    let count = bytes_index::instruction_count(facts, k.0);
+    let first = bytes_index::first_slot(facts, k);
+    let count = bytes_index::instruction_count(facts, k);
     if SKIPS < first as usize + count as usize {
         return Slots { first: 0, count: 0 };
     }
@@ -39,13 +37,13 @@ fn find_slots(facts: &[u16], k: BlockId) -> Slots
 fn is_build(kind: u16) -> bool
     ensures { λ r. ⌜ r ≡ buildKind kind ⌝ }
 {
-    if kind == fold::MAKE_TUPLE {
+    if kind == kind::MAKE_TUPLE {
         return true;
     }
-    if kind == fold::MAKE_STRUCT {
+    if kind == kind::MAKE_STRUCT {
         return true;
     }
-    kind == fold::MAKE_ARRAY
+    kind == kind::MAKE_FIXED_ARRAY
 }
 
 // Whether a slot of those from one to another holds a build. Only the answer that none does says something: the other is
@@ -67,7 +65,7 @@ fn any_build(facts: &[u16], from: u16, to: u16) -> bool
 pub fn any_builds(facts: &[u16], many: u16) -> bool
     ensures { λ r. ⌜ (r ≡ false → AllBuildless (now (facts .entry)) many) ⌝ }
 {
-    any_build(facts, 0, bytes_index::first_slot(facts, many))
+    any_build(facts, 0, bytes_index::first_slot(facts, BlockId(many)))
 }
 
 // Whether the family of `v` is looked into by an index that is not known; `marks` are clear, one for each value.
@@ -97,14 +95,14 @@ fn looked_into(
 ) -> bool
     ensures { λ r. ⌜ (kind ≡ arrayKind → LooksInto next (now (copies .entry)) instructions shape v (now (dynamic .entry)) r) ⌝ }
 {
-    if kind != fold::MAKE_ARRAY {
+    if kind != kind::MAKE_FIXED_ARRAY {
         return false;
     }
     let n = next as usize;
-    if fold::VALUES < n {
+    if most::VALUES < n {
         return false;
     }
-    let mut marks: [bool; fold::VALUES] = [false; fold::VALUES];
+    let mut marks: [bool; most::VALUES] = [false; most::VALUES];
     family_meets(copies, instructions, shape, v, dynamic, &mut marks[..n])
 }
 
@@ -226,7 +224,7 @@ fn fill_graph(
 {
     let first = at.first;
     let count = at.count;
-    let mut marks: [bool; INSTRUCTIONS] = [false; INSTRUCTIONS];
+    let mut marks: [bool; most::INSTRUCTIONS] = [false; most::INSTRUCTIONS];
     fold_structs::fill_structs(s, b, facts, first, count, settings, cross, &mut marks);
     fold_scan::scan_block(
         s,
@@ -261,14 +259,14 @@ fn choose_block(
         (now (s .entry)) b (now (facts .entry)) at (now (choice .entry)) (now (choice .exit)) ⌝ }
 {
     let n = b.next as usize;
-    if fold::VALUES < n {
+    if most::VALUES < n {
         return;
     }
     if !any_build(facts, at.first, at.first + at.count) {
         return;
     }
     fill_graph(s, b, settings, facts, at, shapes, eligible, cross, graph);
-    let mut dynamic: [bool; fold::VALUES] = [false; fold::VALUES];
+    let mut dynamic: [bool; most::VALUES] = [false; most::VALUES];
     choose_copies(
         s,
         b,

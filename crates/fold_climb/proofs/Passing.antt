@@ -15,7 +15,7 @@ use Rattle.mir.specs.Syntax.{MakeTuple, ExtractTupleElement, MakeStruct, Extrac
 use Rattle.mir.specs.Reads.{operands, initValues, reads}
 use Rattle.fold.specs.declared.Settings.{Settings}
 use Rattle.mir.specs.Lookup.{Types, valueRow, isArray, isOperand, isInteger, any}
-use Rattle.fold.specs.Family.{Marks, buildDest, placeOf}
+use Rattle.fold.specs.Family.{Marks, buildDest, accessed}
 use Rattle.fold.specs.Climb.{constantFirst, onBase, onward, climbParts, climbBuild, climbOne, climbAll}
 use Rattle.fold_climb.specs.Edges.{Edge, edge, partEdges, buildEdges, edgesOf, arguments, variesFirst, variesAt, blocks, blockedIn, onto, parents}
 use Rattle.fold_climb.proofs.Depth.{both-arms}
@@ -100,7 +100,7 @@ module _ (σ : Settings) (τ : Types) (cross : Marks) (up : ValueId → Marks �
       go true (Tuple k ∷ ps) = refl
 
   one : (f : Marks → Option Marks) (b : Bool) (es : List Edge) → Behind f b es → (i : InstructionKind) (m : Marks) → onward σ τ cross f (climbOne σ τ cross up v i m) ≡ cond (blocks (v .0) i || b) none (walk (buildEdges (buildDest i) (reads i) es) m)
-  unfolding climbOne onward blocks arguments variesAt placeOf buildEdges buildDest any
+  unfolding climbOne onward blocks arguments variesAt accessed buildEdges buildDest any
   one f b es h (Assign d x t) m = h m
   one f b es h (UnaryOp op d x) m = h m
   one f b es h (BinaryOp op d x y) m = h m

@@ -11,7 +11,8 @@ use Rattle.mir.specs.Syntax.{Assign, UnaryOp, BinaryOp, Call, Cast, Load, Store
 use Rattle.mir.specs.Syntax.{MakeTuple, ExtractTupleElement, MakeStruct, ExtractStructField, InsertField, InsertTuple, MakeFixedArray, AssertEq, HeapAllocCells}
 use Rattle.mir.specs.Reads.{kindNumber, operands, reads}
 use Rattle.fold.specs.declared.Settings.{Settings}
-use Rattle.mir.specs.Lookup.{Types, isOperand, any, every}
+use Rattle.mir.specs.Lists.{every}
+use Rattle.mir.specs.Lookup.{Types, isOperand, any}
 use Rattle.fold.specs.Family.{Marks, buildDest}
 use Rattle.fold.specs.Climb.{canScalarize}
 use Rattle.fold.specs.Fold.{tupleParent}

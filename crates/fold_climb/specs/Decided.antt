@@ -10,7 +10,8 @@ use Rattle.mir.specs.declared.Value.{Value}
 use Rattle.mir.specs.Syntax.{Instruction, MakeTuple}
 use Rattle.fold.specs.declared.Settings.{Settings}
 use Rattle.mir.specs.Lookup.{Types, isSome}
-use Rattle.fold.specs.Numbers.{tupleKind, structKind, arrayKind, mostValues}
+use Rattle.mir.specs.Most.{mostValues}
+use Rattle.fold.specs.Numbers.{tupleKind, structKind, arrayKind}
 use Rattle.fold.specs.Family.{Marks, hasDynamicIndex}
 use Rattle.fold.specs.Tables.{ShapesAt}
 use Rattle.fold.specs.Climb.{buildOf}

@@ -12,7 +12,7 @@ use Rattle.mir.specs.Reads.{kindNumber, reads}
 use Rattle.bytes_operands.specs.Fields.{listValues}
 use Rattle.mir.specs.Lookup.{isOperand, isInteger, any}
 use Rattle.fold.specs.Numbers.{callKind, tupleKind, arrayShape}
-use Rattle.fold.specs.Family.{Marks, buildDest, placeOf}
+use Rattle.fold.specs.Family.{Marks, buildDest, accessed}
 use Rattle.fold_climb.specs.declared.Climbed.{Climbed}
 
 -- a value, and a build that has it as a part
@@ -60,7 +60,7 @@ variesAt v (some p) = eqb (p .base .0) v && variesFirst (p .projections)
 
 -- an instruction for which the value must stand whole
 unfoldable pub blocks : ℕ → InstructionKind → Bool
-blocks v i = any (isOperand (record { 0 = v })) (arguments i) || variesAt v (placeOf i)
+blocks v i = any (isOperand (record { 0 = v })) (arguments i) || variesAt v (accessed i)
 
 unfoldable pub blockedIn : ℕ → List Instruction → Bool
 blockedIn v [] = false

@@ -11,7 +11,8 @@ use lib.Dec.{eqb}
 use Rattle.mir.specs.Syntax.{Instruction}
 use Rattle.fold.specs.declared.Settings.{Settings}
 use Rattle.mir.specs.Lookup.{Types}
-use Rattle.fold.specs.Numbers.{tupleKind, mostValues}
+use Rattle.mir.specs.Most.{mostValues}
+use Rattle.fold.specs.Numbers.{tupleKind}
 use Rattle.fold.specs.Family.{Marks}
 use Rattle.fold.specs.Climb.{buildOf, buildableOf}
 use Rattle.fold_climb.specs.Edges.{Edge, edge, edgesOf, tupleEdgesOf, blockedIn, Sight}

@@ -1,10 +1,13 @@
 // Which builds of a block are taken apart: a climb over the builds that take a value as a part.
 use fold::Settings;
 use mir::ValueId;
+use mir::kind;
+use mir::most;
+use mir::shape;
 ghost use mathlib.Core.Path.{_≡_};
 ghost use mathlib.Core.Bool.{not, _&&_};
 ghost use Prim.Native.Nat.{_<_};
-ghost use Rattle.fold.specs.Numbers.{mostValues};
+ghost use Rattle.mir.specs.Most.{mostValues};
 ghost use Rattle.fold_climb.specs.Edges.{climbOf, asClimbed};
 ghost use Rattle.fold_climb.specs.Scanned.{sightOf, builtIn, barredIn};
 ghost use Rattle.fold_climb.specs.Decided.{climbs, tuplesPass, FoldsBy};
@@ -50,7 +53,7 @@ fn climb(v: ValueId, graph: &[u16], shapes: &[u8], visited: [bool; 256]) -> Clim
     ensures { λ r. ⌜ asClimbed r ≡ climbOf (sightOf (now (shapes .entry)) (now (graph .entry))) (v .0) visited ⌝ }
 {
     let at = v.0 as usize;
-    if fold::VALUES <= at {
+    if most::VALUES <= at {
         return Climbed { ok: false, visited };
     }
     if visited[at] {
@@ -59,7 +62,7 @@ fn climb(v: ValueId, graph: &[u16], shapes: &[u8], visited: [bool; 256]) -> Clim
     if !allowed(graph, at) {
         return Climbed { ok: false, visited };
     }
-    let array = bytes_wire::byte_at(shapes, at) == fold::ARRAY;
+    let array = bytes_wire::byte_at(shapes, at) == shape::FIXED_ARRAY;
     let mut met = visited;
     met[at] = true;
     let mut i = table::number(graph, 0);
@@ -103,7 +106,7 @@ fn tuple_parents(v: ValueId, graph: &[u16], shapes: &[u8]) -> bool
     while 0 < i {
         i = i - 1;
         let e = EDGES + WIDTH * i as usize;
-        if table::number(graph, e + KIND) == fold::MAKE_TUPLE {
+        if table::number(graph, e + KIND) == kind::MAKE_TUPLE {
             if table::number(graph, e) == v.0 {
                 let p = ValueId(table::number(graph, e + PARENT));
                 if !can_scalarize(p, graph, shapes) {
@@ -126,7 +129,7 @@ pub fn folds(
 ) -> bool
     ensures { λ r. ⌜ FoldsBy settings (now (shapes .entry)) (now (graph .entry)) v kind dynamic r ⌝ }
 {
-    if kind == fold::MAKE_STRUCT {
+    if kind == kind::MAKE_STRUCT {
         if !settings.structs {
             return false;
         }
@@ -135,7 +138,7 @@ pub fn folds(
     if !settings.tuples {
         return false;
     }
-    if kind == fold::MAKE_ARRAY {
+    if kind == kind::MAKE_FIXED_ARRAY {
         if dynamic {
             return false;
         }

@@ -33,7 +33,7 @@ use Rattle.bytes_types.specs.Index.{TypesAt}
 use Rattle.bytes_operands.specs.Fields.{fieldsPlace, placeSteps}
 use Rattle.bytes_operands.proofs.Instruction.{chosen, instruction-fields, fields-read}
 use Rattle.mir.specs.Lookup.{Types, rowOf, shape}
-use Rattle.fold.specs.Family.{Marks, placeOf, dynamicFirst}
+use Rattle.fold.specs.Family.{Marks, accessed, dynamicFirst}
 use Rattle.fold_copies.specs.declared.CopyRead.{CopyRead}
 use Rattle.fold_family.specs.Copies.{anyShape, copied, assigned, copyOf, dynamicStep, dynamicPlace}
 use Rattle.fold_shapes.specs.Shapes.{OfType}
@@ -269,8 +269,8 @@ store-base b u {p} {x} {t} e =
     ]
 
 -- only a Load and a Store have a place
-place-cases : (P : InstructionKind → Type 0) → ((d : ValueId) (p : Place) (t : TypeId) → P (Load d p t)) → ((p : Place) (x : Value) (t : TypeId) → P (Store p x t)) → ((i : InstructionKind) → placeOf i ≡ none → placeSteps i ≡ [] → P i) → (i : InstructionKind) → P i
-unfolding placeOf
+place-cases : (P : InstructionKind → Type 0) → ((d : ValueId) (p : Place) (t : TypeId) → P (Load d p t)) → ((p : Place) (x : Value) (t : TypeId) → P (Store p x t)) → ((i : InstructionKind) → accessed i ≡ none → placeSteps i ≡ [] → P i) → (i : InstructionKind) → P i
+unfolding accessed
 place-cases P f g h (Load d p t) = f d p t
 place-cases P f g h (Store p x t) = g p x t
 place-cases P f g h (Assign d x t) = h (Assign d x t) refl refl
@@ -294,27 +294,27 @@ place-cases P f g h (HeapAllocCells d x) = h (HeapAllocCells d x) refl refl
 -- what note_dynamic finds
 module _ (b : Bounds) (t : List ℕ) (kind : ℕ) (d : Marks) where
   -- another kind
-  pub noted-other : (kind ≡ 5 → ⊥) → (kind ≡ 6 → ⊥) → (i : Instruction) → Headed b t kind i → d ≡ dynamicPlace d (placeOf (i .kind))
-  unfolding placeOf
+  pub noted-other : (kind ≡ 5 → ⊥) → (kind ≡ 6 → ⊥) → (i : Instruction) → Headed b t kind i → d ≡ dynamicPlace d (accessed (i .kind))
+  unfolding accessed
   noted-other f g i a =
-      place-cases (λ k. kind ≡ kindNumber k → d ≡ dynamicPlace d (placeOf k)) (λ e p t z. absurd (f z)) (λ p x t z. absurd (g z)) (λ k n q z. rw n) (i .kind) (a .numbered)
+      place-cases (λ k. kind ≡ kindNumber k → d ≡ dynamicPlace d (accessed k)) (λ e p t z. absurd (f z)) (λ p x t z. absurd (g z)) (λ k n q z. rw n) (i .kind) (a .numbered)
 
   module _ (r : Bool) (e : (i : Instruction) (n : ℕ) → instructionOf b [] false t ≡ ok i n → r ≡ dynamicStep (getElem? (placeSteps (i .kind)) 0)) where
     -- without such a step nothing is noted
-    pub noted-static : r ≡ false → (i : Instruction) → Headed b t kind i → d ≡ dynamicPlace d (placeOf (i .kind))
-    unfolding placeOf
+    pub noted-static : r ≡ false → (i : Instruction) → Headed b t kind i → d ≡ dynamicPlace d (accessed (i .kind))
+    unfolding accessed
     noted-static h i a =
-        place-cases (λ k. dynamicStep (getElem? (placeSteps k) 0) ≡ false → d ≡ dynamicPlace d (placeOf k))
+        place-cases (λ k. dynamicStep (getElem? (placeSteps k) 0) ≡ false → d ≡ dynamicPlace d (accessed k))
         (λ e p t z. rw (← first-step (p .projections), z))
         (λ p x t z. rw (← first-step (p .projections), z))
         (λ k n q z. rw n)
         (i .kind) (sym (e i (a .size) (a .read)) ∙ h)
 
     -- with one, the base
-    pub noted-dynamic : r ≡ true → (u : List ℕ) (fp at base : ℕ) → fp ≡ fieldsPlace t → u ≡ drop fp t → at ≡ cond (eqb kind 5) 2 0 → base ≡ at16 u at → {m : Marks} → m ≡ set d base true → (i : Instruction) → Headed b t kind i → m ≡ dynamicPlace d (placeOf (i .kind))
-    unfolding placeOf
+    pub noted-dynamic : r ≡ true → (u : List ℕ) (fp at base : ℕ) → fp ≡ fieldsPlace t → u ≡ drop fp t → at ≡ cond (eqb kind 5) 2 0 → base ≡ at16 u at → {m : Marks} → m ≡ set d base true → (i : Instruction) → Headed b t kind i → m ≡ dynamicPlace d (accessed (i .kind))
+    unfolding accessed
     noted-dynamic h u fp at base ef eu ea eb {m} em i a =
-        place-cases (λ k. kind ≡ kindNumber k → FieldsRead b t u kind k → dynamicStep (getElem? (placeSteps k) 0) ≡ true → m ≡ dynamicPlace d (placeOf k))
+        place-cases (λ k. kind ≡ kindNumber k → FieldsRead b t u kind k → dynamicStep (getElem? (placeSteps k) 0) ≡ true → m ≡ dynamicPlace d (accessed k))
         (λ e p w z f q. let y : base ≡ p .base .0 = eb ∙ rw (ea, z) (sym (load-base b u (rw z at (f .read)))) in em ∙ rw (← first-step (p .projections), q, y))
         (λ p x w z f q. let y : base ≡ p .base .0 = eb ∙ rw (ea, z) (sym (store-base b u (rw z at (f .read)))) in em ∙ rw (← first-step (p .projections), q, y))
         (λ k n s z f q. absurd (let y : dynamicStep (getElem? [] 0) ≡ true = rw s at q in true≢false (sym y)))

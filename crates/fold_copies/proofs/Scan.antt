@@ -15,7 +15,7 @@ use Rattle.bytes_index.specs.Table.{placeIn, endIn, kindIn}
 use Rattle.bytes_index.specs.Code.{noInstruction, InstructionIn, InstructionsIn}
 use Rattle.bytes_types.specs.Index.{TypesAt}
 use Rattle.mir.specs.Lookup.{Types}
-use Rattle.fold.specs.Family.{Marks, placeOf}
+use Rattle.fold.specs.Family.{Marks, accessed}
 use Rattle.fold_family.specs.Copies.{Copy, copyOf, before, copies, copyIn, noCopy, CopiesAt, CopiesIn, dynamicPlace, dynamics}
 use Rattle.fold_copies.specs.Found.{Headed, ScanCopies, CopyFound, CopyNoted, DynamicNoted}
 
@@ -96,7 +96,7 @@ left-more : (τ : Types) (is : List Instruction) (l : List ℕ) (n : ℕ) (dyn�
     → (o : Option Copy)
     → o ≡ copyOf τ (getD is k noInstruction .kind)
     → ((cs : List Copy) → CopiesAt l n cs → CopiesAt l′ n′ (cs ++ before o []))
-    → dyn′ ≡ dynamicPlace dyn (placeOf (getD is k noInstruction .kind))
+    → dyn′ ≡ dynamicPlace dyn (accessed (getD is k noInstruction .kind))
     → Left τ is l n dyn₀ dyn k
     → Left τ is l′ n′ dyn₀ dyn′ (k + 1)
 unfolding copies dynamics

@@ -18,7 +18,7 @@ use Rattle.bytes_field.specs.declared.Bounds.{Bounds}
 use Rattle.bytes_index.specs.Code.{InstructionsIn}
 use Rattle.bytes_types.specs.Index.{TypesAt}
 use Rattle.mir.specs.Lookup.{Types, rowOf, shape}
-use Rattle.fold.specs.Family.{Marks, placeOf}
+use Rattle.fold.specs.Family.{Marks, accessed}
 use Rattle.fold_family.specs.Copies.{Copy, copied, assigned, copyOf, before, copies, copiesSize, CopiesAt, CopiesIn, dynamicPlace, dynamics}
 use Rattle.fold_copies.specs.declared.CopyRead.{CopyRead}
 
@@ -70,7 +70,7 @@ CopyNoted o n r before-it after =
 
 -- of the mark of the instruction's dynamic base,
 abbrev pub DynamicNoted : List ℕ → Bounds → ℕ → Marks → Marks → Type 0
-DynamicNoted t b kind before after = (i : Instruction) → Headed b t kind i → after ≡ dynamicPlace before (placeOf (i .kind))
+DynamicNoted t b kind before after = (i : Instruction) → Headed b t kind i → after ≡ dynamicPlace before (accessed (i .kind))
 
 -- and of the scan
 abbrev pub ScanCopies : List ℕ → Bounds → List ℕ → ℕ → ℕ → List ℕ → List ℕ → Marks → Marks → Type 0

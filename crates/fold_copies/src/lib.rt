@@ -7,6 +7,8 @@ use mir::Literal;
 use mir::TypeId;
 use mir::Value;
 use mir::ValueId;
+use mir::kind;
+use mir::shape;
 ghost use mathlib.Core.Path.{_≡_};
 ghost use mathlib.Core.Bool.{cond};
 ghost use Prim.Native.Nat.{_+_, _≤_, _<_};
@@ -15,6 +17,7 @@ ghost use Rattle.bytes_operands.specs.Fields.{asStep};
 ghost use Rattle.mir.specs.Lookup.{isInteger};
 ghost use Rattle.fold_family.specs.Copies.{dynamicStep};
 ghost use Rattle.fold_copies.specs.Found.{asCopy, ValueCopy, AssignCopy, CopyFound, CopyNoted, DynamicNoted, ScanCopies};
+ghost use Rattle.table.specs.Number.{numbersBelow};
 
 // What makes `dest` a member where `source` is one, for a root of the shape asked for; or nothing.
 pub enum CopyRead {
@@ -45,7 +48,7 @@ fn assigned(s: &[u8], types: &[u16], many: u16, u: &[u8], x: ReadValue, dest: Va
         ReadValue::Got(_, n) => {
             let t = TypeId(bytes_wire::u16_at(bytes_field::tail(u, n), 2));
             let shape = fold_shapes::type_shape(s, types, many, t);
-            if shape == fold::OTHER {
+            if shape == shape::OTHER {
                 return CopyRead::Nothing;
             }
             copied(x, dest, shape)
@@ -58,11 +61,11 @@ fn copy_at(s: &[u8], b: Bounds, types: &[u16], t: &[u8], kind: u16) -> CopyRead
     ensures { λ r. ⌜ CopyFound (now (s .entry)) b (now (types .entry)) (now (t .entry)) kind (asCopy r) ⌝ }
 {
     match kind {
-        fold::ASSIGN | fold::INSERT_FIELD | fold::INSERT_TUPLE => {
+        kind::ASSIGN | kind::INSERT_FIELD | kind::INSERT_TUPLE => {
             let u = bytes_field::tail(t, bytes_operands::fields_place(t));
             let dest = ValueId(bytes_wire::u16_at(u, 0));
             let x = bytes_wire::read_value(bytes_field::tail(u, 2), b.next);
-            if kind == fold::ASSIGN {
+            if kind == kind::ASSIGN {
                 return assigned(s, types, b.types, u, x, dest);
             }
             copied(x, dest, fold_family::ANY)
@@ -73,7 +76,7 @@ fn copy_at(s: &[u8], b: Bounds, types: &[u16], t: &[u8], kind: u16) -> CopyRead
 
 // Notes a copy behind `n` others.
 fn note_copy(c: CopyRead, n: u16, copies: &mut [u16]) -> u16
-    requires { ⌜ n < 65535 ⌝ }
+    requires { ⌜ n + 1 < numbersBelow ⌝ }
     ensures { λ r. ⌜ (r ≤ n + 1) × CopyNoted (asCopy c) n r (now (copies .entry)) (now (copies .exit)) ⌝ }
 {
     match c {
@@ -118,17 +121,17 @@ fn is_dynamic(p: Step) -> bool
 fn base_place(kind: u16) -> usize
     ensures { λ r. ⌜ r ≡ cond (eqb kind 5) 2 0 ⌝ }
 {
-    if kind == fold::LOAD { 2 } else { 0 }
+    if kind == kind::LOAD { 2 } else { 0 }
 }
 
 // Marks the base of a Load or Store at the head of `t` whose first projection is such an Index.
 fn note_dynamic(t: &[u8], b: Bounds, kind: u16, dynamic: &mut [bool])
     ensures { λ _. ⌜ DynamicNoted (now (t .entry)) b kind (now (dynamic .entry)) (now (dynamic .exit)) ⌝ }
 {
-    if kind < fold::LOAD {
+    if kind < kind::LOAD {
         return;
     }
-    if fold::STORE < kind {
+    if kind::STORE < kind {
         return;
     }
     if is_dynamic(bytes_operands::projection(t, b, 0)) {

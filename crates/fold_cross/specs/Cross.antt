@@ -10,7 +10,7 @@ use Rattle.mir.specs.Syntax.{InstructionKind, Instruction, Block}
 use Rattle.bytes_field.specs.declared.Bounds.{Bounds}
 use Rattle.bytes_index.specs.Code.{noInstruction, noBlock}
 use Rattle.mir.specs.Lookup.{Types, valueRow, shape}
-use Rattle.fold.specs.Numbers.{mostValues}
+use Rattle.mir.specs.Most.{mostValues}
 use Rattle.fold.specs.Tables.{ShapesAt, Coded}
 use Rattle.fold.specs.Family.{Marks, buildDest, crossFamily, crossBuild, crossBuilds, crossBlockAggregates}
 use Rattle.fold.specs.declared.Settings.{Settings}

@@ -2,6 +2,8 @@
 use bytes_field::Bounds;
 use mir::BlockId;
 use mir::ValueId;
+use mir::kind;
+use mir::most;
 ghost use mathlib.Core.Path.{_≡_};
 ghost use mathlib.Core.List.{List};
 ghost use mathlib.Core.Bool.{true, false, cond};
@@ -11,14 +13,15 @@ ghost use Rattle.mir.specs.Syntax.{Instruction, Block};
 ghost use Rattle.bytes_field.specs.declared.Bounds.{Bounds as DeclaredBounds};
 ghost use Rattle.bytes_index.specs.Code.{noBlock, InstructionIn, InstructionsIn};
 ghost use Rattle.mir.specs.Lookup.{Types};
-ghost use Rattle.fold.specs.Numbers.{mostPlace, rowAt};
+ghost use Rattle.bytes_index.specs.Table.{rowAt};
+ghost use Rattle.fold.specs.Numbers.{mostPlace};
 ghost use Rattle.fold.specs.Family.{union, crossBlocks};
 ghost use Rattle.fold_family.specs.Copies.{copies as copiesOf, CopiesIn};
 ghost use Rattle.fold_readers.specs.Readers.{blockLimit};
 ghost use Rattle.fold_cross.specs.Cross.{Built, IdleAll, crossBlock, FamilyCrossed, BuildCrossed, Crossed, CrossMarks};
 
 // How many values a routine has at most, as the bounds count them.
-const VALUES: u16 = 256;
+const VALUES: u16 = most::VALUES as u16;
 
 // The dest of a build of an eligible type, or no such build.
 pub enum BuildRead {
@@ -34,7 +37,7 @@ fn eligible_build(s: &[u8], facts: &[u16], row: usize, eligible: &[bool]) -> Bui
 {
     let kind = table::number(facts, row + bytes_index::KIND);
     match kind {
-        fold::MAKE_TUPLE | fold::MAKE_STRUCT | fold::MAKE_ARRAY => {
+        kind::MAKE_TUPLE | kind::MAKE_STRUCT | kind::MAKE_FIXED_ARRAY => {
             let t = bytes_field::tail(s, table::place(facts, row));
             let u = bytes_field::tail(t, bytes_operands::fields_place(t));
             let dest = ValueId(bytes_wire::u16_at(u, 0));
@@ -139,7 +142,7 @@ fn cross_family(
         return;
     }
     let n = next as usize;
-    let mut members: [bool; fold::VALUES] = [false; fold::VALUES];
+    let mut members: [bool; most::VALUES] = [false; most::VALUES];
     cross_members(
         own,
         copies,
@@ -194,8 +197,8 @@ fn cross_builds(
 {
     let number = k.0;
     let own = fold_readers::block_number(k);
-    let count = bytes_index::instruction_count(facts, number);
-    let rows = bytes_index::row_place(bytes_index::first_slot(facts, number), 0);
+    let count = bytes_index::instruction_count(facts, k);
+    let rows = bytes_index::row_place(bytes_index::first_slot(facts, k), 0);
     let mut j: u16 = 0;
     while j < count {
         let d = eligible_build(s, facts, rows + bytes_index::WIDTH * j as usize, eligible);
@@ -219,8 +222,8 @@ fn cross_block(
     ensures { λ _. ⌜ ((τ : Types) (ks : List Block) → k .0 < length ks → Crossed τ ks (λ σ m. crossBlock σ τ ks (k .0) m) (now (s .entry)) b
         (now (facts .entry)) (now (shapes .entry)) (now (eligible .entry)) (now (readers .entry)) (now (marks .entry)) (now (marks .exit))) ⌝ }
 {
-    let first = bytes_index::first_slot(facts, k.0);
-    let count = bytes_index::instruction_count(facts, k.0);
+    let first = bytes_index::first_slot(facts, k);
+    let count = bytes_index::instruction_count(facts, k);
     if !has_build(s, facts, first, count, eligible) {
         return;
     }
@@ -284,6 +287,6 @@ pub fn cross_marks(
         return;
     }
     let n = b.next as usize;
-    let mut table: [u8; fold::VALUES] = [0; fold::VALUES];
+    let mut table: [u8; most::VALUES] = [0; most::VALUES];
     cross_blocks(s, b, facts, shapes, eligible, &mut table[0..n], marks);
 }

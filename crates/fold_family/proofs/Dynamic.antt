@@ -11,7 +11,7 @@ use lib.Seq.{drop-length, drop-drop, getD-drop}
 use Rattle.mir.specs.declared.ValueId.{ValueId}
 use Rattle.mir.specs.Syntax.{Place, Instruction}
 use Rattle.mir.specs.Lookup.{Types, any}
-use Rattle.fold.specs.Family.{Marks, marked, family, placeOf, dynamicFirst, dynamicAt, hasDynamicIndex}
+use Rattle.fold.specs.Family.{Marks, marked, family, accessed, dynamicFirst, dynamicAt, hasDynamicIndex}
 use Rattle.fold_family.specs.Copies.{meets, dynamicPlace, dynamics, DynamicIndex}
 use Rattle.fold_family.proofs.Sweeps.{family-length}
 
@@ -55,13 +55,13 @@ meets-place m d (some p) h = go (dynamicFirst (p .projections))
     go false = sym (ap (λ x. meets m d || x) (and-false (marked m (p .base))) ∙ or-false (meets m d))
 
 -- the bases of all
-meets-dynamics : (m d : Marks) (is : List Instruction) → length d ≡ length m → meets m (dynamics d is) ≡ (meets m d || any (λ i. dynamicAt m (placeOf (i .kind))) is)
+meets-dynamics : (m d : Marks) (is : List Instruction) → length d ≡ length m → meets m (dynamics d is) ≡ (meets m d || any (λ i. dynamicAt m (accessed (i .kind))) is)
 unfolding dynamics any
 meets-dynamics m d [] h = sym (or-false (meets m d))
 meets-dynamics m d (i ∷ is) h =
-    meets-dynamics m (dynamicPlace d (placeOf (i .kind))) is (place-length d (placeOf (i .kind)) ∙ h)
-    ∙ ap (λ x. x || any (λ i. dynamicAt m (placeOf (i .kind))) is) (meets-place m d (placeOf (i .kind)) h)
-    ∙ or-assoc (meets m d) (dynamicAt m (placeOf (i .kind))) (any (λ i. dynamicAt m (placeOf (i .kind))) is)
+    meets-dynamics m (dynamicPlace d (accessed (i .kind))) is (place-length d (accessed (i .kind)) ∙ h)
+    ∙ ap (λ x. x || any (λ i. dynamicAt m (accessed (i .kind))) is) (meets-place m d (accessed (i .kind)) h)
+    ∙ or-assoc (meets m d) (dynamicAt m (accessed (i .kind))) (any (λ i. dynamicAt m (accessed (i .kind))) is)
 
 -- the definition's answer
 pub dynamic-family : (τ : Types) (v : ValueId) (is : List Instruction) → meets (family τ v is) (dynamics (replicate (length (τ .recorded)) false) is) ≡ hasDynamicIndex τ v is
@@ -70,7 +70,7 @@ dynamic-family τ v is =
     let n = length (τ .recorded) in
     let m = family τ v is in
     meets-dynamics m (replicate n false) is (length-replicate n false ∙ sym (family-length τ v is))
-    ∙ ap (λ x. x || any (λ i. dynamicAt m (placeOf (i .kind))) is) (meets-clear m n)
+    ∙ ap (λ x. x || any (λ i. dynamicAt m (accessed (i .kind))) is) (meets-clear m n)
 
 -- the first of the marks, and the others
 meets-nil : (m : Marks) → meets m [] ≡ false

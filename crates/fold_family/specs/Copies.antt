@@ -12,7 +12,7 @@ use Rattle.mir.specs.Syntax.{Projection, Index, Field, Tuple, Place, Instructio
 use Rattle.mir.specs.Syntax.{Assign, UnaryOp, BinaryOp, Call, Cast, Load, Store, Debug, Nop, Phi}
 use Rattle.mir.specs.Syntax.{MakeTuple, ExtractTupleElement, MakeStruct, ExtractStructField, InsertField, InsertTuple, MakeFixedArray, AssertEq, HeapAllocCells}
 use Rattle.mir.specs.Lookup.{Types, rowOf, valueRow, shape, isInteger}
-use Rattle.fold.specs.Family.{Marks, family, placeOf, dynamicFirst, hasDynamicIndex}
+use Rattle.fold.specs.Family.{Marks, family, accessed, dynamicFirst, hasDynamicIndex}
 
 -- no shape is asked for: a root of any shape will do
 abbrev pub anyShape : ℕ
@@ -118,7 +118,7 @@ dynamicPlace d (some p) = cond (dynamicFirst (p .projections)) (set d (p .base .
 
 unfoldable pub dynamics : Marks → List Instruction → Marks
 dynamics d [] = d
-dynamics d (i ∷ is) = dynamics (dynamicPlace d (placeOf (i .kind))) is
+dynamics d (i ∷ is) = dynamics (dynamicPlace d (accessed (i .kind))) is
 
 -- the promises: of the marks of a family,
 abbrev pub FamilyMarks : List ℕ → ℕ → ℕ → ValueId → Marks → Marks → Type 0

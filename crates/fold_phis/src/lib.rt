@@ -1,21 +1,23 @@
 // The phis of a block: whether it is skipped because of one, and how many stand in front.
+use mir::kind;
+use mir::shape;
 ghost use Prim.Native.Nat.{_+_, _≤_};
-ghost use Rattle.fold.specs.Numbers.{mostSlots};
+ghost use Rattle.mir.specs.Most.{mostSlots};
 ghost use Rattle.fold_phis.specs.Skipped.{TellsPhi, Skips, PhisIn};
 
 // Whether the instruction in a slot is a phi of a tuple or struct, by the recorded type of its dest.
 fn aggregate_phi(s: &[u8], facts: &[u16], slot: u16, shapes: &[u8]) -> bool
     ensures { λ r. ⌜ TellsPhi (now (s .entry)) (now (facts .entry)) slot (now (shapes .entry)) r ⌝ }
 {
-    if bytes_index::kind(facts, slot) != fold::PHI {
+    if bytes_index::kind(facts, slot) != kind::PHI {
         return false;
     }
     let d = fold_scan::dest(s, facts, slot);
     let shape = bytes_wire::byte_at(shapes, d.0 as usize);
-    if shape == fold::TUPLE {
+    if shape == shape::TUPLE {
         true
     } else {
-        shape == fold::STRUCT
+        shape == shape::STRUCT
     }
 }
 
@@ -41,7 +43,7 @@ pub fn phi_count(facts: &[u16], first: u16, count: u16) -> u16
 {
     let mut k: u16 = 0;
     while k < count {
-        if bytes_index::kind(facts, first + k) != fold::PHI {
+        if bytes_index::kind(facts, first + k) != kind::PHI {
             return k;
         }
         k = k + 1;

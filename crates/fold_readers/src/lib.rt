@@ -1,6 +1,7 @@
 // Which block reads each value: one table of readers stands for all blocks.
 use mir::BlockId;
 use mir::ValueId;
+use mir::kind;
 ghost use mathlib.Core.Path.{_≡_};
 ghost use mathlib.Core.List.{List};
 ghost use mathlib.Core.Bool.{false, _&&_};
@@ -9,10 +10,10 @@ ghost use lib.ListN.{length, getD};
 ghost use Rattle.mir.specs.declared.ValueId.{ValueId as DeclaredValueId};
 ghost use Rattle.mir.specs.Syntax.{Instruction, Block};
 ghost use Rattle.bytes_field.specs.declared.Bounds.{Bounds};
-ghost use Rattle.bytes_index.specs.Table.{ReadsIn};
+ghost use Rattle.bytes_index.specs.Table.{ReadsIn, rowAt};
 ghost use Rattle.bytes_index.specs.Code.{InstructionIn, BlockIn, CodeIn};
 ghost use Rattle.fold_family.specs.Copies.{meets};
-ghost use Rattle.fold.specs.Numbers.{mostPlace, rowAt};
+ghost use Rattle.fold.specs.Numbers.{mostPlace};
 ghost use Rattle.fold_readers.specs.Readers.{blockLimit, seenBy, noteReader, readVia, readInstruction};
 ghost use Rattle.fold_readers.specs.Readers.{readBlock, readBlocks, foreign, foreigners, ReadElsewhere};
 
@@ -73,7 +74,7 @@ fn note_instruction(own: u8, facts: &[u16], row: usize, readers: &mut [u8])
         → InstructionIn b s (now (facts .entry)) slot i → now (readers .exit) ≡ readInstruction own (now (readers .entry)) (i .kind)) ⌝ }
 {
     let kind = table::number(facts, row + bytes_index::KIND);
-    if kind == fold::DEBUG {
+    if kind == kind::DEBUG {
         return;
     }
     note_reads(own, facts, row, readers);
@@ -116,8 +117,8 @@ pub fn note_readers(facts: &[u16], many: u16, readers: &mut [u8])
 {
     let mut k: u16 = 0;
     while k < many {
-        let first = bytes_index::first_slot(facts, k);
-        let count = bytes_index::instruction_count(facts, k);
+        let first = bytes_index::first_slot(facts, BlockId(k));
+        let count = bytes_index::instruction_count(facts, BlockId(k));
         note_block(block_number(BlockId(k)), facts, first, count, readers);
         k = k + 1;
     }

@@ -1,11 +1,12 @@
 // The choice: which builds are folded and which blocks are skipped.
+use mir::most;
 use rewrite_progress::Setup;
 ghost use mathlib.Core.Path.{_≡_};
 ghost use mathlib.Core.Bool.{false};
 ghost use Prim.Native.Nat.{_≤_};
 ghost use lib.ListN.{replicate};
 ghost use Rattle.mir.specs.Routine.{Routine};
-ghost use Rattle.fold.specs.Numbers.{mostValues};
+ghost use Rattle.mir.specs.Most.{mostValues};
 ghost use Rattle.fold.specs.Tables.{ShapesAt};
 ghost use Rattle.mir.specs.Lookup.{typesIn};
 ghost use Rattle.fold_routine.specs.Folds.{Chooses};
@@ -36,8 +37,8 @@ pub fn choose_folds(s: &[u8], setup: Setup, facts: &[u16], choice: &mut [bool])
 {
     let b = setup.bounds;
     let n = b.next as usize;
-    let mut shapes: [u8; fold::VALUES] = [0; fold::VALUES];
-    let mut eligible: [bool; fold::VALUES] = [false; fold::VALUES];
+    let mut shapes: [u8; most::VALUES] = [0; most::VALUES];
+    let mut eligible: [bool; most::VALUES] = [false; most::VALUES];
     fold_shapes::value_shapes(
         s,
         facts,
@@ -48,7 +49,7 @@ pub fn choose_folds(s: &[u8], setup: Setup, facts: &[u16], choice: &mut [bool])
         &mut shapes,
         &mut eligible,
     );
-    let mut marks: [bool; fold::VALUES] = [false; fold::VALUES];
+    let mut marks: [bool; most::VALUES] = [false; most::VALUES];
     choose_crossed(
         s,
         setup,

@@ -15,7 +15,7 @@ use Rattle.mir.specs.Syntax.{MakeTuple, ExtractTupleElement, MakeStruct, Extrac
 use Rattle.mir.specs.Reads.{kindNumber, operands, initValues, reads}
 use Rattle.bytes_operands.specs.Fields.{listValues, placeSteps}
 use Rattle.mir.specs.Lookup.{isOperand, any}
-use Rattle.fold.specs.Family.{buildDest, placeOf}
+use Rattle.fold.specs.Family.{buildDest, accessed}
 use Rattle.fold_climb.specs.Edges.{arguments, variesFirst, variesAt, blocks}
 
 -- no build, and no value that it wants whole
@@ -24,7 +24,7 @@ pub record Idle (i : InstructionKind) : Type 0 where
   pub none-whole : (v : ℕ) → blocks v i ≡ false
 
 pub idle : (i : InstructionKind) → (kindNumber i ≡ 3 → ⊥) → (kindNumber i ≡ 5 → ⊥) → (kindNumber i ≡ 6 → ⊥) → (kindNumber i ≡ 10 → ⊥) → (kindNumber i ≡ 12 → ⊥) → (kindNumber i ≡ 16 → ⊥) → Idle i
-unfolding buildDest blocks arguments variesAt placeOf any
+unfolding buildDest blocks arguments variesAt accessed any
 idle (Assign d x t) h3 h5 h6 h10 h12 h16 = record { none-built = refl; none-whole = λ v. refl }
 idle (UnaryOp op d x) h3 h5 h6 h10 h12 h16 = record { none-built = refl; none-whole = λ v. refl }
 idle (BinaryOp op d x y) h3 h5 h6 h10 h12 h16 = record { none-built = refl; none-whole = λ v. refl }
@@ -58,7 +58,7 @@ among v (Value.Operand w ∷ xs) = ap (λ (b : Bool). eqb (w .0) v || b) (among 
 among v (Value.Error ∷ xs) = among v xs
 
 pub calls : (i : InstructionKind) → kindNumber i ≡ 3 → Calls i
-unfolding buildDest blocks arguments variesAt placeOf any
+unfolding buildDest blocks arguments variesAt accessed any
 calls (Assign d x t) h = absurd (omega arith)
 calls (UnaryOp op d x) h = absurd (omega arith)
 calls (BinaryOp op d x y) h = absurd (omega arith)
@@ -88,7 +88,7 @@ pub record Walks (i : InstructionKind) : Type 0 where
   pub varies : (v : ℕ) → blocks v i ≡ (eqb (base .0) v && variesFirst (placeSteps i))
 
 pub walks : (i : InstructionKind) → (eqb (kindNumber i) 5 || eqb (kindNumber i) 6) ≡ true → Walks i
-unfolding buildDest blocks arguments variesAt placeOf any
+unfolding buildDest blocks arguments variesAt accessed any
 walks (Assign d x t) h = absurd (true≢false (sym h))
 walks (UnaryOp op d x) h = absurd (true≢false (sym h))
 walks (BinaryOp op d x y) h = absurd (true≢false (sym h))
@@ -121,7 +121,7 @@ operands-few (Value.Operand w ∷ xs) = omega (arith, operands-few xs)
 operands-few (Value.Error ∷ xs) = omega (arith, operands-few xs)
 
 pub builds : (i : InstructionKind) (d : ValueId) → buildDest i ≡ some d → Builds i
-unfolding buildDest blocks arguments variesAt placeOf any
+unfolding buildDest blocks arguments variesAt accessed any
 builds (Assign d′ x t) e h = absurd (Option·none-ne-some _ h)
 builds (UnaryOp op d′ x) e h = absurd (Option·none-ne-some _ h)
 builds (BinaryOp op d′ x y) e h = absurd (Option·none-ne-some _ h)

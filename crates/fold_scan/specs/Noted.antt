@@ -15,7 +15,8 @@ use Rattle.bytes_index.specs.Table.{placeIn, readIn, ReadsIn}
 use Rattle.bytes_index.specs.Code.{noInstruction, InstructionIn, InstructionsIn}
 use Rattle.bytes_operands.specs.Fields.{placeSteps, fieldsPlace}
 use Rattle.mir.specs.Lookup.{Types}
-use Rattle.fold.specs.Numbers.{callKind, structKind, mostValues}
+use Rattle.mir.specs.Most.{mostValues}
+use Rattle.fold.specs.Numbers.{callKind, structKind}
 use Rattle.fold.specs.Family.{Marks}
 use Rattle.fold.specs.declared.Settings.{Settings}
 use Rattle.fold.specs.Tables.{ShapesAt}

@@ -4,11 +4,14 @@ use bytes_operands::Step;
 use mir::Literal;
 use mir::Value;
 use mir::ValueId;
+use mir::kind;
+use mir::most;
+use mir::shape;
 ghost use mathlib.Core.Path.{_≡_};
 ghost use Prim.Native.Nat.{ℕ, _+_, _≤_, _<_};
 ghost use lib.ListN.{getD};
 ghost use Rattle.bytes_operands.specs.Fields.{asStep};
-ghost use Rattle.fold.specs.Numbers.{mostSlots};
+ghost use Rattle.mir.specs.Most.{mostSlots};
 ghost use Rattle.fold_climb.specs.Scanned.{edgesFrom};
 ghost use Rattle.fold_scan.specs.Noted.{destIn, barring, notedRead, variesFound, passesBy};
 ghost use Rattle.fold_scan.specs.Noted.{ReadsNoted, PlaceNoted, BuildNoted, OneScanned, BlockScanned};
@@ -27,7 +30,7 @@ fn bar(graph: &mut [u16], v: ValueId)
     ensures { λ _. ⌜ now (graph .exit) ≡ barring (v .0) (now (graph .entry)) ⌝ }
 {
     let at = v.0 as usize;
-    if at < fold::VALUES {
+    if at < most::VALUES {
         table::set_number(graph, fold_climb::BARRED + at, 1);
     }
 }
@@ -37,7 +40,7 @@ fn bar(graph: &mut [u16], v: ValueId)
 fn note_read(graph: &mut [u16], kind: u16, d: ValueId, w: ValueId)
     ensures { λ _. ⌜ now (graph .exit) ≡ notedRead kind (d .0) (now (graph .entry)) (w .0) ⌝ }
 {
-    if kind == fold::CALL {
+    if kind == kind::CALL {
         bar(graph, w);
         return;
     }
@@ -61,7 +64,7 @@ fn note_reads(graph: &mut [u16], facts: &[u16], slot: u16, kind: u16, d: ValueId
     let mut k = bytes_index::read_count(facts, slot);
     while 0 < k {
         k = k - 1;
-        let w = ValueId(bytes_index::read(facts, slot, k));
+        let w = bytes_index::read(facts, slot, k);
         note_read(graph, kind, d, w);
     }
 }
@@ -92,7 +95,7 @@ fn note_place(s: &[u8], b: Bounds, facts: &[u16], slot: u16, graph: &mut [u16])
 {
     let t = bytes_field::tail(s, bytes_index::place(facts, slot));
     if varies(bytes_operands::projection(t, b, 0)) {
-        bar(graph, ValueId(bytes_index::read(facts, slot, 0)));
+        bar(graph, bytes_index::read(facts, slot, 0));
     }
 }
 
@@ -135,22 +138,22 @@ fn scan_one(
 {
     let kind = bytes_index::kind(facts, slot);
     match kind {
-        fold::CALL => note_reads(graph, facts, slot, fold::CALL, ValueId(0)),
-        fold::LOAD => note_place(s, b, facts, slot, graph),
-        fold::STORE => note_place(s, b, facts, slot, graph),
-        fold::MAKE_TUPLE => {
+        kind::CALL => note_reads(graph, facts, slot, kind::CALL, ValueId(0)),
+        kind::LOAD => note_place(s, b, facts, slot, graph),
+        kind::STORE => note_place(s, b, facts, slot, graph),
+        kind::MAKE_TUPLE => {
             let d = dest(s, facts, slot);
-            let good = passes(d, fold::TUPLE, shapes, eligible, cross);
-            note_build(graph, facts, slot, fold::MAKE_TUPLE, d, good);
+            let good = passes(d, shape::TUPLE, shapes, eligible, cross);
+            note_build(graph, facts, slot, kind::MAKE_TUPLE, d, good);
         }
-        fold::MAKE_STRUCT => {
+        kind::MAKE_STRUCT => {
             let d = dest(s, facts, slot);
-            note_build(graph, facts, slot, fold::MAKE_STRUCT, d, pass);
+            note_build(graph, facts, slot, kind::MAKE_STRUCT, d, pass);
         }
-        fold::MAKE_ARRAY => {
+        kind::MAKE_FIXED_ARRAY => {
             let d = dest(s, facts, slot);
-            let good = passes(d, fold::ARRAY, shapes, eligible, cross);
-            note_build(graph, facts, slot, fold::MAKE_ARRAY, d, good);
+            let good = passes(d, shape::FIXED_ARRAY, shapes, eligible, cross);
+            note_build(graph, facts, slot, kind::MAKE_FIXED_ARRAY, d, good);
         }
         _ => {}
     }

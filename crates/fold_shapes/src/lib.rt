@@ -2,6 +2,8 @@
 use fold::Settings;
 use mir::Recorded;
 use mir::TypeId;
+use mir::shape;
+use mir::type_kind;
 ghost use mathlib.Core.Path.{_≡_};
 ghost use mathlib.Core.Bool.{cond, _&&_};
 ghost use lib.ListN.{length, getD};
@@ -10,23 +12,16 @@ ghost use Rattle.mir.specs.Lookup.{shape};
 ghost use Rattle.fold.specs.Scalarizable.{isScalarizable};
 ghost use Rattle.fold_shapes.specs.Shapes.{rowShape, rowEligible, OfType, OfRecorded, FillsShapes};
 
-// The kinds of the rows that have a shape, in the type table's bytes.
-const TUPLE_ROW: u8 = 3;
-
-const STRUCT_ROW: u8 = 4;
-
-const ARRAY_ROW: u8 = 5;
-
 // The shape of the type whose bytes begin here.
 fn row_shape(t: &[u8]) -> u8
     ensures { λ r. ⌜ r ≡ rowShape (now (t .entry)) ⌝ }
 {
     let kind = bytes_wire::byte_at(t, 0);
     match kind {
-        TUPLE_ROW => fold::TUPLE,
-        STRUCT_ROW => fold::STRUCT,
-        ARRAY_ROW => fold::ARRAY,
-        _ => fold::OTHER,
+        type_kind::TUPLE => shape::TUPLE,
+        type_kind::STRUCT => shape::STRUCT,
+        type_kind::FIXED_ARRAY => shape::FIXED_ARRAY,
+        _ => shape::OTHER,
     }
 }
 
@@ -43,17 +38,17 @@ fn row_eligible(t: &[u8], settings: Settings) -> bool
 {
     let kind = bytes_wire::byte_at(t, 0);
     match kind {
-        TUPLE_ROW => within(
+        type_kind::TUPLE => within(
             settings.tuples,
             bytes_wire::byte_at(t, 1) as u32,
             settings.most,
         ),
-        STRUCT_ROW => within(
+        type_kind::STRUCT => within(
             settings.structs,
             bytes_wire::byte_at(t, 3) as u32,
             settings.most,
         ),
-        ARRAY_ROW => within(settings.tuples, bytes_wire::u32_at(t, 3), settings.most),
+        type_kind::FIXED_ARRAY => within(settings.tuples, bytes_wire::u32_at(t, 3), settings.most),
         _ => false,
     }
 }
@@ -87,7 +82,7 @@ fn recorded_shape(s: &[u8], types: &[u16], many: u16, recorded: Recorded) -> u8
     ensures { λ r. ⌜ OfRecorded shape (now (s .entry)) (now (types .entry)) many recorded r ⌝ }
 {
     if recorded.0 == 0 {
-        return fold::OTHER;
+        return shape::OTHER;
     }
     let number = recorded.0 - 1;
     type_shape(s, types, many, TypeId(number))

@@ -6,9 +6,11 @@ use mir::NameId;
 use mir::Recorded;
 use mir::TypeId;
 use mir::ValueId;
+use mir::kind;
+use mir::shape;
 ghost use mathlib.Core.Path.{_≡_};
 ghost use Prim.Native.Nat.{_+_, _≤_, _<_};
-ghost use Rattle.fold.specs.Numbers.{mostSlots};
+ghost use Rattle.mir.specs.Most.{mostSlots};
 ghost use Rattle.fold_structs.specs.Told.{farPlace, goesBy, AllGiven, TellsRow, Passes, StructTold, StructsTold};
 
 // Each of `m` names, which stand four bytes apart from `names` on, is given among the `n` inits from `at` on.
@@ -43,7 +45,7 @@ fn goes_by(recorded: Recorded, named: TypeId) -> TypeId
 fn told_by(s: &[u8], types: &[u16], many: u16, y: TypeId, t: &[u8]) -> bool
     ensures { λ r. ⌜ TellsRow (now (s .entry)) (now (types .entry)) many y (now (t .entry)) r ⌝ }
 {
-    if fold_shapes::type_shape(s, types, many, y) != fold::STRUCT {
+    if fold_shapes::type_shape(s, types, many, y) != shape::STRUCT {
         return false;
     }
     let u = bytes_field::tail(s, bytes_lookup::type_place(types, y));
@@ -97,7 +99,7 @@ fn struct_at(
 ) -> bool
     ensures { λ r. ⌜ StructTold b (now (s .entry)) (now (facts .entry)) settings (now (cross .entry)) slot r ⌝ }
 {
-    if bytes_index::kind(facts, slot) != fold::MAKE_STRUCT {
+    if bytes_index::kind(facts, slot) != kind::MAKE_STRUCT {
         return false;
     }
     let at = bytes_index::place(facts, slot);

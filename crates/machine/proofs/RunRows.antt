@@ -14,7 +14,7 @@ use Rattle.mir.specs.Syntax.{Terminator, Jump, If, BranchCmp, Return, Unreachab
 use Rattle.bytes_wire.specs.Value.{integer, boolean}
 use Rattle.bytes_sections.proofs.Examples.{example}
 use Rattle.machine.specs.Values.{Val, scalar, aggregate, ends, then, equal}
-use Rattle.machine.specs.Meaning.{Meaning, Answer, gives, fails, asks, Verdict, says, balks}
+use Rattle.machine.specs.Meaning.{Meaning, Operated, gives, fails, asks, Verdict, says, balks}
 use Rattle.machine.specs.Records.{index, Trace, Event, called, allocated, loaded, stored, asserted, printed, returned, noValue, noSource, noReply, unwritten, missing, own, Standing, standsAt, ended, stopped, atReturn, atUnreachable, unequalSides}
 use Rattle.machine.specs.Run.{run}
 use Rattle.machine.specs.Document.{Operations, document01}
@@ -123,7 +123,7 @@ unreachable = refl
 
 -- a machine that answers with what it is asked: a literal, its number and the kind of the type where it stands; an operation, its number, the kind of its dest's type
 -- and its operands. Operation 0 fails with a cause of its own, operation 1 asks for a reply; comparison 0 balks. It records Debug
-unfoldable pub answerOf : ℕ → Val ℕ → Answer ℕ
+unfoldable pub answerOf : ℕ → Val ℕ → Operated ℕ
 answerOf zero y = fails 7
 answerOf (suc zero) y = asks
 answerOf (suc (suc k)) y = gives y

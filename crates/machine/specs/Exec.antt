@@ -10,7 +10,7 @@ use Rattle.mir.specs.Syntax.{AssertEq, HeapAllocCells}
 use Rattle.mir.specs.Lookup.{Types, rowOf, recordedType, valueRow, fieldIndex}
 use Rattle.mir.specs.Parts.{structRow, operandRow, isPointer, structParts}
 use Rattle.machine.specs.Values.{Val, Vals, aggregate, equal, partOf, withPart}
-use Rattle.machine.specs.Meaning.{Meaning, Answer, gives, fails, asks, Taken, took, refuses, exhausted}
+use Rattle.machine.specs.Meaning.{Meaning, Operated, gives, fails, asks, Taken, took, refuses, exhausted}
 use Rattle.machine.specs.Records.{Env, Writes, Event, called, allocated, loaded, stored, asserted, printed}
 use Rattle.machine.specs.Records.{Cause, noValue, noSource, noReply, unwritten, missing, tooLarge, own, unequalSides, Out, goes, ends, stops}
 use Rattle.machine.specs.Places.{partRow, argumentRow, noRow, rowAt, walked, changed}
@@ -46,7 +46,7 @@ module _ {A : Type 0} (M : Meaning A) (τ : Types) where
       (received (M .take (τ .rows) (recordedType τ d) w) ev (λ y w′. replies ds w′ ((d, y) ∷ ws) ev))
 
   -- an operation's answer; a result that is asked for comes from the replies and is not recorded
-  unfoldable pub answered : ValueId → List (Val A) → Answer A → Out A
+  unfoldable pub answered : ValueId → List (Val A) → Operated A → Out A
   answered d w (gives y) = goes ((d, y) ∷ []) w []
   answered d w (fails c) = stops (own c) []
   answered d w asks = replies (d ∷ []) w [] []

@@ -10,10 +10,10 @@ use Rattle.mir.specs.MirType.{MirType}
 use Rattle.machine.specs.Values.{Val}
 
 -- what an operation answers: a value, a stop with a cause of its own, or that its result is the next reply
-pub data Answer (A : Type 0) : Type 0 where
-  gives : Val A → Answer A
-  fails : ℕ → Answer A
-  asks : Answer A
+pub data Operated (A : Type 0) : Type 0 where
+  gives : Val A → Operated A
+  fails : ℕ → Operated A
+  asks : Operated A
 
 -- what a comparison says, or a cause of its own
 pub data Verdict : Type 0 where
@@ -31,9 +31,9 @@ pub data Taken (A : Type 0) : Type 0 where
 -- Of a Boolean as an Index nothing is asked: shelf reason 0 has none ("its value is Integer, Felt or U32")
 pub record Meaning (A : Type 0) : Type 0 where
   pub literal : Literal → Option MirType → Val A  -- a literal, where it stands at a type
-  pub unary : ℕ → Option MirType → Val A → Answer A  -- by the operation and the type of the dest
-  pub binary : ℕ → Option MirType → Val A → Val A → Answer A
-  pub cast : Option MirType → Option MirType → Val A → Answer A  -- by the two named types
+  pub unary : ℕ → Option MirType → Val A → Operated A  -- by the operation and the type of the dest
+  pub binary : ℕ → Option MirType → Val A → Val A → Operated A
+  pub cast : Option MirType → Option MirType → Val A → Operated A  -- by the two named types
   pub truth : Val A → Bool  -- of If
   pub compare : ℕ → Val A → Val A → Verdict  -- of BranchCmp
   pub same : A → A → Bool  -- equal scalars

@@ -16,7 +16,8 @@ use Rattle.mir.specs.Syntax as S
 use Rattle.mir.specs.Reads.{operand, operands, indices, placeReads, sourceValues, initValues, reads, dests, isPhi, terminatorReads}
 use Rattle.bytes_field.specs.Decode.{mark}
 use Rattle.bytes_field.specs.declared.Bounds.{Bounds}
-use Rattle.bytes_laws.specs.WellFormed.{Each, FitNews, FitProjection, FitPlace, FitSource, FitInit, FitKind, FitTerminator}
+use Rattle.mir.specs.Lists.{Each}
+use Rattle.bytes_laws.specs.WellFormed.{FitNews, FitProjection, FitPlace, FitSource, FitInit, FitKind, FitTerminator}
 use Rattle.bytes_block.specs.Decode.{marks}
 use Rattle.bytes_block.specs.WellFormed.{FitInstructions}
 use Rattle.rewrite_laws.proofs.Marks.{dests-new}

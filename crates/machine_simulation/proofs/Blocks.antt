@@ -11,6 +11,7 @@ use Rattle.mir.specs.declared.ValueId.{ValueId}
 use Rattle.mir.specs.declared.Value.{Value}
 use Rattle.mir.specs.Syntax.{Instruction, Block}
 use Rattle.mir.specs.Reads.{operand, operands, reads, counted, sourceValues}
+use Rattle.mir.specs.Lists.{Each}
 use Rattle.mir.specs.Lookup.{rowOf}
 use Rattle.mir.specs.declared.BlockId.{BlockId}
 use Rattle.mir.specs.Phis.{behindPhis, phisOf, PhiOf, phiOf}
@@ -21,7 +22,7 @@ use Rattle.machine.specs.Records.{Env, Writes, writeAll, Event, Cause, noSource
 use Rattle.machine.specs.Records as R
 use Rattle.machine.specs.Evaluate.{eval}
 use Rattle.machine.specs.Run.{needed, sourceFrom, readPhi, readPhis, execBlock, trace, runBlock, runBlocks}
-use Rattle.shelf.specs.Lists.{every, All}
+use Rattle.shelf.specs.Lists.{every}
 use Rattle.shelf.specs.Reads.{countedReads, clean, cleanTerminator}
 use Rattle.machine_simulation.specs.Static.{below, noPhi}
 use Rattle.machine_simulation.specs.Statement.{Fine}
@@ -150,16 +151,16 @@ shift κ b b′ bs bs′ k (paired c c′ e e′ s) = paired c c′ e e′ s
 
 -- what the tests say of what came out of blocks, from the fresh number n on
 pub record RewrittenOk {A : Type 0} (κ : Ctx A) (n : ℕ) (r : Rewritten) : Type 0 where
-  pub cleans : All (BlockClean κ) (r .blocks)
+  pub cleans : Each (BlockClean κ) (r .blocks)
   pub drops : T (every (λ v. κ .dr (v .0)) (r .dropped))
   pub fresh : Recorded (retyped (κ .types) (κ .later)) n (r .fresh)
 
 -- each block of a list, with what became of it
 abbrev Pairs : {A : Type 0} → Ctx A → Choice → List Block → Type 0
-Pairs κ c bs = (n : ℕ) → κ .m ≤ n → All (BlockGood κ) bs → RewrittenOk κ n (allBlocks (κ .set) (κ .types) c n bs) → (k : ℕ) → Pair κ bs ((allBlocks (κ .set) (κ .types) c n bs) .blocks) k
+Pairs κ c bs = (n : ℕ) → κ .m ≤ n → Each (BlockGood κ) bs → RewrittenOk κ n (allBlocks (κ .set) (κ .types) c n bs) → (k : ℕ) → Pair κ bs ((allBlocks (κ .set) (κ .types) c n bs) .blocks) k
 
 -- the first block, skipped or walked, and the rest
-pair-go : {A : Type 0} (κ : Ctx A) (c : Choice) (b : Block) (bs : List Block) → Pairs κ c bs → (n : ℕ) → κ .m ≤ n → All (BlockGood κ) (b ∷ bs) → (s : Bool)
+pair-go : {A : Type 0} (κ : Ctx A) (c : Choice) (b : Block) (bs : List Block) → Pairs κ c bs → (n : ℕ) → κ .m ≤ n → Each (BlockGood κ) (b ∷ bs) → (s : Bool)
     → RewrittenOk κ n (oneBlock (κ .set) (κ .types) c n b (λ j. allBlocks (κ .set) (κ .types) c j bs) s) → (k : ℕ)
     → Pair κ (b ∷ bs) ((oneBlock (κ .set) (κ .types) c n b (λ j. allBlocks (κ .set) (κ .types) c j bs) s) .blocks) k
 unfolding oneBlock skipThen blockThen

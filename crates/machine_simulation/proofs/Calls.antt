@@ -11,11 +11,12 @@ use Rattle.mir.specs.declared.ValueId.{ValueId}
 use Rattle.mir.specs.declared.TypeId.{TypeId}
 use Rattle.mir.specs.declared.Value.{Value}
 use Rattle.mir.specs.MirType.{MirType}
-use Rattle.mir.specs.Syntax.{Meta, Instruction, Terminator, Call}
+use Rattle.mir.specs.Syntax.{Meta, Instruction, Terminator, Call, plain}
 use Rattle.mir.specs.Reads.{operands, reads}
+use Rattle.mir.specs.Lists.{Each}
 use Rattle.mir.specs.Lookup.{Types, rowOf, isAggregate}
 use Rattle.rewrite.specs.State.{AggStates}
-use Rattle.rewrite.specs.Rebuild.{plain, Rebuilt, Wanted, rebuildAll, aggregateType, wantedArguments}
+use Rattle.rewrite.specs.Rebuild.{Rebuilt, Wanted, rebuildAll, aggregateType, wantedArguments}
 use Rattle.rewrite.specs.Step.{stepCall, stepKind}
 use Rattle.rewrite.specs.Run.{glue}
 use Rattle.machine.specs.Values.{Val}
@@ -24,7 +25,7 @@ use Rattle.machine.specs.Places.{argumentRow}
 use Rattle.machine.specs.Evaluate.{evalAll}
 use Rattle.machine.specs.Exec.{exec}
 use Rattle.machine.specs.Run.{onward, execAll}
-use Rattle.shelf.specs.Lists.{every, All, among}
+use Rattle.shelf.specs.Lists.{every, among}
 use Rattle.shelf.specs.Fits.{fits, argumentsFit}
 use Rattle.machine_simulation.specs.Typing.{typed}
 use Rattle.shelf.specs.Reads.{countedReads}
@@ -95,7 +96,7 @@ arguments-same κ ds f xs ys ps rs E G w vl = rw (vl (argumentRow (κ .types) ps
 
 -- and so under the rewritten routine's types
 call-same : {A : Type 0} (κ : Ctx A) (m : Meta) (ds : List ValueId) (f : ℕ) (xs ys : List Value) (ps rs : List TypeId) (E G : Env A)
-    (w : List (Val A)) → All (Alike (κ .types) (κ .later)) ds
+    (w : List (Val A)) → Each (Alike (κ .types) (κ .later)) ds
     → ((rows : ℕ → Option MirType) → evalAll (κ .mean) G rows ys ≡ evalAll (κ .mean) E rows xs)
     → exec (κ .mean) (retyped (κ .types) (κ .later)) (Call ds f ys ps rs) G w ≡ does κ (at m (Call ds f xs ps rs)) E w
 call-same κ m ds f xs ys ps rs E G w al vl = sym (exec-later (κ .mean) (κ .types) (κ .later) (Call ds f ys ps rs) G w al) ∙ arguments-same κ ds f xs ys ps rs E G w vl

@@ -13,6 +13,7 @@ use Rattle.mir.specs.MirType.{MirType}
 use Rattle.mir.specs.Syntax.{Instruction, InstructionKind, Terminator, Assign, UnaryOp, BinaryOp, Call, Cast, Load, Store, Debug, Nop, Phi}
 use Rattle.mir.specs.Syntax.{MakeTuple, ExtractTupleElement, MakeStruct, ExtractStructField, InsertField, InsertTuple, MakeFixedArray, AssertEq, HeapAllocCells}
 use Rattle.mir.specs.Reads.{reads, dests}
+use Rattle.mir.specs.Lists.{Each}
 use Rattle.mir.specs.Lookup.{Types, rowOf, recordedType, valueRow}
 use Rattle.rewrite.specs.State.{AggStates, insertState, stateOf}
 use Rattle.rewrite.specs.declared.Counts.{Counts}
@@ -25,7 +26,7 @@ use Rattle.machine.specs.Places.{partRow}
 use Rattle.machine.specs.Evaluate.{eval, evalAll}
 use Rattle.machine.specs.Exec.{exec}
 use Rattle.machine.specs.Run.{onward, execAll}
-use Rattle.shelf.specs.Lists.{every, All, among}
+use Rattle.shelf.specs.Lists.{every, among}
 use Rattle.shelf.specs.Fits.{sameType, fits}
 use Rattle.machine_simulation.specs.Typing.{Whole, typed}
 use Rattle.shelf.specs.Reads.{countedReads, definedIn, ordered, partsTaken, apart}
@@ -51,7 +52,7 @@ pub replaced : {A : Type 0} (κ : Ctx A) (φ : ValueId → Bool) (i j : Instruct
     (c : Counts) (b : Bool) → Sim κ φ is t
     → ((E : Env A) (w : List (Val A)) → Tracks κ S E (i ∷ is) → Good κ (i ∷ is) t → does κ i E w ≡ does κ j E w)
     → ((E : Env A) → Tracks κ S E (i ∷ is) → Good κ (i ∷ is) t → T (every (λ v. ltb (v .0) (κ .m)) (reads (j .kind))))
-    → (Good κ (i ∷ is) t → All (Alike (κ .types) (κ .later)) (looks (j .kind)))
+    → (Good κ (i ∷ is) t → Each (Alike (κ .types) (κ .later)) (looks (j .kind)))
     → ((E : Env A) → Tracks κ S E (i ∷ is) → T (every (λ v. not (κ .dr (v .0))) (countedReads (κ .mean .debug) (j .kind))) → (v : ℕ) (xs : List Value) → S v ≡ some xs → T (not (among v (changes (κ .types) (i .kind)))))
     → SimP κ φ i is t S n (alone c b S j)
 unfolding glue execAll
@@ -98,7 +99,7 @@ base-read τ (HeapAllocCells d v) debug dr x s t = tt
 
 -- an instruction of the original looks at nothing fresh
 pub looks-low : {A : Type 0} (κ : Ctx A) (i : Instruction) (is : List Instruction) (t : Terminator) → Good κ (i ∷ is) t
-    → All (Alike (κ .types) (κ .later)) (looks (i .kind))
+    → Each (Alike (κ .types) (κ .later)) (looks (i .kind))
 looks-low κ i is t g =
     looks-in (Alike (κ .types) (κ .later)) (i .kind) (low-alike κ (reads (i .kind)) (reads-low κ i is t g)) (low-alike κ (dests (i .kind)) (dests-low κ i is t g))
 

@@ -11,6 +11,7 @@ use Rattle.mir.specs.declared.Value.{Value}
 use Rattle.mir.specs.Syntax.{Meta, Instruction, InstructionKind, Terminator, Assign, UnaryOp, BinaryOp, Call, Cast, Load, Store, Debug, Nop, Phi}
 use Rattle.mir.specs.Syntax.{MakeTuple, ExtractTupleElement, MakeStruct, ExtractStructField, InsertField, InsertTuple, MakeFixedArray, AssertEq, HeapAllocCells}
 use Rattle.mir.specs.Reads.{operand, operands, reads, dests, terminatorReads}
+use Rattle.mir.specs.Lists.{Each}
 use Rattle.mir.specs.Lookup.{Types}
 use Rattle.mir.specs.Syntax.{Jump, If, BranchCmp, Return, Unreachable}
 use Rattle.mir.specs.declared.BlockId.{BlockId}
@@ -27,7 +28,7 @@ use Rattle.machine.specs.Places.{noRow}
 use Rattle.machine.specs.Evaluate.{eval, evalAll}
 use Rattle.machine.specs.Exec.{exec}
 use Rattle.machine.specs.Run.{onward, needed, branch, judged, execTerminator, execAll}
-use Rattle.shelf.specs.Lists.{every, All}
+use Rattle.shelf.specs.Lists.{every}
 use Rattle.shelf.specs.Fits.{sameType, fits}
 use Rattle.shelf.specs.Reads.{countedReads, clean, cleanTerminator}
 use Rattle.shelf.proofs.Flag.{counted-of}
@@ -90,7 +91,7 @@ unfolding execTerminator
 return-same κ xs ys E G w rec e = rw e
 
 -- a terminator that reads the same on both sides, under one table
-one-table : {A : Type 0} (κ : Ctx A) (t : Terminator) (E F : Env A) (w : List (Val A)) (rec : List (Event A)) → Agree κ E F → All (Same E F) (terminatorReads t)
+one-table : {A : Type 0} (κ : Ctx A) (t : Terminator) (E F : Env A) (w : List (Val A)) (rec : List (Event A)) → Agree κ E F → Each (Same E F) (terminatorReads t)
     → Match κ (execTerminator (κ .mean) (κ .types) t E w rec) (execTerminator (κ .mean) (κ .types) t F w rec)
 unfolding execTerminator
 one-table κ (Jump b) E F w rec ag h = on b E F w rec ag

@@ -14,18 +14,19 @@ use Rattle.mir.specs.MirType.{StructField, MirType}
 use Rattle.mir.specs.Syntax.{Projection, Index, Field, Tuple, FieldInit, InstructionKind, Assign, UnaryOp, BinaryOp, Call, Cast, Load, Store, Debug, Nop, Phi}
 use Rattle.mir.specs.Syntax.{MakeTuple, ExtractTupleElement, MakeStruct, ExtractStructField, InsertField, InsertTuple, MakeFixedArray, AssertEq, HeapAllocCells}
 use Rattle.mir.specs.Reads.{operand, operands, indices, initValues, reads, dests, storeBase, counted}
+use Rattle.mir.specs.Lists.{Each}
 use Rattle.mir.specs.Lookup.{Types, valueRow, isStruct, structFieldsOf}
 use Rattle.mir.specs.Parts.{given, structRow, isPointer, consPart, fromStructFields, structParts}
 use Rattle.machine.specs.Values.{Val, Vals}
-use Rattle.machine.specs.Meaning.{Meaning, Answer, gives, asks, Taken, took, refuses, exhausted}
+use Rattle.machine.specs.Meaning.{Meaning, Operated, gives, asks, Taken, took, refuses, exhausted}
 use Rattle.machine.specs.Meaning as Mg
 use Rattle.machine.specs.Records.{tooLarge, Env, write, Writes, writeAll, Event, Cause, Out, goes, ends, stops}
 use Rattle.machine.specs.Places.{partRow}
 use Rattle.machine.specs.Evaluate.{eval, evalAll, evalStep, evalSteps}
 use Rattle.machine.specs.Exec.{need, choose, received, asserting, replies, answered, built, extracted, inserted, exec}
-use Rattle.shelf.specs.Lists.{every, All, among}
+use Rattle.shelf.specs.Lists.{every, among}
 use Rattle.shelf.specs.Reads.{countedReads}
-use Rattle.machine_simulation.proofs.Tools.{both-l, both-r, both, nor-l, nor-r, none-some, split, passes, fails, cond-yes, cond-no, change-other, every→All, all-l, all-r}
+use Rattle.machine_simulation.proofs.Tools.{both-l, both-r, both, nor-l, nor-r, none-some, split, passes, fails, cond-yes, cond-no, change-other, every→Each, all-l, all-r}
 
 -- both sides have the value alike
 abbrev pub Same : {A : Type 0} → Env A → Env A → ValueId → Type 0
@@ -34,19 +35,19 @@ Same E F v = E (v .0) ≡ F (v .0)
 -- ---- the values read, one by one
 
 -- a statement of the values read: of the first value's
-pub head-of : (P : ValueId → Type 0) (x : Value) (vs : List ValueId) → All P (operand x vs) → All P (operand x [])
+pub head-of : (P : ValueId → Type 0) (x : Value) (vs : List ValueId) → Each P (operand x vs) → Each P (operand x [])
 head-of P (Value.Literal l) vs h = tt
 head-of P (Value.Operand v) vs h = (h .0, tt)
 head-of P Value.Error vs h = tt
 
 -- of the others
-pub rest-of : (P : ValueId → Type 0) (x : Value) (vs : List ValueId) → All P (operand x vs) → All P vs
+pub rest-of : (P : ValueId → Type 0) (x : Value) (vs : List ValueId) → Each P (operand x vs) → Each P vs
 rest-of P (Value.Literal l) vs h = h
 rest-of P (Value.Operand v) vs h = h .1
 rest-of P Value.Error vs h = h
 
 -- and back
-pub cons-of : (P : ValueId → Type 0) (x : Value) (vs : List ValueId) → All P (operand x []) → All P vs → All P (operand x vs)
+pub cons-of : (P : ValueId → Type 0) (x : Value) (vs : List ValueId) → Each P (operand x []) → Each P vs → Each P (operand x vs)
 cons-of P (Value.Literal l) vs h k = k
 cons-of P (Value.Operand v) vs h k = (h .0, k)
 cons-of P Value.Error vs h k = k
@@ -71,20 +72,20 @@ test-cons p Value.Error vs s t = t
 
 module _ {A : Type 0} (M : Meaning A) (E F : Env A) where
   -- a value that both have alike is read alike
-  pub eval-same : (row : Option MirType) (x : Value) (vs : List ValueId) → All (Same E F) (operand x vs) → eval M E row x ≡ eval M F row x
+  pub eval-same : (row : Option MirType) (x : Value) (vs : List ValueId) → Each (Same E F) (operand x vs) → eval M E row x ≡ eval M F row x
   unfolding eval
   eval-same row (Value.Literal l) vs h = refl
   eval-same row (Value.Operand v) vs h = h .0
   eval-same row Value.Error vs h = refl
 
   -- values in a list
-  pub evalAll-same : (rows : ℕ → Option MirType) (xs : List Value) → All (Same E F) (operands xs) → evalAll M E rows xs ≡ evalAll M F rows xs
+  pub evalAll-same : (rows : ℕ → Option MirType) (xs : List Value) → Each (Same E F) (operands xs) → evalAll M E rows xs ≡ evalAll M F rows xs
   unfolding evalAll
   evalAll-same rows [] h = refl
   evalAll-same rows (x ∷ xs) h = rw (eval-same (rows zero) x (operands xs) h, evalAll-same (λ k. rows (suc k)) xs (rest-of (Same E F) x (operands xs) h))
 
   -- the steps of a place
-  pub evalSteps-same : (ps : List Projection) → All (Same E F) (operands (indices ps)) → evalSteps M E ps ≡ evalSteps M F ps
+  pub evalSteps-same : (ps : List Projection) → Each (Same E F) (operands (indices ps)) → evalSteps M E ps ≡ evalSteps M F ps
   unfolding evalSteps evalStep
   evalSteps-same [] h = refl
   evalSteps-same (Index x ∷ ps) h = rw (eval-same none x (operands (indices ps)) h, evalSteps-same ps (rest-of (Same E F) x (operands (indices ps)) h))
@@ -94,7 +95,7 @@ module _ {A : Type 0} (M : Meaning A) (E F : Env A) where
 -- ---- a struct's parts are among the values given
 
 -- a value given for a name is one of those given
-given-in : (P : ValueId → Type 0) (n : NameId) (fs : List FieldInit) (x : Value) → All P (operands (initValues fs)) → given n fs ≡ some x → All P (operand x [])
+given-in : (P : ValueId → Type 0) (n : NameId) (fs : List FieldInit) (x : Value) → Each P (operands (initValues fs)) → given n fs ≡ some x → Each P (operand x [])
 unfolding given
 given-in P n [] x h e = absurd (none-some e)
 given-in P n (f ∷ fs) x h e =
@@ -119,8 +120,8 @@ consPart-inv (some x) none zs e = absurd (none-some e)
 consPart-inv (some x) (some xs) zs e = is-part x xs refl refl cc
 
 -- the parts by fields are among the values given
-pub fields-in : (P : ValueId → Type 0) (fs : List FieldInit) (ss : List StructField) (xs : List Value) → All P (operands (initValues fs))
-    → fromStructFields fs ss ≡ some xs → All P (operands xs)
+pub fields-in : (P : ValueId → Type 0) (fs : List FieldInit) (ss : List StructField) (xs : List Value) → Each P (operands (initValues fs))
+    → fromStructFields fs ss ≡ some xs → Each P (operands xs)
 unfolding fromStructFields
 fields-in P fs [] xs h e = let q : [] ≡ xs = cc in rw (← q) tt
 fields-in P fs (s ∷ ss) xs h e =
@@ -134,7 +135,7 @@ cond-some false o x e = absurd (none-some e)
 
 -- a struct's parts are among the values given
 pub parts-in : (P : ValueId → Type 0) (τ : Types) (d : ValueId) (fs : List FieldInit) (t : TypeId) (xs : List Value)
-    → All P (operands (initValues fs)) → structParts τ d fs t ≡ some xs → All P (operands xs)
+    → Each P (operands (initValues fs)) → structParts τ d fs t ≡ some xs → Each P (operands xs)
 unfolding structParts
 parts-in P τ d fs t xs h e = fields-in P fs (structFieldsOf (structRow τ d t)) xs h (cond-some (isStruct (structRow τ d t)) _ xs e)
 
@@ -146,13 +147,13 @@ need-same c (some b) k k′ h = h b refl
 
 -- a struct's build
 struct-same : {A : Type 0} (M : Meaning A) (τ : Types) (d : ValueId) (fs : List FieldInit) (t : TypeId) (E F : Env A) (w : List (Val A)) (xs : List Value)
-    → All (Same E F) (operands (initValues fs)) → structParts τ d fs t ≡ some xs
+    → Each (Same E F) (operands (initValues fs)) → structParts τ d fs t ≡ some xs
     → built M τ d (evalAll M E (partRow τ (structRow τ d t)) xs) w ≡ built M τ d (evalAll M F (partRow τ (structRow τ d t)) xs) w
 struct-same M τ d fs t E F w xs h e = rw (evalAll-same M E F (partRow τ (structRow τ d t)) xs (parts-in (Same E F) τ d fs t xs h e))
 
 module _ {A : Type 0} (M : Meaning A) (τ : Types) where
   -- an instruction depends on nothing but what it reads
-  reads-same : (i : InstructionKind) (E F : Env A) (w : List (Val A)) → All (Same E F) (reads i) → exec M τ i E w ≡ exec M τ i F w
+  reads-same : (i : InstructionKind) (E F : Env A) (w : List (Val A)) → Each (Same E F) (reads i) → exec M τ i E w ≡ exec M τ i F w
   unfolding exec
   reads-same (Assign d x t) E F w h = rw (eval-same M E F _ x [] h)
   reads-same (UnaryOp op d x) E F w h = rw (eval-same M E F none x [] h)
@@ -200,7 +201,7 @@ module _ {A : Type 0} (M : Meaning A) (τ : Types) where
   silent (HeapAllocCells d x) E F w false e t = absurd t
 
   -- an instruction depends on nothing but what it reads, Debug's reads counted only under the flag
-  pub exec-same : (i : InstructionKind) (E F : Env A) (w : List (Val A)) → All (Same E F) (countedReads (M .debug) i) → exec M τ i E w ≡ exec M τ i F w
+  pub exec-same : (i : InstructionKind) (E F : Env A) (w : List (Val A)) → Each (Same E F) (countedReads (M .debug) i) → exec M τ i E w ≡ exec M τ i F w
   exec-same i E F w h =
       elim (split (counted (M .debug) i)) [
         | passes t ↦ reads-same i E F w (rw (cond-yes (counted (M .debug) i) (reads i) [] t) at h)
@@ -283,7 +284,7 @@ module _ {A : Type 0} (M : Meaning A) (τ : Types) where
   replies-keeps E x ds w ev t = replies-on E x ds w [] ev t (λ G. refl)
 
   -- an operation changes its dest alone
-  answered-keeps : (E : Env A) (x : ℕ) (d : ValueId) (w : List (Val A)) (a : Answer A) → T (not (among x (d ∷ []))) → Keeps E x (answered M τ d w a)
+  answered-keeps : (E : Env A) (x : ℕ) (d : ValueId) (w : List (Val A)) (a : Operated A) → T (not (among x (d ∷ []))) → Keeps E x (answered M τ d w a)
   unfolding answered Keeps
   answered-keeps E x d w (gives y) t = one-keeps E x d y w [] t
   answered-keeps E x d w (Mg.fails c) t = tt
@@ -353,4 +354,4 @@ pub keep-agrees : {A : Type 0} (M : Meaning A) (τ : Types) (X : ℕ → Bool) (
     → T (every (λ v. not (X (v .0))) (countedReads (M .debug) i))
     → (exec M τ i E w ≡ exec M τ i F w) × ((ws : Writes A) → AgreeOff X (writeAll ws E) (writeAll ws F))
 keep-agrees M τ X i E F w ag t =
-    (exec-same M τ i E F w (every→All (λ v. not (X (v .0))) (Same E F) (λ v h. ag (v .0) h) (countedReads (M .debug) i) t), λ ws x nx. write-both ws E F x (ag x nx))
+    (exec-same M τ i E F w (every→Each (λ v. not (X (v .0))) (Same E F) (λ v h. ag (v .0) h) (countedReads (M .debug) i) t), λ ws x nx. write-both ws E F x (ag x nx))

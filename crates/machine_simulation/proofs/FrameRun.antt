@@ -11,6 +11,7 @@ use Rattle.mir.specs.declared.ValueId.{ValueId}
 use Rattle.mir.specs.declared.BlockId.{BlockId}
 use Rattle.mir.specs.Syntax.{Instruction, Terminator, Jump, If, BranchCmp, Return, Unreachable, Block}
 use Rattle.mir.specs.Reads.{operand, operands, sourceValues, reads, counted}
+use Rattle.mir.specs.Lists.{Each}
 use Rattle.mir.specs.Lookup.{Types, rowOf}
 use Rattle.mir.specs.Phis.{behindPhis, phisOf, PhiOf, phiOf}
 use Rattle.machine.specs.Values.{Val}
@@ -21,9 +22,9 @@ use Rattle.mir.specs.Parts.{operandRow}
 use Rattle.machine.specs.Places.{noRow}
 use Rattle.machine.specs.Run.{onward, needed, branch, judged, sourceFrom, readPhi, readPhis, execTerminator, execAll, execBlock, trace, runBlock, runBlocks}
 use Rattle.machine.specs.Exec.{exec}
-use Rattle.shelf.specs.Lists.{every, All}
+use Rattle.shelf.specs.Lists.{every}
 use Rattle.shelf.specs.Reads.{countedReads, clean, cleanTerminator}
-use Rattle.machine_simulation.proofs.Tools.{both-l, both-r, every→All, every-at, cond-yes}
+use Rattle.machine_simulation.proofs.Tools.{both-l, both-r, every→Each, every-at, cond-yes}
 use Rattle.machine_simulation.proofs.Frame.{Same, rest-of, eval-same, evalAll-same, AgreeOff, write-both, keep-agrees}
 use Rattle.machine_simulation.proofs.Phis.{phi-reads, phi-counted, from-in, clean-behind, clean-phis}
 
@@ -33,8 +34,8 @@ pub data AlikeOff {A : Type 0} (X : ℕ → Bool) : Left A → Left A → Type 0
   same : (l : Left A) → AlikeOff X l l
 
 -- what is not in X is alike
-same-off : {A : Type 0} (X : ℕ → Bool) (E F : Env A) → AgreeOff X E F → (vs : List ValueId) → T (every (λ v. not (X (v .0))) vs) → All (Same E F) vs
-same-off X E F ag vs t = every→All (λ v. not (X (v .0))) (Same E F) (λ v h. ag (v .0) h) vs t
+same-off : {A : Type 0} (X : ℕ → Bool) (E F : Env A) → AgreeOff X E F → (vs : List ValueId) → T (every (λ v. not (X (v .0))) vs) → Each (Same E F) vs
+same-off X E F ag vs t = every→Each (λ v. not (X (v .0))) (Same E F) (λ v h. ag (v .0) h) vs t
 
 -- behind a lookup
 needed-off : {A B : Type 0} (X : ℕ → Bool) (c : Cause) (o : Option B) (rec : List (Event A)) (k k′ : B → Left A)

@@ -13,6 +13,7 @@ use Rattle.mir.specs.declared.BlockId.{BlockId}
 use Rattle.mir.specs.declared.Value.{Value}
 use Rattle.mir.specs.Syntax.{Instruction, Terminator}
 use Rattle.mir.specs.Reads.{reads, dests, terminatorReads}
+use Rattle.mir.specs.Lists.{Each}
 use Rattle.mir.specs.Lookup.{Types, recordedType}
 use Rattle.rewrite.specs.State.{AggStates}
 use Rattle.rewrite.specs.Step.{Piece}
@@ -22,12 +23,12 @@ use Rattle.machine.specs.Records.{Env, writeAll, Event, End, Cause, Out, goes, 
 use Rattle.machine.specs.Records as R
 use Rattle.machine.specs.Exec.{exec}
 use Rattle.machine.specs.Run.{onward, execAll}
-use Rattle.shelf.specs.Lists.{every, All, among}
+use Rattle.shelf.specs.Lists.{every, among}
 use Rattle.machine_simulation.specs.Typing.{typed}
 use Rattle.shelf.specs.Reads.{countedReads, ordered, apart, shallow, clean, cleanTerminator}
 use Rattle.machine_simulation.specs.Static.{below, once}
 use Rattle.machine_simulation.specs.Statement.{FineCause}
-use Rattle.machine_simulation.proofs.Tools.{both-l, both-r, both, every-r, every-two→All}
+use Rattle.machine_simulation.proofs.Tools.{both-l, both-r, both, every-r, every-two→Each}
 use Rattle.machine_simulation.proofs.Frame.{Same, changes, write-both}
 use Rattle.machine_simulation.proofs.Retype.{retyped, Alike}
 use Rattle.machine_simulation.proofs.Invariant.{numbered, Ctx, Tracks, Agree, tracked-on}
@@ -175,12 +176,12 @@ dests-low κ i is t g = search (both-l, both-r)
 
 -- reads of nothing fresh and nothing dropped are alike on both sides
 pub same-reads : {A : Type 0} (κ : Ctx A) (E F : Env A) → Agree κ E F → (vs : List ValueId) → T (every (λ v. ltb (v .0) (κ .m)) vs)
-    → T (every (λ v. not (κ .dr (v .0))) vs) → All (Same E F) vs
-same-reads κ E F ag vs s t = every-two→All (λ v. ltb (v .0) (κ .m)) (λ v. not (κ .dr (v .0))) (Same E F) (λ v a b. ag (v .0) a b) vs s t
+    → T (every (λ v. not (κ .dr (v .0))) vs) → Each (Same E F) vs
+same-reads κ E F ag vs s t = every-two→Each (λ v. ltb (v .0) (κ .m)) (λ v. not (κ .dr (v .0))) (Same E F) (λ v a b. ag (v .0) a b) vs s t
 
 -- what is below next has the same recorded type in both
-pub low-alike : {A : Type 0} (κ : Ctx A) (vs : List ValueId) → T (every (λ v. ltb (v .0) (κ .m)) vs) → All (Alike (κ .types) (κ .later)) vs
-low-alike κ vs t = every-two→All (λ v. ltb (v .0) (κ .m)) (λ v. ltb (v .0) (κ .m)) (Alike (κ .types) (κ .later)) (λ v a b. κ .alike v a) vs t t
+pub low-alike : {A : Type 0} (κ : Ctx A) (vs : List ValueId) → T (every (λ v. ltb (v .0) (κ .m)) vs) → Each (Alike (κ .types) (κ .later)) vs
+low-alike κ vs t = every-two→Each (λ v. ltb (v .0) (κ .m)) (λ v. ltb (v .0) (κ .m)) (Alike (κ .types) (κ .later)) (λ v a b. κ .alike v a) vs t t
 
 -- both sides have made the step with one outcome, and go on
 pub resume : {A : Type 0} (κ : Ctx A) (φ : ValueId → Bool) (i : Instruction) (is : List Instruction) (t : Terminator) (S : AggStates) (n : ℕ)

@@ -24,7 +24,7 @@ use Rattle.shelf.specs.Lists.{every, among}
 use Rattle.machine_simulation.specs.Typing.{Whole}
 use Rattle.shelf.specs.Reads.{definedIn}
 use Rattle.machine_simulation.specs.Static.{fieldsOnce}
-use Rattle.machine_simulation.proofs.Tools.{every-two→All, every-imp, among-l, among-r, none-of}
+use Rattle.machine_simulation.proofs.Tools.{every-two→Each, every-imp, among-l, among-r, none-of}
 use Rattle.machine_simulation.proofs.Frame.{Same, evalAll-same, Keeps, changes, exec-keeps}
 use Rattle.machine_simulation.proofs.Retype.{Alike}
 
@@ -88,7 +88,7 @@ pub kept-values : {A : Type 0} (κ : Ctx A) (i : Instruction) (is : List Instruc
 unfolding definedIn
 kept-values κ i is E w w′ ws ev e b rows xs p =
     evalAll-same (κ .mean) (writeAll ws E) E rows xs
-    (every-two→All (λ v. not (among (v .0) (definedIn (i ∷ is)))) (λ v. not (κ .sb (v .0))) (Same (writeAll ws E) E)
+    (every-two→Each (λ v. not (among (v .0) (definedIn (i ∷ is)))) (λ v. not (κ .sb (v .0))) (Same (writeAll ws E) E)
     (λ v s t. kept-at κ i E w w′ ws ev e (v .0) (among-l (v .0) (dests (i .kind)) (definedIn is) s) (none-of (κ .sb) (v .0) (changes (κ .types) (i .kind)) b t))
     (operands xs) (p .calm) (p .free))
 

@@ -10,7 +10,7 @@ use Rattle.mir.specs.declared.ValueId.{ValueId}
 use Rattle.mir.specs.declared.TypeId.{TypeId}
 use Rattle.mir.specs.declared.Value.{Value}
 use Rattle.mir.specs.MirType.{MirType}
-use Rattle.mir.specs.Syntax.{Meta, Place, Instruction, InstructionKind, Terminator, Assign, UnaryOp, BinaryOp, Call, Cast, Load, Store, Debug, Nop, Phi}
+use Rattle.mir.specs.Syntax.{Meta, Place, Instruction, InstructionKind, Terminator, Assign, UnaryOp, BinaryOp, Call, Cast, Load, Store, Debug, Nop, Phi, plain}
 use Rattle.mir.specs.Syntax.{MakeTuple, ExtractTupleElement, MakeStruct, ExtractStructField, InsertField, InsertTuple, MakeFixedArray, AssertEq, HeapAllocCells}
 use Rattle.fold.specs.declared.Settings.{Settings}
 use Rattle.mir.specs.Lookup.{Types, rowOf, fieldIndex, onSome}
@@ -21,7 +21,7 @@ use Rattle.mir.specs.Parts.{structParts}
 use Rattle.mir.specs.Phis.{behindPhis, phisOf}
 use Rattle.rewrite.specs.State.{AggStates, stateOf, chain, firstInteger, forwardStore}
 use Rattle.rewrite.specs.State as St
-use Rattle.rewrite.specs.Rebuild.{Rebuilt, plain, rebuildAt, keepValue, rebuildValue, oneValue, Wanted, rebuildAll, aggregateType, wantedArguments, wantedReturns}
+use Rattle.rewrite.specs.Rebuild.{Rebuilt, rebuildAt, keepValue, rebuildValue, oneValue, Wanted, rebuildAll, aggregateType, wantedArguments, wantedReturns}
 use Rattle.rewrite.specs.declared.Counts.{Counts}
 use Rattle.rewrite.specs.Step.{Piece, kept, left, tracked, assigned, stepBuild, foldedParts, stepInsert, handOn, stepExtract, extractIndex, stepLoaded, stepLoad, storeRebuilt, storeKept, stepStore, stepAssign, stepCall, guarded, stepKind, step}
 use Rattle.rewrite.specs.Run.{ends, returned, finish, glue, walk}

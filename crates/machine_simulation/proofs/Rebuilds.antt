@@ -11,13 +11,13 @@ use Rattle.mir.specs.declared.ValueId.{ValueId}
 use Rattle.mir.specs.declared.TypeId.{TypeId}
 use Rattle.mir.specs.declared.Value.{Value}
 use Rattle.mir.specs.MirType.{MirType, StructField}
-use Rattle.mir.specs.Syntax.{Instruction, Terminator, MakeTuple, MakeStruct, MakeFixedArray, FieldInit}
+use Rattle.mir.specs.Syntax.{Instruction, Terminator, MakeTuple, MakeStruct, MakeFixedArray, FieldInit, plain}
 use Rattle.mir.specs.Reads.{operand, operands, initValues}
 use Rattle.mir.specs.Lookup.{Types, rowOf, recordedType, valueRow, structFieldsOf, isStruct, shape}
 use Rattle.mir.specs.MirType as Y
 use Rattle.mir.specs.Parts.{given, orElse, structRow, partCount, consPart, fromStructFields, structParts}
 use Rattle.rewrite.specs.State.{AggStates, stateOf}
-use Rattle.rewrite.specs.Rebuild.{plain, fitted, named, rebuildAt, Rebuilt, keepValue, rebuildValue, oneValue, Wanted, rebuildAll}
+use Rattle.rewrite.specs.Rebuild.{fitted, named, rebuildAt, Rebuilt, keepValue, rebuildValue, oneValue, Wanted, rebuildAll}
 use Rattle.machine.specs.Values.{Val, Vals, aggregate, consVal}
 use Rattle.machine.specs.Records.{Env, write, writeAll, Event, log}
 use Rattle.machine.specs.Places.{partRow}

@@ -12,17 +12,17 @@ use Rattle.mir.specs.Syntax.{Place, FieldInit, InstructionKind, Terminator, Jum
 use Rattle.mir.specs.Syntax.{Assign, UnaryOp, BinaryOp, Call, Cast, Load, Store, Debug, Nop, Phi}
 use Rattle.mir.specs.Syntax.{MakeTuple, ExtractTupleElement, MakeStruct, ExtractStructField, InsertField, InsertTuple, MakeFixedArray, AssertEq, HeapAllocCells}
 use Rattle.mir.specs.Reads.{operand, reads, dests, terminatorReads}
+use Rattle.mir.specs.Lists.{Each}
 use Rattle.mir.specs.Lookup.{Types, rowOf, recordedType, valueRow, onSome}
 use Rattle.mir.specs.Parts.{structRow, operandRow, isPointer, structParts}
 use Rattle.machine.specs.Values.{Val, partOf}
-use Rattle.machine.specs.Meaning.{Meaning, Answer, gives, asks, Taken, took, refuses, exhausted}
+use Rattle.machine.specs.Meaning.{Meaning, Operated, gives, asks, Taken, took, refuses, exhausted}
 use Rattle.machine.specs.Records.{Env, Writes, Event, loaded, Step, Cause, missing, Out, goes}
 use Rattle.machine.specs.Places.{partRow, argumentRow, rowAt, stepPosition, walked, changed}
 use Rattle.machine.specs.Evaluate.{evalAll}
 use Rattle.machine.specs.Exec.{need, choose, received, replies, answered, built, extracted, inserted, exec}
 use Rattle.machine.specs.Run.{execTerminator}
 use Rattle.machine.specs.Meaning as Mg
-use Rattle.shelf.specs.Lists.{All}
 use Rattle.machine_simulation.proofs.Frame.{rest-of}
 
 -- the same rows, other recorded types
@@ -56,7 +56,7 @@ looks (AssertEq x y) = operand x (operand y [])
 looks (HeapAllocCells d x) = d ∷ []
 
 -- it reads or defines each of them
-pub looks-in : (P : ValueId → Type 0) (i : InstructionKind) → All P (reads i) → All P (dests i) → All P (looks i)
+pub looks-in : (P : ValueId → Type 0) (i : InstructionKind) → Each P (reads i) → Each P (dests i) → Each P (looks i)
 looks-in P (Assign d x t) h k = tt
 looks-in P (UnaryOp op d x) h k = k
 looks-in P (BinaryOp op d x y) h k = (k .0, h)
@@ -121,7 +121,7 @@ module _ (τ : Types) (rs : List (Option TypeId)) where
   valueRow-later v a = rw a (rowOf-later (recordedType (retyped τ rs) v))
 
   -- an operand's row
-  operandRow-later : (x : Value) (vs : List ValueId) → All (Alike τ rs) (operand x vs) → operandRow τ x ≡ operandRow (retyped τ rs) x
+  operandRow-later : (x : Value) (vs : List ValueId) → Each (Alike τ rs) (operand x vs) → operandRow τ x ≡ operandRow (retyped τ rs) x
   unfolding operandRow
   operandRow-later (Value.Literal l) vs h = refl
   operandRow-later (Value.Operand v) vs h = valueRow-later v (h .0)
@@ -171,14 +171,14 @@ module _ {A : Type 0} (M : Meaning A) (τ : Types) (rs : List (Option TypeId)) w
       rw (changed-later (partRow τ row k) p ss y ∙ ap (λ (o : Option MirType). changed M (retyped τ rs) o p ss y) (partRow-later τ rs row k))))
 
   -- replies
-  replies-later : (ds : List ValueId) (w : List (Val A)) (ws : Writes A) (ev : List (Event A)) → All (Alike τ rs) ds
+  replies-later : (ds : List ValueId) (w : List (Val A)) (ws : Writes A) (ev : List (Event A)) → Each (Alike τ rs) ds
       → replies M τ ds w ws ev ≡ replies M (retyped τ rs) ds w ws ev
   unfolding replies
   replies-later [] w ws ev h = refl
   replies-later (d ∷ ds) w ws ev h = rw (h .0) (choose-cong _ _ _ _ (received-cong _ ev _ _ (λ y w′. replies-later ds w′ ((d, y) ∷ ws) ev (h .1))))
 
   -- an operation's answer
-  answered-later : (d : ValueId) (w : List (Val A)) (a : Answer A) → Alike τ rs d → answered M τ d w a ≡ answered M (retyped τ rs) d w a
+  answered-later : (d : ValueId) (w : List (Val A)) (a : Operated A) → Alike τ rs d → answered M τ d w a ≡ answered M (retyped τ rs) d w a
   unfolding answered
   answered-later d w (gives y) h = refl
   answered-later d w (Mg.fails c) h = refl
@@ -195,7 +195,7 @@ module _ {A : Type 0} (M : Meaning A) (τ : Types) (rs : List (Option TypeId)) w
   binary-later op d w y z h = rw (valueRow-later τ rs d h) (answered-later d w _ h)
 
   -- a BinaryOp
-  binary-both : (op : ℕ) (d : ValueId) (x y : Value) (E : Env A) (w : List (Val A)) → All (Alike τ rs) (d ∷ operand x (operand y []))
+  binary-both : (op : ℕ) (d : ValueId) (x y : Value) (E : Env A) (w : List (Val A)) → Each (Alike τ rs) (d ∷ operand x (operand y []))
       → exec M τ (BinaryOp op d x y) E w ≡ exec M (retyped τ rs) (BinaryOp op d x y) E w
   unfolding exec
   binary-both op d x y E w h =
@@ -210,7 +210,7 @@ module _ {A : Type 0} (M : Meaning A) (τ : Types) (rs : List (Option TypeId)) w
   load-in d p w b ss hd hb = rw (valueRow-later τ rs (p .base) hb, replies-later (d ∷ []) w [] (loaded b ss ∷ []) (hd, tt)) (rw (walked-later (valueRow (retyped τ rs) (p .base)) b ss))
 
   -- a Load
-  load-later : (d : ValueId) (p : Place) (t : TypeId) (E : Env A) (w : List (Val A)) → All (Alike τ rs) (d ∷ p .base ∷ [])
+  load-later : (d : ValueId) (p : Place) (t : TypeId) (E : Env A) (w : List (Val A)) → Each (Alike τ rs) (d ∷ p .base ∷ [])
       → exec M τ (Load d p t) E w ≡ exec M (retyped τ rs) (Load d p t) E w
   unfolding exec
   load-later d p t E w h = need-cong _ _ _ _ (λ b. need-cong _ _ _ _ (λ ss. load-in d p w b ss (h .0) (h .1 .0)))
@@ -236,7 +236,7 @@ module _ {A : Type 0} (M : Meaning A) (τ : Types) (rs : List (Option TypeId)) w
   struct-in d t xs E w h = rw (structRow-later τ rs d t h) (rw h (rw (evalAll-rows M E (partRow τ (structRow (retyped τ rs) d t)) (partRow (retyped τ rs) (structRow (retyped τ rs) d t)) xs (partRow-later τ rs (structRow (retyped τ rs) d t)))))
 
   -- an instruction does the same under both tables
-  pub exec-later : (i : InstructionKind) (E : Env A) (w : List (Val A)) → All (Alike τ rs) (looks i) → exec M τ i E w ≡ exec M (retyped τ rs) i E w
+  pub exec-later : (i : InstructionKind) (E : Env A) (w : List (Val A)) → Each (Alike τ rs) (looks i) → exec M τ i E w ≡ exec M (retyped τ rs) i E w
   unfolding exec extracted inserted
   exec-later (Assign d x t) E w h = rw (rowOf-later τ rs (some t))
   exec-later (UnaryOp op d x) E w h = need-cong _ _ _ _ (λ y. unary-later op d w y (h .0))
@@ -260,7 +260,7 @@ module _ {A : Type 0} (M : Meaning A) (τ : Types) (rs : List (Option TypeId)) w
   exec-later (HeapAllocCells d x) E w h = need-cong _ _ _ _ (λ y. replies-later (d ∷ []) w [] _ (h .0, tt))
 
   -- and a terminator
-  pub terminator-later : (t : Terminator) (E : Env A) (w : List (Val A)) (rec : List (Event A)) → All (Alike τ rs) (terminatorReads t)
+  pub terminator-later : (t : Terminator) (E : Env A) (w : List (Val A)) (rec : List (Event A)) → Each (Alike τ rs) (terminatorReads t)
       → execTerminator M τ t E w rec ≡ execTerminator M (retyped τ rs) t E w rec
   unfolding execTerminator
   terminator-later (Jump b) E w rec h = refl

@@ -10,12 +10,11 @@ use Rattle.mir.specs.declared.ValueId.{ValueId}
 use Rattle.mir.specs.declared.TypeId.{TypeId}
 use Rattle.mir.specs.declared.Value.{Value}
 use Rattle.mir.specs.MirType.{MirType}
-use Rattle.mir.specs.Syntax.{Meta, Instruction, Terminator, Assign, ExtractTupleElement, ExtractStructField}
+use Rattle.mir.specs.Syntax.{Meta, Instruction, Terminator, Assign, ExtractTupleElement, ExtractStructField, plain}
 use Rattle.mir.specs.Reads.{operand, operands, dests}
 use Rattle.mir.specs.Lookup.{Types, rowOf, recordedType, valueRow, fieldIndex, onSome}
 use Rattle.mir.specs.declared.NameId.{NameId}
 use Rattle.rewrite.specs.State.{AggStates, stateOf}
-use Rattle.rewrite.specs.Rebuild.{plain}
 use Rattle.rewrite.specs.Step.{Piece, oneExtract, assigned, handOn, stepExtract, extractIndex, guarded, stepKind}
 use Rattle.machine.specs.Values.{Val, Vals, aggregate, then, consVal, nth, partOf}
 use Rattle.machine.specs.Records.{Env, goes}

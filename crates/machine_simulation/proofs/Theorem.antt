@@ -14,6 +14,7 @@ use Rattle.mir.specs.Syntax.{Instruction, InstructionKind, Assign, UnaryOp, Bin
 use Rattle.mir.specs.Syntax.{MakeTuple, ExtractTupleElement, MakeStruct, ExtractStructField, InsertField, InsertTuple, MakeFixedArray, AssertEq, HeapAllocCells, Block}
 use Rattle.mir.specs.Reads.{reads, storeBase, terminatorReads}
 use Rattle.fold.specs.declared.Settings.{Settings}
+use Rattle.mir.specs.Lists.{Each}
 use Rattle.mir.specs.Lookup.{Types, rowOf, recordedType, valueRow, isAggregate, structFieldsOf, typesIn}
 use Rattle.mir.specs.Routine.{Routine}
 use Rattle.mir.specs.Phis.{behindPhis}
@@ -24,7 +25,7 @@ use Rattle.machine.specs.Records.{Env, write, Trace}
 use Rattle.mir.specs.Parts.{isPointer}
 use Rattle.machine.specs.Document.{Operations, document01}
 use Rattle.machine.specs.Run.{taking, takeAll, noneWritten, run}
-use Rattle.shelf.specs.Lists.{every, All, among}
+use Rattle.shelf.specs.Lists.{every, among}
 use Rattle.shelf.specs.Fits.{sameType, fits, placeType}
 use Rattle.machine_simulation.specs.Typing.{typed}
 use Rattle.shelf.specs.Reads.{ordered, aggregateBase, basesIn, bases, apart, shallow, clean, cleanTerminator}
@@ -98,7 +99,7 @@ goods : {A : Type 0} (κ : Ctx A) (bs : List Block) → T (every (λ k. below (�
     → T (every (λ k. every (λ i. typed (κ .types) (i .kind)) (behindPhis (k .instructions))) bs)
     → T (every (λ k. ordered (κ .mean .debug) (behindPhis (k .instructions))) bs) → T (every (λ k. apart (κ .sb) (behindPhis (k .instructions))) bs)
     → T (every (λ k. every (λ i. shallow (κ .dr) (i .kind)) (behindPhis (k .instructions))) bs)
-    → T (every (λ v. κ .sb (v .0)) (bases (κ .types) bs)) → All (BlockGood κ) bs
+    → T (every (λ v. κ .sb (v .0)) (bases (κ .types) bs)) → Each (BlockGood κ) bs
 unfolding bases
 goods κ [] a b c d e f g h i = tt
 goods κ (k ∷ ks) a b c d e f g h i =
@@ -125,7 +126,7 @@ goods κ (k ∷ ks) a b c d e f g h i =
 
 -- and of each that came out
 cleans : {A : Type 0} (κ : Ctx A) (bs : List Block) → T (every (λ k. clean (κ .mean .debug) (κ .dr) (k .instructions)) bs)
-    → T (every (λ k. cleanTerminator (κ .dr) (k .terminator)) bs) → All (BlockClean κ) bs
+    → T (every (λ k. cleanTerminator (κ .dr) (k .terminator)) bs) → Each (BlockClean κ) bs
 cleans κ [] a b = tt
 cleans κ (k ∷ ks) a b = (
   record { reads = both-l (clean (κ .mean .debug) (κ .dr) (k .instructions)) _ a; ends = both-l (cleanTerminator (κ .dr) (k .terminator)) _ b },
@@ -230,7 +231,7 @@ output-ok M σ c r s =
 
 -- the original's blocks pass their tests
 input-ok : {A : Type 0} (M : Meaning A) (σ : Settings) (c : Choice) (r : Routine) (s : Static (M .debug) σ c r)
-    → All (BlockGood (context M σ c r s)) (r .blocks)
+    → Each (BlockGood (context M σ c r s)) (r .blocks)
 unfolding context
 input-ok M σ c r s =
     let κ = context M σ c r s in

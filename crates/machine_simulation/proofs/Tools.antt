@@ -7,7 +7,8 @@ use mathlib.Core.List.{List, [], _∷_, _++_}
 use lib.Dec.{T, T-not, eqb, eqb→eq, eqb-refl}
 use lib.ListN.{getElem?}
 use Rattle.mir.specs.declared.ValueId.{ValueId}
-use Rattle.shelf.specs.Lists.{every, All, among}
+use Rattle.mir.specs.Lists.{Each}
+use Rattle.shelf.specs.Lists.{every, among}
 pub use Rattle.shelf.proofs.Both.{both-l, both-r, both}
 
 -- neither
@@ -87,9 +88,9 @@ change-same f d a = cond-yes (eqb d d) (some a) (f d) (eqb-refl d)
 -- ---- tests over lists
 
 -- a test over a list, as a statement of each element
-pub every→All : {A : Type 0} (p : A → Bool) (P : A → Type 0) → ((x : A) → T (p x) → P x) → (xs : List A) → T (every p xs) → All P xs
-every→All p P f [] t = tt
-every→All p P f (x ∷ xs) t = (f x (both-l (p x) (every p xs) t), every→All p P f xs (both-r (p x) (every p xs) t))
+pub every→Each : {A : Type 0} (p : A → Bool) (P : A → Type 0) → ((x : A) → T (p x) → P x) → (xs : List A) → T (every p xs) → Each P xs
+every→Each p P f [] t = tt
+every→Each p P f (x ∷ xs) t = (f x (both-l (p x) (every p xs) t), every→Each p P f xs (both-r (p x) (every p xs) t))
 
 -- of the first of two lists
 pub every-l : {A : Type 0} (p : A → Bool) (a b : List A) → T (every p (a ++ b)) → T (every p a)
@@ -113,11 +114,11 @@ pub every-imp : {A : Type 0} (p q : A → Bool) → ((x : A) → T (p x) → T (
 every-imp p q f xs t = every-two p p q (λ x a b. f x a) xs t t
 
 -- two tests, as a statement of each element
-pub every-two→All : {A : Type 0} (p q : A → Bool) (P : A → Type 0) → ((x : A) → T (p x) → T (q x) → P x) → (xs : List A) → T (every p xs)
-    → T (every q xs) → All P xs
-every-two→All p q P f [] s t = tt
-every-two→All p q P f (x ∷ xs) s t =
-    (f x (both-l (p x) (every p xs) s) (both-l (q x) (every q xs) t), every-two→All p q P f xs (both-r (p x) (every p xs) s) (both-r (q x) (every q xs) t))
+pub every-two→Each : {A : Type 0} (p q : A → Bool) (P : A → Type 0) → ((x : A) → T (p x) → T (q x) → P x) → (xs : List A) → T (every p xs)
+    → T (every q xs) → Each P xs
+every-two→Each p q P f [] s t = tt
+every-two→Each p q P f (x ∷ xs) s t =
+    (f x (both-l (p x) (every p xs) s) (both-l (q x) (every q xs) t), every-two→Each p q P f xs (both-r (p x) (every p xs) s) (both-r (q x) (every q xs) t))
 
 -- of the element at k
 pub every-at : {A : Type 0} (p : A → Bool) (xs : List A) (k : ℕ) (x : A) → T (every p xs) → getElem? xs k ≡ some x → T (p x)
@@ -126,12 +127,12 @@ every-at p (y ∷ xs) zero x t h = let q : y ≡ x = cc in rw (← q) (both-l (p
 every-at p (y ∷ xs) (suc k) x t h = every-at p xs k x (both-r (p y) (every p xs) t) h
 
 -- a statement of the first of two lists
-pub all-l : {A : Type 0} (P : A → Type 0) (a b : List A) → All P (a ++ b) → All P a
+pub all-l : {A : Type 0} (P : A → Type 0) (a b : List A) → Each P (a ++ b) → Each P a
 all-l P [] b h = tt
 all-l P (x ∷ a) b h = (h .0, all-l P a b (h .1))
 
 -- of the second
-pub all-r : {A : Type 0} (P : A → Type 0) (a b : List A) → All P (a ++ b) → All P b
+pub all-r : {A : Type 0} (P : A → Type 0) (a b : List A) → Each P (a ++ b) → Each P b
 all-r P [] b h = h
 all-r P (x ∷ a) b h = all-r P a b (h .1)
 
@@ -169,10 +170,10 @@ all-among q (v ∷ l) h =
     (all-among q l (λ y t. h y (or-r (eqb y (v .0)) (among y l) t)))
 
 -- a statement as a test
-pub all→every : {A : Type 0} (p : A → Bool) (xs : List A) → All (λ x. T (p x)) xs → T (every p xs)
+pub all→every : {A : Type 0} (p : A → Bool) (xs : List A) → Each (λ x. T (p x)) xs → T (every p xs)
 all→every p [] h = tt
 all→every p (x ∷ xs) h = both (p x) (every p xs) (h .0) (all→every p xs (h .1))
 
 -- and back
-pub every→all : {A : Type 0} (p : A → Bool) (xs : List A) → T (every p xs) → All (λ x. T (p x)) xs
-every→all p xs t = every→All p (λ x. T (p x)) (λ x h. h) xs t
+pub every→all : {A : Type 0} (p : A → Bool) (xs : List A) → T (every p xs) → Each (λ x. T (p x)) xs
+every→all p xs t = every→Each p (λ x. T (p x)) (λ x h. h) xs t

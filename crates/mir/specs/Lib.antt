@@ -5,3 +5,5 @@ pub mod Reads
 pub mod Lookup
 pub mod Parts
 pub mod Phis
+pub mod Most
+pub mod Lists

@@ -117,11 +117,6 @@ unfoldable pub any : {A : Type 0} → (A → B.Bool) → List A → B.Bool
 any p [] = false
 any p (a ∷ xs) = p a || any p xs
 
--- each element passes
-abbrev pub every : {A : Type 0} → (A → B.Bool) → List A → B.Bool
-every p [] = true
-every p (a ∷ xs) = p a && every p xs
-
 -- there is one
 unfoldable pub isSome : {A : Type 0} → Option A → B.Bool
 isSome none = false

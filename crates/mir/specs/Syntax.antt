@@ -2,7 +2,7 @@
 use Prim.Native.Nat.{ℕ}
 use mathlib.Core.List.{List}
 use mathlib.Core.Bool.{Bool}
-use mathlib.Core.Option.{Option}
+use mathlib.Core.Option.{Option, none}
 use Rattle.mir.specs.declared.Value.{Value}
 use Rattle.mir.specs.declared.ValueId.{ValueId}
 use Rattle.mir.specs.declared.BlockId.{BlockId}
@@ -70,6 +70,10 @@ pub data InstructionKind : Type 0 where
 pub record Instruction : Type 0 where
   pub meta : Meta
   pub kind : InstructionKind
+
+-- one without span, expression id and comment: what instruction.rs's builders make
+abbrev pub plain : InstructionKind → Instruction
+plain i = record { meta = record { span = none; expression = none; comment = none }; kind = i }
 
 -- terminator.rs, `Terminator`
 pub data Terminator : Type 0 where

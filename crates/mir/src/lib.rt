@@ -1,4 +1,10 @@
-// The names and values of a routine, as the Rust has them (value.rs, ids of mir). What routines are made of stands in specs/.
+// The names and values of a routine, as the Rust has them (value.rs, ids of mir), and the numbers of its kinds and shapes. What
+// routines are made of stands in specs/.
+pub mod kind;
+pub mod most;
+pub mod shape;
+pub mod terminator;
+pub mod type_kind;
 
 pub struct ValueId(pub u16);
 

@@ -10,7 +10,7 @@ use Rattle.bytes_block.specs.Encode.{blockBytes}
 use Rattle.fold.specs.Family.{Marks}
 use Rattle.rewrite.specs.Step.{noCounts}
 use Rattle.rewrite.specs.Run.{Rewritten}
-use Rattle.rewrite_progress.specs.Effect.{numbersOf, markAll}
+use Rattle.rewrite_progress.specs.Effect.{typeNumbers, markAll}
 use Rattle.rewrite_progress.specs.declared.Progress.{Progress}
 use Rattle.rewrite_progress.specs.declared.Put.{Put}
 
@@ -35,7 +35,7 @@ pub record Ran (w : Rewritten) (to : ℕ) (out fresh : List ℕ) (dropped : Mark
     (out′ fresh′ : List ℕ) (dropped′ : Marks) (p : Progress) : Type 0 where
   pub calm : w .clash ≡ false
   pub written : out′ ≡ sets out to (bodyOf w)
-  pub taken : fresh′ ≡ sets fresh 0 (numbersOf (w .fresh))
+  pub taken : fresh′ ≡ sets fresh 0 (typeNumbers (w .fresh))
   pub place : p .to ≡ to + length (bodyOf w)
   pub many : p .fresh ≡ length (w .fresh)
   pub counted : p .counts ≡ w .counts

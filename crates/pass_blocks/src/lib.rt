@@ -1,5 +1,6 @@
 // The blocks of the output. A run over them tells how long they are and which fresh numbers they take; behind the head they are
 // copied from where it wrote them, or run over again.
+use mir::most;
 use rewrite::Counts;
 use rewrite_progress::Progress;
 use rewrite_progress::Put;
@@ -10,12 +11,11 @@ ghost use lib.ListN.{length};
 ghost use lib.Seq.{sets};
 ghost use Rattle.rewrite.specs.Run.{rewrittenBlocks};
 ghost use Rattle.rewrite_parts.specs.Rows.{freshIn};
-ghost use Rattle.rewrite_progress.specs.Effect.{PutLow};
+ghost use Rattle.rewrite_progress.specs.Effect.{PutLow, routineLow};
 ghost use Rattle.pass_input.specs.Accepted.{Chosen};
 ghost use Rattle.pass_blocks.specs.Runs.{bodyOf, Runs, Begun, highestStart, rowPlaces};
+ghost use Rattle.mir.specs.Most.{mostBlocks};
 
-// How many values an accepted routine has at most.
-pub const VALUES: usize = 256;
 // In the working table the rows of parts come first; from here on it has the types of the fresh numbers.
 pub const FRESH: usize = 2432;
 // The places of the working table: the rows, and 4,608 types.
@@ -33,8 +33,8 @@ pub fn run_blocks(
     work: &mut [u16],
     out: &mut [u8],
 ) -> Put
-    requires { ⌜ (to ≤ highestStart) × ((setup .bounds .blocks ≤ 32) × (rowPlaces ≤ length (now work))) ⌝ }
-    ensures { λ r. ⌜ PutLow 4300 r ⌝ }
+    requires { ⌜ (to ≤ highestStart) × ((setup .bounds .blocks ≤ mostBlocks) × (rowPlaces ≤ length (now work))) ⌝ }
+    ensures { λ r. ⌜ PutLow routineLow r ⌝ }
     ensures { λ r. ⌜ ((h : Chosen (setup .settings) (now (s .entry)) (now (facts .entry)) (setup .bounds) (now (choice .entry)))
         → Runs (rewrittenBlocks (setup .settings) (h .accepted .routine)) to (now (out .entry)) (freshIn (now (work .entry))) (now (dropped .entry))
         (now (out .exit)) (freshIn (now (work .exit))) (now (dropped .exit)) r) ⌝ }
@@ -52,7 +52,7 @@ pub fn run_blocks(
         fresh: 0,
         counts: none,
     };
-    let mut tracked: [bool; VALUES] = [false; VALUES];
+    let mut tracked: [bool; most::VALUES] = [false; most::VALUES];
     rewrite_blocks::put_blocks(
         s,
         setup,
@@ -78,16 +78,16 @@ pub fn put_body(
     out: &mut [u8],
     to: usize,
 )
-    requires { ⌜ (to ≤ highestStart) × ((setup .bounds .blocks ≤ 32) × (to + size ≤ length (now out))) ⌝ }
+    requires { ⌜ (to ≤ highestStart) × ((setup .bounds .blocks ≤ mostBlocks) × (to + size ≤ length (now out))) ⌝ }
     ensures { λ _. ⌜ ((h : Chosen (setup .settings) (now (s .entry)) (now (facts .entry)) (setup .bounds) (now (choice .entry)))
         → Begun (rewrittenBlocks (setup .settings) (h .accepted .routine)) (now (body .entry)) size
         → now (out .exit) ≡ sets (now (out .entry)) to (bodyOf (rewrittenBlocks (setup .settings) (h .accepted .routine)))) ⌝ }
 {
     if size <= body.len() {
-        pass_input::copy_whole(&body[..size], out, to);
+        bytes_emit::copy_whole(&body[..size], out, to);
         return;
     }
     let mut work: [u16; WORK] = [0; WORK];
-    let mut dropped: [bool; VALUES] = [false; VALUES];
+    let mut dropped: [bool; most::VALUES] = [false; most::VALUES];
     run_blocks(s, setup, facts, choice, to, &mut dropped, &mut work, out);
 }

@@ -7,7 +7,8 @@ use native.Mathlib.Omega.{arith}
 use lib.ListN.{length, getD}
 use Rattle.mir.specs.Syntax.{Block}
 use Rattle.bytes_field.specs.declared.Bounds.{Bounds}
-use Rattle.bytes_laws.specs.WellFormed.{Each, FitOption}
+use Rattle.mir.specs.Lists.{Each}
+use Rattle.bytes_laws.specs.WellFormed.{FitOption}
 use Rattle.bytes_block.specs.declared.Mosts.{Mosts}
 use Rattle.fold_choose.specs.Chosen.{Fitting, fitting}
 

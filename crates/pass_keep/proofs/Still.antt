@@ -11,10 +11,10 @@ use Rattle.mir.specs.Syntax.{Instruction, InstructionKind, Terminator, Block}
 use Rattle.mir.specs.Syntax.{Assign, UnaryOp, BinaryOp, Call, Cast, Load, Store, Debug, Nop, Phi}
 use Rattle.mir.specs.Syntax.{MakeTuple, ExtractTupleElement, MakeStruct, ExtractStructField, InsertField, InsertTuple, MakeFixedArray, AssertEq, HeapAllocCells}
 use Rattle.mir.specs.Reads.{isPhi}
-use Rattle.bytes_laws.specs.WellFormed.{Each}
 use Rattle.mir.specs.Routine.{Routine}
 use Rattle.bytes_index.specs.Code.{noInstruction, noBlock}
 use Rattle.fold.specs.declared.Settings.{Settings}
+use Rattle.mir.specs.Lists.{Each}
 use Rattle.mir.specs.Lookup.{Types, typesIn}
 use Rattle.fold.specs.Family.{buildDest}
 use Rattle.mir.specs.Phis.{behindPhis, phisOf}

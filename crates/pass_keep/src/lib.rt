@@ -15,7 +15,7 @@ pub fn lower_same(s: &[u8], setup: Setup, facts: &[u16], out: &mut [u8]) -> Answ
     if out.len() < s.len() {
         return Answer::NoRoom;
     }
-    pass_input::copy_whole(s, out, 0);
+    bytes_emit::copy_whole(s, out, 0);
     let reason = shelf_test::input_reason(s, setup.bounds, facts);
     let none = Counts {
         builds: 0,

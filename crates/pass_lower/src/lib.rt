@@ -2,6 +2,8 @@
 use bytes_sections::Checked;
 use fold::Settings;
 use pass_answers::Answer;
+use rewrite_progress::FLAGS;
+use rewrite_progress::SKIPS;
 use rewrite_progress::Setup;
 ghost use Prim.Native.Nat.{_≤_};
 ghost use lib.ListN.{length};
@@ -11,10 +13,6 @@ ghost use Rattle.pass_input.specs.Accepted.{Accepted};
 
 // The largest max_aggregate_size that is not refused.
 const LARGEST: u8 = 16;
-// The flags of a choice: one for each of 288 slots, then one for each of 32 blocks.
-const SLOTS: usize = 288;
-
-const FLAGS: usize = 320;
 
 // Lowers an accepted routine by its table of facts; one without builds, or of which no build is folded, is not changed.
 fn lower_read(s: &[u8], setup: Setup, facts: &[u16], out: &mut [u8]) -> Answer
@@ -27,7 +25,7 @@ fn lower_read(s: &[u8], setup: Setup, facts: &[u16], out: &mut [u8]) -> Answer
     }
     let mut choice: [bool; FLAGS] = [false; FLAGS];
     fold_routine::choose_folds(s, setup, facts, &mut choice);
-    if !table::any(&choice[..SLOTS]) {
+    if !table::any(&choice[..SKIPS]) {
         return pass_keep::lower_same(s, setup, facts, out);
     }
     pass_write::lower_folded(s, setup, facts, &choice, out)

@@ -12,7 +12,8 @@ use Rattle.mir.specs.Syntax.{Instruction, InstructionKind, Terminator, Block}
 use Rattle.mir.specs.Reads.{dests, isPhi}
 use Rattle.bytes_field.specs.Decode.{mark}
 use Rattle.bytes_field.specs.declared.Bounds.{Bounds}
-use Rattle.bytes_laws.specs.WellFormed.{Each, FitNews}
+use Rattle.mir.specs.Lists.{Each}
+use Rattle.bytes_laws.specs.WellFormed.{FitNews}
 use Rattle.bytes_block.specs.Decode.{marks, blockMarks}
 use Rattle.bytes_block.specs.declared.Mosts.{Mosts}
 use Rattle.bytes_block.specs.WellFormed.{FitInstructions}

@@ -11,3 +11,11 @@ use Rattle.text_lines.specs.Lines.{refusedLine, loweredLines}
 unfoldable pub textOf : Answer → List ℕ
 textOf (refused n o) = refusedLine n o
 textOf (lowered w c k bytes) = loweredLines (boolByte w ∷ c .builds ∷ c .extracts ∷ c .inserts ∷ c .assigns ∷ c .materializations ∷ k ∷ []) bytes
+
+-- "keeps the first 65,536 bytes of standard input and lends 65,536 for output"
+abbrev pub lentBytes : ℕ
+lentBytes = 65536
+
+-- the most characters of a text
+abbrev pub longestText : ℕ
+longestText = 131328

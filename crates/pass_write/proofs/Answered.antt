@@ -23,8 +23,8 @@ use Rattle.rewrite.specs.Outcome as O
 use Rattle.rewrite.proofs.Bound.{block-count}
 use Rattle.rewrite.proofs.Outcomes.{clashing, too-long, accepted}
 use Rattle.rewrite.proofs.Result.{result-count}
-use Rattle.rewrite_build.specs.Written.{Writes}
-use Rattle.rewrite_progress.specs.Effect.{numbersOf as freshNumbers, Low, PutLow}
+use Rattle.bytes_emit.specs.Written.{Writes}
+use Rattle.rewrite_progress.specs.Effect.{typeNumbers as freshNumbers, Low, PutLow}
 use Rattle.rewrite_progress.specs.declared.Progress.{Progress}
 use Rattle.rewrite_progress.specs.declared.Put.{Put}
 use Rattle.rewrite_progress.proofs.Laws.{numbers-length}

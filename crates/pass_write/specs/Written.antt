@@ -7,7 +7,7 @@ use Rattle.bytes_field.specs.declared.Bounds.{Bounds}
 use Rattle.fold.specs.declared.Settings.{Settings}
 use Rattle.fold.specs.Family.{Marks}
 use Rattle.rewrite.specs.Run.{Rewritten, rewrittenBlocks}
-use Rattle.rewrite_build.specs.Written.{Writes}
+use Rattle.bytes_emit.specs.Written.{Writes}
 use Rattle.rewrite_head.specs.Head.{headBytes, widened}
 use Rattle.rewrite_progress.specs.declared.Progress.{Progress}
 use Rattle.mir.specs.Routine.{Routine}

@@ -1,5 +1,6 @@
 // The output of a routine whose builds are chosen. The blocks are run over first, into a buffer of their own, which tells how
 // long they are and which fresh numbers they take; then the head is written, and the blocks behind it.
+use mir::most;
 use pass_answers::Answer;
 use rewrite_opening::Opened;
 use rewrite_progress::Progress;
@@ -73,7 +74,7 @@ pub fn lower_folded(
     ensures { λ r. ⌜ Answers (given (setup .settings) (length (now (out .entry))) (now (s .entry))) r (now (out .entry)) (now (out .exit)) ⌝ }
 {
     let mut work: [u16; pass_blocks::WORK] = [0; pass_blocks::WORK];
-    let mut dropped: [bool; pass_blocks::VALUES] = [false; pass_blocks::VALUES];
+    let mut dropped: [bool; most::VALUES] = [false; most::VALUES];
     let mut body: [u8; BODY] = [0; BODY];
     match pass_blocks::run_blocks(
         s,

@@ -3,7 +3,7 @@ use Rattle.mir.specs.Lookup.{rowOf, recordedType, valueRow, shape, isTuple, isS
 use Rattle.mir.specs.Parts.{given, orElse, structRow, consPart, fromStructFields, structParts}
 use Rattle.mir.specs.Phis.{behindPhis, phisOf}
 use Rattle.fold.specs.Scalarizable.{isScalarizable}
-use Rattle.fold.specs.Family.{joins, member, sweep, sweeps, family, buildDest, placeOf, dynamicFirst, dynamicAt, hasDynamicIndex, readsOne, readElsewhere, union, crossFamily, crossBuild, crossBuilds, crossBlocks, crossBlockAggregates}
+use Rattle.fold.specs.Family.{joins, member, sweep, sweeps, family, buildDest, accessed, dynamicFirst, dynamicAt, hasDynamicIndex, readsOne, readElsewhere, union, crossFamily, crossBuild, crossBuilds, crossBlocks, crossBlockAggregates}
 use Rattle.fold.specs.Climb.{buildable, isBuildOf, buildOf, buildableOf, givenParts, constantFirst, onBase, onward, climbParts, climbBuild, climbOne, climbAll, climb, canScalarize}
 use Rattle.fold.specs.Fold.{tupleParent, foldsTuple, foldsStruct, foldsArray, aggregatePhi, skipped}
 use Rattle.rewrite.specs.State.{noStates, insertState, stateOf, consSome, replaced, stepIndex, stepPart, chain, firstInteger, storePart, storeLast, storeDeeper, storeFrom, forwardStore}
@@ -18,7 +18,7 @@ open-lookups = tt
 
 -- which aggregates are used across blocks
 unfoldable open-families : Unit {0}
-unfolding joins member sweep sweeps family buildDest placeOf dynamicFirst dynamicAt hasDynamicIndex readsOne readElsewhere union crossFamily crossBuild crossBuilds crossBlocks crossBlockAggregates
+unfolding joins member sweep sweeps family buildDest accessed dynamicFirst dynamicAt hasDynamicIndex readsOne readElsewhere union crossFamily crossBuild crossBuilds crossBlocks crossBlockAggregates
 open-families = tt
 
 -- which builds are folded, which blocks are skipped

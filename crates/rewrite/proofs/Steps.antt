@@ -11,13 +11,13 @@ use Rattle.mir.specs.declared.ValueId.{ValueId}
 use Rattle.mir.specs.declared.TypeId.{TypeId}
 use Rattle.mir.specs.declared.Value.{Value}
 use Rattle.mir.specs.MirType.{MirType}
-use Rattle.mir.specs.Syntax.{Place, Meta, Instruction, InstructionKind}
+use Rattle.mir.specs.Syntax.{Place, Meta, Instruction, InstructionKind, plain}
 use Rattle.mir.specs.Syntax.{Assign, UnaryOp, BinaryOp, Call, Cast, Load, Store, Debug, Nop, Phi}
 use Rattle.mir.specs.Syntax.{MakeTuple, ExtractTupleElement, MakeStruct, ExtractStructField, InsertField, InsertTuple, MakeFixedArray, AssertEq, HeapAllocCells}
 use Rattle.fold.specs.declared.Settings.{Settings}
 use Rattle.mir.specs.Lookup.{Types, rowOf, isTuple, isStruct, isArray, isAggregate, shape, onSome}
 use Rattle.rewrite.specs.State.{AggStates, stateOf}
-use Rattle.rewrite.specs.Rebuild.{Rebuilt, plain, rebuildAt, keepValue, rebuildValue, oneValue, rebuildAll, aggregateType, wantedArguments, returnType, wantedReturns}
+use Rattle.rewrite.specs.Rebuild.{Rebuilt, rebuildAt, keepValue, rebuildValue, oneValue, rebuildAll, aggregateType, wantedArguments, returnType, wantedReturns}
 use Rattle.rewrite.specs.declared.Counts.{Counts}
 use Rattle.rewrite.specs.Step.{noCounts, materialized, Piece, kept, left, tracked, assigned, stepBuild, stepInsert, handOn, stepExtract, stepLoaded, stepLoad, storeRebuilt, storeKept, stepStore, stepAssign, stepCall, guarded, stepKind, step}
 use Rattle.rewrite.specs.Sum.{beforeStore, before}

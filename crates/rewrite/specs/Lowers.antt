@@ -7,11 +7,10 @@ use Rattle.mir.specs.declared.ValueId.{ValueId}
 use Rattle.mir.specs.declared.TypeId.{TypeId}
 use Rattle.mir.specs.declared.NameId.{NameId}
 use Rattle.mir.specs.declared.Value.{Value}
-use Rattle.mir.specs.Syntax.{Place, FieldInit, Meta, Instruction, InstructionKind, Terminator, Return, Block}
+use Rattle.mir.specs.Syntax.{Place, FieldInit, Meta, Instruction, InstructionKind, Terminator, Return, Block, plain}
 use Rattle.mir.specs.Syntax.{Assign, Call, Load, Store, MakeTuple}
 use Rattle.mir.specs.Syntax.{ExtractTupleElement, MakeStruct, ExtractStructField, InsertField, InsertTuple, MakeFixedArray}
 use Rattle.mir.specs.Phis.{behindPhis, phisOf}
-use Rattle.rewrite.specs.Rebuild.{plain}
 
 -- a rebuild of a value: a build without span, expression id and comment; "a rebuilt array has is_const false"
 pub data Rebuild : ValueId → Instruction → Type 0 where
@@ -68,7 +67,8 @@ pub data Lowers : ℕ → List Instruction → Terminator → List Instruction �
       → Stands (i .kind) k
       → Lowers n is t os u ds m
       → Lowers n (i ∷ is) t (plain k ∷ os) u ds m
-  called : {n k m : ℕ} {a : Meta} {rs : List ValueId} {f : ℕ} {xs ys : List Value} {ps qs : List TypeId} {bs is os : List Instruction} {t u : Terminator} {ds : List ValueId}
+  called : {n k m : ℕ} {a : Meta} {rs : List ValueId} {f : ℕ} {xs ys : List Value} {ps qs : List TypeId}
+      {bs is os : List Instruction} {t u : Terminator} {ds : List ValueId}
       → Rebuilds false n xs ys bs k
       → Lowers k is t os u ds m
       → Lowers n (record { meta = a; kind = Call rs f xs ps qs } ∷ is) t (bs ++ (plain (Call rs f ys ps qs) ∷ os)) u ds m

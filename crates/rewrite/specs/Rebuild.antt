@@ -11,13 +11,9 @@ use Rattle.mir.specs.declared.ValueId.{ValueId}
 use Rattle.mir.specs.declared.TypeId.{TypeId}
 use Rattle.mir.specs.declared.Value.{Value}
 use Rattle.mir.specs.MirType.{StructField, MirType, Felt, Bool, U32, Tuple, Struct, FixedArray, Pointer, Function, Unit, Error, Unknown}
-use Rattle.mir.specs.Syntax.{FieldInit, Instruction, InstructionKind}
+use Rattle.mir.specs.Syntax.{FieldInit, Instruction, InstructionKind, plain}
 use Rattle.mir.specs.Lookup.{Types, rowOf, recordedType, isAggregate}
 use Rattle.rewrite.specs.State.{AggStates, stateOf}
-
--- an instruction without span, expression id and comment
-abbrev pub plain : InstructionKind → Instruction
-plain i = record { meta = record { span = none; expression = none; comment = none }; kind = i }
 
 -- "a tuple rebuilt at a longer type gets Unit parts, at a shorter one loses its last"
 unfoldable pub fitted : ℕ → List Value → List Value

@@ -8,7 +8,7 @@ use Rattle.mir.specs.declared.ValueId.{ValueId}
 use Rattle.mir.specs.declared.TypeId.{TypeId}
 use Rattle.mir.specs.declared.NameId.{NameId}
 use Rattle.mir.specs.declared.Value.{Value}
-use Rattle.mir.specs.Syntax.{Place, Instruction, InstructionKind, Meta}
+use Rattle.mir.specs.Syntax.{Place, Instruction, InstructionKind, Meta, plain}
 use Rattle.mir.specs.Syntax.{Assign, UnaryOp, BinaryOp, Call, Cast, Load, Store, Debug, Nop, Phi}
 use Rattle.mir.specs.Syntax.{MakeTuple, ExtractTupleElement, MakeStruct, ExtractStructField, InsertField, InsertTuple, MakeFixedArray, AssertEq, HeapAllocCells}
 use Rattle.fold.specs.declared.Settings.{Settings}
@@ -16,7 +16,7 @@ use Rattle.mir.specs.Lookup.{Types, rowOf, valueRow, fieldIndex, onSome}
 use Rattle.mir.specs.Parts.{structParts}
 use Rattle.rewrite.specs.declared.Counts.{Counts}
 use Rattle.rewrite.specs.State.{AggStates, insertState, stateOf, replaced, chain, firstInteger, forwardStore}
-use Rattle.rewrite.specs.Rebuild.{Rebuilt, plain, rebuildAll, wantedArguments, aggregateType}
+use Rattle.rewrite.specs.Rebuild.{Rebuilt, rebuildAll, wantedArguments, aggregateType}
 
 abbrev pub noCounts : Counts
 noCounts = record { builds = 0; extracts = 0; inserts = 0; assigns = 0; materializations = 0 }

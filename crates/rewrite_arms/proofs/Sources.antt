@@ -14,9 +14,9 @@ use Rattle.mir.specs.declared.ValueId.{ValueId}
 use Rattle.mir.specs.declared.TypeId.{TypeId}
 use Rattle.mir.specs.MirType.{MirType, Felt, Bool, U32, Tuple, Struct, FixedArray, Pointer, Function, Unit, Error, Unknown}
 use Rattle.bytes_field.specs.declared.Bounds.{Bounds}
-use Rattle.bytes_lookup.specs.declared.Recorded.{Recorded}
+use Rattle.bytes_lookup.specs.declared.TypeFound.{TypeFound}
 use Rattle.bytes_sections.specs.Index.{recordedNumber, recordedFrom}
-use Rattle.bytes_lookup.specs.Found.{asRecorded}
+use Rattle.bytes_lookup.specs.Found.{asType}
 use Rattle.mir.specs.Lookup.{Types, rowOf, recordedType, valueRow, shape, isTuple, isStruct, isArray, isAggregate, isSome}
 use Rattle.mir.specs.Parts.{orElse, structRow}
 use Rattle.rewrite.specs.State.{AggStates, stateOf}
@@ -83,21 +83,21 @@ element-at [] k d h = absurd (omega arith)
 element-at (x ∷ xs) zero d h = refl
 element-at (x ∷ xs) (suc k) d h = element-at xs k d (omega arith)
 
-module _ {b : Bounds} {s types recorded : List ℕ} {τ : Types} (g : Ground b s types recorded τ) (d : ValueId) (l : d .0 < b .next) (r : Recorded) (e : asRecorded r ≡ recordedFrom (getD recorded (d .0) 0)) where
-  recorded-is : asRecorded r ≡ recordedType τ d
+module _ {b : Bounds} {s types recorded : List ℕ} {τ : Types} (g : Ground b s types recorded τ) (d : ValueId) (l : d .0 < b .next) (r : TypeFound) (e : asType r ≡ recordedFrom (getD recorded (d .0) 0)) where
+  recorded-is : asType r ≡ recordedType τ d
   unfolding recordedType
   recorded-is =
       e ∙ ap recordedFrom (g .known .recorded-types (d .0) (omega (arith, g .values)) (omega (arith, g .values, g .known .long))) ∙ number-back (getD (τ .recorded) (d .0) none)
 
   -- a struct goes by its recorded type
-  pub row-recorded : (named : TypeId) {t : TypeId} → r ≡ Recorded.Type t → structRow τ d named ≡ rowOf τ (some t)
+  pub row-recorded : (named : TypeId) {t : TypeId} → r ≡ TypeFound.Type t → structRow τ d named ≡ rowOf τ (some t)
   unfolding structRow valueRow rowOf orElse recordedType
   row-recorded named {t} f =
-      let z : recordedType τ d ≡ some t = sym recorded-is ∙ ap asRecorded f in
+      let z : recordedType τ d ≡ some t = sym recorded-is ∙ ap asType f in
       let w : t .0 < length (τ .rows) = omega (arith, g .rows, g .typed (d .0) t z) in
       rw (z, element-at (τ .rows) (t .0) MirType.Unit w)
 
   -- and where none is recorded by the named one
-  pub row-named : (named : TypeId) → r ≡ Recorded.Nothing → structRow τ d named ≡ rowOf τ (some named)
+  pub row-named : (named : TypeId) → r ≡ TypeFound.Nothing → structRow τ d named ≡ rowOf τ (some named)
   unfolding structRow valueRow rowOf orElse recordedType
-  row-named named f = let z : recordedType τ d ≡ none = sym recorded-is ∙ ap asRecorded f in rw z
+  row-named named f = let z : recordedType τ d ≡ none = sym recorded-is ∙ ap asType f in rw z

@@ -1,10 +1,12 @@
 // What can be decided of an instruction: what is found of its source, and what is to be done with its dest.
 use bytes_field::Bounds;
-use bytes_lookup::Recorded;
+use bytes_lookup::TypeFound;
+use bytes_types::layout;
 use mir::NameId;
 use mir::TypeId;
 use mir::Value;
 use mir::ValueId;
+use mir::shape;
 use rewrite_chains::Position;
 use rewrite_parts::Init;
 ghost use mathlib.Core.Path.{_≡_};
@@ -22,45 +24,13 @@ ghost use Rattle.mir.specs.Parts.{structRow};
 ghost use Rattle.rewrite.specs.State.{AggStates, stateOf};
 ghost use Rattle.rewrite_parts.specs.Rows.{rowMost, usedBelow, Rep, InitAt};
 ghost use Rattle.rewrite_arms.specs.Decided.{SourceOf, builtAs, FieldPart, TakePlanned, AssignPlanned, InsertPlanned, StructPlanned, FieldsBuilt};
-
-// The kinds of instructions that are rewritten, as the table of facts has them.
-pub const ASSIGN: u16 = 0;
-
-pub const CALL: u16 = 3;
-
-pub const LOAD: u16 = 5;
-
-pub const STORE: u16 = 6;
-
-pub const MAKE_TUPLE: u16 = 10;
-
-pub const EXTRACT_TUPLE_ELEMENT: u16 = 11;
-
-pub const MAKE_STRUCT: u16 = 12;
-
-pub const EXTRACT_STRUCT_FIELD: u16 = 13;
-
-pub const INSERT_FIELD: u16 = 14;
-
-pub const INSERT_TUPLE: u16 = 15;
-
-pub const MAKE_FIXED_ARRAY: u16 = 16;
+ghost use Rattle.bytes_operands.specs.Reach.{offsetReach};
 
 // How many bytes the dest has that an instruction's own fields begin with; behind it a build has the number of its parts,
 // and then these.
 pub const DEST_BYTES: usize = 2;
 
 pub const PARTS: usize = 3;
-
-// The shapes of types: a struct, and any type that is no aggregate.
-const STRUCT_SHAPE: u8 = 2;
-
-const NO_SHAPE: u8 = 0;
-
-// In the row of a struct type: the number of its fields, and the fields.
-const FIELD_COUNT: usize = 3;
-
-const FIELDS: usize = 4;
 
 // The type of two bytes that stands last in an instruction.
 const TYPE_BYTES: usize = 2;
@@ -151,7 +121,7 @@ pub fn is_aggregate(s: &[u8], types: &[u16], many: u16, t: TypeId) -> bool
     ensures { λ r. ⌜ ((most : ℕ) (τ : Types) → TypesAt most (now (s .entry)) (now (types .entry)) (τ .rows) → length (τ .rows) ≡ many
         → r ≡ isAggregate (rowOf τ (some t))) ⌝ }
 {
-    fold_shapes::type_shape(s, types, many, t) != NO_SHAPE
+    fold_shapes::type_shape(s, types, many, t) != shape::OTHER
 }
 
 // The type by which a struct's parts go: the recorded one of its dest, else the named one.
@@ -160,8 +130,8 @@ fn struct_type(recorded: &[u16], d: ValueId, named: TypeId) -> TypeId
         → structRow τ d named ≡ rowOf τ (some r)) ⌝ }
 {
     match bytes_lookup::recorded_type(recorded, d) {
-        Recorded::Type(t) => t,
-        Recorded::Nothing => named,
+        TypeFound::Type(t) => t,
+        TypeFound::Nothing => named,
     }
 }
 
@@ -170,7 +140,7 @@ pub fn plan_struct(s: &[u8], b: Bounds, facts: &[u16], p: Spot, named: TypeId) -
     ensures { λ r. ⌜ StructPlanned b (now (s .entry)) (now (facts .entry)) p named r ⌝ }
 {
     let t = struct_type(bytes_index::recorded(facts), p.dest, named);
-    if fold_shapes::type_shape(s, facts, b.types, t) != STRUCT_SHAPE {
+    if fold_shapes::type_shape(s, facts, b.types, t) != shape::STRUCT {
         return Plan::Keep;
     }
     Plan::Fields(t)
@@ -196,14 +166,14 @@ pub fn build_fields(
     rows: &mut [u16],
     used: usize,
 ) -> Decision
-    requires { ⌜ (used < usedBelow) × (p .off < 2199023255552) ⌝ }
+    requires { ⌜ (used < usedBelow) × (p .off < offsetReach) ⌝ }
     ensures { λ r. ⌜ r .used ≤ used + rowMost ⌝ }
     ensures { λ r. ⌜ FieldsBuilt (now (s .entry)) (now (facts .entry)) p t (now (tracked .entry)) (now (rows .entry)) used
         (now (tracked .exit)) (now (rows .exit)) r ⌝ }
 {
     let row = bytes_field::tail(s, bytes_lookup::type_place(facts, t));
     let n = bytes_wire::byte_at(s, p.off + DEST_BYTES);
-    let m = bytes_wire::byte_at(row, FIELD_COUNT);
+    let m = bytes_wire::byte_at(row, layout::STRUCT_COUNT);
     let r = rewrite_parts::track_named(
         s,
         tracked,
@@ -213,7 +183,7 @@ pub fn build_fields(
         p.off + PARTS,
         n,
         row,
-        FIELDS,
+        layout::STRUCT_NAMES,
         m,
     );
     Decision {

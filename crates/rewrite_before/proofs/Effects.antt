@@ -11,20 +11,20 @@ use Rattle.bytes_wire.specs.Value.{valueBytes}
 use Rattle.mir.specs.declared.ValueId.{ValueId}
 use Rattle.mir.specs.declared.TypeId.{TypeId}
 use Rattle.mir.specs.declared.Value.{Value}
-use Rattle.mir.specs.Syntax.{Place, Instruction, Call, Store, Return}
+use Rattle.mir.specs.Syntax.{Place, Instruction, Call, Store, Return, plain}
 use Rattle.bytes_field.specs.Encode.{eachBytes, instructionBytes, terminatorBytes}
 use Rattle.bytes_field.specs.Decode.{bit}
 use Rattle.bytes_operands.specs.Fields.{fieldsPlace}
 use Rattle.mir.specs.Lookup.{Types, isAggregate, rowOf, onSome}
 use Rattle.fold.specs.Family.{Marks}
 use Rattle.rewrite.specs.State.{AggStates, stateOf}
-use Rattle.rewrite.specs.Rebuild.{Rebuilt, Wanted, plain, untouched, keepValue, rebuildValue, oneValue, rebuildAll, aggregateType}
+use Rattle.rewrite.specs.Rebuild.{Rebuilt, Wanted, untouched, keepValue, rebuildValue, oneValue, rebuildAll, aggregateType}
 use Rattle.rewrite.specs.Step.{Piece, noCounts, materialized, kept, stepCall, storeRebuilt, storeKept}
 use Rattle.rewrite.specs.Run.{returned}
-use Rattle.rewrite_build.specs.Written.{Writes}
+use Rattle.bytes_emit.specs.Written.{Writes}
 use Rattle.rewrite_progress.specs.declared.Progress.{Progress}
 use Rattle.rewrite_progress.specs.declared.Put.{Put}
-use Rattle.rewrite_progress.specs.Effect.{Effect, outputOf, numbersOf, markAll, further, behind, thenEffect, rebuiltEffect, pieceEffect, walkedEffect, Puts, Low}
+use Rattle.rewrite_progress.specs.Effect.{Effect, outputOf, typeNumbers, markAll, further, behind, thenEffect, rebuiltEffect, pieceEffect, walkedEffect, Puts, Low}
 use Rattle.rewrite_progress.proofs.Laws.{no-went, no-clash, each-append, behind-then}
 use Rattle.rewrite_wanted.specs.declared.Asks.{Asks}
 use Rattle.rewrite_wanted.specs.Asked.{askedList}
@@ -36,7 +36,7 @@ abbrev pub line : List ℕ → ℕ → ℕ → Effect
 line w lines made = record { bytes = w; lines = lines; dropped = []; fresh = []; counts = materialized made }
 
 one-further : (out fresh : List ℕ) (dropped : Marks) (q : Progress) (w out′ : List ℕ) (to lines made : ℕ) → Writes w out out′ (q .to) to → outputOf out′ fresh dropped (onward q to lines made) ≡ behind (outputOf out fresh dropped q) (line w lines made)
-unfolding behind further markAll numbersOf
+unfolding behind further markAll typeNumbers
 one-further out fresh dropped q w out′ to lines made v = rw (v .0, v .1, add-zero (q .fresh)) refl
 
 module _ (out fresh : List ℕ) (dropped : Marks) (p : Progress) (R : Rebuilt) (r : Put) (out₁ fresh₁ : List ℕ) (u : Puts (outputOf out fresh dropped p) (rebuiltEffect R) (R .clash) out₁ fresh₁ dropped r) where

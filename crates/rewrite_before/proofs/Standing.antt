@@ -15,7 +15,7 @@ use Rattle.mir.specs.declared.ValueId.{ValueId}
 use Rattle.mir.specs.declared.TypeId.{TypeId}
 use Rattle.mir.specs.declared.Value.{Value}
 use Rattle.bytes_wire.proofs.Canon.{Canon, bytes-drop}
-use Rattle.mir.specs.Syntax.{Place, Instruction, InstructionKind, Call, Store}
+use Rattle.mir.specs.Syntax.{Place, Instruction, InstructionKind, Call, Store, plain}
 use Rattle.mir.specs.Reads.{kindNumber}
 use Rattle.bytes_field.specs.Decode.{bit, callOf, storeOf, instructionOf}
 use Rattle.bytes_field.specs.Encode.{eachBytes, listBytes, valueIdBytes, typeIdBytes, placeBytes, fieldBytes, metaBytes, bitMap, instructionBytes}
@@ -27,7 +27,7 @@ use Rattle.bytes_laws.proofs.Exact.{whole}
 use Rattle.bytes_laws.proofs.EachKind.{fieldsMost, fields}
 use Rattle.bytes_laws.proofs.Instruction.{instruction-canon}
 use Rattle.mir.specs.Lookup.{Types}
-use Rattle.rewrite.specs.Rebuild.{plain, aggregateType, wantedArguments}
+use Rattle.rewrite.specs.Rebuild.{aggregateType, wantedArguments}
 use Rattle.rewrite_parts.specs.Rows.{ValueAt, stands}
 use Rattle.rewrite_wanted.specs.declared.Asks.{Asks}
 use Rattle.rewrite_wanted.specs.Asked.{askedAt, askedList}

@@ -20,7 +20,7 @@ use Rattle.bytes_operands.proofs.Loops.{plain-values}
 use Rattle.bytes_laws.proofs.Instruction.{instruction-size}
 use Rattle.fold.specs.Family.{Marks}
 use Rattle.rewrite.specs.Rebuild.{rebuildAll}
-use Rattle.rewrite_build.specs.Written.{Writes}
+use Rattle.bytes_emit.specs.Written.{Writes}
 use Rattle.rewrite_wanted.specs.declared.Asks.{Asks}
 use Rattle.rewrite_wanted.specs.Asked.{askedList}
 use Rattle.rewrite_list.specs.declared.ValueList.{ValueList}

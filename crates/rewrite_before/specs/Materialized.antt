@@ -21,7 +21,7 @@ use Rattle.rewrite.specs.Step.{Piece, materialized, stepCall, storeKept}
 use Rattle.rewrite.specs.Run.{Walked, addCounts, finish}
 use Rattle.rewrite_parts.specs.Rows.{Rep, rowsIn, freshIn}
 use Rattle.rewrite_parts.specs.Here.{Here}
-use Rattle.rewrite_build.specs.Written.{Writes}
+use Rattle.bytes_emit.specs.Written.{Writes}
 use Rattle.rewrite_progress.specs.declared.Progress.{Progress}
 use Rattle.rewrite_progress.specs.declared.Put.{Put}
 use Rattle.rewrite_progress.specs.Ground.{Ground}
@@ -33,6 +33,16 @@ use Rattle.rewrite_list.specs.Lists.{mostCopied, OfList}
 -- the kind of a Call
 abbrev pub callKind : ℕ
 callKind = 3
+
+-- the most bytes of what is written anew, of a Call with its kind, and where a Call's arguments begin at most
+abbrev pub anewMost : ℕ
+anewMost = 4096
+
+abbrev pub callMost : ℕ
+callMost = 4098
+
+abbrev pub listStarts : ℕ
+listStarts = 1024
 
 -- so many lines further, and so many materializations more
 abbrev pub onward : Progress → ℕ → ℕ → ℕ → Progress

@@ -1,6 +1,7 @@
 // Rebuilds before what needs them: a Call's tracked arguments, a Store's tracked value, the tracked values of a Return.
 // The builds are written first, then the instruction or terminator with the fresh numbers put in.
 use bytes_field::Bounds;
+use mir::kind;
 use rewrite::Counts;
 use rewrite_list::ValueList;
 use rewrite_progress::Progress;
@@ -10,12 +11,13 @@ ghost use mathlib.Core.Path.{_≡_};
 ghost use Prim.Native.Nat.{ℕ, _+_, _-_, _≤_, _<_};
 ghost use Rattle.rewrite_parts.specs.Rows.{rowsIn};
 ghost use Rattle.rewrite_list.specs.Lists.{mostCopied};
-ghost use Rattle.rewrite_progress.specs.Effect.{lowEnough, Low, PutLow};
-ghost use Rattle.rewrite_before.specs.Materialized.{onward, callList, storeList};
+ghost use Rattle.rewrite_progress.specs.Effect.{lowEnough, Low, PutLow, countsBelow, mostLines};
+ghost use Rattle.rewrite_before.specs.Materialized.{onward, callList, storeList, anewMost, callMost, listStarts};
 ghost use Rattle.rewrite_before.specs.Materialized.{AnewWritten, CallWritten, InstructionWritten, CallPut, StorePut, ReturnPut};
+ghost use Rattle.bytes_emit.specs.Written.{valueRoom, rebuiltRoom, callRoom};
 
 // The kind of a Call.
-const CALL: u8 = 3;
+const CALL: u8 = kind::CALL as u8;
 
 // The values of a Return stand behind its kind and their number.
 const RETURN_COUNT: usize = 1;
@@ -36,7 +38,7 @@ fn minus(a: usize, b: usize) -> usize
 
 // The output is written up to `to`: so many instructions further, and so many more materializations.
 fn put_further(p: Progress, to: usize, lines: u32, made: u32) -> Progress
-    requires { ⌜ (p .lines < 1073741824) × ((p .counts .materializations < 1073741824) × ((lines < 1024) × (made < 1024))) ⌝ }
+    requires { ⌜ (p .lines < countsBelow) × ((p .counts .materializations < countsBelow) × ((lines < mostLines) × (made < mostLines))) ⌝ }
     ensures { λ r. ⌜ r ≡ onward p to lines made ⌝ }
 {
     let c = p.counts;
@@ -57,7 +59,7 @@ fn put_further(p: Progress, to: usize, lines: u32, made: u32) -> Progress
 
 // Writes a slot's instruction as it stands, and returns the place behind it.
 fn copy_instruction(out: &mut [u8], to: usize, s: &[u8], facts: &[u16], slot: u16) -> usize
-    requires { ⌜ to < 1099511627776 ⌝ }
+    requires { ⌜ to < valueRoom ⌝ }
     ensures { λ r. ⌜ r ≤ to + mostCopied ⌝ }
     ensures { λ r. ⌜ InstructionWritten (now (s .entry)) (now (facts .entry)) slot (now (out .entry)) (now (out .exit)) to r ⌝ }
 {
@@ -83,8 +85,8 @@ fn put_anew(
     tracked: &[bool],
     end: usize,
 ) -> usize
-    requires { ⌜ (to < 137438953472) × ((taken < 1073741824) × (list .first < 1073741824)) ⌝ }
-    ensures { λ r. ⌜ r ≤ to + 4096 ⌝ }
+    requires { ⌜ (to < rebuiltRoom) × ((taken < countsBelow) × (list .first < countsBelow)) ⌝ }
+    ensures { λ r. ⌜ r ≤ to + anewMost ⌝ }
     ensures { λ r. ⌜ AnewWritten b (now (s .entry)) (now (facts .entry)) (now (t .entry)) (now (tracked .entry)) list taken end
         (now (out .entry)) (now (out .exit)) to r ⌝ }
 {
@@ -96,7 +98,7 @@ fn put_anew(
 
 // The arguments of the Call that has the fields f.
 fn call_list(f: &[u8]) -> ValueList
-    ensures { λ r. ⌜ (r ≡ callList (now (f .entry))) × (r .first ≤ 1024) ⌝ }
+    ensures { λ r. ⌜ (r ≡ callList (now (f .entry))) × (r .first ≤ listStarts) ⌝ }
 {
     let first = 4 + 2 * bytes_wire::byte_at(f, 0) as usize;
     let many = bytes_wire::byte_at(f, first - 1);
@@ -122,8 +124,8 @@ fn put_call_anew(
     tracked: &[bool],
     end: usize,
 ) -> usize
-    requires { ⌜ (to < 68719476736) × ((taken < 1073741824) × (list .first < 1073741824)) ⌝ }
-    ensures { λ r. ⌜ r ≤ to + 4098 ⌝ }
+    requires { ⌜ (to < callRoom) × ((taken < countsBelow) × (list .first < countsBelow)) ⌝ }
+    ensures { λ r. ⌜ r ≤ to + callMost ⌝ }
     ensures { λ r. ⌜ CallWritten b (now (s .entry)) (now (facts .entry)) (now (f .entry)) (now (tracked .entry)) list taken end
         (now (out .entry)) (now (out .exit)) to r ⌝ }
 {
@@ -170,7 +172,7 @@ pub fn put_call(
 
 // The value of the Store that begins here.
 fn store_list(t: &[u8]) -> ValueList
-    ensures { λ r. ⌜ (r ≡ storeList (now (t .entry))) × (r .first < 1073741824) ⌝ }
+    ensures { λ r. ⌜ (r ≡ storeList (now (t .entry))) × (r .first < countsBelow) ⌝ }
 {
     let place = bytes_operands::fields_place(t);
     let f = bytes_field::tail(t, place);

@@ -21,7 +21,7 @@ use Rattle.rewrite.specs.State.{AggStates}
 use Rattle.rewrite.specs.Run.{ends, finish}
 use Rattle.rewrite_progress.specs.declared.Progress.{Progress}
 use Rattle.rewrite_progress.specs.declared.Put.{Put}
-use Rattle.rewrite_progress.specs.Effect.{outputOf, behind, further, walkedEffect, markAll, numbersOf, Puts}
+use Rattle.rewrite_progress.specs.Effect.{outputOf, behind, further, walkedEffect, markAll, typeNumbers, Puts}
 use Rattle.rewrite_perform.specs.Performed.{movedTo}
 use Rattle.rewrite_perform.proofs.Counting.{puts-went}
 
@@ -79,7 +79,7 @@ module _ (b : Bounds) (s facts : List ℕ) (slot : ℕ) (t : Terminator) (h : By
       → (end ≡ endIn facts slot) × (end < 65536) → part ≡ take (end - at) (drop at s)
       → (length part ≤ 65536 → (r ≡ movedTo p (p .to + length part) (p .lines + 0)) × (out′ ≡ sets out (p .to) part))
       → Puts (outputOf out types dropped p) (walkedEffect (finish τ S m t)) ((finish τ S m t) .clash) out′ types dropped (Put.Went r)
-  unfolding behind further walkedEffect ends markAll numbersOf
+  unfolding behind further walkedEffect ends markAll typeNumbers
   other-end τ S m end part out out′ types dropped p r n ee f w =
       let z : finish τ S m t ≡ ends t = not-three τ S m t (λ x. n (sym tag-is ∙ x)) in
       let own : part ≡ terminatorBytes t = f ∙ ap (λ j. take (end - j) (drop j s)) ea ∙ ap (λ j. take (j - from) (drop from s)) (ee .0) ∙ sym canon-same in

@@ -25,7 +25,7 @@ use Rattle.rewrite_progress.specs.declared.Put.{Put}
 use Rattle.rewrite_progress.specs.declared.Setup.{Setup}
 use Rattle.rewrite_progress.specs.Ground.{Coded}
 use Rattle.rewrite_progress.specs.Chosen.{skipsFrom, Follows}
-use Rattle.rewrite_progress.specs.Effect.{behind, further, walkedEffect, rewrittenEffect, numbersOf, markAll, Puts, Low, PutLow}
+use Rattle.rewrite_progress.specs.Effect.{behind, further, walkedEffect, rewrittenEffect, typeNumbers, markAll, Puts, Low, PutLow}
 use Rattle.rewrite_step.specs.declared.Reached.{Reached}
 use Rattle.rewrite_step.specs.declared.Stepped.{Stepped}
 use Rattle.rewrite_perform.specs.Performed.{movedTo}
@@ -34,7 +34,8 @@ use Rattle.rewrite_perform.proofs.Lows.{low-mono, low-moved}
 use Rattle.rewrite_perform.proofs.Counting.{puts-went, puts-clash}
 use Rattle.rewrite_perform.specs.Performed.{blockEffect, CountPut}
 use Rattle.rewrite_blocks.specs.declared.Slots.{Slots}
-use Rattle.rewrite_blocks.specs.Blocks.{mostInstructions, mostSlots, SlotsOf, EndPut, walkOf, Left, Begun, InstructionsPut, rewritten, OnePut}
+use Rattle.mir.specs.Most.{mostSlots, mostInstructions}
+use Rattle.rewrite_blocks.specs.Blocks.{SlotsOf, EndPut, walkOf, Left, Begun, InstructionsPut, rewritten, OnePut}
 use Rattle.rewrite_blocks.proofs.Whole.{skip-effect, walk-effect}
 
 transfer : {A : Type 0} (P : A → Type 0) (x y : A) → x ≡ y → P x → P y
@@ -131,7 +132,7 @@ module _ (setup : Setup) (s facts : List ℕ) (choice : List Bool) (k : ℕ) (p 
       → ((τ : Types) (ks : List Block) → Coded (setup .bounds) s facts τ ks → k < length ks → part ≡ blockBytes (getD ks k noBlock))
       → (length part ≤ 65536 → (r ≡ movedTo p (p .to + length part) (p .lines + 0)) × (out ≡ sets (l .out) (p .to) part))
       → OnePut setup s facts choice k l p (lentAs (l .tracked) (l .dropped) (l .work) out) (Put.Went r)
-  unfolding behind further numbersOf markAll
+  unfolding behind further typeNumbers markAll
   skipped-puts l skips part out r fs sk stands put τ c ks co fo h z en =
       let x = getD ks k noBlock in
       let y = skip-effect (setup .settings) τ c (setup .bounds .next + p .fresh) x (sym (fo .skip k h) ∙ sym fs ∙ sk) in

@@ -14,7 +14,8 @@ use Rattle.mir.specs.Lookup.{Types}
 use Rattle.fold.specs.Family.{Marks, buildDest}
 use Rattle.rewrite.specs.State.{AggStates, noStates}
 use Rattle.rewrite.specs.Run.{Walked, Rewritten, Choice, finish, walk, allBlocks}
-use Rattle.rewrite_parts.specs.Rows.{mostValues, Rep, rowsFrom, rowsSize, rowsIn, freshIn}
+use Rattle.mir.specs.Most.{mostValues, mostInstructions, mostSlots}
+use Rattle.rewrite_parts.specs.Rows.{Rep, rowsFrom, rowsSize, rowsIn, freshIn}
 use Rattle.rewrite_progress.specs.declared.Progress.{Progress}
 use Rattle.rewrite_progress.specs.declared.Put.{Put}
 use Rattle.rewrite_progress.specs.declared.Setup.{Setup}
@@ -25,13 +26,6 @@ use Rattle.rewrite_step.specs.declared.Reached.{Reached}
 use Rattle.rewrite_step.specs.declared.Stepped.{Stepped}
 use Rattle.rewrite_step.specs.Stepping.{Lent, outputIn, PutsIn, freshFrom, Enough}
 use Rattle.rewrite_blocks.specs.declared.Slots.{Slots}
-
--- the most instructions of a block, and the most slots of a routine
-abbrev pub mostInstructions : ℕ
-mostInstructions = 128
-
-abbrev pub mostSlots : ℕ
-mostSlots = 288
 
 -- the slots of block k: those that the table of facts has
 pub record SlotsOf (facts : List ℕ) (k : ℕ) (at : Slots) : Type 0 where

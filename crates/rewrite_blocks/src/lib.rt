@@ -1,6 +1,8 @@
 // Blocks rewritten one after another: what is decided of each instruction is put out.
 use bytes_field::Bounds;
 use mir::BlockId;
+use mir::most;
+use mir::terminator;
 use rewrite_parts::ROWS_FROM;
 use rewrite_progress::Progress;
 use rewrite_progress::Put;
@@ -14,17 +16,15 @@ ghost use Prim.Native.Nat.{ℕ, _+_, _*_, _≤_, _<_};
 ghost use lib.ListN.{getD};
 ghost use Rattle.rewrite_parts.specs.Rows.{rowMost};
 ghost use Rattle.rewrite_progress.specs.Chosen.{skipsFrom};
-ghost use Rattle.rewrite_progress.specs.Effect.{lowEnough, Low, PutLow};
+ghost use Rattle.rewrite_progress.specs.Effect.{lowEnough, Low, PutLow, startLow, blockLow, blockRise, routineLow};
 ghost use Rattle.rewrite_step.specs.Stepping.{lentAs, SteppedLow};
 ghost use Rattle.rewrite_blocks.specs.Blocks.{EndPut, SlotsOf, Ready, InstructionsPut, Lendable, OnePut, AllPut};
+ghost use Rattle.mir.specs.Most.{mostBlocks};
 
 // The most instructions of a block, and the most slots of a routine: its instructions and its terminators.
-const MOST_INSTRUCTIONS: u16 = 128;
+const MOST_INSTRUCTIONS: u16 = most::INSTRUCTIONS as u16;
 
-const MOST_SLOTS: u16 = 288;
-
-// What the terminator Return begins with.
-const RETURN: u8 = 3;
+const MOST_SLOTS: u16 = most::SLOTS as u16;
 
 // How many bytes the count in front of a block has.
 const COUNT_BYTES: usize = 2;
@@ -47,11 +47,8 @@ fn block_slots(facts: &[u16], k: BlockId) -> Slots
     ensures { λ r. ⌜ SlotsOf (now (facts .entry)) (k .0) r ⌝ }
 {
     Slots {
-        first: capped(bytes_index::first_slot(facts, k.0), MOST_SLOTS),
-        count: capped(
-            bytes_index::instruction_count(facts, k.0),
-            MOST_INSTRUCTIONS,
-        ),
+        first: capped(bytes_index::first_slot(facts, k), MOST_SLOTS),
+        count: capped(bytes_index::instruction_count(facts, k), MOST_INSTRUCTIONS),
     }
 }
 
@@ -72,7 +69,7 @@ fn put_end(
         (now (tracked .entry)) (now (work .entry)) (now (out .entry)) p (now (work .exit)) (now (out .exit)) r ⌝ }
 {
     let at = bytes_index::place(facts, slot);
-    if bytes_wire::byte_at(s, at) == RETURN {
+    if bytes_wire::byte_at(s, at) == terminator::RETURN {
         return rewrite_before::put_return(out, p, s, b, facts, slot, tracked, work);
     }
     let part = bytes_field::between(s, at, bytes_index::end(facts, slot));
@@ -131,8 +128,8 @@ fn put_rewritten(
     out: &mut [u8],
     p: Progress,
 ) -> Put
-    requires { ⌜ Low 4800 p × Lendable (now tracked) (now work) ⌝ }
-    ensures { λ r. ⌜ ((n : ℕ) → Low n p → PutLow (n + 130) r) ⌝ }
+    requires { ⌜ Low blockLow p × Lendable (now tracked) (now work) ⌝ }
+    ensures { λ r. ⌜ ((n : ℕ) → Low n p → PutLow (n + blockRise) r) ⌝ }
     ensures { λ r. ⌜ (getD (now (choice .entry)) (skipsFrom + k .0) false ≡ false
         → OnePut setup (now (s .entry)) (now (facts .entry)) (now (choice .entry)) (k .0)
         (lentAs (now (tracked .entry)) (now (dropped .entry)) (now (work .entry)) (now (out .entry))) p
@@ -169,8 +166,8 @@ fn put_block(
     out: &mut [u8],
     p: Progress,
 ) -> Put
-    requires { ⌜ Low 4800 p × Lendable (now tracked) (now work) ⌝ }
-    ensures { λ r. ⌜ ((n : ℕ) → Low n p → PutLow (n + 130) r) ⌝ }
+    requires { ⌜ Low blockLow p × Lendable (now tracked) (now work) ⌝ }
+    ensures { λ r. ⌜ ((n : ℕ) → Low n p → PutLow (n + blockRise) r) ⌝ }
     ensures { λ r. ⌜ OnePut setup (now (s .entry)) (now (facts .entry)) (now (choice .entry)) (k .0)
         (lentAs (now (tracked .entry)) (now (dropped .entry)) (now (work .entry)) (now (out .entry))) p
         (lentAs (now (tracked .exit)) (now (dropped .exit)) (now (work .exit)) (now (out .exit))) r ⌝ }
@@ -196,8 +193,8 @@ pub fn put_blocks(
     work: &mut [u16],
     out: &mut [u8],
 ) -> Put
-    requires { ⌜ Low 64 p × ((setup .bounds .blocks ≤ 32) × Lendable (now tracked) (now work)) ⌝ }
-    ensures { λ r. ⌜ PutLow 4300 r ⌝ }
+    requires { ⌜ Low startLow p × ((setup .bounds .blocks ≤ mostBlocks) × Lendable (now tracked) (now work)) ⌝ }
+    ensures { λ r. ⌜ PutLow routineLow r ⌝ }
     ensures { λ r. ⌜ AllPut setup (now (s .entry)) (now (facts .entry)) (now (choice .entry))
         (lentAs (now (tracked .entry)) (now (dropped .entry)) (now (work .entry)) (now (out .entry))) p
         (lentAs (now (tracked .exit)) (now (dropped .exit)) (now (work .exit)) (now (out .exit))) r ⌝ }

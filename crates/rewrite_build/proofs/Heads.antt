@@ -10,12 +10,12 @@ use Rattle.bytes_wire.specs.Value.{valueBytes}
 use Rattle.mir.specs.declared.ValueId.{ValueId}
 use Rattle.mir.specs.declared.TypeId.{TypeId}
 use Rattle.mir.specs.declared.Value.{Value}
-use Rattle.mir.specs.Syntax.{InstructionKind}
+use Rattle.mir.specs.Syntax.{InstructionKind, plain}
 use Rattle.bytes_field.specs.Encode.{eachBytes, valueIdBytes, typeIdBytes, fieldInitBytes, fieldBytes, instructionBytes}
 use Rattle.bytes_emit.proofs.Sets.{sets-append, sets-assign}
 use Rattle.mir.specs.MirType.{StructField}
-use Rattle.rewrite.specs.Rebuild.{plain, fitted, named}
-use Rattle.rewrite_build.specs.Written.{Writes}
+use Rattle.rewrite.specs.Rebuild.{fitted, named}
+use Rattle.bytes_emit.specs.Written.{Writes}
 use Rattle.rewrite.proofs.Parts.{length-fitted}
 use Rattle.rewrite_build.proofs.Writing.{fitted-same, length-named}
 

@@ -16,15 +16,16 @@ use Rattle.mir.specs.declared.ValueId.{ValueId}
 use Rattle.mir.specs.declared.TypeId.{TypeId}
 use Rattle.mir.specs.declared.Value.{Value}
 use Rattle.bytes_wire.proofs.Canon.{bytes-drop}
-use Rattle.mir.specs.Syntax.{InstructionKind}
+use Rattle.mir.specs.Syntax.{InstructionKind, plain}
 use Rattle.bytes_field.specs.Encode.{eachBytes, instructionBytes}
 use Rattle.mir.specs.MirType.{StructField, MirType}
 use Rattle.bytes_types.specs.Decode.{typeOf}
 use Rattle.bytes_types.specs.Index.{TypesAt}
 use Rattle.bytes_before.proofs.Same.{no-true}
 use Rattle.mir.specs.Lookup.{Types, rowOf}
-use Rattle.rewrite.specs.Rebuild.{plain, fitted, named, rebuildAt, clashes}
-use Rattle.rewrite_build.specs.Written.{Writes, NamesIn, Rebuilds}
+use Rattle.rewrite.specs.Rebuild.{fitted, named, rebuildAt, clashes}
+use Rattle.bytes_emit.specs.Written.{Writes}
+use Rattle.rewrite_build.specs.Written.{NamesIn, Rebuilds}
 use Rattle.rewrite_build.proofs.Shape.{tuple, struct, array, other, shape-of}
 
 -- the type T was read from `row`

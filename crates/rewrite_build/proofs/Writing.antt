@@ -16,7 +16,8 @@ use Rattle.mir.specs.MirType.{StructField}
 use Rattle.rewrite.specs.Rebuild.{fitted, named}
 use Rattle.rewrite.proofs.Parts.{length-fitted, getD-fitted}
 use Rattle.rewrite_parts.specs.Rows.{ValueAt, RowAt, noField}
-use Rattle.rewrite_build.specs.Written.{Writes, OfParts, OfFields}
+use Rattle.bytes_emit.specs.Written.{Writes}
+use Rattle.rewrite_build.specs.Written.{OfParts, OfFields}
 
 -- within a list it does not matter what stands behind it
 getD-any : {A : Type 0} (l : List A) (k : ℕ) (a b : A) → k < length l → getD l k a ≡ getD l k b

@@ -12,6 +12,7 @@ use Rattle.bytes_wire.specs.WellFormed.{Bytes}
 use Rattle.mir.specs.declared.ValueId.{ValueId}
 use Rattle.mir.specs.declared.TypeId.{TypeId}
 use Rattle.mir.specs.declared.Value.{Value}
+use Rattle.bytes_emit.specs.Written.{Writes}
 use Rattle.bytes_field.specs.Encode.{eachBytes, instructionBytes, nameIdBytes}
 use Rattle.mir.specs.MirType.{StructField, MirType}
 use Rattle.bytes_types.specs.Decode.{typeOf}
@@ -21,9 +22,9 @@ use Rattle.rewrite.specs.Rebuild.{rebuildAt, clashes}
 use Rattle.rewrite_parts.specs.Rows.{RowAt, noField}
 use Rattle.rewrite_build.specs.declared.Rebuilt.{Rebuilt}
 
--- `bytes` are written from `to` on, and r is the place behind them
-abbrev pub Writes : List ℕ → List ℕ → List ℕ → ℕ → ℕ → Type 0
-Writes bytes out out′ to r = (r ≡ to + length bytes) × (out′ ≡ sets out to bytes)
+-- a row of parts begins before this
+abbrev pub rowRoom : ℕ
+rowRoom = 1099511627776
 
 -- the most bytes of a rebuild
 abbrev pub rebuildMost : ℕ

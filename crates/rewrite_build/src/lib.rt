@@ -1,9 +1,12 @@
 // The rebuild of an aggregate from its parts: sroa.rs 1420, `materialize`. The parts are places of values in the input.
+use bytes_types::layout;
 use mir::Literal;
 use mir::NameId;
 use mir::TypeId;
 use mir::Value;
 use mir::ValueId;
+use mir::kind;
+use mir::type_kind;
 ghost use mathlib.Core.Path.{_≡_};
 ghost use mathlib.Core.List.{List, [], _∷_, _++_};
 ghost use mathlib.Core.Bool.{false};
@@ -12,39 +15,19 @@ ghost use Prim.Native.Nat.{_+_, _*_, _≤_, _<_};
 ghost use lib.ListN.{length, getD};
 ghost use lib.Seq.{sets};
 ghost use Rattle.bytes_wire.specs.Value.{valueBytes, unit};
-ghost use Rattle.mir.specs.Syntax.{InstructionKind};
+ghost use Rattle.mir.specs.Syntax.{InstructionKind, plain};
 ghost use Rattle.bytes_field.specs.Encode.{eachBytes, valueIdBytes, fieldInitBytes, instructionBytes};
-ghost use Rattle.rewrite.specs.Rebuild.{plain, fitted, named, rebuildAt, clashes};
+ghost use Rattle.rewrite.specs.Rebuild.{fitted, named, rebuildAt, clashes};
 ghost use Rattle.rewrite_parts.specs.Rows.{mostParts, ValueAt};
-ghost use Rattle.rewrite_build.specs.Written.{rebuildMost, Writes, OfParts, OfFields, OfType, OfTable, Rebuilds};
+ghost use Rattle.bytes_emit.specs.Written.{Writes, valueRoom, instructionRoom, buildRoom};
+ghost use Rattle.rewrite_build.specs.Written.{rebuildMost, OfParts, OfFields, OfType, OfTable, Rebuilds, rowRoom};
 
-// The kinds of the builds.
-const MAKE_TUPLE: u8 = 10;
+// The kinds of the builds, as a byte.
+const MAKE_TUPLE: u8 = kind::MAKE_TUPLE as u8;
 
-const MAKE_STRUCT: u8 = 12;
+const MAKE_STRUCT: u8 = kind::MAKE_STRUCT as u8;
 
-const MAKE_FIXED_ARRAY: u8 = 16;
-
-// The kinds of the aggregate types, with which their rows begin. Behind it a tuple's row has the number of its parts, a
-// struct's row a name, the number of its fields, and the fields, each a name and a type; an array's row has the type of its
-// parts, and their number.
-const TUPLE: u8 = 3;
-
-const STRUCT: u8 = 4;
-
-const FIXED_ARRAY: u8 = 5;
-
-const PART_COUNT: usize = 1;
-
-const FIELD_COUNT: usize = 3;
-
-const FIELDS: usize = 4;
-
-const FIELD_BYTES: usize = 4;
-
-const PART_TYPE: usize = 1;
-
-const ARRAY_COUNT: usize = 3;
+const MAKE_FIXED_ARRAY: u8 = kind::MAKE_FIXED_ARRAY as u8;
 
 // What a build begins with: no bits, its kind, what it defines and the number of its parts.
 const HEAD_BYTES: usize = 5;
@@ -57,7 +40,7 @@ pub struct Rebuilt {
 
 // Writes the value that stands at a place of the input, and returns the place behind it.
 pub fn put_value_at(out: &mut [u8], to: usize, s: &[u8], at: usize, next: u16) -> usize
-    requires { ⌜ to < 1099511627776 ⌝ }
+    requires { ⌜ to < valueRoom ⌝ }
     ensures { λ r. ⌜ r ≤ to + 5 ⌝ }
     ensures { λ r. ⌜ ((x : Value) → ValueAt next (now (s .entry)) at x → Writes (valueBytes x) (now (out .entry)) (now (out .exit)) to r) ⌝ }
 {
@@ -75,7 +58,7 @@ fn put_part(
     have: u16,
     k: u8,
 ) -> usize
-    requires { ⌜ (to < 1099511627776) × (from < 1099511627776) ⌝ }
+    requires { ⌜ (to < valueRoom) × (from < rowRoom) ⌝ }
     ensures { λ r. ⌜ r ≤ to + 5 ⌝ }
     ensures { λ r. ⌜ OfParts next (now (s .entry)) (now (rows .entry)) from have (λ xs.
         Writes (valueBytes (getD xs k unit)) (now (out .entry)) (now (out .exit)) to r) ⌝ }
@@ -98,7 +81,7 @@ fn put_parts(
     have: u16,
     want: u8,
 ) -> usize
-    requires { ⌜ (to < 549755813888) × (from < 1099511627776) ⌝ }
+    requires { ⌜ (to < instructionRoom) × (from < rowRoom) ⌝ }
     ensures { λ r. ⌜ r ≤ to + 5 * want ⌝ }
     ensures { λ r. ⌜ OfParts next (now (s .entry)) (now (rows .entry)) from have (λ xs.
         Writes (eachBytes valueBytes (fitted want xs)) (now (out .entry)) (now (out .exit)) to r) ⌝ }
@@ -124,7 +107,7 @@ fn put_fields(
     row: &[u8],
     want: u8,
 ) -> usize
-    requires { ⌜ (to < 549755813888) × (from < 1099511627776) ⌝ }
+    requires { ⌜ (to < instructionRoom) × (from < rowRoom) ⌝ }
     ensures { λ r. ⌜ r ≤ to + 7 * want ⌝ }
     ensures { λ r. ⌜ OfParts next (now (s .entry)) (now (rows .entry)) from have (λ xs. OfFields (now (row .entry)) want (λ fs.
         Writes (eachBytes fieldInitBytes (named fs xs)) (now (out .entry)) (now (out .exit)) to r)) ⌝ }
@@ -132,7 +115,10 @@ fn put_fields(
     let mut p = to;
     let mut i: u8 = 0;
     while i < want {
-        let name = bytes_wire::u16_at(row, FIELDS + FIELD_BYTES * (i as usize));
+        let name = bytes_wire::u16_at(
+            row,
+            layout::STRUCT_NAMES + layout::STRUCT_APART * (i as usize),
+        );
         bytes_emit::put_name_id(out, p, NameId(name));
         p = put_part(out, p + 2, s, next, rows, from, have, i);
         i = i + 1;
@@ -142,7 +128,7 @@ fn put_fields(
 
 // What a Make of n parts begins with: no bits, its kind, what it defines and the count.
 fn put_head(out: &mut [u8], to: usize, kind: u8, d: ValueId, n: u8)
-    requires { ⌜ to < 549755813888 ⌝ }
+    requires { ⌜ to < instructionRoom ⌝ }
     ensures { λ _. ⌜ now (out .exit) ≡ sets (now (out .entry)) to (0 ∷ kind ∷ (valueIdBytes d ++ (n ∷ []))) ⌝ }
 {
     bytes_emit::put_u8(out, to, 0);
@@ -163,7 +149,7 @@ fn put_tuple(
     have: u16,
     want: u8,
 ) -> usize
-    requires { ⌜ (to < 274877906944) × (from < 1099511627776) ⌝ }
+    requires { ⌜ (to < buildRoom) × (from < rowRoom) ⌝ }
     ensures { λ r. ⌜ r ≤ to + rebuildMost ⌝ }
     ensures { λ r. ⌜ OfParts next (now (s .entry)) (now (rows .entry)) from have (λ xs.
         Writes (instructionBytes (plain (InstructionKind.MakeTuple d (fitted want xs)))) (now (out .entry)) (now (out .exit)) to r) ⌝ }
@@ -185,12 +171,12 @@ fn put_struct(
     row: &[u8],
     t: TypeId,
 ) -> usize
-    requires { ⌜ (to < 274877906944) × (from < 1099511627776) ⌝ }
+    requires { ⌜ (to < buildRoom) × (from < rowRoom) ⌝ }
     ensures { λ r. ⌜ r ≤ to + rebuildMost ⌝ }
     ensures { λ r. ⌜ OfParts next (now (s .entry)) (now (rows .entry)) from have (λ xs. OfFields (now (row .entry)) (getD (now (row .entry)) 3 0) (λ fs.
         Writes (instructionBytes (plain (InstructionKind.MakeStruct d (named fs xs) t))) (now (out .entry)) (now (out .exit)) to r)) ⌝ }
 {
-    let want = bytes_wire::byte_at(row, FIELD_COUNT);
+    let want = bytes_wire::byte_at(row, layout::STRUCT_COUNT);
     put_head(out, to, MAKE_STRUCT, d, want);
     let at = put_fields(out, to + HEAD_BYTES, s, next, rows, from, have, row, want);
     bytes_emit::put_type_id(out, at, t);
@@ -209,7 +195,7 @@ fn put_array(
     have: u16,
     e: TypeId,
 ) -> usize
-    requires { ⌜ (to < 274877906944) × (from < 1099511627776) ⌝ }
+    requires { ⌜ (to < buildRoom) × (from < rowRoom) ⌝ }
     ensures { λ r. ⌜ r ≤ to + rebuildMost ⌝ }
     ensures { λ r. ⌜ OfParts next (now (s .entry)) (now (rows .entry)) from have (λ xs.
         have < 256 → Writes (instructionBytes (plain (InstructionKind.MakeFixedArray d xs e false))) (now (out .entry)) (now (out .exit)) to r) ⌝ }
@@ -225,10 +211,10 @@ fn put_array(
 fn array_clashes(row: &[u8], have: u16) -> bool
     ensures { λ r. ⌜ OfType (now (row .entry)) (λ T. (xs : List Value) → length xs ≡ have → r ≡ clashes xs (some T)) ⌝ }
 {
-    if bytes_wire::byte_at(row, 0) != FIXED_ARRAY {
+    if bytes_wire::byte_at(row, 0) != type_kind::FIXED_ARRAY {
         return false;
     }
-    (have as u32) != bytes_wire::u32_at(row, ARRAY_COUNT)
+    (have as u32) != bytes_wire::u32_at(row, layout::ARRAY_SIZE)
 }
 
 // Writes the rebuild of d at type t; `row` is the type, from its kind on.
@@ -244,21 +230,21 @@ fn put_make(
     from: usize,
     have: u16,
 ) -> usize
-    requires { ⌜ (to < 274877906944) × (from < 1099511627776) ⌝ }
+    requires { ⌜ (to < buildRoom) × (from < rowRoom) ⌝ }
     ensures { λ r. ⌜ r ≤ to + rebuildMost ⌝ }
     ensures { λ r. ⌜ OfType (now (row .entry)) (λ T. OfParts next (now (s .entry)) (now (rows .entry)) from have (λ xs.
         have ≤ mostParts → Writes (eachBytes instructionBytes (rebuildAt d xs t (some T))) (now (out .entry)) (now (out .exit)) to r)) ⌝ }
 {
     let kind = bytes_wire::byte_at(row, 0);
-    if kind == TUPLE {
-        let want = bytes_wire::byte_at(row, PART_COUNT);
+    if kind == type_kind::TUPLE {
+        let want = bytes_wire::byte_at(row, layout::TUPLE_COUNT);
         return put_tuple(out, to, s, next, d, rows, from, have, want);
     }
-    if kind == STRUCT {
+    if kind == type_kind::STRUCT {
         return put_struct(out, to, s, next, d, rows, from, have, row, t);
     }
-    if kind == FIXED_ARRAY {
-        let e = TypeId(bytes_wire::u16_at(row, PART_TYPE));
+    if kind == type_kind::FIXED_ARRAY {
+        let e = TypeId(bytes_wire::u16_at(row, layout::ARRAY_ELEMENT));
         return put_array(out, to, s, next, d, rows, from, have, e);
     }
     to
@@ -278,7 +264,7 @@ pub fn put_rebuild(
     from: usize,
     have: u16,
 ) -> Rebuilt
-    requires { ⌜ (to < 274877906944) × (from < 1099511627776) ⌝ }
+    requires { ⌜ (to < buildRoom) × (from < rowRoom) ⌝ }
     ensures { λ r. ⌜ r .to ≤ to + rebuildMost ⌝ }
     ensures { λ r. ⌜ OfTable (now (s .entry)) (now (types .entry)) t (λ τ. OfParts next (now (s .entry)) (now (rows .entry)) from have (λ xs.
         have ≤ mostParts → Rebuilds τ d xs t (now (out .entry)) (now (out .exit)) to r)) ⌝ }

@@ -18,8 +18,8 @@ use Rattle.mir.specs.MirType.{StructField, MirType, Felt, Bool, U32, Tuple, Str
 use Rattle.bytes_types.specs.Decode.{typeOf}
 use Rattle.bytes_types.specs.Index.{TypesAt}
 use Rattle.bytes_sections.specs.Index.{recordedNumber, recordedFrom}
-use Rattle.bytes_lookup.specs.Found.{asRecorded}
-use Rattle.bytes_lookup.specs.declared.Recorded.{Recorded}
+use Rattle.bytes_lookup.specs.Found.{asType}
+use Rattle.bytes_lookup.specs.declared.TypeFound.{TypeFound}
 use Rattle.fold_shapes.proofs.Rows.{type-said}
 use Rattle.mir.specs.Lookup.{Types, rowOf, recordedType, valueRow, shape, structFieldsOf, next, position, fieldIndex}
 use Rattle.fold.specs.Tables.{Known}
@@ -157,22 +157,22 @@ recorded-back : (o : Option TypeId) → recordedFrom (recordedNumber o) ≡ o
 recorded-back none = refl
 recorded-back (some t) = let z : t .0 + 1 ≡ suc (t .0) = omega arith in rw z
 
-module _ (most : ℕ) (s types recorded : List ℕ) (τ : Types) (v : ValueId) (r : Recorded) (e : asRecorded r ≡ recordedFrom (getD recorded (v .0) 0)) (k : Known most s types recorded τ) (h : v .0 < length (τ .recorded)) where
+module _ (most : ℕ) (s types recorded : List ℕ) (τ : Types) (v : ValueId) (r : TypeFound) (e : asType r ≡ recordedFrom (getD recorded (v .0) 0)) (k : Known most s types recorded τ) (h : v .0 < length (τ .recorded)) where
   -- what the table says of a value
-  recorded-of : asRecorded r ≡ recordedType τ v
+  recorded-of : asType r ≡ recordedType τ v
   unfolding recordedType
   recorded-of = e ∙ ap recordedFrom (k .recorded-types (v .0) h (omega (arith, k .long))) ∙ recorded-back (getD (τ .recorded) (v .0) none)
 
   -- it has a type
-  pub recorded-some : (t : TypeId) (name : NameId) {x : Option ℕ} → r ≡ Recorded.Type t → x ≡ fieldIndex (getElem? (τ .rows) (t .0)) name → x ≡ fieldIndex (valueRow τ v) name
+  pub recorded-some : (t : TypeId) (name : NameId) {x : Option ℕ} → r ≡ TypeFound.Type t → x ≡ fieldIndex (getElem? (τ .rows) (t .0)) name → x ≡ fieldIndex (valueRow τ v) name
   unfolding valueRow rowOf
   recorded-some t name q f =
-      let g : some t ≡ recordedType τ v = sym (ap asRecorded q) ∙ recorded-of in
+      let g : some t ≡ recordedType τ v = sym (ap asType q) ∙ recorded-of in
       f ∙ ap (λ o. fieldIndex (rowOf τ o) name) g
 
   -- it has none
-  pub recorded-none : (name : NameId) → r ≡ Recorded.Nothing → none ≡ fieldIndex (valueRow τ v) name
+  pub recorded-none : (name : NameId) → r ≡ TypeFound.Nothing → none ≡ fieldIndex (valueRow τ v) name
   unfolding valueRow rowOf fieldIndex structFieldsOf position
   recorded-none name q =
-      let g : none ≡ recordedType τ v = sym (ap asRecorded q) ∙ recorded-of in
+      let g : none ≡ recordedType τ v = sym (ap asType q) ∙ recorded-of in
       ap (λ o. fieldIndex (rowOf τ o) name) g

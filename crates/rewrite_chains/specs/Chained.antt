@@ -25,7 +25,8 @@ use Rattle.mir.specs.Lookup.{isSome, Types, onSome, valueRow, fieldIndex}
 use Rattle.fold.specs.Family.{Marks}
 use Rattle.fold.specs.Tables.{Known, Ground}
 use Rattle.rewrite.specs.State.{AggStates, chain, firstInteger, stepPart, storePart, storeLast, forwardStore}
-use Rattle.rewrite_parts.specs.Rows.{mostValues, ValueAt, Rep, Room, InitAt}
+use Rattle.mir.specs.Most.{mostValues}
+use Rattle.rewrite_parts.specs.Rows.{ValueAt, Rep, Room, InitAt}
 use Rattle.rewrite_parts.specs.Here.{Here}
 use Rattle.rewrite_parts.specs.declared.Init.{Init}
 use Rattle.rewrite_chains.specs.declared.Position.{Position}

@@ -2,11 +2,13 @@
 mod path;
 
 use bytes_field::Bounds;
-use bytes_lookup::Recorded;
+use bytes_lookup::TypeFound;
 use bytes_operands::Step;
+use bytes_types::layout;
 use mir::NameId;
 use mir::TypeId;
 use mir::ValueId;
+use mir::type_kind;
 use rewrite_parts::Init;
 ghost use mathlib.Core.Path.{_≡_};
 ghost use mathlib.Core.List.{List};
@@ -17,16 +19,6 @@ ghost use Rattle.mir.specs.Lookup.{position};
 ghost use Rattle.rewrite_parts.specs.Rows.{rowMost, usedBelow, Names};
 ghost use Rattle.rewrite_chains.specs.Chained.{asPosition, RowPosition, FieldIndex, ValueFieldIndex};
 ghost use Rattle.rewrite_chains.specs.Chained.{PartLoaded, PartStored, LastStored, StoreForwarded};
-
-// The kind of a struct in the table of types; in its row a name stands behind it, then the number of fields, then the
-// fields, each a name and a type.
-const STRUCT: u8 = 4;
-
-const FIELD_COUNT: usize = 3;
-
-const FIELDS: usize = 4;
-
-const FIELD_BYTES: usize = 4;
 
 // Where the number of projections stands in the fields of a Load, behind its dest and its base, and in those of a Store,
 // behind its base; the projections stand behind it.
@@ -60,7 +52,12 @@ fn find_name(row: &[u8], n: u8, name: NameId) -> Position
 {
     let mut i: u8 = 0;
     while i < n {
-        if bytes_wire::u16_at(row, FIELDS + FIELD_BYTES * i as usize) == name.0 {
+        if bytes_wire::u16_at(
+            row,
+            layout::STRUCT_NAMES + layout::STRUCT_APART * i as usize,
+        )
+            == name.0
+        {
             return Position::At(i as u32);
         }
         i = i + 1;
@@ -72,8 +69,8 @@ fn find_name(row: &[u8], n: u8, name: NameId) -> Position
 fn row_position(row: &[u8], name: NameId) -> Position
     ensures { λ r. ⌜ RowPosition (now (row .entry)) name r ⌝ }
 {
-    if bytes_wire::byte_at(row, 0) == STRUCT {
-        return find_name(row, bytes_wire::byte_at(row, FIELD_COUNT), name);
+    if bytes_wire::byte_at(row, 0) == type_kind::STRUCT {
+        return find_name(row, bytes_wire::byte_at(row, layout::STRUCT_COUNT), name);
     }
     Position::Nothing
 }
@@ -103,8 +100,8 @@ pub fn value_field_index(
     ensures { λ r. ⌜ ValueFieldIndex (now (s .entry)) (now (types .entry)) many (now (recorded .entry)) v name r ⌝ }
 {
     match bytes_lookup::recorded_type(recorded, v) {
-        Recorded::Type(t) => field_index(s, types, many, t, name),
-        Recorded::Nothing => Position::Nothing,
+        TypeFound::Type(t) => field_index(s, types, many, t, name),
+        TypeFound::Nothing => Position::Nothing,
     }
 }
 
@@ -128,7 +125,7 @@ pub fn load_part(
             place: 0,
         };
     }
-    let base = ValueId(bytes_index::read(facts, slot, 0));
+    let base = bytes_index::read(facts, slot, 0);
     match path::holder(s, t, b, facts, tracked, rows, base, n - 1) {
         Walked::Nothing => Init {
             given: false,
@@ -220,7 +217,7 @@ pub fn forward_store(
             used: used,
         };
     }
-    let base = ValueId(bytes_index::read(facts, slot, 0));
+    let base = bytes_index::read(facts, slot, 0);
     match path::holder(s, t, b, facts, tracked, rows, base, n - 1) {
         Walked::Nothing => Forwarded {
             forwarded: false,

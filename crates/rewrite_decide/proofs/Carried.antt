@@ -10,7 +10,8 @@ use Rattle.mir.specs.Syntax.{Instruction}
 use Rattle.fold.specs.Family.{Marks}
 use Rattle.rewrite.specs.State.{AggStates}
 use Rattle.rewrite.specs.Step.{Piece, assigned}
-use Rattle.rewrite_parts.specs.Rows.{mostValues, Rep, Room}
+use Rattle.mir.specs.Most.{mostValues}
+use Rattle.rewrite_parts.specs.Rows.{Rep, Room}
 use Rattle.rewrite_parts.specs.Filled.{Shared, ValuesTracked, Replaced}
 use Rattle.rewrite_arms.specs.Decided.{Assigned, assigned-from, Decided, Listing, Planned, FieldsBuilt}
 use Rattle.rewrite_arms.specs.declared.Action.{Action}

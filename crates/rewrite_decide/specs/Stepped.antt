@@ -13,7 +13,8 @@ use Rattle.mir.specs.Lookup.{Types}
 use Rattle.fold.specs.Family.{Marks, buildDest}
 use Rattle.rewrite.specs.State.{AggStates}
 use Rattle.rewrite.specs.Step.{Piece, step}
-use Rattle.rewrite_parts.specs.Rows.{mostValues, Rep, Room}
+use Rattle.mir.specs.Most.{mostValues}
+use Rattle.rewrite_parts.specs.Rows.{Rep, Room}
 use Rattle.rewrite_parts.specs.Here.{Here}
 use Rattle.rewrite_arms.specs.Decided.{callKind, storeKind, Decided, SpotAt, Listing, Planned}
 use Rattle.rewrite_arms.specs.declared.Decision.{Decision}

@@ -4,19 +4,11 @@ use bytes_field::Bounds;
 use fold::Settings;
 use mir::NameId;
 use mir::ValueId;
-use rewrite_arms::ASSIGN;
+use mir::kind;
 use rewrite_arms::Action;
 use rewrite_arms::Counted;
 use rewrite_arms::DEST_BYTES;
 use rewrite_arms::Decision;
-use rewrite_arms::EXTRACT_STRUCT_FIELD;
-use rewrite_arms::EXTRACT_TUPLE_ELEMENT;
-use rewrite_arms::INSERT_FIELD;
-use rewrite_arms::INSERT_TUPLE;
-use rewrite_arms::LOAD;
-use rewrite_arms::MAKE_FIXED_ARRAY;
-use rewrite_arms::MAKE_STRUCT;
-use rewrite_arms::MAKE_TUPLE;
 use rewrite_arms::PARTS;
 use rewrite_arms::Plan;
 use rewrite_arms::Spot;
@@ -53,15 +45,15 @@ fn active(tuples: bool, structs: bool, fold: bool, kind: u16) -> bool
     ensures { λ r. ⌜ r ≡ acts tuples structs fold kind ⌝ }
 {
     match kind {
-        ASSIGN => true,
-        LOAD => tuples,
-        MAKE_TUPLE => fold,
-        EXTRACT_TUPLE_ELEMENT => tuples,
-        MAKE_STRUCT => fold,
-        EXTRACT_STRUCT_FIELD => structs,
-        INSERT_FIELD => structs,
-        INSERT_TUPLE => tuples,
-        MAKE_FIXED_ARRAY => fold,
+        kind::ASSIGN => true,
+        kind::LOAD => tuples,
+        kind::MAKE_TUPLE => fold,
+        kind::EXTRACT_TUPLE_ELEMENT => tuples,
+        kind::MAKE_STRUCT => fold,
+        kind::EXTRACT_STRUCT_FIELD => structs,
+        kind::INSERT_FIELD => structs,
+        kind::INSERT_TUPLE => tuples,
+        kind::MAKE_FIXED_ARRAY => fold,
         _ => false,
     }
 }
@@ -180,15 +172,21 @@ fn plan(
         return Plan::Keep;
     }
     match kind {
-        ASSIGN => assign(s, b, facts, p, tracked),
-        LOAD => load(s, b, facts, slot, p, tracked, rows),
-        MAKE_TUPLE => Plan::Values,
-        EXTRACT_TUPLE_ELEMENT => extract_element(s, b, p, tracked, rows),
-        MAKE_STRUCT => rewrite_arms::plan_struct(s, b, facts, p, rewrite_arms::last_type(s, p.end)),
-        EXTRACT_STRUCT_FIELD => extract_field(s, b, facts, p, tracked, rows),
-        INSERT_FIELD => insert_field(s, b, facts, p, tracked, rows),
-        INSERT_TUPLE => insert_element(s, b, p, tracked, rows),
-        MAKE_FIXED_ARRAY => Plan::Values,
+        kind::ASSIGN => assign(s, b, facts, p, tracked),
+        kind::LOAD => load(s, b, facts, slot, p, tracked, rows),
+        kind::MAKE_TUPLE => Plan::Values,
+        kind::EXTRACT_TUPLE_ELEMENT => extract_element(s, b, p, tracked, rows),
+        kind::MAKE_STRUCT => rewrite_arms::plan_struct(
+            s,
+            b,
+            facts,
+            p,
+            rewrite_arms::last_type(s, p.end),
+        ),
+        kind::EXTRACT_STRUCT_FIELD => extract_field(s, b, facts, p, tracked, rows),
+        kind::INSERT_FIELD => insert_field(s, b, facts, p, tracked, rows),
+        kind::INSERT_TUPLE => insert_element(s, b, p, tracked, rows),
+        kind::MAKE_FIXED_ARRAY => Plan::Values,
         _ => Plan::Keep,
     }
 }

@@ -10,7 +10,7 @@ use Rattle.mir.specs.declared.TypeId.{TypeId}
 use Rattle.bytes_field.specs.Encode.{stands}
 use Rattle.bytes_sections.specs.Encode.{mapNumber}
 use Rattle.bytes_sections.specs.Index.{recordedNumber}
-use Rattle.rewrite_progress.specs.Effect.{numbersOf}
+use Rattle.rewrite_progress.specs.Effect.{typeNumbers}
 use Rattle.rewrite_head.specs.Head.{withFresh, Tabled}
 
 -- how many values there are
@@ -18,8 +18,8 @@ pub length-fresh : (rs : List (Option TypeId)) (ts : List TypeId) → length (wi
 length-fresh rs ts = rw (length-append, length-map)
 
 -- a fresh value has a recorded type
-fresh-number : (ts : List TypeId) (k : ℕ) → k < length ts → recordedNumber (getD (map some ts) k none) ≡ getD (numbersOf ts) k 0 + 1
-unfolding numbersOf
+fresh-number : (ts : List TypeId) (k : ℕ) → k < length ts → recordedNumber (getD (map some ts) k none) ≡ getD (typeNumbers ts) k 0 + 1
+unfolding typeNumbers
 fresh-number [] k h = absurd (omega arith)
 fresh-number (t ∷ ts) zero h = refl
 fresh-number (t ∷ ts) (suc k) h = fresh-number ts k (omega arith)

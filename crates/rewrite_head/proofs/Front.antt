@@ -14,7 +14,7 @@ use Rattle.bytes_block.specs.Encode.{blockBytes}
 use Rattle.bytes_types.specs.Encode.{typesBytes}
 use Rattle.mir.specs.Routine.{Routine}
 use Rattle.bytes_sections.specs.Encode.{encode, mapNumber, recordedBytes}
-use Rattle.rewrite_build.specs.Written.{Writes}
+use Rattle.bytes_emit.specs.Written.{Writes}
 use Rattle.bytes_wire.proofs.RoundTrip.{length-toBytes}
 use Rattle.rewrite_head.specs.Head.{headBytes, withFresh, widened, Tabled, frontEnd, frontBytes}
 use Rattle.rewrite_head.proofs.Bits.{length-fresh}

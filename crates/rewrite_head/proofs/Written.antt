@@ -13,7 +13,7 @@ use Rattle.bytes_field.specs.Encode.{eachBytes, optionBytes, typeIdBytes}
 use Rattle.bytes_emit.proofs.Sets.{sets-append}
 use Rattle.bytes_sections.specs.Encode.{mapNumber}
 use Rattle.bytes_sections.specs.Index.{recordedNumber}
-use Rattle.rewrite_build.specs.Written.{Writes}
+use Rattle.bytes_emit.specs.Written.{Writes}
 use Rattle.rewrite_head.specs.Head.{withFresh, Tabled}
 use Rattle.rewrite_head.proofs.Bits.{length-fresh}
 

@@ -12,8 +12,8 @@ use Rattle.bytes_types.specs.Encode.{typesBytes}
 use Rattle.mir.specs.Routine.{Routine}
 use Rattle.bytes_sections.specs.Encode.{encode, recordedBytes}
 use Rattle.bytes_sections.specs.Index.{RecordedAt}
-use Rattle.rewrite_build.specs.Written.{Writes}
-use Rattle.rewrite_progress.specs.Effect.{numbersOf}
+use Rattle.bytes_emit.specs.Written.{Writes}
+use Rattle.rewrite_progress.specs.Effect.{typeNumbers}
 
 -- the bytes of a routine before those of its blocks
 unfoldable pub headBytes : Routine → List ℕ
@@ -46,7 +46,7 @@ pub record Tabled (recorded fresh : List ℕ) (next many : ℕ) (rs : List (Opti
   pub new : length ts ≡ many
   pub known : RecordedAt recorded rs
   pub long : next ≤ length recorded
-  pub taken : (k : ℕ) → k < many → getD fresh k 0 ≡ getD (numbersOf ts) k 0
+  pub taken : (k : ℕ) → k < many → getD fresh k 0 ≡ getD (typeNumbers ts) k 0
 
 -- the place behind the parameters, where the types end at `at`
 abbrev pub frontEnd : List ℕ → ℕ → ℕ
@@ -72,3 +72,14 @@ HeadPut s at recorded next fresh many out out′ r =
     → x .next ≡ next
     → Tabled recorded fresh next many (x .recorded) ts
     → Writes (headBytes (widened x ts)) out out′ 0 r
+
+-- the places of the map's bits are below this
+abbrev pub bitsBelow : ℕ
+bitsBelow = 1048576
+
+-- the most bytes of the recorded types, and how much longer than the input the head is at most
+abbrev pub recordedMost : ℕ
+recordedMost = 131072
+
+abbrev pub headMost : ℕ
+headMost = 139265

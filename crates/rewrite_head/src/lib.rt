@@ -9,9 +9,10 @@ ghost use Rattle.bytes_wire.specs.Number.{toBytes};
 ghost use Rattle.bytes_field.specs.Encode.{eachBytes, optionBytes, typeIdBytes, stands};
 ghost use Rattle.bytes_sections.specs.Encode.{mapNumber};
 ghost use Rattle.bytes_sections.specs.Index.{recordedNumber};
-ghost use Rattle.rewrite_build.specs.Written.{Writes};
-ghost use Rattle.rewrite_progress.specs.Effect.{numbersBelow};
-ghost use Rattle.rewrite_head.specs.Head.{OfRecorded, frontEnd, frontBytes, HeadPut};
+ghost use Rattle.bytes_emit.specs.Written.{Writes, wordRoom, valueRoom};
+ghost use Rattle.table.specs.Number.{numbersBelow};
+ghost use Rattle.rewrite_head.specs.Head.{OfRecorded, frontEnd, frontBytes, HeadPut, bitsBelow, recordedMost, headMost};
+ghost use Rattle.rewrite_progress.specs.Effect.{countsBelow};
 
 // In the routine's bytes, from the end of the types on: the next value, then the counts of blocks and the entry, then the
 // number of parameters, then these.
@@ -31,7 +32,7 @@ const BYTE_BITS: u32 = 8;
 // The recorded type of value v, of `next` values and `many` fresh ones, as the table has it: 0 for none, else one more than
 // its number.
 fn number_of(recorded: &[u16], next: u16, fresh: &[u16], many: u32, v: u32) -> u32
-    ensures { λ r. ⌜ r ≤ 65536 ⌝ }
+    ensures { λ r. ⌜ r ≤ numbersBelow ⌝ }
     ensures { λ r. ⌜ OfRecorded (now (recorded .entry)) (now (fresh .entry)) next many (λ all. r ≡ recordedNumber (getD all v none)) ⌝ }
 {
     let old = next as u32;
@@ -58,7 +59,7 @@ fn bit_of(recorded: &[u16], next: u16, fresh: &[u16], many: u32, v: u32) -> u8
 
 // The eight bits from value v on, the lowest first.
 fn map_byte(recorded: &[u16], next: u16, fresh: &[u16], many: u32, v: u32) -> u8
-    requires { ⌜ v < 1048576 ⌝ }
+    requires { ⌜ v < bitsBelow ⌝ }
     ensures { λ r. ⌜ OfRecorded (now (recorded .entry)) (now (fresh .entry)) next many (λ all.
         (r ≡ mapNumber (drop v all) % 256) × (mapNumber (drop v all) / 256 ≡ mapNumber (drop (v + 8) all))) ⌝ }
 {
@@ -84,7 +85,7 @@ fn put_map(
     fresh: &[u16],
     many: u32,
 ) -> usize
-    requires { ⌜ (to < 1099511627776) × (next + many < numbersBelow) ⌝ }
+    requires { ⌜ (to < valueRoom) × (next + many < numbersBelow) ⌝ }
     ensures { λ r. ⌜ r ≡ to + (next + many + 7) / 8 ⌝ }
     ensures { λ _. ⌜ OfRecorded (now (recorded .entry)) (now (fresh .entry)) next many (λ all.
         now (out .exit) ≡ sets (now (out .entry)) to (toBytes ((next + many + 7) / 8) (mapNumber all))) ⌝ }
@@ -109,7 +110,7 @@ fn put_type(
     many: u32,
     v: u32,
 ) -> usize
-    requires { ⌜ to < 2199023255552 ⌝ }
+    requires { ⌜ to < wordRoom ⌝ }
     ensures { λ r. ⌜ r ≤ to + 2 ⌝ }
     ensures { λ r. ⌜ OfRecorded (now (recorded .entry)) (now (fresh .entry)) next many (λ all.
         Writes (optionBytes typeIdBytes (getD all v none)) (now (out .entry)) (now (out .exit)) to r) ⌝ }
@@ -131,8 +132,8 @@ fn put_types(
     fresh: &[u16],
     many: u32,
 ) -> usize
-    requires { ⌜ (to < 1099511627776) × (next + many < numbersBelow) ⌝ }
-    ensures { λ r. ⌜ r ≤ to + 131072 ⌝ }
+    requires { ⌜ (to < valueRoom) × (next + many < numbersBelow) ⌝ }
+    ensures { λ r. ⌜ r ≤ to + recordedMost ⌝ }
     ensures { λ r. ⌜ OfRecorded (now (recorded .entry)) (now (fresh .entry)) next many (λ all.
         Writes (eachBytes (optionBytes typeIdBytes) all) (now (out .entry)) (now (out .exit)) to r) ⌝ }
 {
@@ -148,7 +149,7 @@ fn put_types(
 
 // What stands before the map: as in the input, whose types end at `at`, but for the next value.
 fn put_front(out: &mut [u8], s: &[u8], at: usize, next: u16) -> usize
-    requires { ⌜ (frontEnd (now s) at ≤ length (now s)) × (length (now s) < 1073741824) ⌝ }
+    requires { ⌜ (frontEnd (now s) at ≤ length (now s)) × (length (now s) < countsBelow) ⌝ }
     ensures { λ r. ⌜ (r ≡ frontEnd (now (s .entry)) at)
         × (now (out .exit) ≡ sets (now (out .entry)) 0 (frontBytes (now (s .entry)) at next)) ⌝ }
 {
@@ -170,8 +171,8 @@ pub fn put_head(
     fresh: &[u16],
     many: u32,
 ) -> usize
-    requires { ⌜ (frontEnd (now s) at ≤ length (now s)) × (length (now s) < 1073741824) × (next + many < numbersBelow) ⌝ }
-    ensures { λ r. ⌜ r ≤ length (now (s .entry)) + 139265 ⌝ }
+    requires { ⌜ (frontEnd (now s) at ≤ length (now s)) × (length (now s) < countsBelow) × (next + many < numbersBelow) ⌝ }
+    ensures { λ r. ⌜ r ≤ length (now (s .entry)) + headMost ⌝ }
     ensures { λ r. ⌜ HeadPut (now (s .entry)) at (now (recorded .entry)) next (now (fresh .entry)) many
         (now (out .entry)) (now (out .exit)) r ⌝ }
 {

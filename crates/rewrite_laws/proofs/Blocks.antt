@@ -6,15 +6,15 @@ use mathlib.Core.Bool.{Bool, true, not, _||_}
 use native.Mathlib.Omega.{arith}
 use Rattle.mir.specs.declared.ValueId.{ValueId}
 use Rattle.mir.specs.declared.Value.{Value}
-use Rattle.mir.specs.Syntax.{Instruction, InstructionKind, Call, Store, Terminator}
+use Rattle.mir.specs.Syntax.{Instruction, InstructionKind, Call, Store, Terminator, plain}
 use Rattle.mir.specs.Reads.{dests, isPhi}
 use Rattle.bytes_field.specs.Decode.{mark}
 use Rattle.bytes_field.specs.declared.Bounds.{Bounds}
-use Rattle.bytes_laws.specs.WellFormed.{Each, FitNews}
+use Rattle.mir.specs.Lists.{Each}
+use Rattle.bytes_laws.specs.WellFormed.{FitNews}
 use Rattle.bytes_laws.proofs.Bits.{true-false}
 use Rattle.bytes_block.specs.Decode.{marks, blockMarks}
 use Rattle.bytes_block.specs.WellFormed.{FitInstructions}
-use Rattle.rewrite.specs.Rebuild.{plain}
 use Rattle.rewrite.specs.Lowers.{Rebuild, Rebuilds, Stands, Lowers}
 use Rattle.rewrite_laws.proofs.Rebuilt.{Loose}
 use Rattle.rewrite_laws.proofs.Marks.{dests-new, Both, news-both, both-kept, both-left, both-fresh, both-later}

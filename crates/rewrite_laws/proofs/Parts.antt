@@ -16,7 +16,8 @@ use Rattle.mir.specs.MirType.{StructField}
 use Rattle.mir.specs.Syntax.{Projection, Place, FieldInit}
 use Rattle.mir.specs.Syntax as S
 use Rattle.bytes_field.specs.declared.Bounds.{Bounds}
-use Rattle.bytes_laws.specs.WellFormed.{Each, FitList, FitInit}
+use Rattle.bytes_laws.specs.WellFormed.{FitList, FitInit}
+use Rattle.mir.specs.Lists.{Each}
 use Rattle.mir.specs.Lookup.{Types, onSome}
 use Rattle.mir.specs.Parts.{given, consPart, fromStructFields}
 use Rattle.rewrite.specs.State.{AggStates, noStates, insertState, stateOf, consSome, replaced, stepIndex, stepPart, chain, firstInteger, storePart, storeLast, storeDeeper, storeFrom, forwardStore}

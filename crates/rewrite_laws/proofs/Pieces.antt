@@ -16,7 +16,8 @@ use Rattle.bytes_types.specs.WellFormed.{FitMirType}
 use Rattle.mir.specs.Syntax.{Place, FieldInit, Meta, Instruction, Call}
 use Rattle.mir.specs.Reads.{isPhi}
 use Rattle.bytes_field.specs.declared.Bounds.{Bounds}
-use Rattle.bytes_laws.specs.WellFormed.{Each, FitType, FitNews, FitInit, FitMeta, FitPlace, FitKind}
+use Rattle.bytes_laws.specs.WellFormed.{FitType, FitNews, FitInit, FitMeta, FitPlace, FitKind}
+use Rattle.mir.specs.Lists.{Each}
 use Rattle.mir.specs.Lookup.{Types, rowOf, recordedType, valueRow, isStruct, structFieldsOf, onSome}
 use Rattle.mir.specs.Parts.{fromStructFields, structParts, orElse, structRow}
 use Rattle.rewrite.specs.declared.Counts.{Counts}

@@ -17,7 +17,8 @@ use Rattle.bytes_types.specs.WellFormed.{FitFields, FitMirType}
 use Rattle.mir.specs.Syntax.{Instruction}
 use Rattle.mir.specs.Reads.{dests, isPhi}
 use Rattle.bytes_field.specs.declared.Bounds.{Bounds}
-use Rattle.bytes_laws.specs.WellFormed.{Each, FitType, FitOption, FitNews, FitInit, FitMeta, FitKind}
+use Rattle.bytes_laws.specs.WellFormed.{FitType, FitOption, FitNews, FitInit, FitMeta, FitKind}
+use Rattle.mir.specs.Lists.{Each}
 use Rattle.mir.specs.Lookup.{Types, rowOf, recordedType, isAggregate}
 use Rattle.rewrite.specs.State.{AggStates, stateOf}
 use Rattle.rewrite.specs.Rebuild.{fitted, named, rebuildAt, Rebuilt, keepValue, rebuildValue, oneValue, Wanted, rebuildAll, aggregateType, wantedArguments, returnType, wantedReturns}

@@ -14,10 +14,11 @@ use Rattle.mir.specs.Syntax.{MakeTuple, ExtractTupleElement, MakeStruct, Extrac
 use Rattle.mir.specs.Syntax.{Terminator, Jump, If, BranchCmp, Return, Unreachable}
 use Rattle.mir.specs.Reads.{dests, isPhi}
 use Rattle.bytes_field.specs.declared.Bounds.{Bounds}
-use Rattle.bytes_laws.specs.WellFormed.{Each, FitType, FitMeta, FitKind, FitTerminator}
+use Rattle.bytes_laws.specs.WellFormed.{FitType, FitMeta, FitKind, FitTerminator}
 use Rattle.bytes_block.specs.Decode.{marks}
 use Rattle.bytes_block.specs.WellFormed.{FitInstructions}
 use Rattle.fold.specs.declared.Settings.{Settings}
+use Rattle.mir.specs.Lists.{Each}
 use Rattle.mir.specs.Lookup.{Types, rowOf, fieldIndex, onSome}
 use Rattle.mir.specs.Parts.{structParts}
 use Rattle.rewrite.specs.State.{AggStates, stateOf, replaced, firstInteger, forwardStore}

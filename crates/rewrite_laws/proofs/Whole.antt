@@ -17,7 +17,7 @@ use Rattle.bytes_types.specs.WellFormed.{FitMirType, FitTypes}
 use Rattle.mir.specs.Syntax.{Instruction, Terminator, Block}
 use Rattle.mir.specs.Reads.{dests, isPhi}
 use Rattle.bytes_field.specs.declared.Bounds.{Bounds}
-use Rattle.bytes_laws.specs.WellFormed.{Each, FitType, FitOption, FitInstruction, FitTerminator}
+use Rattle.bytes_laws.specs.WellFormed.{FitType, FitOption, FitInstruction, FitTerminator}
 use Rattle.bytes_block.specs.Decode.{marks, blockMarks}
 use Rattle.bytes_block.specs.declared.Mosts.{Mosts}
 use Rattle.bytes_block.specs.WellFormed.{WideMosts, FitInstructions}
@@ -27,6 +27,7 @@ use Rattle.bytes_sections.specs.Encode.{encode}
 use Rattle.bytes_laws_whole.specs.WellFormed.{FitBlocks, bounds, unmarked, WellFormed}
 use Rattle.bytes_laws_whole.proofs.BackWhole.{whole-back}
 use Rattle.fold.specs.declared.Settings.{Settings}
+use Rattle.mir.specs.Lists.{Each}
 use Rattle.mir.specs.Lookup.{Types, recordedType, typesIn}
 use Rattle.mir.specs.Phis.{behindPhis, phisOf}
 use Rattle.rewrite.specs.State.{noStates}

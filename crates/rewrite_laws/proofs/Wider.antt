@@ -14,7 +14,8 @@ use Rattle.mir.specs.Syntax.{Terminator, Jump, If, BranchCmp, Return, Unreachab
 use Rattle.mir.specs.Syntax as S
 use Rattle.mir.specs.Reads.{dests}
 use Rattle.bytes_field.specs.declared.Bounds.{Bounds}
-use Rattle.bytes_laws.specs.WellFormed.{Each, FitList, FitType, FitBlock, FitNews, FitProjection, FitPlace, FitSource, FitInit, FitKind, FitTerminator}
+use Rattle.mir.specs.Lists.{Each}
+use Rattle.bytes_laws.specs.WellFormed.{FitList, FitType, FitBlock, FitNews, FitProjection, FitPlace, FitSource, FitInit, FitKind, FitTerminator}
 
 -- the bounds c are not narrower than b
 pub record Wider (b c : Bounds) : Type 0 where

@@ -24,10 +24,11 @@ use Rattle.rewrite.specs.Rebuild.{Rebuilt, untouched, rebuildAt, clashes, rebui
 use Rattle.rewrite_parts.specs.Rows.{ValueAt, RowAt, Rep, rowsIn, freshIn}
 use Rattle.rewrite_parts.proofs.Tables.{found-row}
 use Rattle.rewrite_build.specs.declared.Rebuilt.{Rebuilt as Answer}
-use Rattle.rewrite_build.specs.Written.{Writes, rebuildBytes, Rebuilds}
+use Rattle.bytes_emit.specs.Written.{Writes}
+use Rattle.rewrite_build.specs.Written.{rebuildBytes, Rebuilds}
 use Rattle.rewrite_progress.specs.declared.Progress.{Progress}
 use Rattle.rewrite_progress.specs.declared.Put.{Put}
-use Rattle.rewrite_progress.specs.Effect.{Output, outputOf, rebuiltEffect, behind, further, markAll, numbersOf, Puts, Low}
+use Rattle.rewrite_progress.specs.Effect.{Output, outputOf, rebuiltEffect, behind, further, markAll, typeNumbers, Puts, Low}
 use Rattle.rewrite_progress.proofs.Laws.{no-went, no-clash, behind-then, behind-none}
 use Rattle.rewrite_wanted.specs.declared.Asks.{Asks}
 use Rattle.rewrite_wanted.specs.declared.Wants.{Wants}
@@ -79,7 +80,7 @@ module _ (τ : Types) (n : ℕ) (t : TypeId) (xs : List Value) (out out′ : Lis
   -- else it is written
   pub build-made : (fresh fresh′ : List ℕ) (dropped : Marks) (lines : ℕ) → r .clash ≡ false → fresh′ ≡ set fresh (p .fresh) (t .0) → lines ≡ lineCount (p .to) (r .to)
       → Puts (outputOf out fresh dropped p) (rebuiltEffect (rebuildValue τ n t xs (untouched []))) (rebuildValue τ n t xs (untouched []) .clash) out′ fresh′ dropped (Put.Went (record { to = r .to; lines = p .lines + lines; fresh = p .fresh + 1; counts = p .counts }))
-  unfolding rebuildValue rebuiltEffect behind further markAll numbersOf
+  unfolding rebuildValue rebuiltEffect behind further markAll typeNumbers
   build-made fresh fresh′ dropped lines c f l =
       let v : Writes (rebuildBytes τ (record { 0 = n }) xs t) out out′ (p .to) (r .to) = rw (← e) (w .written c) in
       let m : lines ≡ length (rebuildAt (record { 0 = n }) xs t (rowOf τ (some t))) = l ∙ lines-of (record { 0 = n }) xs t (rowOf τ (some t)) (p .to) (r .to) (v .0) in

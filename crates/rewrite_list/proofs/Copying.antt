@@ -9,7 +9,7 @@ use lib.ListN.{length, take, length-append}
 use lib.Seq.{sets, slice, length-take-le}
 use lib.Dec.{eqb}
 use Rattle.bytes_emit.proofs.Sets.{sets-append}
-use Rattle.rewrite_build.specs.Written.{Writes}
+use Rattle.bytes_emit.specs.Written.{Writes}
 use Rattle.rewrite_list.specs.Lists.{lineCount}
 
 -- the first bytes

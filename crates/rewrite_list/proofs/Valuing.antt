@@ -21,7 +21,7 @@ use Rattle.fold.specs.Family.{Marks}
 use Rattle.rewrite.specs.State.{AggStates}
 use Rattle.rewrite.specs.Rebuild.{Rebuilt, untouched, rebuildValue, rebuildAll}
 use Rattle.rewrite_parts.specs.Rows.{ValueAt}
-use Rattle.rewrite_build.specs.Written.{Writes}
+use Rattle.bytes_emit.specs.Written.{Writes}
 use Rattle.rewrite_progress.proofs.Laws.{each-append}
 use Rattle.rewrite_wanted.specs.declared.Asks.{Asks}
 use Rattle.rewrite_wanted.specs.declared.Wants.{Wants}

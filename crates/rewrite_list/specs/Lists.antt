@@ -19,10 +19,12 @@ use Rattle.rewrite.specs.State.{AggStates}
 use Rattle.rewrite.specs.Rebuild.{Rebuilt, Wanted, rebuildAll}
 use Rattle.rewrite_parts.specs.Rows.{ValueAt, rowsIn, freshIn}
 use Rattle.rewrite_build.specs.declared.Rebuilt.{Rebuilt as Answer}
-use Rattle.rewrite_build.specs.Written.{rebuildMost, Writes, Rebuilds}
+use Rattle.bytes_emit.specs.Written.{Writes}
+use Rattle.rewrite_build.specs.Written.{rebuildMost, Rebuilds}
 use Rattle.rewrite_progress.specs.declared.Progress.{Progress}
 use Rattle.rewrite_progress.specs.declared.Put.{Put}
-use Rattle.rewrite_progress.specs.Effect.{numbersBelow, outputOf, rebuiltEffect, Puts}
+use Rattle.table.specs.Number.{numbersBelow}
+use Rattle.rewrite_progress.specs.Effect.{outputOf, rebuiltEffect, Puts}
 use Rattle.rewrite_wanted.specs.declared.Wants.{Wants}
 use Rattle.rewrite_wanted.specs.Asked.{Setting, askedList, Told}
 use Rattle.rewrite_list.specs.declared.ValueList.{ValueList}
@@ -31,6 +33,14 @@ use Rattle.rewrite_list.specs.declared.Written.{Written}
 -- the most bytes that are copied at once
 abbrev pub mostCopied : ℕ
 mostCopied = 1024
+
+-- the fresh numbers of a run are below this
+abbrev pub freshBelow : ℕ
+freshBelow = 2147483648
+
+-- the most bytes of a list of values
+abbrev pub valuesMost : ℕ
+valuesMost = 1280
 
 -- at most k rebuilds further; nothing is counted yet
 pub record Few (p : Progress) (k : ℕ) (q : Progress) : Type 0 where

@@ -13,9 +13,11 @@ ghost use mathlib.Core.Path.{_≡_};
 ghost use Prim.Native.Nat.{_+_, _≤_, _<_};
 ghost use lib.ListN.{length, take};
 ghost use Rattle.rewrite_parts.specs.Rows.{rowsIn};
-ghost use Rattle.rewrite_build.specs.Written.{rebuildMost, Writes};
-ghost use Rattle.rewrite_progress.specs.Effect.{numbersBelow, lowEnough, Low};
-ghost use Rattle.rewrite_list.specs.Lists.{mostCopied, PutFew, Roomy, lineCount};
+ghost use Rattle.bytes_emit.specs.Written.{Writes, valueRoom, instructionRoom, buildRoom, rebuiltRoom};
+ghost use Rattle.rewrite_build.specs.Written.{rebuildMost};
+ghost use Rattle.table.specs.Number.{numbersBelow};
+ghost use Rattle.rewrite_progress.specs.Effect.{lowEnough, Low, countsBelow};
+ghost use Rattle.rewrite_list.specs.Lists.{mostCopied, PutFew, Roomy, lineCount, freshBelow, valuesMost};
 ghost use Rattle.rewrite_list.specs.Lists.{TrackedPut, WantedPut, AllPut, WantedWritten, AllWritten};
 
 // How many value numbers there are: a number has two bytes.
@@ -53,7 +55,7 @@ fn moved(from: usize, to: usize) -> u32
 
 // Copies the first n bytes of s, where so many stand there and may be copied at once, and returns the place behind them.
 pub fn copy_bytes(out: &mut [u8], to: usize, s: &[u8], n: usize) -> usize
-    requires { ⌜ to < 1099511627776 ⌝ }
+    requires { ⌜ to < valueRoom ⌝ }
     ensures { λ r. ⌜ r ≤ to + mostCopied ⌝ }
     ensures { λ r. ⌜ (n ≤ mostCopied → n ≤ length (now (s .entry))
         → Writes (take n (now (s .entry))) (now (out .entry)) (now (out .exit)) to r) ⌝ }
@@ -89,7 +91,7 @@ fn put_tracked(
     t: TypeId,
     d: ValueId,
 ) -> Rebuilt
-    requires { ⌜ to < 137438953472 ⌝ }
+    requires { ⌜ to < rebuiltRoom ⌝ }
     ensures { λ r. ⌜ r .to ≤ to + rebuildMost ⌝ }
     ensures { λ r. ⌜ TrackedPut b (now (s .entry)) (now (facts .entry)) (now (work .entry)) v t d
         (now (out .entry)) (now (out .exit)) to r ⌝ }
@@ -148,7 +150,7 @@ pub fn put_builds(
     tracked: &[bool],
     work: &mut [u16],
 ) -> Put
-    requires { ⌜ Low lowEnough p × (list .first < 1073741824) ⌝ }
+    requires { ⌜ Low lowEnough p × (list .first < countsBelow) ⌝ }
     ensures { λ r. ⌜ PutFew p 255 r ⌝ }
     ensures { λ _. ⌜ rowsIn (now (work .exit)) ≡ rowsIn (now (work .entry)) ⌝ }
     ensures { λ r. ⌜ AllPut b (now (s .entry)) (now (facts .entry)) (now (t .entry)) (now (tracked .entry)) list
@@ -179,7 +181,7 @@ fn put_wanted_value(
     next: u16,
     wants: Wants,
 ) -> Written
-    requires { ⌜ (w .to < 549755813888) × (w .fresh < 2147483648) ⌝ }
+    requires { ⌜ (w .to < instructionRoom) × (w .fresh < freshBelow) ⌝ }
     ensures { λ r. ⌜ (r .to ≤ w .to + 5) × (r .fresh ≤ w .fresh + 1) ⌝ }
     ensures { λ r. ⌜ WantedWritten next (now (t .entry)) at wants (now (out .entry)) w (now (out .exit)) r ⌝ }
 {
@@ -214,8 +216,8 @@ pub fn put_values(
     list: ValueList,
     tracked: &[bool],
 ) -> usize
-    requires { ⌜ (to < 274877906944) × ((taken < 1073741824) × (list .first < 1073741824)) ⌝ }
-    ensures { λ r. ⌜ r ≤ to + 1280 ⌝ }
+    requires { ⌜ (to < buildRoom) × ((taken < countsBelow) × (list .first < countsBelow)) ⌝ }
+    ensures { λ r. ⌜ r ≤ to + valuesMost ⌝ }
     ensures { λ r. ⌜ AllWritten b (now (s .entry)) (now (facts .entry)) (now (t .entry)) (now (tracked .entry)) list taken
         (now (out .entry)) (now (out .exit)) to r ⌝ }
 {

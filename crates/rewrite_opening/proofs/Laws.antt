@@ -5,7 +5,7 @@ use mathlib.Core.List.{List}
 use native.Mathlib.Omega.{arith}
 use lib.ListN.{length, getD}
 use Rattle.bytes_field.specs.declared.Bounds.{Bounds}
-use Rattle.rewrite_build.specs.Written.{Writes}
+use Rattle.bytes_emit.specs.Written.{Writes}
 use Rattle.rewrite_head.specs.Head.{frontEnd}
 use Rattle.rewrite_head.proofs.Front.{front-within}
 use Rattle.rewrite_opening.specs.Opens.{Opens, Opening}

@@ -9,7 +9,7 @@ use Rattle.bytes_index.specs.Table.{recordedIn}
 use Rattle.bytes_types.specs.Encode.{typesBytes}
 use Rattle.mir.specs.Routine.{Routine}
 use Rattle.bytes_sections.specs.Encode.{encode}
-use Rattle.rewrite_build.specs.Written.{Writes}
+use Rattle.bytes_emit.specs.Written.{Writes}
 use Rattle.rewrite_head.specs.Head.{Tabled}
 use Rattle.rewrite_opening.specs.declared.Opened.{Opened}
 

@@ -30,7 +30,7 @@ use Rattle.bytes_operands.proofs.Places.{Stand, Field, then, last, alone, takes
 use Rattle.bytes_operands.proofs.EachKind.{At, at, Stands, value-size}
 use Rattle.bytes_operands.proofs.Values.{value-behind}
 use Rattle.bytes_operands.proofs.Instruction.{instruction-fields, instruction-stands}
-use Rattle.rewrite_parts.specs.Rows.{placeOf, Values, Inits, Names, noInit, noField}
+use Rattle.rewrite_parts.specs.Rows.{itemOffset, Values, Inits, Names, noInit, noField}
 
 -- thing k of those that stand one behind another
 pub listed-each : {A : Type 0} {Q : ℕ → A → Type 0} {end : ℕ → ℕ} {p : ℕ} {xs : List A} (d : A) → Listed Q end p xs → (k : ℕ) → k < length xs → Q (after end k p) (getD xs k d)
@@ -40,7 +40,7 @@ listed-each d (q & qs) zero h = q
 listed-each d (q & qs) (suc k) h = listed-each d qs k (omega arith)
 
 -- places behind `off` bytes
-place-behind : (s : List ℕ) (off before k p : ℕ) → off + placeOf (drop off s) before p k ≡ placeOf s before (off + p) k
+place-behind : (s : List ℕ) (off before k p : ℕ) → off + itemOffset (drop off s) before p k ≡ itemOffset s before (off + p) k
 unfolding after
 place-behind s off before zero p = refl
 place-behind s off before (suc k) p =
@@ -54,7 +54,7 @@ pub values-behind : (next : ℕ) (s : List ℕ) (off before p : ℕ) (xs : List 
 values-behind next s off before p xs l =
     record {
       each = λ k h.
-          value-behind next s off (placeOf (drop off s) before p k + before) (placeOf s before (off + p) k + before) (getD xs k Value.Error) (omega (arith, place-behind s off before k p)) (listed-each Value.Error l k h);
+          value-behind next s off (itemOffset (drop off s) before p k + before) (itemOffset s before (off + p) k + before) (getD xs k Value.Error) (omega (arith, place-behind s off before k p)) (listed-each Value.Error l k h);
     }
 
 -- the list of an accepted instruction that stands at a place of s
@@ -116,10 +116,10 @@ pub inits-behind : (next : ℕ) (s : List ℕ) (off p : ℕ) (fs : List FieldIni
 inits-behind next s off p fs l =
     record {
       named = λ k h.
-          let z : off + (placeOf (drop off s) 2 p k + 1) ≡ placeOf s 2 (off + p) k + 1 = omega (arith, place-behind s off 2 k p) in
-          rw (getD-drop off s (placeOf (drop off s) 2 p k) 0, getD-drop off s (placeOf (drop off s) 2 p k + 1) 0, z, place-behind s off 2 k p) at (listed-each noInit l k h .named);
+          let z : off + (itemOffset (drop off s) 2 p k + 1) ≡ itemOffset s 2 (off + p) k + 1 = omega (arith, place-behind s off 2 k p) in
+          rw (getD-drop off s (itemOffset (drop off s) 2 p k) 0, getD-drop off s (itemOffset (drop off s) 2 p k + 1) 0, z, place-behind s off 2 k p) at (listed-each noInit l k h .named);
       each = λ k h.
-          value-behind next s off (placeOf (drop off s) 2 p k + 2) (placeOf s 2 (off + p) k + 2) (getD fs k noInit .value) (omega (arith, place-behind s off 2 k p)) (listed-each noInit l k h .value);
+          value-behind next s off (itemOffset (drop off s) 2 p k + 2) (itemOffset s 2 (off + p) k + 2) (getD fs k noInit .value) (omega (arith, place-behind s off 2 k p)) (listed-each noInit l k h .value);
     }
 
 -- the inits of an accepted struct build that stands at a place of s

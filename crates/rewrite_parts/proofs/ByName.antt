@@ -21,7 +21,7 @@ use Rattle.mir.specs.Parts.{given, consPart, fromStructFields}
 use Rattle.mir.specs.Lookup.{isSome}
 use Rattle.fold.specs.Family.{Marks}
 use Rattle.rewrite.specs.State.{AggStates}
-use Rattle.rewrite_parts.specs.Rows.{Rep, Room, placeOf, Inits, Names, InitAt, noInit, noField, givenParts}
+use Rattle.rewrite_parts.specs.Rows.{Rep, Room, itemOffset, Inits, Names, InitAt, noInit, noField, givenParts}
 use Rattle.rewrite_parts.specs.Filled.{Grown, Filled, NamedRow}
 use Rattle.rewrite_parts.specs.declared.Init.{Init}
 use Rattle.rewrite_parts.proofs.Tables.{rep-old, rep-track}
@@ -31,7 +31,7 @@ use Rattle.rewrite_parts.proofs.Loops.{place-more, grown-none, grown-mo
 pub record Seeking (s : List ℕ) (at n : ℕ) (name : NameId) (here i : ℕ) : Type 0 where
   pub under : i ≤ n
   pub near : here ≤ at + 7 * i
-  pub place : here ≡ placeOf s 2 at i
+  pub place : here ≡ itemOffset s 2 at i
   pub left : (next : ℕ) (fs : List FieldInit) → Inits next s at fs → length fs ≡ n → given name fs ≡ given name (drop i fs)
 
 -- none is looked at yet

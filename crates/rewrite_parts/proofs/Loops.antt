@@ -18,7 +18,7 @@ use Rattle.bytes_wire.proofs.Inv.{tagged-inv}
 use Rattle.bytes_operands.specs.Fields.{after, valueEnd, valueStep}
 use Rattle.fold.specs.Family.{Marks}
 use Rattle.rewrite.specs.State.{AggStates, insertState, replaced}
-use Rattle.rewrite_parts.specs.Rows.{ValueAt, stands, Rep, Room, placeOf, Values}
+use Rattle.rewrite_parts.specs.Rows.{ValueAt, stands, Rep, Room, itemOffset, Values}
 use Rattle.rewrite_parts.specs.Filled.{Grown, Filled}
 use Rattle.rewrite_parts.proofs.Tables.{Held, found-row, rep-track, replaced-set}
 
@@ -101,7 +101,7 @@ unfolding after
 after-end end zero at = refl
 after-end end (suc k) at = let z : suc k + 1 ≡ suc (k + 1) = omega arith in rw z (after-end end k (end at))
 
-pub place-more : (s : List ℕ) (before at i here there : ℕ) → here ≡ placeOf s before at i → there ≡ valueEnd s (here + before) → there ≡ placeOf s before at (i + 1)
+pub place-more : (s : List ℕ) (before at i here there : ℕ) → here ≡ itemOffset s before at i → there ≡ valueEnd s (here + before) → there ≡ itemOffset s before at (i + 1)
 place-more s before at i here there e f =
     let z : there ≡ valueStep s before 0 here = omega arith in
     z ∙ ap (valueStep s before 0) e ∙ sym (after-end (valueStep s before 0) i at)
@@ -110,7 +110,7 @@ place-more s before at i here there e f =
 pub record Laying (s : List ℕ) (before n at : ℕ) (rows₀ : List ℕ) (to : ℕ) (rows : List ℕ) (here i : ℕ) : Type 0 where
   pub under : i ≤ n
   pub near : here ≤ at + 300 * i
-  pub place : here ≡ placeOf s before at i
+  pub place : here ≡ itemOffset s before at i
   pub grown : Grown rows₀ to rows
   pub filled : (next : ℕ) (xs : List Value) → Values next s before at xs → length xs ≡ n → length s < 65536 → to + n ≤ length rows₀ → Filled next s rows to xs i
 

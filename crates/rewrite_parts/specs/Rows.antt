@@ -6,6 +6,7 @@ use mathlib.Core.Bool.{Bool, true, false}
 use mathlib.Core.Option.{Option, none, some}
 use lib.ListN.{length, getD, take, drop}
 use Rattle.bytes_wire.specs.Number.{at16}
+use Rattle.mir.specs.Most.{mostValues}
 use Rattle.mir.specs.declared.Value.{Value}
 use Rattle.mir.specs.declared.ValueId.{ValueId}
 use Rattle.mir.specs.MirType.{StructField}
@@ -17,10 +18,7 @@ use Rattle.fold.specs.Family.{Marks}
 use Rattle.rewrite.specs.State.{AggStates, insertState}
 use Rattle.rewrite_parts.specs.declared.Init.{Init}
 
--- the most values that an input has, and so the marks there are; the first place of a row, behind a number for each value
-abbrev pub mostValues : ℕ
-mostValues = 256
-
+-- the first place of a row, behind a number for each value
 abbrev pub rowsFrom : ℕ
 rowsFrom = mostValues
 
@@ -85,12 +83,12 @@ abbrev pub freshIn : List ℕ → List ℕ
 freshIn work = drop rowsSize work
 
 -- the place of thing k of those that stand one behind another from `at` on, each a value with `before` bytes before it
-abbrev pub placeOf : List ℕ → ℕ → ℕ → ℕ → ℕ
-placeOf s before at k = after (valueStep s before 0) k at
+abbrev pub itemOffset : List ℕ → ℕ → ℕ → ℕ → ℕ
+itemOffset s before at k = after (valueStep s before 0) k at
 
 -- the values xs stand so
 pub record Values (next : ℕ) (s : List ℕ) (before at : ℕ) (xs : List Value) : Type 0 where
-  pub each : (k : ℕ) → k < length xs → ValueAt next s (placeOf s before at k + before) (getD xs k Value.Error)
+  pub each : (k : ℕ) → k < length xs → ValueAt next s (itemOffset s before at k + before) (getD xs k Value.Error)
 
 -- past the end of a list of inits, and of a list of fields
 abbrev pub noInit : FieldInit
@@ -101,8 +99,8 @@ noField = record { name = record { 0 = 0 }; part = record { 0 = 0 } }
 
 -- the inits fs stand one behind another from `at` on, each a name and a value
 pub record Inits (next : ℕ) (s : List ℕ) (at : ℕ) (fs : List FieldInit) : Type 0 where
-  pub named : (k : ℕ) → k < length fs → at16 s (placeOf s 2 at k) ≡ getD fs k noInit .name .0
-  pub each : (k : ℕ) → k < length fs → ValueAt next s (placeOf s 2 at k + 2) (getD fs k noInit .value)
+  pub named : (k : ℕ) → k < length fs → at16 s (itemOffset s 2 at k) ≡ getD fs k noInit .name .0
+  pub each : (k : ℕ) → k < length fs → ValueAt next s (itemOffset s 2 at k + 2) (getD fs k noInit .value)
 
 -- the names of a struct type's fields stand four bytes apart from `names` on
 pub record Names (s : List ℕ) (names : ℕ) (ts : List StructField) : Type 0 where

@@ -14,7 +14,7 @@ use Rattle.fold.specs.Family.{Marks}
 use Rattle.rewrite.specs.Run.{Walked, addCounts}
 use Rattle.rewrite_progress.specs.declared.Progress.{Progress}
 use Rattle.rewrite_progress.specs.declared.Put.{Put}
-use Rattle.rewrite_progress.specs.Effect.{Effect, Output, outputOf, behind, further, walkedEffect, markAll, numbersOf, Puts, Low, PutLow}
+use Rattle.rewrite_progress.specs.Effect.{Effect, Output, outputOf, behind, further, walkedEffect, markAll, typeNumbers, Puts, Low, PutLow}
 use Rattle.rewrite_progress.proofs.Laws.{no-went, no-clash}
 use Rattle.rewrite_perform.specs.Performed.{movedTo, blockEffect, CountPut}
 
@@ -49,7 +49,7 @@ unfolding behind further walkedEffect blockEffect blockBytes
 block-out out₀ out out′ types₀ types dropped₀ dropped p q v w z e f g =
     let bytes = eachBytes instructionBytes (w .out) ++ terminatorBytes (w .terminator) in
     let b1 : out ≡ sets out₀ (p .to + 2) bytes = ap (λ o. o .buffer) e in
-    let b2 : types ≡ sets types₀ (p .fresh) (numbersOf (w .fresh)) = ap (λ o. o .types) e in
+    let b2 : types ≡ sets types₀ (p .fresh) (typeNumbers (w .fresh)) = ap (λ o. o .types) e in
     let b3 : dropped ≡ markAll dropped₀ (w .dropped) = ap (λ o. o .dropped) e in
     let b4′ : q .lines ≡ 0 + length (w .out) = ap (λ o. o .progress .lines) e in
     let b4 : q .lines ≡ length (w .out) = omega (arith, b4′) in

@@ -12,7 +12,7 @@ use Rattle.mir.specs.declared.TypeId.{TypeId}
 use Rattle.mir.specs.declared.ValueId.{ValueId}
 use Rattle.mir.specs.declared.Value.{Value}
 use Rattle.bytes_wire.proofs.Canon.{bytes-drop, value-short}
-use Rattle.mir.specs.Syntax.{Instruction, Assign}
+use Rattle.mir.specs.Syntax.{Instruction, Assign, plain}
 use Rattle.bytes_field.specs.Encode.{instructionBytes, fieldBytes, valueIdBytes, typeIdBytes}
 use Rattle.bytes_field.specs.declared.Bounds.{Bounds}
 use Rattle.bytes_laws.proofs.Instruction.{instruction-canon}
@@ -22,13 +22,12 @@ use Rattle.mir.specs.Lookup.{Types}
 use Rattle.fold.specs.Family.{Marks, mark}
 use Rattle.rewrite.specs.declared.Counts.{Counts}
 use Rattle.rewrite.specs.State.{AggStates}
-use Rattle.rewrite.specs.Rebuild.{plain}
 use Rattle.rewrite.specs.Step.{Piece, kept, left, assigned, oneExtract}
 use Rattle.rewrite.specs.Run.{addCounts}
 use Rattle.rewrite_parts.specs.Rows.{ValueAt}
 use Rattle.rewrite_progress.specs.declared.Progress.{Progress}
 use Rattle.rewrite_progress.specs.Ground.{Ground}
-use Rattle.rewrite_progress.specs.Effect.{outputOf, behind, further, pieceEffect, markAll, numbersOf}
+use Rattle.rewrite_progress.specs.Effect.{outputOf, behind, further, pieceEffect, markAll, typeNumbers}
 use Rattle.rewrite_arms.specs.declared.Counted.{Counted}
 use Rattle.rewrite_arms.specs.declared.Action.{Action}
 use Rattle.rewrite_arms.specs.Decided.{countedAs, Does, Assigned, assigned-from}
@@ -46,7 +45,7 @@ kept-out : (b : Bounds) (τ : Types) (S : AggStates) (i : Instruction) (s facts 
     → Ground b s facts (recordedIn facts) τ → InstructionIn b s facts slot i → at ≡ placeIn facts slot → (end ≡ endIn facts slot) × (end < 65536)
     → part ≡ take (end - at) (drop at s) → (length part ≤ 65536 → (r ≡ movedTo p (p .to + length part) (p .lines + 1)) × (out′ ≡ sets out (p .to) part))
     → outputOf out′ types dropped r ≡ behind (outputOf out types dropped p) (pieceEffect (kept S i))
-unfolding behind further pieceEffect kept markAll numbersOf
+unfolding behind further pieceEffect kept markAll typeNumbers
 kept-out b τ S i s facts slot out out′ types dropped p r at end part g line ea ee f w =
     let c = instruction-canon b [] false (drop (placeIn facts slot) s) (bytes-drop s (placeIn facts slot) (g .bytes)) (line .read) in
     let own : part ≡ instructionBytes i = f ∙ ap (λ n. take (end - n) (drop n s)) ea ∙ ap (λ n. take (n - placeIn facts slot) (drop (placeIn facts slot) s)) (ee .0) ∙ sym (c .same) in
@@ -55,12 +54,12 @@ kept-out b τ S i s facts slot out out′ types dropped p r at end part g line e
 
 -- an instruction left out, its dest marked
 left-out : (c : Counts) (d : ValueId) (S : AggStates) (out types : List ℕ) (dropped dropped′ : Marks) (p r : Progress) → dropped′ ≡ mark dropped d → r ≡ raisedBy p c → outputOf out types dropped′ r ≡ behind (outputOf out types dropped p) (pieceEffect (left c (d ∷ []) S))
-unfolding behind further pieceEffect left markAll numbersOf
+unfolding behind further pieceEffect left markAll typeNumbers
 left-out c d S out types dropped dropped′ p r e f = rw (e, f) (simp (add-zero))
 
 -- no value dropped
 pub left-none : (c : Counts) (S : AggStates) (out types : List ℕ) (dropped : Marks) (p r : Progress) → r ≡ raisedBy p c → outputOf out types dropped r ≡ behind (outputOf out types dropped p) (pieceEffect (left c [] S))
-unfolding behind further pieceEffect left markAll numbersOf
+unfolding behind further pieceEffect left markAll typeNumbers
 left-none c S out types dropped p r f = rw f (simp (add-zero))
 
 -- an Assign
@@ -68,7 +67,7 @@ assigned-out : (S : AggStates) (d : ValueId) (x y : Value) (t : TypeId) (out out
     → y ≡ x → (to ≡ p .to + length (instructionBytes (plain (Assign d y t)))) × (out′ ≡ sets out (p .to) (instructionBytes (plain (Assign d y t))))
     → q ≡ raisedBy p oneExtract → r ≡ movedTo q to (q .lines + 1)
     → outputOf out′ types dropped r ≡ behind (outputOf out types dropped p) (pieceEffect (assigned oneExtract S d x t))
-unfolding behind further pieceEffect assigned markAll numbersOf
+unfolding behind further pieceEffect assigned markAll typeNumbers
 assigned-out S d x y t out out′ types dropped p q r to e w f g =
     let z : r ≡ record { to = to; lines = p .lines + 1; fresh = p .fresh; counts = addCounts (p .counts) oneExtract } = g ∙ ap (λ u. movedTo u to (u .lines + 1)) f in
     rw (z, w .0, w .1, e) (simp (append-nil, add-zero))

@@ -8,7 +8,7 @@ use rewrite_progress::Put;
 ghost use mathlib.Core.Path.{_≡_};
 ghost use Prim.Native.Nat.{ℕ, _+_, _≤_};
 ghost use Rattle.rewrite.specs.Run.{addCounts};
-ghost use Rattle.rewrite_progress.specs.Effect.{outputOf, lowEnough, Low, PutLow};
+ghost use Rattle.rewrite_progress.specs.Effect.{outputOf, lowEnough, Low, PutLow, mostLines};
 ghost use Rattle.rewrite_arms.specs.Decided.{countedAs};
 ghost use Rattle.rewrite_perform.specs.Performed.{movedTo, raisedBy, PartPut, CountsLow, Performs, CountPut};
 
@@ -30,7 +30,7 @@ const MOST_BYTES: usize = 65536;
 
 // Copies a part that has so many instructions, at most 1,024; of one that is longer than an input, nothing.
 pub fn put_part(out: &mut [u8], p: Progress, part: &[u8], lines: u32) -> Progress
-    requires { ⌜ Low lowEnough p × (lines ≤ 1024) ⌝ }
+    requires { ⌜ Low lowEnough p × (lines ≤ mostLines) ⌝ }
     ensures { λ r. ⌜ ((k : ℕ) → Low k p → Low (k + 1) r) ⌝ }
     ensures { λ r. ⌜ PartPut p (now (part .entry)) lines (now (out .entry)) (now (out .exit)) r ⌝ }
 {

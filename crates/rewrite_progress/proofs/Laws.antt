@@ -14,7 +14,7 @@ use Rattle.rewrite.specs.Step.{Piece}
 use Rattle.rewrite.specs.Run.{Walked, glue}
 use Rattle.rewrite_progress.specs.declared.Progress.{Progress}
 use Rattle.rewrite_progress.specs.declared.Put.{Put}
-use Rattle.rewrite_progress.specs.Effect.{Effect, Output, markAll, numbersOf, further, behind, thenEffect, noEffect, pieceEffect, walkedEffect}
+use Rattle.rewrite_progress.specs.Effect.{Effect, Output, markAll, typeNumbers, further, behind, thenEffect, noEffect, pieceEffect, walkedEffect}
 
 -- what clashed did not go on, and what went on did not clash
 pub no-went : {p : Progress} → Put.Clash ≡ Put.Went p → ⊥
@@ -32,13 +32,13 @@ unfolding markAll
 mark-append m [] ys = refl
 mark-append m (x ∷ xs) ys = mark-append (mark m x) xs ys
 
-pub numbers-append : (xs ys : List TypeId) → numbersOf (xs ++ ys) ≡ numbersOf xs ++ numbersOf ys
-unfolding numbersOf
+pub numbers-append : (xs ys : List TypeId) → typeNumbers (xs ++ ys) ≡ typeNumbers xs ++ typeNumbers ys
+unfolding typeNumbers
 numbers-append [] ys = refl
 numbers-append (x ∷ xs) ys = ap (λ w. x .0 ∷ w) (numbers-append xs ys)
 
-pub numbers-length : (xs : List TypeId) → length (numbersOf xs) ≡ length xs
-unfolding numbersOf
+pub numbers-length : (xs : List TypeId) → length (typeNumbers xs) ≡ length xs
+unfolding typeNumbers
 numbers-length [] = refl
 numbers-length (x ∷ xs) = ap (λ n. suc n) (numbers-length xs)
 
@@ -49,10 +49,10 @@ further-then p e f = simp (length-append, add-assoc)
 pub behind-then : (o : Output) (e f : Effect) → behind (behind o e) f ≡ behind o (thenEffect e f)
 unfolding behind further thenEffect
 behind-then o e f =
-    rw (← further-then (o .progress) e f, sets-append (o .buffer) (o .progress .to) (e .bytes) (f .bytes), mark-append (o .dropped) (e .dropped) (f .dropped), numbers-append (e .fresh) (f .fresh), sets-append (o .types) (o .progress .fresh) (numbersOf (e .fresh)) (numbersOf (f .fresh)), numbers-length (e .fresh)) refl
+    rw (← further-then (o .progress) e f, sets-append (o .buffer) (o .progress .to) (e .bytes) (f .bytes), mark-append (o .dropped) (e .dropped) (f .dropped), numbers-append (e .fresh) (f .fresh), sets-append (o .types) (o .progress .fresh) (typeNumbers (e .fresh)) (typeNumbers (f .fresh)), numbers-length (e .fresh)) refl
 
 pub behind-none : (o : Output) → behind o noEffect ≡ o
-unfolding behind further markAll numbersOf
+unfolding behind further markAll typeNumbers
 behind-none o = simp (add-zero)
 
 -- a piece, then what is left of the block

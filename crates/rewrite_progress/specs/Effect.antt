@@ -5,6 +5,7 @@ use mathlib.Core.List.{List, [], _∷_, _++_}
 use mathlib.Core.Bool.{Bool, true, false}
 use lib.ListN.{length}
 use lib.Seq.{sets}
+use Rattle.table.specs.Number.{numbersBelow}
 use Rattle.mir.specs.declared.ValueId.{ValueId}
 use Rattle.mir.specs.declared.TypeId.{TypeId}
 use Rattle.bytes_field.specs.declared.Bounds.{Bounds}
@@ -41,9 +42,9 @@ markAll m [] = m
 markAll m (d ∷ ds) = markAll (mark m d) ds
 
 -- types by their numbers
-unfoldable pub numbersOf : List TypeId → List ℕ
-numbersOf [] = []
-numbersOf (t ∷ ts) = t .0 ∷ numbersOf ts
+unfoldable pub typeNumbers : List TypeId → List ℕ
+typeNumbers [] = []
+typeNumbers (t ∷ ts) = t .0 ∷ typeNumbers ts
 
 -- how far the output is behind an effect
 unfoldable pub further : Progress → Effect → Progress
@@ -60,7 +61,7 @@ unfoldable pub behind : Output → Effect → Output
 behind o e =
     record {
       buffer = sets (o .buffer) (o .progress .to) (e .bytes);
-      types = sets (o .types) (o .progress .fresh) (numbersOf (e .fresh));
+      types = sets (o .types) (o .progress .fresh) (typeNumbers (e .fresh));
       dropped = markAll (o .dropped) (e .dropped);
       progress = further (o .progress) e;
     }
@@ -140,18 +141,35 @@ pub record Low (k : ℕ) (p : Progress) : Type 0 where
   pub assigns : p .counts .assigns ≤ k * 1024
   pub materializations : p .counts .materializations ≤ k * 1024
 
+-- as many instructions as are put out at once
+abbrev pub mostLines : ℕ
+mostLines = 1024
+
 -- as low as a writer needs it; a whole routine stays below
 abbrev pub lowEnough : ℕ
 lowEnough = 8000
+
+-- before the blocks, before a block, behind a block and behind all of them
+abbrev pub startLow : ℕ
+startLow = 64
+
+abbrev pub blockLow : ℕ
+blockLow = 4800
+
+abbrev pub blockRise : ℕ
+blockRise = 130
+
+abbrev pub routineLow : ℕ
+routineLow = 4300
+
+-- a count, or a place within an instruction, to which another can be added
+abbrev pub countsBelow : ℕ
+countsBelow = 1073741824
 
 -- a writer's answer stays low
 abbrev pub PutLow : ℕ → Put → Type 0
 PutLow k Put.Clash = Unit {0}
 PutLow k (Put.Went p) = Low k p
-
--- a value's number has two bytes
-abbrev pub numbersBelow : ℕ
-numbersBelow = 65536
 
 -- the fresh numbers begin with the next one, and are enough for the types ts
 abbrev pub freshFrom : Bounds → Progress → ℕ

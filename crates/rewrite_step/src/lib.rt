@@ -1,9 +1,8 @@
 // One instruction: what becomes of it is settled in the tables of tracked values, then put out.
 use bytes_field::Bounds;
+use mir::kind;
 use rewrite_arms::Action;
-use rewrite_arms::CALL;
 use rewrite_arms::Counted;
-use rewrite_arms::STORE;
 use rewrite_parts::ROWS;
 use rewrite_progress::Progress;
 use rewrite_progress::Put;
@@ -63,13 +62,13 @@ fn settle(
     let b = setup.bounds;
     let settings = setup.settings;
     let kind = bytes_index::kind(facts, slot);
-    if kind == CALL {
+    if kind == kind::CALL {
         return Settled {
             rewrite: Rewrite::Call,
             used: used,
         };
     }
-    if kind != STORE {
+    if kind != kind::STORE {
         let d = rewrite_decide::decide(s, b, settings, facts, slot, fold, tracked, rows, used);
         let action = d.action;
         return Settled {

@@ -16,9 +16,9 @@ use Rattle.mir.specs.declared.Literal.{Literal}
 use Rattle.mir.specs.declared.Value.{Value}
 use Rattle.bytes_field.specs.declared.Bounds.{Bounds}
 use Rattle.mir.specs.MirType.{MirType, Felt, Bool, U32, Tuple, Struct, FixedArray, Pointer, Function, Unit, Error, Unknown}
-use Rattle.bytes_lookup.specs.declared.Recorded.{Recorded}
+use Rattle.bytes_lookup.specs.declared.TypeFound.{TypeFound}
 use Rattle.bytes_sections.specs.Index.{recordedNumber, recordedFrom}
-use Rattle.bytes_lookup.specs.Found.{asRecorded}
+use Rattle.bytes_lookup.specs.Found.{asType}
 use Rattle.mir.specs.Lookup.{isSome, Types, rowOf, recordedType, shape, isTuple, isStruct, isArray, isAggregate}
 use Rattle.fold.specs.Tables.{Known}
 use Rattle.rewrite.specs.State.{AggStates, stateOf}
@@ -79,7 +79,7 @@ from-number n none e = rw e refl
 from-number n (some t) e = let z : n ≡ suc (t .0) = omega arith in rw z refl
 
 -- the recorded type of an operand
-pub recorded-told : (τ : Types) (most : ℕ) (s types table recorded : List ℕ) (v : ValueId) (r : Recorded) → Known most s types table τ → table ≡ recorded → v .0 < length (τ .recorded) → asRecorded r ≡ recordedFrom (getD recorded (v .0) 0) → asRecorded r ≡ returnType τ (Value.Operand v)
+pub recorded-told : (τ : Types) (most : ℕ) (s types table recorded : List ℕ) (v : ValueId) (r : TypeFound) → Known most s types table τ → table ≡ recorded → v .0 < length (τ .recorded) → asType r ≡ recordedFrom (getD recorded (v .0) 0) → asType r ≡ returnType τ (Value.Operand v)
 unfolding returnType recordedType
 recorded-told τ most s types table recorded v r k e l h =
     let long : v .0 < length table = omega (arith, k .long) in

@@ -12,8 +12,8 @@ use Rattle.mir.specs.declared.TypeId.{TypeId}
 use Rattle.mir.specs.declared.Value.{Value}
 use Rattle.bytes_field.specs.declared.Bounds.{Bounds}
 use Rattle.bytes_index.specs.Table.{recordedIn}
-use Rattle.bytes_lookup.specs.declared.Recorded.{Recorded}
-use Rattle.bytes_lookup.specs.Found.{asRecorded}
+use Rattle.bytes_lookup.specs.declared.TypeFound.{TypeFound}
+use Rattle.bytes_lookup.specs.Found.{asType}
 use Rattle.fold.specs.Family.{Marks}
 use Rattle.mir.specs.Lookup.{Types}
 use Rattle.rewrite.specs.State.{AggStates, stateOf}
@@ -58,9 +58,9 @@ WantedAt b s facts t at tracked asks i r =
     → Told τ S x (askedAt τ t asks i x) r
 
 -- the type asked of value i, the operand v
-abbrev pub TypeAsked : Bounds → List ℕ → List ℕ → List ℕ → Asks → ValueId → ℕ → Recorded → Type 0
+abbrev pub TypeAsked : Bounds → List ℕ → List ℕ → List ℕ → Asks → ValueId → ℕ → TypeFound → Type 0
 TypeAsked b s facts t asks v i r =
     (τ : Types)
     → Ground b s facts (recordedIn facts) τ
     → v .0 < b .next
-    → asRecorded r ≡ askedAt τ t asks i (Value.Operand v)
+    → asType r ≡ askedAt τ t asks i (Value.Operand v)

@@ -1,14 +1,12 @@
 // Which values of a list are rebuilt: a Call's arguments and a Store's value at types that stand in the input, the values
 // of a Return at their recorded types; of these the tracked ones.
 use bytes_field::Bounds;
-use bytes_lookup::Recorded;
+use bytes_lookup::TypeFound;
 use mir::TypeId;
 use mir::Value;
 use mir::ValueId;
+use mir::shape;
 ghost use Rattle.rewrite_wanted.specs.Asked.{WantedAt, TypeAsked};
-
-// The shape of a type that is no aggregate.
-const NO_SHAPE: u8 = 0;
 
 // How many bytes a type's number has.
 const TYPE_BYTES: usize = 2;
@@ -35,19 +33,19 @@ fn asked_type(
     asks: Asks,
     v: ValueId,
     i: u8,
-) -> Recorded
+) -> TypeFound
     ensures { λ r. ⌜ TypeAsked b (now (s .entry)) (now (facts .entry)) (now (t .entry)) asks v i r ⌝ }
 {
     match asks {
         Asks::Types(at, n) => {
             if n <= i {
-                return Recorded::Nothing;
+                return TypeFound::Nothing;
             }
             let u = bytes_wire::u16_at(bytes_field::tail(t, at), TYPE_BYTES * i as usize);
-            if fold_shapes::type_shape(s, facts, b.types, TypeId(u)) == NO_SHAPE {
-                return Recorded::Nothing;
+            if fold_shapes::type_shape(s, facts, b.types, TypeId(u)) == shape::OTHER {
+                return TypeFound::Nothing;
             }
-            Recorded::Type(TypeId(u))
+            TypeFound::Type(TypeId(u))
         }
         Asks::Recorded => bytes_lookup::recorded_type(bytes_index::recorded(facts), v),
     }
@@ -73,8 +71,8 @@ pub fn wanted_at(
                 return Wants::Nothing;
             }
             match asked_type(s, b, facts, t, asks, v, i) {
-                Recorded::Type(u) => Wants::Build(v, u),
-                Recorded::Nothing => Wants::Nothing,
+                TypeFound::Type(u) => Wants::Build(v, u),
+                TypeFound::Nothing => Wants::Nothing,
             }
         }
         Value::Error => Wants::Nothing,

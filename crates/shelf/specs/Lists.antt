@@ -5,12 +5,7 @@ use mathlib.Core.List.{List, [], _∷_}
 use lib.ListN.{getD}
 use lib.Dec.{eqb}
 use Rattle.mir.specs.declared.ValueId.{ValueId}
-pub use Rattle.mir.specs.Lookup.{every}
-
--- each element, as a statement
-abbrev pub All : {A : Type 0} → (A → Type 0) → List A → Type 0
-All P [] = Unit {0}
-All P (x ∷ xs) = P x × All P xs
+pub use Rattle.mir.specs.Lists.{every}
 
 -- the value of that number is in the list
 abbrev pub among : ℕ → List ValueId → Bool

@@ -1,15 +1,6 @@
 // The shelf test: which rewritten routines the claim of equal runs covers; the definitions are in specs/. Here are the numbers
 // that its code names.
 
-// The shapes of types: "only Tuple, Struct and FixedArray can be taken apart", and all others.
-pub const OTHERS: u8 = 0;
-
-pub const TUPLES: u8 = 1;
-
-pub const STRUCTS: u8 = 2;
-
-pub const ARRAYS: u8 = 3;
-
 // Which literals fit a type: none, an Integer, a Boolean, Unit.
 pub const NO_LITERAL: u8 = 0;
 
@@ -18,42 +9,3 @@ pub const INTEGERS: u8 = 1;
 pub const BOOLEANS: u8 = 2;
 
 pub const UNITS: u8 = 3;
-
-// The kinds of instructions: "u8 kind in `InstructionKind` order (0 to 18)".
-pub const ASSIGN: u16 = 0;
-
-pub const UNARY_OP: u16 = 1;
-
-pub const BINARY_OP: u16 = 2;
-
-pub const CALL: u16 = 3;
-
-pub const CAST: u16 = 4;
-
-pub const LOAD: u16 = 5;
-
-pub const STORE: u16 = 6;
-
-pub const DEBUG: u16 = 7;
-
-pub const NOP: u16 = 8;
-
-pub const PHI: u16 = 9;
-
-pub const MAKE_TUPLE: u16 = 10;
-
-pub const EXTRACT_TUPLE: u16 = 11;
-
-pub const MAKE_STRUCT: u16 = 12;
-
-pub const EXTRACT_FIELD: u16 = 13;
-
-pub const INSERT_FIELD: u16 = 14;
-
-pub const INSERT_TUPLE: u16 = 15;
-
-pub const MAKE_ARRAY: u16 = 16;
-
-pub const ASSERT_EQ: u16 = 17;
-
-pub const HEAP_ALLOC: u16 = 18;

@@ -1,9 +1,7 @@
 // The builds of aggregates; `t` are the own fields of an instruction.
 use bytes_field::Bounds;
 use mir::TypeId;
-use shelf::ARRAYS;
-use shelf::STRUCTS;
-use shelf::TUPLES;
+use mir::shape;
 ghost use mathlib.Core.Bool.{Bool};
 ghost use Rattle.bytes_field.specs.Decode.{makeTupleOf, makeArrayOf, makeStructOf};
 ghost use Rattle.shelf_field.specs.Asked.{Judged};
@@ -22,7 +20,7 @@ pub fn make_tuple(s: &[u8], b: Bounds, types: &[u16], recorded: &[u16], t: &[u8]
     ensures { λ r. ⌜ Judged makeTupleOf b (now (s .entry)) (now (types .entry)) (now (recorded .entry)) (now (t .entry)) r ⌝ }
 {
     let y = shelf_field::id_type(b, recorded, t, DEST);
-    let shaped = shelf_field::has_shape(s, b, types, y, TUPLES);
+    let shaped = shelf_field::has_shape(s, b, types, y, shape::TUPLE);
     let n = bytes_wire::byte_at(t, COUNT);
     let all = shelf_list::parts_fit(s, b, types, recorded, t, PARTS, n, y);
     shelf_field::both(shaped, all)
@@ -36,7 +34,7 @@ pub fn make_array(s: &[u8], b: Bounds, types: &[u16], recorded: &[u16], t: &[u8]
     let y = shelf_field::id_type(b, recorded, t, DEST);
     let n = bytes_wire::byte_at(t, COUNT);
     let part = shelf_field::type_at(t, b, bytes_operands::values_end(t, PARTS, 0, 0, n));
-    let shaped = shelf_field::has_shape(s, b, types, y, ARRAYS);
+    let shaped = shelf_field::has_shape(s, b, types, y, shape::FIXED_ARRAY);
     let same = shelf_types::same_type(shelf_rows::part_type(s, b, types, y, 0), part);
     let all = shelf_list::parts_fit(s, b, types, recorded, t, PARTS, n, y);
     let fit = shelf_field::both(same, all);
@@ -57,7 +55,7 @@ pub fn make_struct(s: &[u8], b: Bounds, types: &[u16], recorded: &[u16], t: &[u8
     if !shelf_rows::has_parts(s, b, types, y, n as u32) {
         return false;
     }
-    if !shelf_field::has_shape(s, b, types, y, STRUCTS) {
+    if !shelf_field::has_shape(s, b, types, y, shape::STRUCT) {
         return false;
     }
     let same = shelf_field::id_has(b, recorded, t, DEST, y);

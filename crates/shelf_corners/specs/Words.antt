@@ -10,14 +10,13 @@ use Rattle.mir.specs.declared.ValueId.{ValueId}
 use Rattle.mir.specs.declared.TypeId.{TypeId}
 use Rattle.mir.specs.declared.Value.{Value}
 use Rattle.mir.specs.MirType.{MirType}
-use Rattle.mir.specs.Syntax.{Projection, Instruction, InstructionKind, Return, Block}
+use Rattle.mir.specs.Syntax.{Projection, Instruction, InstructionKind, Return, Block, plain}
 use Rattle.mir.specs.Routine.{Routine}
 use Rattle.mir.specs.Lookup.{Types}
 use Rattle.fold.specs.declared.Settings.{Settings}
 use Rattle.fold.specs.Scalarizable.{defaults}
 use Rattle.rewrite.specs.declared.Counts.{Counts}
 use Rattle.rewrite.specs.State.{AggStates, forwardStore}
-use Rattle.rewrite.specs.Rebuild.{plain}
 use Rattle.rewrite.specs.Step.{kept, stepKind}
 use Rattle.rewrite.specs.Run.{rewrittenBlocks}
 use Rattle.shelf.specs.Reason.{shelfReason}

@@ -14,15 +14,16 @@ use Rattle.mir.specs.Reads.{reads, dests, kindNumber, isPhi}
 use Rattle.bytes_field.specs.Decode.{instructionOf}
 use Rattle.bytes_field.specs.declared.Bounds.{Bounds}
 use Rattle.bytes_index.specs.Table.{startsIn, placeIn, kindIn, ReadsIn}
-use Rattle.bytes_index.specs.Code.{noInstruction, noBlock, InstructionIn}
+use Rattle.bytes_index.specs.Code.{noInstruction, noBlock, InstructionIn, LastSlot}
 use Rattle.bytes_block.specs.Decode.{marks}
 use Rattle.bytes_operands.specs.Fields.{fieldsPlace}
+use Rattle.mir.specs.Lists.{Each}
 use Rattle.mir.specs.Lookup.{Types}
 use Rattle.mir.specs.Phis.{behindPhis}
 use Rattle.rewrite_progress.specs.Ground.{Coded}
-use Rattle.shelf.specs.Lists.{every, All, among, clear}
+use Rattle.shelf.specs.Lists.{every, among, clear}
 use Rattle.shelf.specs.Reads.{countedReads, definedIn, ordered}
-use Rattle.shelf_marks.specs.Tests.{LastSlot, OfSlot, OfBlock, BehindPhis, orderedBehind, destCount, destFirst, destsAt, destsOf}
+use Rattle.shelf_marks.specs.Tests.{OfSlot, OfBlock, BehindPhis, orderedBehind, destCount, destFirst, destsAt, destsOf}
 use Rattle.shelf_marks.proofs.Scanning.{next-of, none-of, slot-holds, Slots, slots-start, slots-again, every-same}
 use Rattle.table.proofs.Elements.{clear-at}
 use Rattle.shelf_marks.proofs.Bases.{marks-are, among-append}
@@ -131,7 +132,7 @@ still debug d xs e = at (ordered debug (drop d xs)) refl
     at true h = refl
     at false h = sym (ordered-fails debug d xs h) ∙ e
 
-all-below : (a c : ℕ) (xs : List ValueId) → a ≤ c → All (λ d. d .0 < a) xs → All (λ d. d .0 < c) xs
+all-below : (a c : ℕ) (xs : List ValueId) → a ≤ c → Each (λ d. d .0 < a) xs → Each (λ d. d .0 < c) xs
 all-below a c [] h g = tt
 all-below a c (x ∷ xs) h g = (omega (arith, g .0), all-below a c xs h (g .1))
 
@@ -188,7 +189,7 @@ module _ (s facts : List ℕ) (k : ℕ) {front last : ℕ} (el : LastSlot facts 
       marked-here v =
           let at-here : t ≡ drop (placeIn facts (slot - 1)) s = et ∙ ap (λ q. drop q s) ea in
           let d = dests-in b t here _ (ap (λ q. instructionOf b [] false q) at-here ∙ stands-here .read) in
-          let low : All (λ x. x .0 < length m) (dests (here .kind)) = all-below (b .next) (length m) (dests (here .kind)) (omega (arith, w .long, c .ground .few)) (d .low) in
+          let low : Each (λ x. x .0 < length m) (dests (here .kind)) = all-below (b .next) (length m) (dests (here .kind)) (omega (arith, w .long, c .ground .few)) (d .low) in
           let same : destsOf t kind ≡ dests (here .kind) = ap (destsOf t) (ek ∙ stands-here .kind) ∙ sym (d .same) in
           ap (λ q. getD q v false) (em ∙ ap (marks m) same)
           ∙ marks-are m (dests (here .kind)) v low

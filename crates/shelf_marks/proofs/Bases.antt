@@ -22,14 +22,15 @@ use Rattle.bytes_field.specs.declared.Bounds.{Bounds}
 use Rattle.bytes_block.specs.Decode.{marks}
 use Rattle.bytes_sections.specs.Index.{recordedNumber}
 use Rattle.bytes_index.specs.Table.{recordedIn, startsIn, kindIn, readIn}
-use Rattle.bytes_index.specs.Code.{noBlock, InstructionIn}
+use Rattle.bytes_index.specs.Code.{noBlock, InstructionIn, LastSlot}
+use Rattle.mir.specs.Lists.{Each}
 use Rattle.mir.specs.Lookup.{Types, rowOf, recordedType, valueRow, shape, isTuple, isStruct, isArray, isAggregate}
 use Rattle.mir.specs.Phis.{behindPhis}
 use Rattle.fold_shapes.proofs.Values.{none-recorded, some-recorded}
 use Rattle.rewrite_progress.specs.Ground.{Ground}
-use Rattle.shelf.specs.Lists.{every, All, among}
+use Rattle.shelf.specs.Lists.{every, among}
 use Rattle.shelf.specs.Reads.{partsTaken, aggregateBase, basesIn, bases, apart}
-use Rattle.shelf_marks.specs.Tests.{LastSlot, OfSlot, OfBlock, OfRoutine, partsClear, eachKind, eachBlock}
+use Rattle.shelf_marks.specs.Tests.{OfSlot, OfBlock, OfRoutine, partsClear, eachKind, eachBlock}
 use Rattle.shelf_marks.proofs.Scanning.{Slots, slots-start, slots-again, slots-done, Blocks, blocks-next, blocks-done, every-behind, every-same}
 use Rattle.shelf_marks.proofs.Storing.{base-none, base-read, no-phi, phi-parts}
 
@@ -39,12 +40,12 @@ marks-append m [] ys = refl
 marks-append m (x ∷ xs) ys = marks-append (mark m x) xs ys
 
 -- what is marked: what was, and the values
-pub marks-are : (m : List B.Bool) (xs : List ValueId) (v : ℕ) → All (λ d. d .0 < length m) xs → getD (marks m xs) v false ≡ (among v xs || getD m v false)
+pub marks-are : (m : List B.Bool) (xs : List ValueId) (v : ℕ) → Each (λ d. d .0 < length m) xs → getD (marks m xs) v false ≡ (among v xs || getD m v false)
 marks-are m [] v h = refl
 marks-are m (x ∷ xs) v h =
     marks-are (mark m x) xs v (all-long xs (h .1)) ∙ one (eqb v (x .0)) refl
   where
-    all-long : (ys : List ValueId) → All (λ d. d .0 < length m) ys → All (λ d. d .0 < length (mark m x)) ys
+    all-long : (ys : List ValueId) → Each (λ d. d .0 < length m) ys → Each (λ d. d .0 < length (mark m x)) ys
     all-long [] g = tt
     all-long (y ∷ ys) g = (rw (length-set m (x .0) true) (g .0), all-long ys (g .1))
 
@@ -63,7 +64,7 @@ among-append v [] ys = refl
 among-append v (x ∷ xs) ys = ap (λ q. eqb v (x .0) || q) (among-append v xs ys) ∙ sym (or-assoc (eqb v (x .0)) (among v xs) (among v ys))
 
 -- marks of fresh ones
-pub marks-fresh : (n : ℕ) (m : List B.Bool) (xs : List ValueId) → m ≡ marks (replicate n false) xs → All (λ d. d .0 < n) xs → (v : ℕ) → getD m v false ≡ among v xs
+pub marks-fresh : (n : ℕ) (m : List B.Bool) (xs : List ValueId) → m ≡ marks (replicate n false) xs → Each (λ d. d .0 < n) xs → (v : ℕ) → getD m v false ≡ among v xs
 marks-fresh n m xs e h v =
     ap (λ q. getD q v false) e ∙ marks-are (replicate n false) xs v (rw (length-replicate n false) h) ∙ ap (λ q. among v xs || q) (clear-at n v) ∙ or-false (among v xs)
 
@@ -197,25 +198,25 @@ module _ (b : Bounds) (s facts : List ℕ) {m₀ m : List B.Bool} {k : ℕ} (u :
   basing-done g τ ks c = sym (blocks-done b s facts (λ τ q ks. marks q (bases τ ks)) (u .left) g τ ks c)
 
 -- the bases are values
-all-append : (P : ValueId → Type 0) (xs ys : List ValueId) → All P xs → All P ys → All P (xs ++ ys)
+all-append : (P : ValueId → Type 0) (xs ys : List ValueId) → Each P xs → Each P ys → Each P (xs ++ ys)
 all-append P [] ys f g = g
 all-append P (x ∷ xs) ys f g = (f .0, all-append P xs ys (f .1) g)
 
-base-low : (τ : Types) (n : ℕ) → length (τ .recorded) ≤ n → (o : Option ValueId) → All (λ d. d .0 < n) (aggregateBase τ o)
+base-low : (τ : Types) (n : ℕ) → length (τ .recorded) ≤ n → (o : Option ValueId) → Each (λ d. d .0 < n) (aggregateBase τ o)
 unfolding aggregateBase
 base-low τ n l none = tt
 base-low τ n l (some v) = at (isAggregate (valueRow τ v)) refl
   where
-    at : (c : B.Bool) → isAggregate (valueRow τ v) ≡ c → All (λ d. d .0 < n) (cond c (v ∷ []) [])
+    at : (c : B.Bool) → isAggregate (valueRow τ v) ≡ c → Each (λ d. d .0 < n) (cond c (v ∷ []) [])
     at true e = (omega (arith, aggregate-low τ v e), tt)
     at false e = tt
 
-bases-in-low : (τ : Types) (n : ℕ) → length (τ .recorded) ≤ n → (is : List Instruction) → All (λ d. d .0 < n) (basesIn τ is)
+bases-in-low : (τ : Types) (n : ℕ) → length (τ .recorded) ≤ n → (is : List Instruction) → Each (λ d. d .0 < n) (basesIn τ is)
 unfolding basesIn
 bases-in-low τ n l [] = tt
 bases-in-low τ n l (i ∷ is) = all-append (λ d. d .0 < n) (aggregateBase τ (storeBase (i .kind))) (basesIn τ is) (base-low τ n l (storeBase (i .kind))) (bases-in-low τ n l is)
 
-bases-low : (τ : Types) (n : ℕ) → length (τ .recorded) ≤ n → (ks : List Block) → All (λ d. d .0 < n) (bases τ ks)
+bases-low : (τ : Types) (n : ℕ) → length (τ .recorded) ≤ n → (ks : List Block) → Each (λ d. d .0 < n) (bases τ ks)
 unfolding bases
 bases-low τ n l [] = tt
 bases-low τ n l (k ∷ ks) = all-append (λ d. d .0 < n) (basesIn τ (behindPhis (k .instructions))) (bases τ ks) (bases-in-low τ n l (behindPhis (k .instructions))) (bases-low τ n l ks)

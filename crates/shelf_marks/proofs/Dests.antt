@@ -23,7 +23,7 @@ use Rattle.bytes_field.specs.Decode.{assignOf, unaryOf, binaryOf, callOf, castO
 use Rattle.bytes_field.specs.declared.Bounds.{Bounds}
 use Rattle.bytes_operands.specs.Fields.{fieldsPlace}
 use Rattle.bytes_operands.proofs.Instruction.{chosen, instruction-fields}
-use Rattle.shelf.specs.Lists.{All}
+use Rattle.mir.specs.Lists.{Each}
 use Rattle.shelf_marks.specs.Tests.{destCount, destFirst, destsAt}
 
 -- two things that are always made alike
@@ -50,7 +50,7 @@ new-at next seen u at {d} {n} e =
 -- what is known of the dests of an instruction with the fields u
 pub record DestsIn (next : ℕ) (u : List ℕ) (first count : ℕ) (i : InstructionKind) : Type 0 where
   pub same : dests i ≡ destsAt u first count
-  pub low : All (λ d. d .0 < next) (dests i)
+  pub low : Each (λ d. d .0 < next) (dests i)
 
 module _ (b : Bounds) (seen : List Bool) (u : List ℕ) where
   -- one dest, and the rest behind it
@@ -76,7 +76,7 @@ module _ (b : Bounds) (seen : List Bool) (u : List ℕ) where
       ]
 
 -- several
-news-at : (next : ℕ) (seen : List Bool) (u : List ℕ) (k at : ℕ) {ds : List ValueId} {n : ℕ} → definedSeq next seen k (drop at u) ≡ ok ds n → (ds ≡ destsAt u at k) × All (λ d. d .0 < next) ds
+news-at : (next : ℕ) (seen : List Bool) (u : List ℕ) (k at : ℕ) {ds : List ValueId} {n : ℕ} → definedSeq next seen k (drop at u) ≡ ok ds n → (ds ≡ destsAt u at k) × Each (λ d. d .0 < next) ds
 unfolding definedSeq destsAt
 news-at next seen u zero at {ds} e = let z : ds ≡ [] = cc in rw z (refl, tt)
 news-at next seen u (suc k) at {ds} e =
@@ -92,7 +92,7 @@ news-at next seen u (suc k) at {ds} e =
           ]
     ]
 
-defineds-at : (most next : ℕ) (seen : List Bool) (u : List ℕ) {ds : List ValueId} {n : ℕ} → definedsOf most next seen u ≡ ok ds n → (ds ≡ destsAt u 1 (getD u 0 0)) × All (λ d. d .0 < next) ds
+defineds-at : (most next : ℕ) (seen : List Bool) (u : List ℕ) {ds : List ValueId} {n : ℕ} → definedsOf most next seen u ≡ ok ds n → (ds ≡ destsAt u 1 (getD u 0 0)) × Each (λ d. d .0 < next) ds
 unfolding definedsOf
 defineds-at most next seen u {ds} e =
     elim (and-inv u (countOf most u) (λ n t. definedSeq next seen n t) e) [

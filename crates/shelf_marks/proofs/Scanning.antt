@@ -13,13 +13,13 @@ use Rattle.mir.specs.Syntax.{Instruction, InstructionKind, Block}
 use Rattle.mir.specs.Reads.{isPhi}
 use Rattle.bytes_field.specs.declared.Bounds.{Bounds}
 use Rattle.bytes_index.specs.Table.{startsIn, readCount, readIn, ReadsIn}
-use Rattle.bytes_index.specs.Code.{noInstruction, noBlock, InstructionIn}
+use Rattle.bytes_index.specs.Code.{noInstruction, noBlock, InstructionIn, LastSlot}
 use Rattle.bytes_index.proofs.Laws.{in-section}
 use Rattle.mir.specs.Lookup.{Types}
 use Rattle.mir.specs.Phis.{behindPhis}
 use Rattle.rewrite_progress.specs.Ground.{Coded}
 use Rattle.shelf.specs.Lists.{every, clear}
-use Rattle.shelf_marks.specs.Tests.{LastSlot, OfSlot, OfBlock, OfRoutine, eachKind}
+use Rattle.shelf_marks.specs.Tests.{OfSlot, OfBlock, OfRoutine, eachKind}
 
 abbrev noValue : ValueId
 noValue = record { 0 = 0 }
@@ -30,14 +30,6 @@ next-of xs k d h = rw (add-one k) (drop-cons xs k d h)
 
 pub none-of : {A : Type 0} (xs : List A) (k : ℕ) → length xs ≤ k → drop k xs ≡ []
 none-of xs k h = drop-of-length-le xs h
-
--- the slot of a terminator
-module _ (facts : List ℕ) (k : ℕ) {behind : ℕ} (e : behind ≡ getD facts (354 + 1 + k) 0) where
-  pub last-none : behind ≡ 0 → LastSlot facts k 0
-  last-none z b s ks c h = absurd (omega (arith, in-section 354 (suc k) facts (e ∙ ap (λ j. getD facts j 0) (omega arith)), c .next k h))
-
-  pub last-found : LastSlot facts k (behind - 1)
-  last-found b s ks c h = omega (arith, in-section 354 (suc k) facts (e ∙ ap (λ j. getD facts j 0) (omega arith)), c .next k h)
 
 -- k reads of a slot are not marked
 module _ (facts : List ℕ) (slot : ℕ) (marks : List Bool) where

@@ -21,14 +21,6 @@ use Rattle.rewrite_progress.specs.Ground.{Ground, Coded}
 use Rattle.shelf.specs.Lists.{every, among, clear}
 use Rattle.shelf.specs.Reads.{ordered, partsTaken, bases, apart, shallow}
 
--- the slot of block k's terminator
-abbrev pub LastSlot : List ℕ → ℕ → ℕ → Type 0
-LastSlot facts k r =
-    (b : Bounds) (s : List ℕ) (ks : List Block)
-    → CodeIn b s facts ks
-    → k < length ks
-    → r ≡ getD (startsIn facts) k 0 + length (getD ks k noBlock .instructions)
-
 -- what is answered of the instruction in a slot, of block k, of all blocks
 abbrev pub OfSlot : {A : Type 0} → Bounds → List ℕ → List ℕ → ℕ → (Types → InstructionKind → A) → A → Type 0
 OfSlot b s facts slot f r = (τ : Types) (i : Instruction) → Ground b s facts (recordedIn facts) τ → InstructionIn b s facts slot i → r ≡ f τ (i .kind)

@@ -1,7 +1,7 @@
 // The kinds that take a part out of an aggregate or put one in; `t` are the own fields of an instruction.
 use bytes_field::Bounds;
 use mir::NameId;
-use shelf::TUPLES;
+use mir::shape;
 ghost use Rattle.bytes_field.specs.Decode.{extractTupleOf, extractFieldOf, insertFieldOf, insertTupleOf};
 ghost use Rattle.shelf_field.specs.Asked.{Judged};
 
@@ -23,7 +23,7 @@ pub fn extract_tuple(s: &[u8], b: Bounds, types: &[u16], recorded: &[u16], t: &[
     let from = shelf_field::operand_type(b, recorded, t, AGGREGATE);
     let part = shelf_rows::part_type(s, b, types, from, bytes_wire::u32_at(t, e));
     let same = shelf_field::id_has(b, recorded, t, DEST, y);
-    let shaped = shelf_field::has_shape(s, b, types, from, TUPLES);
+    let shaped = shelf_field::has_shape(s, b, types, from, shape::TUPLE);
     let fit = shelf_types::same_type(part, y);
     let taken = shelf_field::both(shaped, fit);
     shelf_field::both(same, taken)
@@ -65,7 +65,7 @@ pub fn insert_tuple(s: &[u8], b: Bounds, types: &[u16], recorded: &[u16], t: &[u
     let part = shelf_rows::part_type(s, b, types, y, bytes_wire::u32_at(t, e));
     let same = shelf_field::id_has(b, recorded, t, DEST, y);
     let old = shelf_field::value_fits(s, b, types, recorded, t, AGGREGATE, y);
-    let shaped = shelf_field::has_shape(s, b, types, y, TUPLES);
+    let shaped = shelf_field::has_shape(s, b, types, y, shape::TUPLE);
     let new = shelf_field::value_fits(s, b, types, recorded, t, e + INDEX_SIZE, part);
     let put = shelf_field::both(shaped, new);
     let fit = shelf_field::both(old, put);

@@ -2,14 +2,11 @@
 use bytes_field::Bounds;
 use bytes_operands::Step;
 use mir::Recorded;
-use shelf::OTHERS;
+use mir::shape;
 ghost use Rattle.shelf.specs.Fits.{placeType};
 ghost use Rattle.shelf.specs.Agrees.{pointed};
 ghost use Rattle.shelf_field.specs.Fields.{Front, Near, Inner};
 ghost use Rattle.shelf_place.specs.Places.{LeadsTo, IndexFits, IndexesFit, Reaches, PlaceFits};
-
-// The kind of a projection that is an Index.
-const INDEX: u8 = 0;
 
 // Behind the base of a place stands the count of its projections, and behind that they.
 const COUNT: usize = 2;
@@ -45,7 +42,7 @@ fn index_fits(s: &[u8], b: Bounds, types: &[u16], recorded: &[u16], t: &[u8], at
     ensures { λ r. ⌜ IndexFits b (now (s .entry)) (now (types .entry)) (now (recorded .entry)) (now (t .entry)) at r ⌝ }
 {
     let u = bytes_field::tail(t, at);
-    if bytes_wire::byte_at(u, 0) == INDEX {
+    if bytes_wire::byte_at(u, 0) == bytes_field::INDEX {
         return shelf_types::is_index(s, b, types, recorded, shelf_field::value_at(u, 1, b.next));
     }
     true
@@ -122,7 +119,7 @@ fn reached_type(
 {
     let number = shelf_field::id_type(b, recorded, t, at);
     let n = bytes_wire::byte_at(t, at + COUNT);
-    if shelf_rows::shape_of(s, b, types, number) == OTHERS {
+    if shelf_rows::shape_of(s, b, types, number) == shape::OTHER {
         let to = shelf_rows::pointee(s, b, types, number);
         return pointed_type(s, b, types, t, at + STEPS, n, to);
     }

@@ -18,11 +18,11 @@ use Rattle.bytes_operands.specs.Fields.{fieldsPlace}
 use Rattle.bytes_operands.proofs.Places.{Stand, then, last}
 use Rattle.bytes_operands.proofs.Instruction.{instruction-fields}
 use Rattle.bytes_index.specs.Table.{recordedIn, placeIn, endIn, kindIn}
-use Rattle.bytes_index.specs.Code.{noBlock, InstructionIn, TerminatorIn}
+use Rattle.bytes_index.specs.Code.{noBlock, InstructionIn, TerminatorIn, LastSlot}
 use Rattle.mir.specs.Routine.{Routine}
 use Rattle.mir.specs.Lookup.{isSome, Types, recordedType, typesIn}
 use Rattle.rewrite_progress.specs.Ground.{Ground}
-use Rattle.shelf_marks.specs.Tests.{LastSlot, OfBlock, eachKind}
+use Rattle.shelf_marks.specs.Tests.{OfBlock, eachKind}
 use Rattle.shelf.specs.Lists.{every}
 use Rattle.shelf.specs.Agrees.{agrees, endAgrees, countedAgrees, blockAgrees}
 use Rattle.shelf.specs.Reason.{typesAgree}

@@ -1,6 +1,8 @@
 // Shelf reason 1, "Types disagree": whether the recorded types fit what each instruction, terminator and parameter says.
 use bytes_field::Bounds;
 use mir::BlockId;
+use mir::kind;
+use mir::terminator;
 ghost use mathlib.Core.Path.{_≡_};
 ghost use mathlib.Core.Bool.{false};
 ghost use mathlib.Core.List.{List};
@@ -20,13 +22,6 @@ ghost use Rattle.shelf.specs.Reason.{typesAgree};
 ghost use Rattle.shelf_marks.specs.Tests.{OfSlot, OfBlock, OfRoutine};
 ghost use Rattle.shelf_reason1.specs.Told.{OfKind, OfEnd};
 
-// The kinds of terminators: "u8 kind in `Terminator` order".
-const IF: u8 = 1;
-
-const BRANCH_CMP: u8 = 2;
-
-const RETURN: u8 = 3;
-
 // Where a terminator's own fields stand, and where the operands of a BranchCmp do in them.
 const FIELDS: usize = 1;
 
@@ -42,23 +37,23 @@ fn agrees(s: &[u8], b: Bounds, types: &[u16], recorded: &[u16], t: &[u8], kind: 
     ensures { λ r. ⌜ OfKind b (now (s .entry)) (now (types .entry)) (now (recorded .entry)) (now (t .entry)) kind r ⌝ }
 {
     match kind {
-        shelf::ASSIGN => shelf_plain::assign(s, b, types, recorded, t),
-        shelf::UNARY_OP => shelf_plain::unary(s, b, types, recorded, t),
-        shelf::BINARY_OP => shelf_plain::binary(s, b, types, recorded, t),
-        shelf::CALL => shelf_call::call(s, b, types, recorded, t),
-        shelf::CAST => shelf_plain::cast(s, b, types, recorded, t),
-        shelf::LOAD => shelf_memory::load(s, b, types, recorded, t),
-        shelf::STORE => shelf_memory::store(s, b, types, recorded, t),
-        shelf::PHI => shelf_call::phi(s, b, types, recorded, t),
-        shelf::MAKE_TUPLE => shelf_build::make_tuple(s, b, types, recorded, t),
-        shelf::EXTRACT_TUPLE => shelf_parts::extract_tuple(s, b, types, recorded, t),
-        shelf::MAKE_STRUCT => shelf_build::make_struct(s, b, types, recorded, t),
-        shelf::EXTRACT_FIELD => shelf_parts::extract_field(s, b, types, recorded, t),
-        shelf::INSERT_FIELD => shelf_parts::insert_field(s, b, types, recorded, t),
-        shelf::INSERT_TUPLE => shelf_parts::insert_tuple(s, b, types, recorded, t),
-        shelf::MAKE_ARRAY => shelf_build::make_array(s, b, types, recorded, t),
-        shelf::ASSERT_EQ => shelf_plain::assert_eq(s, b, types, recorded, t),
-        shelf::HEAP_ALLOC => shelf_plain::heap_alloc(s, b, types, recorded, t),
+        kind::ASSIGN => shelf_plain::assign(s, b, types, recorded, t),
+        kind::UNARY_OP => shelf_plain::unary(s, b, types, recorded, t),
+        kind::BINARY_OP => shelf_plain::binary(s, b, types, recorded, t),
+        kind::CALL => shelf_call::call(s, b, types, recorded, t),
+        kind::CAST => shelf_plain::cast(s, b, types, recorded, t),
+        kind::LOAD => shelf_memory::load(s, b, types, recorded, t),
+        kind::STORE => shelf_memory::store(s, b, types, recorded, t),
+        kind::PHI => shelf_call::phi(s, b, types, recorded, t),
+        kind::MAKE_TUPLE => shelf_build::make_tuple(s, b, types, recorded, t),
+        kind::EXTRACT_TUPLE_ELEMENT => shelf_parts::extract_tuple(s, b, types, recorded, t),
+        kind::MAKE_STRUCT => shelf_build::make_struct(s, b, types, recorded, t),
+        kind::EXTRACT_STRUCT_FIELD => shelf_parts::extract_field(s, b, types, recorded, t),
+        kind::INSERT_FIELD => shelf_parts::insert_field(s, b, types, recorded, t),
+        kind::INSERT_TUPLE => shelf_parts::insert_tuple(s, b, types, recorded, t),
+        kind::MAKE_FIXED_ARRAY => shelf_build::make_array(s, b, types, recorded, t),
+        kind::ASSERT_EQ => shelf_plain::assert_eq(s, b, types, recorded, t),
+        kind::HEAP_ALLOC_CELLS => shelf_plain::heap_alloc(s, b, types, recorded, t),
         _ => true,
     }
 }
@@ -119,9 +114,9 @@ fn end_agrees(s: &[u8], b: Bounds, facts: &[u16], slot: u16) -> bool
     let recorded = bytes_index::recorded(facts);
     let kind = bytes_wire::byte_at(u, 0);
     match kind {
-        IF => condition(s, b, facts, recorded, t),
-        BRANCH_CMP => branch(s, b, facts, recorded, t),
-        RETURN => leave(b, recorded, t),
+        terminator::IF => condition(s, b, facts, recorded, t),
+        terminator::BRANCH_CMP => branch(s, b, facts, recorded, t),
+        terminator::RETURN => leave(b, recorded, t),
         _ => true,
     }
 }
@@ -131,8 +126,8 @@ fn block_agrees(s: &[u8], b: Bounds, facts: &[u16], k: BlockId) -> bool
     ensures { λ r. ⌜ OfBlock b (now (s .entry)) (now (facts .entry)) (k .0) (blockAgrees false) r ⌝ }
 {
     let block = k.0;
-    let last = shelf_marks::last_slot(facts, k);
-    let mut slot = bytes_index::first_slot(facts, block);
+    let last = bytes_index::last_slot(facts, k);
+    let mut slot = bytes_index::first_slot(facts, k);
     while slot < last {
         if !one_agrees(s, b, facts, slot) {
             return false;

@@ -1,6 +1,8 @@
 // Shelf reason 2: the order of reads and definitions.
 use bytes_field::Bounds;
 use mir::BlockId;
+use mir::kind;
+use mir::most;
 ghost use mathlib.Core.Path.{_≡_};
 ghost use mathlib.Core.Bool.{false};
 ghost use mathlib.Core.List.{List};
@@ -13,18 +15,16 @@ ghost use Rattle.shelf_marks.specs.Tests.{OfSlot, OfBlock, OfRoutine, BehindPhi
 ghost use Rattle.shelf.specs.Lists.{clear};
 
 // The most values of a routine.
-const VALUES: usize = 256;
-
 // How many dests an instruction of a kind has, whose fields are `u`.
 fn dest_count(u: &[u8], kind: u16) -> u8
     ensures { λ r. ⌜ r ≡ destCount (now (u .entry)) kind ⌝ }
 {
     match kind {
-        shelf::CALL => bytes_wire::byte_at(u, 0),
-        shelf::STORE => 0,
-        shelf::DEBUG => 0,
-        shelf::NOP => 0,
-        shelf::ASSERT_EQ => 0,
+        kind::CALL => bytes_wire::byte_at(u, 0),
+        kind::STORE => 0,
+        kind::DEBUG => 0,
+        kind::NOP => 0,
+        kind::ASSERT_EQ => 0,
         _ => 1,
     }
 }
@@ -34,9 +34,9 @@ fn dest_first(kind: u16) -> usize
     ensures { λ r. ⌜ (r ≡ destFirst kind) × (r < 2) ⌝ }
 {
     match kind {
-        shelf::UNARY_OP => 1,
-        shelf::BINARY_OP => 1,
-        shelf::CALL => 1,
+        kind::UNARY_OP => 1,
+        kind::BINARY_OP => 1,
+        kind::CALL => 1,
         _ => 0,
     }
 }
@@ -61,7 +61,7 @@ fn counted_clear(facts: &[u16], slot: u16, kind: u16, marks: &[bool]) -> bool
     requires { ⌜ kind ≡ kindIn (now facts) slot ⌝ }
     ensures { λ r. ⌜ ((b : AnyBounds) (s : List ℕ) → OfSlot b s (now (facts .entry)) slot (λ τ i. clear (now (marks .entry)) (countedReads false i)) r) ⌝ }
 {
-    if kind == shelf::DEBUG {
+    if kind == kind::DEBUG {
         return true;
     }
     shelf_marks::reads_clear(facts, slot, marks)
@@ -72,10 +72,10 @@ fn behind_phis(facts: &[u16], k: BlockId) -> u16
     ensures { λ r. ⌜ BehindPhis (now (facts .entry)) (k .0) r ⌝ }
 {
     let block = k.0;
-    let last = shelf_marks::last_slot(facts, k);
-    let mut slot = bytes_index::first_slot(facts, block);
+    let last = bytes_index::last_slot(facts, k);
+    let mut slot = bytes_index::first_slot(facts, k);
     while slot < last {
-        if bytes_index::kind(facts, slot) != shelf::PHI {
+        if bytes_index::kind(facts, slot) != kind::PHI {
             return slot;
         }
         slot = slot + 1;
@@ -89,8 +89,8 @@ fn block_ordered(s: &[u8], facts: &[u16], k: BlockId) -> bool
 {
     let block = k.0;
     let front = behind_phis(facts, BlockId(block));
-    let mut slot = shelf_marks::last_slot(facts, BlockId(block));
-    let mut marks: [bool; VALUES] = [false; VALUES];
+    let mut slot = bytes_index::last_slot(facts, BlockId(block));
+    let mut marks: [bool; most::VALUES] = [false; most::VALUES];
     while front < slot {
         slot = slot - 1;
         let kind = bytes_index::kind(facts, slot);

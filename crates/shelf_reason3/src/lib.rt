@@ -3,6 +3,9 @@ use bytes_field::Bounds;
 use mir::BlockId;
 use mir::TypeId;
 use mir::ValueId;
+use mir::kind;
+use mir::most;
+use mir::shape;
 ghost use mathlib.Core.Path.{_≡_};
 ghost use Rattle.mir.specs.Reads.{storeBase};
 ghost use Rattle.bytes_block.specs.Decode.{marks as marksOf};
@@ -13,8 +16,6 @@ ghost use Rattle.shelf.specs.Reads.{aggregateBase, basesIn, bases};
 ghost use Rattle.shelf_marks.specs.Tests.{OfSlot, OfBlock, OfRoutine, partsClear, eachKind, allApart};
 
 // The most values of a routine.
-const VALUES: usize = 256;
-
 // Which of a Store's reads is its base.
 const BASE: u16 = 0;
 
@@ -31,7 +32,7 @@ fn is_aggregate(s: &[u8], b: Bounds, facts: &[u16], v: ValueId) -> bool
         return false;
     }
     let row = number - 1;
-    fold_shapes::type_shape(s, facts, b.types, TypeId(row)) != shelf::OTHERS
+    fold_shapes::type_shape(s, facts, b.types, TypeId(row)) != shape::OTHER
 }
 
 // Marks the base of the instruction in a slot where that is a Store and the base an aggregate.
@@ -40,10 +41,10 @@ fn mark_base(s: &[u8], b: Bounds, facts: &[u16], slot: u16, marks: &mut [bool])
         (λ τ i. marksOf (now (marks .entry)) (aggregateBase τ (storeBase i))) (now (marks .exit)) ⌝ }
 {
     let kind = bytes_index::kind(facts, slot);
-    if kind != shelf::STORE {
+    if kind != kind::STORE {
         return;
     }
-    let v = ValueId(bytes_index::read(facts, slot, BASE));
+    let v = bytes_index::read(facts, slot, BASE);
     if is_aggregate(s, b, facts, v) {
         table::set_flag(marks, v.0 as usize, true);
     }
@@ -55,8 +56,8 @@ fn mark_block(s: &[u8], b: Bounds, facts: &[u16], k: BlockId, marks: &mut [bool]
         (λ τ x. marksOf (now (marks .entry)) (basesIn τ (x .instructions))) (now (marks .exit)) ⌝ }
 {
     let block = k.0;
-    let last = shelf_marks::last_slot(facts, k);
-    let mut slot = bytes_index::first_slot(facts, block);
+    let last = bytes_index::last_slot(facts, k);
+    let mut slot = bytes_index::first_slot(facts, k);
     while slot < last {
         mark_base(s, b, facts, slot, marks);
         slot = slot + 1;
@@ -79,8 +80,8 @@ fn parts_block(s: &[u8], b: Bounds, facts: &[u16], k: BlockId, marks: &[bool]) -
     ensures { λ r. ⌜ OfBlock b (now (s .entry)) (now (facts .entry)) (k .0) (λ τ x. eachKind (partsClear (now (marks .entry))) (x .instructions)) r ⌝ }
 {
     let block = k.0;
-    let last = shelf_marks::last_slot(facts, k);
-    let mut slot = bytes_index::first_slot(facts, block);
+    let last = bytes_index::last_slot(facts, k);
+    let mut slot = bytes_index::first_slot(facts, k);
     while slot < last {
         if !shelf_taken::parts_clear(s, b, facts, slot, marks) {
             return false;
@@ -94,7 +95,7 @@ fn parts_block(s: &[u8], b: Bounds, facts: &[u16], k: BlockId, marks: &[bool]) -
 pub fn kept_apart(s: &[u8], b: Bounds, facts: &[u16]) -> bool
     ensures { λ r. ⌜ OfRoutine b (now (s .entry)) (now (facts .entry)) allApart r ⌝ }
 {
-    let mut marks: [bool; VALUES] = [false; VALUES];
+    let mut marks: [bool; most::VALUES] = [false; most::VALUES];
     mark_bases(s, b, facts, &mut marks);
     let mut k: u16 = 0;
     while k < b.blocks {

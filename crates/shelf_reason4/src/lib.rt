@@ -2,7 +2,7 @@
 use bytes_field::Bounds;
 use bytes_operands::Step;
 use mir::BlockId;
-use mir::ValueId;
+use mir::kind;
 ghost use mathlib.Core.Path.{_≡_};
 ghost use mathlib.Core.List.{List};
 ghost use mathlib.Core.Bool.{false};
@@ -21,10 +21,10 @@ const DEEPER: u8 = 1;
 fn is_shallow(s: &[u8], b: Bounds, facts: &[u16], slot: u16, dropped: &[bool]) -> bool
     ensures { λ r. ⌜ OfSlot b (now (s .entry)) (now (facts .entry)) slot (λ τ. shallowIn (now (dropped .entry))) r ⌝ }
 {
-    if bytes_index::kind(facts, slot) != shelf::STORE {
+    if bytes_index::kind(facts, slot) != kind::STORE {
         return true;
     }
-    let base = ValueId(bytes_index::read(facts, slot, BASE));
+    let base = bytes_index::read(facts, slot, BASE);
     if !table::flag(dropped, base.0 as usize) {
         return true;
     }
@@ -42,8 +42,8 @@ fn shallow_block(s: &[u8], b: Bounds, facts: &[u16], k: BlockId, dropped: &[bool
     ensures { λ r. ⌜ OfBlock b (now (s .entry)) (now (facts .entry)) (k .0) (λ τ x. eachKind (shallowIn (now (dropped .entry))) (x .instructions)) r ⌝ }
 {
     let block = k.0;
-    let last = shelf_marks::last_slot(facts, k);
-    let mut slot = bytes_index::first_slot(facts, block);
+    let last = bytes_index::last_slot(facts, k);
+    let mut slot = bytes_index::first_slot(facts, k);
     while slot < last {
         if !is_shallow(s, b, facts, slot, dropped) {
             return false;

@@ -16,7 +16,8 @@ use Rattle.mir.specs.Syntax.{Jump, If, BranchCmp, Return, Unreachable}
 use Rattle.mir.specs.Reads.{operand, operands, indices, sourceValues, initValues, reads, dests, isPhi, terminatorReads}
 use Rattle.bytes_field.specs.Encode.{eachBytes, instructionBytes}
 use Rattle.bytes_field.specs.declared.Bounds.{Bounds}
-use Rattle.bytes_laws.specs.WellFormed.{Each, Wide, FitKind, FitTerminator}
+use Rattle.mir.specs.Lists.{Each}
+use Rattle.bytes_laws.specs.WellFormed.{Wide, FitKind, FitTerminator}
 use Rattle.bytes_laws.proofs.BackKinds.{instruction-back, terminator-back}
 use Rattle.bytes_block.specs.Decode.{marks, blockMarks}
 use Rattle.bytes_block.specs.Encode.{blockBytes}

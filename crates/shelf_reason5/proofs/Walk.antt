@@ -16,7 +16,7 @@ use Rattle.mir.specs.Reads.{reads, terminatorReads}
 use Rattle.bytes_field.specs.Decode.{instructionOf, terminatorOf}
 use Rattle.bytes_field.specs.Encode.{eachBytes, instructionBytes, terminatorBytes}
 use Rattle.bytes_field.specs.declared.Bounds.{Bounds}
-use Rattle.bytes_laws.specs.WellFormed.{Each}
+use Rattle.mir.specs.Lists.{Each}
 use Rattle.bytes_block.specs.Encode.{blockBytes}
 use Rattle.shelf.specs.Reads.{countedReads, clean, cleanTerminator}
 use Rattle.shelf_reason5.specs.Unread.{marked, cleanBlock, walked, Alone, Legible}

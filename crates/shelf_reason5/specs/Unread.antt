@@ -11,7 +11,8 @@ use Rattle.bytes_field.specs.Decode.{instructionOf, terminatorOf}
 use Rattle.mir.specs.Reads.{reads, terminatorReads}
 use Rattle.bytes_field.specs.Encode.{eachBytes, instructionBytes, terminatorBytes}
 use Rattle.bytes_field.specs.declared.Bounds.{Bounds}
-use Rattle.bytes_laws.specs.WellFormed.{Each, Wide}
+use Rattle.mir.specs.Lists.{Each}
+use Rattle.bytes_laws.specs.WellFormed.{Wide}
 use Rattle.bytes_block.specs.Encode.{blockBytes}
 use Rattle.bytes_block.specs.declared.Mosts.{Mosts}
 use Rattle.bytes_laws_whole.specs.WellFormed.{FitBlocks}

@@ -1,6 +1,7 @@
 // Whether the written output reads a dropped value: shelf reason 5.
 use bytes_field::Bounds;
 use bytes_field::Scan;
+use mir::kind;
 ghost use mathlib.Core.Path.{_≡_};
 ghost use mathlib.Core.List.{List, [], _++_};
 ghost use mathlib.Core.Bool.{false};
@@ -18,7 +19,7 @@ ghost use Rattle.shelf.specs.Reason.{readsNoDropped};
 ghost use Rattle.shelf_reason5.specs.Unread.{Buffered, marked, cleanBlock, walked, Legible, Written};
 
 // The kind of a Debug, and where an instruction has its kind.
-const DEBUG: u8 = 7;
+const DEBUG: u8 = kind::DEBUG as u8;
 
 const KIND: usize = 1;
 

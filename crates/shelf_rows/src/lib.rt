@@ -1,11 +1,13 @@
 // What the row of a recorded type says, read off the type table.
 use bytes_field::Bounds;
+use bytes_types::layout;
 use mir::Recorded;
 use mir::TypeId;
+use mir::shape;
+use mir::type_kind;
 use shelf::BOOLEANS;
 use shelf::INTEGERS;
 use shelf::NO_LITERAL;
-use shelf::OTHERS;
 use shelf::UNITS;
 ghost use mathlib.Core.Path.{_≡_};
 ghost use Rattle.mir.specs.Lookup.{shape};
@@ -15,43 +17,8 @@ ghost use Rattle.shelf.specs.Agrees.{pointee as pointeeOf};
 ghost use Rattle.shelf_rows.specs.Rows.{kindAt, numbered, rowScalar, tuplePart, structPart, rowPart, rowCounts, rowPointee};
 ghost use Rattle.shelf_rows.specs.Rows.{OfRow, TypeInRow, RowAt};
 
-// The first byte of a row, its kind, in the order of `MirType`; past the last where there is no row.
-const FELT: u8 = 0;
-
-const BOOL: u8 = 1;
-
-const U32: u8 = 2;
-
-const TUPLE: u8 = 3;
-
-const STRUCT: u8 = 4;
-
-const ARRAY: u8 = 5;
-
-const POINTER: u8 = 6;
-
-const UNIT: u8 = 8;
-
+// What stands for the kind of a row where there is none: one past the last kind.
 const NO_ROW: u8 = 11;
-
-// Where a row has the count of its parts and the first of their types, and how far apart these stand.
-const TUPLE_COUNT: usize = 1;
-
-const TUPLE_FIRST: usize = 2;
-
-const TUPLE_APART: usize = 2;
-
-const STRUCT_COUNT: usize = 3;
-
-const STRUCT_FIRST: usize = 6;
-
-const STRUCT_APART: usize = 4;
-
-const ARRAY_ELEMENT: usize = 1;
-
-const ARRAY_SIZE: usize = 3;
-
-const POINTED: usize = 1;
 
 // Where the row of a type begins; the end of the bytes where there is no such type.
 fn row_place(s: &[u8], b: Bounds, types: &[u16], number: Recorded) -> usize
@@ -90,10 +57,10 @@ fn row_scalar(t: &[u8]) -> u8
 {
     let kind = kind_at(t);
     match kind {
-        FELT => INTEGERS,
-        BOOL => BOOLEANS,
-        U32 => INTEGERS,
-        UNIT => UNITS,
+        type_kind::FELT => INTEGERS,
+        type_kind::BOOL => BOOLEANS,
+        type_kind::U32 => INTEGERS,
+        type_kind::UNIT => UNITS,
         _ => NO_LITERAL,
     }
 }
@@ -102,8 +69,11 @@ fn row_scalar(t: &[u8]) -> u8
 fn tuple_part(t: &[u8], k: u32) -> Recorded
     ensures { λ r. ⌜ r .0 ≡ tuplePart (now (t .entry)) k ⌝ }
 {
-    if k < bytes_wire::byte_at(t, TUPLE_COUNT) as u32 {
-        return numbered(TypeId(bytes_wire::u16_at(t, TUPLE_FIRST + TUPLE_APART * k as usize)));
+    if k < bytes_wire::byte_at(t, layout::TUPLE_COUNT) as u32 {
+        return numbered(TypeId(bytes_wire::u16_at(
+            t,
+            layout::TUPLE_PARTS + layout::TUPLE_APART * k as usize,
+        )));
     }
     Recorded(0)
 }
@@ -112,8 +82,11 @@ fn tuple_part(t: &[u8], k: u32) -> Recorded
 fn struct_part(t: &[u8], k: u32) -> Recorded
     ensures { λ r. ⌜ r .0 ≡ structPart (now (t .entry)) k ⌝ }
 {
-    if k < bytes_wire::byte_at(t, STRUCT_COUNT) as u32 {
-        return numbered(TypeId(bytes_wire::u16_at(t, STRUCT_FIRST + STRUCT_APART * k as usize)));
+    if k < bytes_wire::byte_at(t, layout::STRUCT_COUNT) as u32 {
+        return numbered(TypeId(bytes_wire::u16_at(
+            t,
+            layout::STRUCT_TYPES + layout::STRUCT_APART * k as usize,
+        )));
     }
     Recorded(0)
 }
@@ -124,9 +97,9 @@ fn row_part(t: &[u8], k: u32) -> Recorded
 {
     let kind = kind_at(t);
     match kind {
-        TUPLE => tuple_part(t, k),
-        STRUCT => struct_part(t, k),
-        ARRAY => numbered(TypeId(bytes_wire::u16_at(t, ARRAY_ELEMENT))),
+        type_kind::TUPLE => tuple_part(t, k),
+        type_kind::STRUCT => struct_part(t, k),
+        type_kind::FIXED_ARRAY => numbered(TypeId(bytes_wire::u16_at(t, layout::ARRAY_ELEMENT))),
         _ => Recorded(0),
     }
 }
@@ -137,9 +110,9 @@ fn row_counts(t: &[u8], n: u32) -> bool
 {
     let kind = kind_at(t);
     match kind {
-        TUPLE => bytes_wire::byte_at(t, TUPLE_COUNT) as u32 == n,
-        STRUCT => bytes_wire::byte_at(t, STRUCT_COUNT) as u32 == n,
-        ARRAY => bytes_wire::u32_at(t, ARRAY_SIZE) == n,
+        type_kind::TUPLE => bytes_wire::byte_at(t, layout::TUPLE_COUNT) as u32 == n,
+        type_kind::STRUCT => bytes_wire::byte_at(t, layout::STRUCT_COUNT) as u32 == n,
+        type_kind::FIXED_ARRAY => bytes_wire::u32_at(t, layout::ARRAY_SIZE) == n,
         _ => false,
     }
 }
@@ -148,8 +121,8 @@ fn row_counts(t: &[u8], n: u32) -> bool
 fn row_pointee(t: &[u8]) -> Recorded
     ensures { λ r. ⌜ r .0 ≡ rowPointee (now (t .entry)) ⌝ }
 {
-    if kind_at(t) == POINTER {
-        return numbered(TypeId(bytes_wire::u16_at(t, POINTED)));
+    if kind_at(t) == type_kind::POINTER {
+        return numbered(TypeId(bytes_wire::u16_at(t, layout::POINTED)));
     }
     Recorded(0)
 }
@@ -161,12 +134,12 @@ pub fn scalar_kind(s: &[u8], b: Bounds, types: &[u16], number: Recorded) -> u8
     row_scalar(bytes_field::tail(s, row_place(s, b, types, number)))
 }
 
-// The shape of a type: TUPLES, STRUCTS, ARRAYS, OTHERS.
+// The shape of a type.
 pub fn shape_of(s: &[u8], b: Bounds, types: &[u16], number: Recorded) -> u8
     ensures { λ r. ⌜ OfRow b (now (s .entry)) (now (types .entry)) number shape r ⌝ }
 {
     if number.0 == 0 {
-        return OTHERS;
+        return shape::OTHER;
     }
     let row = number.0 - 1;
     fold_shapes::type_shape(s, types, b.types, TypeId(row))

@@ -2,6 +2,7 @@
 use bytes_field::Bounds;
 use bytes_operands::Found;
 use mir::Value;
+use mir::kind;
 ghost use mathlib.Core.Path.{_≡_};
 ghost use Rattle.bytes_operands.specs.Fields.{asFound};
 ghost use Rattle.shelf.specs.Lists.{clear};
@@ -33,12 +34,12 @@ pub fn parts_clear(s: &[u8], b: Bounds, facts: &[u16], slot: u16, marks: &[bool]
     let t = bytes_field::tail(s, bytes_index::place(facts, slot));
     let kind = bytes_index::kind(facts, slot);
     match kind {
-        shelf::STORE => value_clear(bytes_operands::operand(t, b, STORED), marks),
-        shelf::MAKE_TUPLE => shelf_marks::reads_clear(facts, slot, marks),
-        shelf::MAKE_STRUCT => shelf_marks::reads_clear(facts, slot, marks),
-        shelf::INSERT_FIELD => value_clear(bytes_operands::operand(t, b, INSERTED), marks),
-        shelf::INSERT_TUPLE => value_clear(bytes_operands::operand(t, b, INSERTED), marks),
-        shelf::MAKE_ARRAY => shelf_marks::reads_clear(facts, slot, marks),
+        kind::STORE => value_clear(bytes_operands::operand(t, b, STORED), marks),
+        kind::MAKE_TUPLE => shelf_marks::reads_clear(facts, slot, marks),
+        kind::MAKE_STRUCT => shelf_marks::reads_clear(facts, slot, marks),
+        kind::INSERT_FIELD => value_clear(bytes_operands::operand(t, b, INSERTED), marks),
+        kind::INSERT_TUPLE => value_clear(bytes_operands::operand(t, b, INSERTED), marks),
+        kind::MAKE_FIXED_ARRAY => shelf_marks::reads_clear(facts, slot, marks),
         _ => true,
     }
 }

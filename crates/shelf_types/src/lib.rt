@@ -7,12 +7,10 @@ use mir::Recorded;
 use mir::TypeId;
 use mir::Value;
 use mir::ValueId;
+use mir::shape;
 use rewrite_chains::Position;
-use shelf::ARRAYS;
 use shelf::BOOLEANS;
 use shelf::INTEGERS;
-use shelf::OTHERS;
-use shelf::TUPLES;
 use shelf::UNITS;
 ghost use mathlib.Core.Path.{_≡_};
 ghost use lib.ListN.{length};
@@ -69,9 +67,9 @@ pub fn step_type(s: &[u8], b: Bounds, types: &[u16], number: Recorded, p: Step) 
     ensures { λ r. ⌜ StepTo b (now (s .entry)) (now (types .entry)) number p r ⌝ }
 {
     match p {
-        Step::Index(_) => shaped_part(s, b, types, number, ARRAYS, 0),
+        Step::Index(_) => shaped_part(s, b, types, number, shape::FIXED_ARRAY, 0),
         Step::Field(name) => field_type(s, b, types, number, name),
-        Step::Tuple(k) => shaped_part(s, b, types, number, TUPLES, k),
+        Step::Tuple(k) => shaped_part(s, b, types, number, shape::TUPLE, k),
         Step::Nothing => Recorded(0),
     }
 }
@@ -112,7 +110,7 @@ pub fn is_scalar_type(s: &[u8], b: Bounds, types: &[u16], number: Recorded) -> b
     if number.0 == 0 {
         return false;
     }
-    shelf_rows::shape_of(s, b, types, number) == OTHERS
+    shelf_rows::shape_of(s, b, types, number) == shape::OTHER
 }
 
 // A literal, or an operand recorded as no aggregate.

@@ -5,6 +5,7 @@ ghost use mathlib.Core.Bool.{false};
 ghost use Prim.Native.Nat.{_%_};
 ghost use lib.ListN.{getD, set};
 ghost use Rattle.table.specs.Flags.{anyStands};
+ghost use Rattle.table.specs.Number.{numbersBelow};
 
 // The number at a place.
 pub fn number(l: &[u16], i: usize) -> u16
@@ -38,7 +39,7 @@ pub fn set_number(l: &mut [u16], i: usize, n: u16)
 
 // Stores a place: its lowest 16 bits, which are all of it where the bytes are short.
 pub fn set_place(l: &mut [u16], i: usize, place: usize)
-    ensures { λ _. ⌜ now (l .exit) ≡ set (now (l .entry)) i (place % 65536) ⌝ }
+    ensures { λ _. ⌜ now (l .exit) ≡ set (now (l .entry)) i (place % numbersBelow) ⌝ }
 {
     set_number(l, i, (place % 65536) as u16)
 }

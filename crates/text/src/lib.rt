@@ -6,6 +6,7 @@ ghost use lib.ListN.{length};
 ghost use lib.Seq.{sets};
 ghost use Rattle.text.specs.Digits.{digitOf, decimal, hexadecimal};
 ghost use Rattle.text.specs.Written.{Written};
+ghost use Rattle.bytes_emit.specs.Written.{numberRoom, valueRoom};
 
 const DIGITS: [u8; 16] = *b"0123456789abcdef";
 
@@ -19,7 +20,7 @@ fn digit(d: u8) -> u8
 
 // Writes bytes as they are, and returns the place behind them.
 pub fn put_bytes(text: &mut [u8], to: usize, bytes: &[u8]) -> usize
-    requires { ⌜ (to < 1099511627776) × (length (now bytes) < 1099511627776) ⌝ }
+    requires { ⌜ (to < valueRoom) × (length (now bytes) < valueRoom) ⌝ }
     ensures { λ r. ⌜ Written (now (bytes .entry)) to (now (text .entry)) (now (text .exit)) r ⌝ }
 {
     bytes_emit::copy(text, to, bytes, 0, bytes.len())
@@ -27,7 +28,7 @@ pub fn put_bytes(text: &mut [u8], to: usize, bytes: &[u8]) -> usize
 
 // Writes a number in decimal, and returns the place behind it.
 pub fn put_decimal(text: &mut [u8], to: usize, x: u64) -> usize
-    requires { ⌜ to < 1099511627776 ⌝ }
+    requires { ⌜ to < valueRoom ⌝ }
     ensures { λ r. ⌜ Written (decimal x) to (now (text .entry)) (now (text .exit)) r ⌝ }
     ensures { λ r. ⌜ r ≤ to + 20 ⌝ }
 {
@@ -42,7 +43,7 @@ pub fn put_decimal(text: &mut [u8], to: usize, x: u64) -> usize
 
 // Writes a byte in hexadecimal.
 fn put_byte(text: &mut [u8], to: usize, x: u8)
-    requires { ⌜ to < 4398046511104 ⌝ }
+    requires { ⌜ to < numberRoom ⌝ }
     ensures { λ _. ⌜ now (text .exit) ≡ sets (now (text .entry)) to (hexadecimal (x ∷ [])) ⌝ }
 {
     bytes_emit::put_u8(text, to, digit(x / 16));
@@ -51,7 +52,7 @@ fn put_byte(text: &mut [u8], to: usize, x: u8)
 
 // Writes bytes in hexadecimal, and returns the place behind them.
 pub fn put_hexadecimal(text: &mut [u8], to: usize, bytes: &[u8]) -> usize
-    requires { ⌜ (to < 1099511627776) × (length (now bytes) < 1099511627776) ⌝ }
+    requires { ⌜ (to < valueRoom) × (length (now bytes) < valueRoom) ⌝ }
     ensures { λ r. ⌜ Written (hexadecimal (now (bytes .entry))) to (now (text .entry)) (now (text .exit)) r ⌝ }
 {
     let mut at = to;

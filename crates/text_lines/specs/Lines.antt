@@ -35,3 +35,24 @@ answerLines ns out = cond (eqb (getD ns 0 0) 0) (loweredLines (take 7 (drop 2 ns
 -- what was replayed
 unfoldable pub replayedLine : ℕ → ℕ → List ℕ
 replayedLine rows others = decimal rows ++ (letters " stored answers, " ++ (decimal others ++ letters " otherwise\n"))
+
+-- How long the lines are: the characters of a number of 64 bits with what stands behind it; of the two lines beside the digits of the bytes; of the
+-- others at most
+abbrev pub numberWidth : ℕ
+numberWidth = 21
+
+abbrev pub loweredWidth : ℕ
+loweredWidth = 148
+
+abbrev pub checkedWidth : ℕ
+checkedWidth = 50
+
+abbrev pub replayedWidth : ℕ
+replayedWidth = 69
+
+-- a line has fewer numbers than this, and fewer bytes are written
+abbrev pub numbersRoom : ℕ
+numbersRoom = 1048576
+
+abbrev pub bytesRoom : ℕ
+bytesRoom = 268435456

@@ -1,54 +1,58 @@
 use borrow.Author.Needs.{needs}
+use mathlib.Core.Path.{refl, ap, _∙_}
+use lib.Seq.{sets}
 use Rattle.bytes_emit.proofs.copy.Statement.{statement}
 use Rattle.bytes_emit.proofs.copy.Tie as tie
-use Prim.Native.Nat.{_-_}
-use Rattle.bytes_emit.proofs.Sets.{Copied, copy-start, copy-again, copy-done}
+use Rattle.bytes_emit.proofs.Copied.{part-slice}
 
-abbrev Inv-loop : tie.InvT-loop
-Inv-loop out₀ to s from end at₀ p₀ out at p = Copied s out₀ at₀ end p₀ out at p
+sub-behind : tie.Need-sub-behind
+sub-behind c = search needs
 
-abbrev μ-loop : tie.MeasureT-loop
-μ-loop out₀ to s from end at₀ p₀ out at p = end - at
+add-behind : tie.Need-add-behind
+add-behind c = search needs
 
-loop-holds : tie.Need-loop-holds Inv-loop μ-loop
-loop-holds c = let a = c .before .before .args in copy-start (a .s .now) (a .out .now) (a .from) (a .end) (a .to) (c .before .before .pre .1)
+sub-copy-whole : tie.Need-sub-copy-whole
+sub-copy-whole c = search needs
 
-shared-slice-read-put-u8 : tie.Need-shared-slice-read-put-u8 Inv-loop μ-loop
-shared-slice-read-put-u8 c = search needs
+part-copy-whole-start : tie.Need-part-copy-whole-start
+part-copy-whole-start c = search needs
 
-put-u8-requires : tie.Need-put-u8-requires Inv-loop μ-loop
-put-u8-requires c κs = search needs
+part-copy-whole-end : tie.Need-part-copy-whole-end
+part-copy-whole-end c = search needs
 
-add-at : tie.Need-add-at Inv-loop μ-loop
-add-at c = search needs
+copy-whole-requires : tie.Need-copy-whole-requires
+copy-whole-requires c κs = search needs
 
-add-p : tie.Need-add-p Inv-loop μ-loop
-add-p c = search needs
+same-length : tie.Need-same-length
+same-length c = search needs
 
-loop-less : tie.Need-loop-less Inv-loop μ-loop
-loop-less c = search needs
+returns : tie.Need-returns
+returns c =
+    let c8 = c .before .before .before .before .before .before .before .before in
+    let a = c8 .args in
+    (refl, c .before .before .copy-whole .ensures ∙ ap (sets (a .out .now) (a .to)) (part-slice (a .from) (a .end) (a .s .now) (c8 .pre .1)))
 
-loop-again : tie.Need-loop-again Inv-loop μ-loop
-loop-again c = copy-again _ _ _ _ _ _ _ _ (c .before .before .before .before .before .before .loop .inv) _ (c .before .before .before .before .before .loop-test .taken) (c .before .before .before .before .before .before .before .before .before .pre .2) (c .before .before .put-u8 .ensures)
+copy-cut-requires : tie.Need-copy-cut-requires
+copy-cut-requires c κs = search needs
 
-same-length : tie.Need-same-length Inv-loop μ-loop
-same-length c = c .before .loop .inv .len
+same-length-2 : tie.Need-same-length-2
+same-length-2 c = search needs
 
-returns : tie.Need-returns Inv-loop μ-loop
-returns c = copy-done _ _ _ _ _ _ _ _ (c .before .loop .inv) (c .loop-test .left)
+returns-2 : tie.Need-returns-2
+returns-2 c = search needs
 
 pub copy-spec : {M : Type 1} → statement M
 copy-spec =
     tie.close
     (tie.spec
-    Inv-loop
-    μ-loop
-    loop-holds
-    shared-slice-read-put-u8
-    put-u8-requires
-    add-at
-    add-p
-    loop-less
-    loop-again
+    sub-behind
+    add-behind
+    sub-copy-whole
+    part-copy-whole-start
+    part-copy-whole-end
+    copy-whole-requires
     same-length
-    returns)
+    returns
+    copy-cut-requires
+    same-length-2
+    returns-2)

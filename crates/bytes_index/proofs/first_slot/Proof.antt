@@ -7,6 +7,9 @@ use Rattle.table.proofs.number.Reads as number-reads
 use Rattle.bytes_index.proofs.Laws.{in-section}
 
 -- src/lib.rt:97:26
+cast-number : tie.Need-cast-number
+cast-number c = search needs
+
 add-number : tie.Need-add-number
 add-number c = search needs
 
@@ -16,7 +19,7 @@ number-requires c κs = search needs
 
 -- src/lib.rt:94:1
 returns : tie.Need-returns
-returns c = let a = c .before .before .args in in-section 354 (a .k) (a .facts .now) (c .number .ensures)
+returns c = let a = c .before .before .before .args in in-section 354 (a .k .0) (a .facts .now) (c .number .ensures)
 
 pub first-slot-spec : {M : Type 1} → statement M
-first-slot-spec = tie.close (tie.spec add-number number-requires returns)
+first-slot-spec = tie.close (tie.spec cast-number add-number number-requires returns)

@@ -35,7 +35,7 @@ loop-again c =
     let c6 = c5 .before in
     let a = c6 .before .before .before .before .args in
     noting-step (a .facts .now) (a .slot) (a .kind) (a .d .0) (a .graph .now) (c6 .loop .k) (c6 .loop .graph) (c6 .loop .inv) (c5 .loop-test .taken)
-    (c4 .read .result) (c4 .read .ensures) (c2 .note-read .last .0) (c2 .note-read .ensures)
+    (c4 .read .result .0) (c4 .read .ensures) (c2 .note-read .last .0) (c2 .note-read .ensures)
 
 same-length : tie.Need-same-length Inv-loop μ-loop
 same-length c = search needs

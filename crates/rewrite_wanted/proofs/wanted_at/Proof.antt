@@ -5,7 +5,7 @@ use mathlib.Core.Path.{_∙_, sym, ap}
 use native.Mathlib.Omega.{arith}
 use borrow.Author.Tests.{not-true, not-false}
 use Rattle.mir.specs.declared.Value.{Value}
-use Rattle.bytes_lookup.specs.Found.{asRecorded}
+use Rattle.bytes_lookup.specs.Found.{asType}
 use Rattle.rewrite_parts.specs.Rows.{ValueAt}
 use Rattle.rewrite_wanted.proofs.Asking.{literal-stays, error-stays, untracked-stays, unasked-stays, tracked-build, asked-within, operand-below}
 
@@ -45,14 +45,14 @@ returns-3 c = λ τ S rows x e h.
     let z = sym (c .before .before .before .before .before .before .before .before .before .value-at .ensures x h) ∙ c .before .before .before .before .before .before .before .v .given .1 in
     let y : ValueAt _ _ _ (Value.Operand _) = rw z at h in
     let l = operand-below _ _ _ _ (λ j. omega (arith, c .before .before .before .before .before .before .before .before .before .before .before .shared-slice-known3 .given j)) (e .ground .few) y in
-    rw z (tracked-build τ S _ _ _ (sym (c .before .before .before .before .before .tracked .ensures _ _ _ _ S (e .rep)) ∙ not-false _ (c .before .before .before .before .if1 .left)) (sym (ap asRecorded (c .before .u .given .1)) ∙ c .before .before .before .asked-type .ensures τ (e .ground) l) (λ w. asked-within _ _ _ _ τ (e .ground) (a .t .now) (a .asks) (a .i) _ _ w))
+    rw z (tracked-build τ S _ _ _ (sym (c .before .before .before .before .before .tracked .ensures _ _ _ _ S (e .rep)) ∙ not-false _ (c .before .before .before .before .if1 .left)) (sym (ap asType (c .before .u .given .1)) ∙ c .before .before .before .asked-type .ensures τ (e .ground) l) (λ w. asked-within _ _ _ _ τ (e .ground) (a .t .now) (a .asks) (a .i) _ _ w))
 
 returns-4 : tie.Need-returns-4
 returns-4 c = λ τ S rows x e h.
     let z = sym (c .before .before .before .before .before .before .before .before .value-at .ensures x h) ∙ c .before .before .before .before .before .before .v .given .1 in
     let y : ValueAt _ _ _ (Value.Operand _) = rw z at h in
     let l = operand-below _ _ _ _ (λ j. omega (arith, c .before .before .before .before .before .before .before .before .before .before .shared-slice-known3 .given j)) (e .ground .few) y in
-    rw z (unasked-stays τ S _ _ (sym (ap asRecorded (c .enum-told2 .given .1)) ∙ c .before .before .asked-type .ensures τ (e .ground) l))
+    rw z (unasked-stays τ S _ _ (sym (ap asType (c .enum-told2 .given .1)) ∙ c .before .before .asked-type .ensures τ (e .ground) l))
 
 returns-5 : tie.Need-returns-5
 returns-5 c = λ τ S rows x e h. rw (sym (c .before .before .value-at .ensures x h) ∙ c .enum-told3 .given .1) (error-stays τ S _)

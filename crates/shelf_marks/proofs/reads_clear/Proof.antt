@@ -27,7 +27,12 @@ flag-requires : tie.Need-flag-requires Inv-loop μ-loop
 flag-requires c κs = search needs
 
 returns : tie.Need-returns Inv-loop μ-loop
-returns c = let a = c .before .before .before .before .before .before .before .before .args in clearing-stop (a .facts .now) (a .slot) (a .marks .now) (c .before .before .before .before .loop .inv) (c .before .before .before .before .before .read-count .ensures) (c .before .before .before .loop-test .taken) (c .before .before .read .ensures) (c .before .flag .ensures) (c .if1 .taken)
+returns c =
+    let c3 = c .before .before .before in
+    let c6 = c3 .before .before .before in
+    let a = c6 .before .before .before .args in
+    clearing-stop (a .facts .now) (a .slot) (a .marks .now) (c3 .before .before .loop .inv) (c6 .read-count .ensures) (c3 .before .loop-test .taken) (c3 .read .ensures)
+    (c .before .flag .ensures) (c .if1 .taken)
 
 add-k : tie.Need-add-k Inv-loop μ-loop
 add-k c = search needs
@@ -36,7 +41,12 @@ loop-less : tie.Need-loop-less Inv-loop μ-loop
 loop-less c = search needs
 
 loop-again : tie.Need-loop-again Inv-loop μ-loop
-loop-again c = let a = c .before .before .before .before .before .before .before .before .args in clearing-again (a .facts .now) (a .slot) (a .marks .now) (c .before .before .before .before .loop .inv) (c .before .before .before .before .before .read-count .ensures) (c .before .before .before .loop-test .taken) (c .before .before .read .ensures) (c .before .flag .ensures) (c .if1 .left)
+loop-again c =
+    let c3 = c .before .before .before in
+    let c6 = c3 .before .before .before in
+    let a = c6 .before .before .before .args in
+    clearing-again (a .facts .now) (a .slot) (a .marks .now) (c3 .before .before .loop .inv) (c6 .read-count .ensures) (c3 .before .loop-test .taken) (c3 .read .ensures)
+    (c .before .flag .ensures) (c .if1 .left)
 
 returns-2 : tie.Need-returns-2 Inv-loop μ-loop
 returns-2 c = let a = c .before .before .before .before .before .args in clearing-done (a .facts .now) (a .slot) (a .marks .now) (c .before .loop .inv) (c .before .before .read-count .ensures) (c .loop-test .left)

@@ -1,11 +1,11 @@
-use Rattle.pass_input.proofs.copy_whole.Statement.{statement}
-use Rattle.pass_input.proofs.copy_whole.Tie as tie
+use Rattle.bytes_emit.proofs.copy_whole.Statement.{statement}
+use Rattle.bytes_emit.proofs.copy_whole.Tie as tie
 use Prim.Native.Nat.{_-_}
 use mathlib.Core.Path.{refl}
 use native.Mathlib.Omega.{arith}
 use lib.ListN.{length}
 use borrow.Author.Needs.{needs}
-use Rattle.pass_input.proofs.Copied.{Copied, copied-start, copied-on, copied-all}
+use Rattle.bytes_emit.proofs.Copied.{Copied, copied-start, copied-on, copied-all}
 
 abbrev Inv-loop : tie.InvT-loop
 Inv-loop s out₀ to i₀ out i = Copied s out₀ out to i

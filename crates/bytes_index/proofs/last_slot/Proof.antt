@@ -1,7 +1,7 @@
 use borrow.Author.Needs.{needs}
-use Rattle.shelf_marks.proofs.last_slot.Statement.{statement}
-use Rattle.shelf_marks.proofs.last_slot.Tie as tie
-use Rattle.shelf_marks.proofs.Scanning.{last-none, last-found}
+use Rattle.bytes_index.proofs.last_slot.Statement.{statement}
+use Rattle.bytes_index.proofs.last_slot.Tie as tie
+use Rattle.bytes_index.proofs.Laws.{last-none, last-found}
 
 add-number : tie.Need-add-number
 add-number c = search needs

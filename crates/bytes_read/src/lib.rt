@@ -1,4 +1,4 @@
-// The whole reader, and the entry that says whether a byte string is a routine.
+// The whole reader.
 use bytes_field::Bounds;
 use bytes_field::Part;
 use bytes_sections::Checked;
@@ -10,9 +10,7 @@ ghost use mathlib.Core.Path.{_≡_};
 ghost use mathlib.Core.Bool.{false};
 ghost use Prim.Native.Nat.{_≤_};
 ghost use lib.ListN.{length, replicate};
-ghost use Rattle.bytes_sections.specs.Decode.{mosts, wholeOf};
 ghost use Rattle.bytes_sections.specs.Facts.{BodyRead, RoutineRead};
-ghost use Rattle.bytes_sections.specs.Index.{answered, verdict};
 ghost use Rattle.bytes_index.specs.Table.{factsSize};
 ghost use Rattle.mir.specs.Most.{mostValues, mostBlocks};
 
@@ -80,25 +78,8 @@ pub fn read_routine(s: &[u8], facts: &mut [u16]) -> Checked
                     list: m.list,
                     projections: m.projections,
                 };
-                read_body(s, at + 6, b, facts)
+                read_body(s, at + sections::SIZES, b, facts)
             }
         },
-    }
-}
-
-// Whether a byte string is a routine: 0 and offset 0, or the one number and offset of its refusal.
-pub fn check(input: &[u8], offset: &mut u64) -> u8
-    ensures { λ r. ⌜ answered r (now (offset .exit)) ≡ verdict (wholeOf mosts (now (input .entry))) ⌝ }
-{
-    let mut facts: [u16; bytes_index::SIZE] = [0; bytes_index::SIZE];
-    match read_routine(input, &mut facts) {
-        Checked::Accepted(_) => {
-            *offset = 0;
-            0
-        }
-        Checked::Refused(c, o) => {
-            *offset = o as u64;
-            bytes_wire::cause_number(c)
-        }
     }
 }

@@ -9,6 +9,7 @@ use bytes_field::Scan;
 use bytes_wire::Cause;
 use bytes_wire::Read16;
 use mir::BlockId;
+use mir::ValueId;
 ghost use mathlib.Core.Path.{_≡_};
 ghost use Prim.Native.Nat.{_≤_, _<_};
 ghost use lib.ListN.{length, drop};
@@ -23,6 +24,9 @@ ghost use Rattle.mir.specs.Most.{mostBlocks};
 const BLOCKS: usize = 2;
 
 const ENTRY: usize = 4;
+
+// How many bytes the sizes have: next value, block count, entry block.
+pub const SIZES: usize = 6;
 
 // The row of the parameters: one list of values defined here.
 const PARAMETERS: u32 = 0xc;
@@ -77,21 +81,28 @@ pub fn map_part(s: &[u8], next: u16) -> Part
 }
 
 // Value v's bit in the map at a place.
-fn map_bit(s: &[u8], map: usize, v: u16) -> bool
-    ensures { λ r. ⌜ r ≡ hasRecorded (drop map (now (s .entry))) v ⌝ }
+fn map_bit(s: &[u8], map: usize, v: ValueId) -> bool
+    ensures { λ r. ⌜ r ≡ hasRecorded (drop map (now (s .entry))) (v .0) ⌝ }
 {
-    let k = (v / 8) as usize;
+    let k = (v.0 / 8) as usize;
     let b = bytes_wire::byte_at(bytes_field::tail(s, map), k);
-    let i = (v % 8) as usize;
+    let i = (v.0 % 8) as usize;
     b / POWERS[i] % 2 == 1
 }
 
 // The recorded type of value v, at `here` where it has one: the table is given 1 and its number, else 0.
-fn recorded_one(s: &[u8], here: usize, map: usize, v: u16, types: u16, facts: &mut [u16]) -> Part
+fn recorded_one(
+    s: &[u8],
+    here: usize,
+    map: usize,
+    v: ValueId,
+    types: u16,
+    facts: &mut [u16],
+) -> Part
     requires { ⌜ here ≤ length (now s) ⌝ }
-    ensures { λ r. ⌜ RecordedOne types (drop map (now (s .entry))) v here (now (s .entry)) (asPart r) (now (facts .entry)) (now (facts .exit)) ⌝ }
+    ensures { λ r. ⌜ RecordedOne types (drop map (now (s .entry))) (v .0) here (now (s .entry)) (asPart r) (now (facts .entry)) (now (facts .exit)) ⌝ }
 {
-    let place = bytes_index::RECORDED + v as usize;
+    let place = bytes_index::RECORDED + v.0 as usize;
     if !map_bit(s, map, v) {
         table::set_number(facts, place, 0);
         return Part::Used(here);
@@ -123,7 +134,7 @@ pub fn recorded_part(
     let mut here = at;
     let mut v: u16 = 0;
     while v < next {
-        match recorded_one(s, here, map, v, types, facts) {
+        match recorded_one(s, here, map, ValueId(v), types, facts) {
             Part::Refused(c, o) => {
                 return Part::Refused(c, o);
             }

@@ -13,6 +13,6 @@ pub fn check_text(s: &[u8], text: &mut [u8]) -> usize
     ensures { λ r. ⌜ r ≤ 50 ⌝ }
 {
     let mut offset: u64 = 0;
-    let number = bytes_read::check(s, &mut offset);
+    let number = bytes_check::check(s, &mut offset);
     text_lines::checked_line(text, number as u64, offset)
 }

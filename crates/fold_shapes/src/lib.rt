@@ -1,4 +1,5 @@
 // The shapes of types and values, as tables, and which types are eligible under the settings.
+use bytes_types::layout;
 use fold::Settings;
 use mir::Recorded;
 use mir::TypeId;
@@ -40,15 +41,19 @@ fn row_eligible(t: &[u8], settings: Settings) -> bool
     match kind {
         type_kind::TUPLE => within(
             settings.tuples,
-            bytes_wire::byte_at(t, 1) as u32,
+            bytes_wire::byte_at(t, layout::TUPLE_COUNT) as u32,
             settings.most,
         ),
         type_kind::STRUCT => within(
             settings.structs,
-            bytes_wire::byte_at(t, 3) as u32,
+            bytes_wire::byte_at(t, layout::STRUCT_COUNT) as u32,
             settings.most,
         ),
-        type_kind::FIXED_ARRAY => within(settings.tuples, bytes_wire::u32_at(t, 3), settings.most),
+        type_kind::FIXED_ARRAY => within(
+            settings.tuples,
+            bytes_wire::u32_at(t, layout::ARRAY_SIZE),
+            settings.most,
+        ),
         _ => false,
     }
 }

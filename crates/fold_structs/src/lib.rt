@@ -1,6 +1,7 @@
 // Which MakeStructs of a block pass their conditions: the named type is eligible, the dest is not used in another block,
 // and each field of the struct's row is given.
 use bytes_field::Bounds;
+use bytes_types::layout;
 use fold::Settings;
 use mir::NameId;
 use mir::Recorded;
@@ -12,6 +13,11 @@ ghost use mathlib.Core.Path.{_≡_};
 ghost use Prim.Native.Nat.{_+_, _≤_, _<_};
 ghost use Rattle.mir.specs.Most.{mostSlots};
 ghost use Rattle.fold_structs.specs.Told.{farPlace, goesBy, AllGiven, TellsRow, Passes, StructTold, StructsTold};
+
+// In the fields of a MakeStruct the number of its inits stands behind its dest, and the inits behind it.
+const COUNT: usize = 2;
+
+const INITS: usize = 3;
 
 // Each of `m` names, which stand four bytes apart from `names` on, is given among the `n` inits from `at` on.
 fn all_given(t: &[u8], at: usize, n: u8, u: &[u8], names: usize, m: u8) -> bool
@@ -52,11 +58,11 @@ fn told_by(s: &[u8], types: &[u16], many: u16, y: TypeId, t: &[u8]) -> bool
     let off = bytes_operands::fields_place(t);
     all_given(
         t,
-        off + 3,
-        bytes_wire::byte_at(t, off + 2),
+        off + INITS,
+        bytes_wire::byte_at(t, off + COUNT),
         u,
-        4,
-        bytes_wire::byte_at(u, 3),
+        layout::STRUCT_NAMES,
+        bytes_wire::byte_at(u, layout::STRUCT_COUNT),
     )
 }
 

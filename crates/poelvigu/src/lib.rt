@@ -11,7 +11,7 @@ ghost use Rattle.pass.specs.Promise.{Lowers};
 pub extern "C" fn poelvigu_check(input: &[u8], offset: &mut u64) -> u8
     ensures { λ r. ⌜ answered r (now (offset .exit)) ≡ verdict (wholeOf mosts (now (input .entry))) ⌝ }
 {
-    bytes_read::check(input, offset)
+    bytes_check::check(input, offset)
 }
 
 // Rewrites a routine.

@@ -1,5 +1,6 @@
 // Lists of an instruction: a build's parts, a Phi's sources, a Call's arguments and dests, a struct build's fields.
 use bytes_field::Bounds;
+use bytes_types::layout;
 use mir::NameId;
 use mir::Recorded;
 use rewrite_parts::Init;
@@ -20,11 +21,6 @@ ghost use Rattle.shelf_list.specs.Asked.{OfEach, AgainstType, AgainstTyp
 const SOURCE_VALUE: usize = 2;
 
 const APART: usize = 2;
-
-// Where the name of a struct type's first field stands in its row, and how far apart the names stand.
-const NAMES: usize = 4;
-
-const NAMES_APART: usize = 4;
 
 // Each of `n` values fits its part of a type.
 fn all_fit(
@@ -187,7 +183,10 @@ pub fn fields_fit(
 {
     let mut i: u8 = 0;
     while i < n {
-        let name = NameId(bytes_wire::u16_at(row, NAMES + NAMES_APART * i as usize));
+        let name = NameId(bytes_wire::u16_at(
+            row,
+            layout::STRUCT_NAMES + layout::STRUCT_APART * i as usize,
+        ));
         let init = rewrite_parts::find_init(t, at, n, name);
         let part = shelf_rows::part_type(s, b, types, number, i as u32);
         if !given_fits(s, b, types, recorded, t, init, part) {

@@ -21,10 +21,10 @@ array-read-result : tie.Need-array-read-result
 array-read-result c = search needs
 
 div-result : tie.Need-div-result
-div-result c = omega (arith, power-some (c .before .before .before .args .v % 8) (omega arith))
+div-result c = omega (arith, power-some (c .before .before .before .before .before .args .v .0 % 8) (omega arith))
 
 returns : tie.Need-returns
-returns c = simp (c .byte-at .ensures, c .before .tail .ensures, power (c .before .before .before .args .v % 8) (omega arith))
+returns c = simp (c .before .byte-at .ensures, c .before .before .tail .ensures, power (c .before .before .before .before .before .args .v .0 % 8) (omega arith))
 
 pub map-bit-spec : {M : Type 1} → statement M
 map-bit-spec =

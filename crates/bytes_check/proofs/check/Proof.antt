@@ -1,5 +1,5 @@
-use Rattle.bytes_read.proofs.check.Statement.{statement}
-use Rattle.bytes_read.proofs.check.Tie as tie
+use Rattle.bytes_check.proofs.check.Statement.{statement}
+use Rattle.bytes_check.proofs.check.Tie as tie
 use borrow.Author.Needs.{needs}
 use lib.ListN.{length}
 use Rattle.bytes_sections.specs.Decode.{mosts, wholeOf}

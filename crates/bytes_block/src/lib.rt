@@ -30,13 +30,13 @@ pub struct Mosts {
 
 // An instruction's bit map and kind.
 pub enum Head {
-    Kind(u8, u8),
+    Kind { bits: u8, kind: u8 },
     Refused(Cause, usize),
 }
 
 // The bytes of a block, and how many instructions it has.
 pub enum BlockRead {
-    Used(usize, u16),
+    Used { end: usize, count: u16 },
     Refused(Cause, usize),
 }
 
@@ -142,7 +142,10 @@ pub fn read_head(s: &[u8], late: bool) -> Head
             return Head::Refused(Cause::LatePhi, 1);
         }
     }
-    Head::Kind(bits, kind)
+    Head::Kind {
+        bits: bits,
+        kind: kind,
+    }
 }
 
 // The byte that a walk stands at.
@@ -169,7 +172,10 @@ pub fn read_instruction(
 {
     match read_head(s, late) {
         Head::Refused(c, o) => Scan::Refused(c, o),
-        Head::Kind(bits, kind) => {
+        Head::Kind {
+            bits: bits,
+            kind: kind,
+        } => {
             let p = then_meta(s, Scan::Used(HEAD, n, late), bits);
             let row = bytes_kind::row_of_kind(kind);
             let q = bytes_row::then_row(s, p, row, peek(s, p), b, seen, buffer);
@@ -311,7 +317,10 @@ pub fn read_block(
             Part::Refused(c, o) => BlockRead::Refused(c, o),
             Part::Used(end) => match terminator_row(s, end, first + count, b, facts) {
                 Part::Refused(c, o) => BlockRead::Refused(c, o),
-                Part::Used(to) => BlockRead::Used(to, count),
+                Part::Used(to) => BlockRead::Used {
+                    end: to,
+                    count: count,
+                },
             },
         },
     }

@@ -70,7 +70,11 @@ pub fn read_routine(s: &[u8], facts: &mut [u16]) -> Checked
         Part::Refused(c, o) => Checked::Refused(c, o),
         Part::Used(at) => match sections::read_sizes(&s[at..], m) {
             SizesRead::Refused(c, o) => Checked::Refused(c, at + o),
-            SizesRead::Got(next, many, _) => {
+            SizesRead::Got {
+                next: next,
+                blocks: many,
+                entry: _,
+            } => {
                 let b = Bounds {
                     types: bytes_wire::u16_at(s, 0),
                     next: next,

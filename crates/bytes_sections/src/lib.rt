@@ -8,7 +8,11 @@ use mir::BlockId;
 
 // The next value, the number of blocks and the entry block; or the refusal.
 pub enum SizesRead {
-    Got(u16, u16, BlockId),
+    Got {
+        next: u16,
+        blocks: u16,
+        entry: BlockId,
+    },
     Refused(Cause, usize),
 }
 

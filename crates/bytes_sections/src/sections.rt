@@ -49,7 +49,11 @@ pub fn read_sizes(s: &[u8], m: Mosts) -> SizesRead
                 Read16::Refused(c, o) => SizesRead::Refused(c, ENTRY + o),
                 Read16::Got(entry, _) => {
                     if entry < blocks {
-                        SizesRead::Got(next, blocks, BlockId(entry))
+                        SizesRead::Got {
+                            next: next,
+                            blocks: blocks,
+                            entry: BlockId(entry),
+                        }
                     } else {
                         SizesRead::Refused(Cause::OutOfRange, ENTRY)
                     }
@@ -181,7 +185,10 @@ pub fn blocks_part(s: &[u8], at: usize, b: Bounds, seen: &mut [bool], facts: &mu
             BlockRead::Refused(c, o) => {
                 return Part::Refused(c, o);
             }
-            BlockRead::Used(end, count) => {
+            BlockRead::Used {
+                end: end,
+                count: count,
+            } => {
                 here = end;
                 total = total + count;
             }

@@ -21,7 +21,11 @@ ghost use Rattle.table.specs.Number.{numbersBelow};
 
 // What makes `dest` a member where `source` is one, for a root of the shape asked for; or nothing.
 pub enum CopyRead {
-    Copy(ValueId, ValueId, u8),
+    Copy {
+        source: ValueId,
+        dest: ValueId,
+        asked: u8,
+    },
     Nothing,
 }
 
@@ -33,7 +37,11 @@ fn copied(x: ReadValue, dest: ValueId, asked: u8) -> CopyRead
         ReadValue::Refused(_, _) => CopyRead::Nothing,
         ReadValue::Got(v, _) => match v {
             Value::Literal(_) => CopyRead::Nothing,
-            Value::Operand(o) => CopyRead::Copy(o, dest, asked),
+            Value::Operand(o) => CopyRead::Copy {
+                source: o,
+                dest: dest,
+                asked: asked,
+            },
             Value::Error => CopyRead::Nothing,
         },
     }
@@ -81,7 +89,11 @@ fn note_copy(c: CopyRead, n: u16, copies: &mut [u16]) -> u16
 {
     match c {
         CopyRead::Nothing => n,
-        CopyRead::Copy(source, dest, asked) => {
+        CopyRead::Copy {
+            source: source,
+            dest: dest,
+            asked: asked,
+        } => {
             let at = fold_family::WIDTH * n as usize;
             table::set_number(copies, fold_family::SOURCE + at, source.0);
             table::set_number(copies, fold_family::DEST + at, dest.0);

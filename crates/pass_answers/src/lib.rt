@@ -30,14 +30,24 @@ pub enum Answer {
     // Row 12: max_aggregate_size is above 16.
     TooLarge,
     // The result, the counts, the shelf reason, and how many bytes the rewritten routine has.
-    Lowered(bool, Counts, ShelfReason, usize),
+    Lowered {
+        result: bool,
+        counts: Counts,
+        reason: ShelfReason,
+        size: usize,
+    },
 }
 
 // What is not refused: the result goes by the builds.
 pub fn lowered(c: Counts, reason: ShelfReason, size: usize) -> Answer
     ensures { λ r. ⌜ asAnswer r ≡ acceptance (not (eqb (c .builds) 0)) c (numberOfReason reason) size ⌝ }
 {
-    Answer::Lowered(0 < c.builds, c, reason, size)
+    Answer::Lowered {
+        result: 0 < c.builds,
+        counts: c,
+        reason: reason,
+        size: size,
+    }
 }
 
 fn flag(w: bool) -> u64
@@ -72,7 +82,12 @@ pub fn numbers_of(a: Answer) -> Numbers
         Answer::Clash => refused(CLASH, 0),
         Answer::NoRoom => refused(NO_ROOM, 0),
         Answer::TooLarge => refused(TOO_LARGE, 0),
-        Answer::Lowered(w, c, reason, size) => {
+        Answer::Lowered {
+            result: w,
+            counts: c,
+            reason: reason,
+            size: size,
+        } => {
             let result = flag(w);
             let number = shelf_test::reason_number(reason);
             Numbers {
@@ -100,6 +115,11 @@ pub fn totals_after(t: Totals, a: Answer) -> Totals
         Answer::Clash => t,
         Answer::NoRoom => t,
         Answer::TooLarge => t,
-        Answer::Lowered(_, c, _, _) => pass_numbers::with_counts(t, c),
+        Answer::Lowered {
+            result: _,
+            counts: c,
+            reason: _,
+            size: _,
+        } => pass_numbers::with_counts(t, c),
     }
 }

@@ -47,8 +47,15 @@ pub enum Counted {
 // for it: the dest, the place of the input where the assigned value stands, and the type.
 pub enum Action {
     Keep,
-    Track(ValueId, Counted),
-    Assign(ValueId, usize, TypeId),
+    Track {
+        dest: ValueId,
+        what: Counted,
+    },
+    Assign {
+        dest: ValueId,
+        place: usize,
+        named: TypeId,
+    },
 }
 
 // What to do, and how much of the rows is used then.
@@ -66,9 +73,19 @@ pub struct Decision {
 // Fields: it gets the values of the instruction's inits, in the order of a struct type; that type.
 pub enum Plan {
     Keep,
-    Share(ValueId, Counted),
-    Assign(usize, TypeId),
-    Replace(ValueId, u32, usize),
+    Share {
+        source: ValueId,
+        what: Counted,
+    },
+    Assign {
+        place: usize,
+        named: TypeId,
+    },
+    Replace {
+        source: ValueId,
+        part: u32,
+        place: usize,
+    },
     Values,
     Fields(TypeId),
 }
@@ -151,7 +168,10 @@ fn built(given: bool, d: ValueId) -> Action
     ensures { λ r. ⌜ r ≡ builtAs given d ⌝ }
 {
     if given {
-        return Action::Track(d, Counted::Build);
+        return Action::Track {
+            dest: d,
+            what: Counted::Build,
+        };
     }
     Action::Keep
 }
@@ -202,7 +222,11 @@ pub fn plan_insert(x: Value, k: u32, place: usize, tracked: &[bool], rows: &[u16
             if rewrite_parts::part_count(rows, v) as u32 <= k {
                 return Plan::Keep;
             }
-            Plan::Replace(v, k, place)
+            Plan::Replace {
+                source: v,
+                part: k,
+                place: place,
+            }
         }
     }
 }
@@ -282,8 +306,14 @@ pub fn plan_take(s: &[u8], next: u16, init: Init, t: TypeId, whole: bool, tracke
         bytes_operands::value_at(s, init.place, next),
         whole,
     ) {
-        Source::Untracked => Plan::Assign(init.place, t),
-        Source::Tracked(v) => Plan::Share(v, Counted::Extract),
+        Source::Untracked => Plan::Assign {
+            place: init.place,
+            named: t,
+        },
+        Source::Tracked(v) => Plan::Share {
+            source: v,
+            what: Counted::Extract,
+        },
     }
 }
 
@@ -293,6 +323,9 @@ pub fn plan_assign(x: Value, whole: bool, tracked: &[bool]) -> Plan
 {
     match tracked_source(tracked, x, whole) {
         Source::Untracked => Plan::Keep,
-        Source::Tracked(v) => Plan::Share(v, Counted::Assign),
+        Source::Tracked(v) => Plan::Share {
+            source: v,
+            what: Counted::Assign,
+        },
     }
 }

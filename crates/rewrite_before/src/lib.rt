@@ -103,7 +103,10 @@ fn call_list(f: &[u8]) -> ValueList
     let first = 4 + 2 * bytes_wire::byte_at(f, 0) as usize;
     let many = bytes_wire::byte_at(f, first - 1);
     let behind = bytes_operands::values_end(f, first, 0, 0, many);
-    let asks = Asks::Types(behind + 1, bytes_wire::byte_at(f, behind));
+    let asks = Asks::Types {
+        first: behind + 1,
+        many: bytes_wire::byte_at(f, behind),
+    };
     ValueList {
         first: first,
         many: many,
@@ -178,7 +181,10 @@ fn store_list(t: &[u8]) -> ValueList
     let f = bytes_field::tail(t, place);
     let first = place
         + bytes_operands::projections_end(f, STORE_FIRST_STEP, bytes_wire::byte_at(f, STORE_STEPS));
-    let asks = Asks::Types(bytes_operands::value_end(t, first), 1);
+    let asks = Asks::Types {
+        first: bytes_operands::value_end(t, first),
+        many: 1,
+    };
     ValueList {
         first: first,
         many: 1,

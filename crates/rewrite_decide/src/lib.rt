@@ -202,7 +202,10 @@ fn build_values(s: &[u8], p: Spot, tracked: &mut [bool], rows: &mut [u16], used:
     let n = bytes_wire::byte_at(s, p.off + DEST_BYTES);
     let to = rewrite_parts::track_values(s, tracked, rows, used, d, p.off + PARTS, n, 0);
     Decision {
-        action: Action::Track(d, Counted::Build),
+        action: Action::Track {
+            dest: d,
+            what: Counted::Build,
+        },
         used: to,
     }
 }
@@ -228,21 +231,32 @@ fn carry_out(
             action: Action::Keep,
             used: used,
         },
-        Plan::Share(v, c) => {
+        Plan::Share { source: v, what: c } => {
             rewrite_parts::share(tracked, rows, d, v);
             Decision {
-                action: Action::Track(d, c),
+                action: Action::Track { dest: d, what: c },
                 used: used,
             }
         }
-        Plan::Assign(place, t) => Decision {
-            action: Action::Assign(d, place, t),
+        Plan::Assign { place, named: t } => Decision {
+            action: Action::Assign {
+                dest: d,
+                place: place,
+                named: t,
+            },
             used: used,
         },
-        Plan::Replace(v, k, place) => {
+        Plan::Replace {
+            source: v,
+            part: k,
+            place,
+        } => {
             let to = rewrite_parts::replace(tracked, rows, used, d, v, k, place);
             Decision {
-                action: Action::Track(d, Counted::Insert),
+                action: Action::Track {
+                    dest: d,
+                    what: Counted::Insert,
+                },
                 used: to,
             }
         }

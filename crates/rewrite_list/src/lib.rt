@@ -120,7 +120,7 @@ fn put_wanted(
 {
     match wants {
         Wants::Nothing => Put::Went(p),
-        Wants::Build(v, t) => {
+        Wants::Build { value: v, named: t } => {
             let d = fresh_value(b.next, p.fresh);
             let r = put_tracked(out, p.to, s, b, facts, work, v, t, d);
             if r.clash {
@@ -193,7 +193,7 @@ fn put_wanted_value(
                 fresh: w.fresh,
             }
         }
-        Wants::Build(_, _) => {
+        Wants::Build { value: _, named: _ } => {
             let d = fresh_value(next, w.fresh);
             let p = bytes_emit::put_value(out, w.to, Value::Operand(d));
             Written {

@@ -106,11 +106,18 @@ pub fn perform(
             );
             put_part(out, p, part, 1)
         }
-        Action::Track(d, what) => {
+        Action::Track {
+            dest: d,
+            what: what,
+        } => {
             table::set_flag(dropped, d.0 as usize, true);
             left_out(p, what)
         }
-        Action::Assign(d, place, t) => {
+        Action::Assign {
+            dest: d,
+            place: place,
+            named: t,
+        } => {
             let to = bytes_emit::put_assign(
                 out,
                 p.to,

@@ -14,14 +14,14 @@ const TYPE_BYTES: usize = 2;
 // The types asked for. Types: those that stand in the input from a place on, and how many there are, where they are
 // aggregates. Recorded: the recorded ones.
 pub enum Asks {
-    Types(usize, u8),
+    Types { first: usize, many: u8 },
     Recorded,
 }
 
 // What is wanted of a value. Nothing: it stays. Build: the value is rebuilt, and at which type.
 pub enum Wants {
     Nothing,
-    Build(ValueId, TypeId),
+    Build { value: ValueId, named: TypeId },
 }
 
 // The type asked of value `i`, the operand v.
@@ -37,7 +37,7 @@ fn asked_type(
     ensures { λ r. ⌜ TypeAsked b (now (s .entry)) (now (facts .entry)) (now (t .entry)) asks v i r ⌝ }
 {
     match asks {
-        Asks::Types(at, n) => {
+        Asks::Types { first: at, many: n } => {
             if n <= i {
                 return TypeFound::Nothing;
             }
@@ -71,7 +71,7 @@ pub fn wanted_at(
                 return Wants::Nothing;
             }
             match asked_type(s, b, facts, t, asks, v, i) {
-                TypeFound::Type(u) => Wants::Build(v, u),
+                TypeFound::Type(u) => Wants::Build { value: v, named: u },
                 TypeFound::Nothing => Wants::Nothing,
             }
         }

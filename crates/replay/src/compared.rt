@@ -1,5 +1,8 @@
 // What a row tells, and whether an answer is that.
 
+// What an output is filled with before the call.
+pub const FILL: u8 = 165;
+
 // The part of the bytes that has `n` of them, from `from` on; what there is of it.
 pub fn part<'a>(s: &'a [u8], from: usize, n: usize) -> &'a [u8] {
     let len = s.len();
@@ -42,7 +45,7 @@ fn byte_or(bytes: &[u8], i: usize, other: u8) -> u8 {
 pub fn same_bytes(out: &[u8], bytes: &[u8]) -> bool {
     let mut i = 0;
     while i < out.len() {
-        if byte_or(bytes, i, 165) != out[i] {
+        if byte_or(bytes, i, FILL) != out[i] {
             return false;
         }
         i = i + 1;

@@ -9,6 +9,21 @@ mod compared;
 ghost use Prim.Native.Nat.{_≤_, _<_};
 ghost use lib.ListN.{length};
 
+// Where a row has the lent length and the input's length, and where its input begins.
+const LENT: usize = 3;
+
+const INPUT_LENGTH: usize = 7;
+
+const INPUT: usize = 11;
+
+// How many bytes the ten numbers have, and where the output's length stands in them.
+const TOLD: usize = 40;
+
+const SIZE: usize = 36;
+
+// The most bytes that are lent for an output.
+const MOST_LENT: usize = 65536;
+
 // Calls the pass; whether it answers as is told. `row` begins with the settings.
 fn replayed(row: &[u8], input: &[u8], told: &[u8], bytes: &[u8], out: &mut [u8]) -> bool {
     let mut answer: [u64; 10] = [0; 10];
@@ -28,12 +43,12 @@ fn otherwise(row: &[u8], n: usize, size: usize) -> u64
     requires { ⌜ n < 4294967296 ⌝ }
     ensures { λ r. ⌜ r ≤ 1 ⌝ }
 {
-    let input = compared::part(row, 11, n);
-    let told = compared::part(row, 11 + n, 40);
-    let bytes = compared::part(row, 11 + n + 40, size);
-    let mut out = [165u8; 65536];
-    let lent = bytes_wire::u32_at(row, 3) as usize;
-    if 65536 < lent {
+    let input = compared::part(row, INPUT, n);
+    let told = compared::part(row, INPUT + n, TOLD);
+    let bytes = compared::part(row, INPUT + n + TOLD, size);
+    let mut out = [compared::FILL; MOST_LENT];
+    let lent = bytes_wire::u32_at(row, LENT) as usize;
+    if MOST_LENT < lent {
         return 1;
     }
     if replayed(row, input, told, bytes, &mut out[0..lent]) {
@@ -57,11 +72,11 @@ fn replay(s: &[u8])
     let mut at: usize = 0;
     while at < s.len() {
         let row = compared::part(s, at, s.len());
-        let n = bytes_wire::u32_at(row, 7) as usize;
-        let size = bytes_wire::u32_at(row, 11 + n + 36) as usize;
+        let n = bytes_wire::u32_at(row, INPUT_LENGTH) as usize;
+        let size = bytes_wire::u32_at(row, INPUT + n + SIZE) as usize;
         others = others + otherwise(row, n, size);
         rows = rows + 1;
-        at = at + (11 + n + 40 + size);
+        at = at + (INPUT + n + TOLD + size);
     }
     tell(rows, others);
 }

@@ -13,7 +13,7 @@ use Rattle.bytes_wire.specs.declared.Cause.{Cause}
 use Rattle.bytes_wire.proofs.Laws.{number-short, number-some, from-8}
 use Rattle.bytes_wire.proofs.Inv.{no-ok, both, image, and-inv, map-inv, checked-inv}
 use Rattle.bytes_field.specs.Decode.{definedBits, bitsOf, kindOf}
-use Rattle.bytes_field.specs.Walk.{Walk, walkOf, asScan}
+use Rattle.bytes_field.specs.Walk.{Walk, walkOf, asScan, standsAt}
 use Rattle.bytes_field.specs.declared.Scan.{Scan}
 use Rattle.bytes_block.specs.Decode.{KindRead, headOf}
 
@@ -76,17 +76,9 @@ module _ (late : Bool) (s : List ℕ) where
         let j : 1 ≤ length s = omega arith in
         simp (first s j, e, second s h, lt-ltb _ _ k, l)
 
--- the place of a walk is one
-pub same-place : {p : Scan} {at n at′ n′ : ℕ} {late late′ : Bool} → p ≡ Scan.Used at n late → p ≡ Scan.Used at′ n′ late′ → at ≡ at′
-same-place {p} {at} {n} {at′} {n′} {late} {late′} e f = cc
-
--- a refusal has none
-pub no-place : {p : Scan} {at n o : ℕ} {late : Bool} {c : Cause} → p ≡ Scan.Refused c o → p ≡ Scan.Used at n late → ⊥
-no-place {p} {at} {n} {o} {late} {c} e f = let z : _≡_ {A = ℕ} 0 1 = cc in omega arith
-
 -- what is known at the place of a walk is known at its count
-pub peeked : (s : List ℕ) (x : ℕ) (p : Scan) (seen : List Bool) (buffer : List ℕ) → ((at n : ℕ) (late : Bool) → p ≡ Scan.Used at n late → x ≡ getD s at 0) → (v : Walk) (at : ℕ) → asScan p seen buffer ≡ ok v at → x ≡ getD s at 0
-peeked s x (Scan.Used a n l) seen buffer h v at e = let q : a ≡ at = cc in h a n l refl ∙ ap (λ i. getD s i 0) q
+pub peeked : (s : List ℕ) (x : ℕ) (p : Scan) (seen : List Bool) (buffer : List ℕ) → x ≡ standsAt s p → (v : Walk) (at : ℕ) → asScan p seen buffer ≡ ok v at → x ≡ getD s at 0
+peeked s x (Scan.Used a n l) seen buffer h v at e = let q : a ≡ at = cc in h ∙ ap (λ i. getD s i 0) q
 peeked s x (Scan.Refused c o) seen buffer h v at e = absurd (no-ok e)
 
 -- a head's kind is one of the 19

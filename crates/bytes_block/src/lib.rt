@@ -11,7 +11,7 @@ ghost use Prim.Native.Nat.{ℕ, _+_, _-_, _*_, _≤_, _<_};
 ghost use lib.ListN.{length, getD};
 ghost use Rattle.bytes_wire.specs.Parse.{andThen, mapParse};
 ghost use Rattle.bytes_field.specs.Decode.{bit as bitOf, definedBits, metaOf, instructionOf, terminatorOf};
-ghost use Rattle.bytes_field.specs.Walk.{walkOf, passes, leaves, asScan, asPart};
+ghost use Rattle.bytes_field.specs.Walk.{walkOf, passes, leaves, asScan, asPart, standsAt};
 ghost use Rattle.bytes_block.specs.Decode.{headOf, skipped, asHead, asBlock};
 ghost use Rattle.bytes_block.specs.Rows.{rowEnded, InstructionsRead, TerminatorRead, CodeRead};
 ghost use Rattle.bytes_index.specs.Table.{rowAt, readsAt};
@@ -150,7 +150,7 @@ pub fn read_head(s: &[u8], late: bool) -> Head
 
 // The byte that a walk stands at.
 fn peek(s: &[u8], p: Scan) -> u8
-    ensures { λ r. ⌜ ((at n : ℕ) (late : Bool) → p ≡ Scan.Used at n late → r ≡ getD (now (s .entry)) at 0) ⌝ }
+    ensures { λ r. ⌜ r ≡ standsAt (now (s .entry)) p ⌝ }
 {
     match p {
         Scan::Used(at, _, _) => bytes_wire::byte_at(s, at),

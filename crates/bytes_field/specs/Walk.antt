@@ -175,6 +175,11 @@ abbrev pub asScan : Scan → List Bool → List ℕ → Parse Walk
 asScan (Scan.Used at n late) seen buffer = ok (walkOf seen buffer n late) at
 asScan (Scan.Refused c o) seen buffer = bad c o
 
+-- the byte that a walk stands at; a refused one stands at none
+abbrev pub standsAt : List ℕ → Scan → ℕ
+standsAt s (Scan.Used at n late) = getD s at 0
+standsAt s (Scan.Refused c o) = 0
+
 -- how many bytes an answer speaks of
 abbrev pub bytesOf : Scan → ℕ
 bytesOf (Scan.Used k n late) = k

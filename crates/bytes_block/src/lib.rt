@@ -172,10 +172,7 @@ pub fn read_instruction(
 {
     match read_head(s, late) {
         Head::Refused(c, o) => Scan::Refused(c, o),
-        Head::Kind {
-            bits: bits,
-            kind: kind,
-        } => {
+        Head::Kind { bits, kind } => {
             let p = then_meta(s, Scan::Used(HEAD, n, late), bits);
             let row = bytes_kind::row_of_kind(kind);
             let q = bytes_row::then_row(s, p, row, peek(s, p), b, seen, buffer);

@@ -71,7 +71,7 @@ pub fn read_routine(s: &[u8], facts: &mut [u16]) -> Checked
         Part::Used(at) => match sections::read_sizes(&s[at..], m) {
             SizesRead::Refused(c, o) => Checked::Refused(c, at + o),
             SizesRead::Got {
-                next: next,
+                next,
                 blocks: many,
                 entry: _,
             } => {

@@ -185,10 +185,7 @@ pub fn blocks_part(s: &[u8], at: usize, b: Bounds, seen: &mut [bool], facts: &mu
             BlockRead::Refused(c, o) => {
                 return Part::Refused(c, o);
             }
-            BlockRead::Used {
-                end: end,
-                count: count,
-            } => {
+            BlockRead::Used { end, count } => {
                 here = end;
                 total = total + count;
             }

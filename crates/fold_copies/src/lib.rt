@@ -90,9 +90,9 @@ fn note_copy(c: CopyRead, n: u16, copies: &mut [u16]) -> u16
     match c {
         CopyRead::Nothing => n,
         CopyRead::Copy {
-            source: source,
-            dest: dest,
-            asked: asked,
+            source,
+            dest,
+            asked,
         } => {
             let at = fold_family::WIDTH * n as usize;
             table::set_number(copies, fold_family::SOURCE + at, source.0);

@@ -85,8 +85,8 @@ pub fn numbers_of(a: Answer) -> Numbers
         Answer::Lowered {
             result: w,
             counts: c,
-            reason: reason,
-            size: size,
+            reason,
+            size,
         } => {
             let result = flag(w);
             let number = shelf_test::reason_number(reason);

@@ -106,16 +106,13 @@ pub fn perform(
             );
             put_part(out, p, part, 1)
         }
-        Action::Track {
-            dest: d,
-            what: what,
-        } => {
+        Action::Track { dest: d, what } => {
             table::set_flag(dropped, d.0 as usize, true);
             left_out(p, what)
         }
         Action::Assign {
             dest: d,
-            place: place,
+            place,
             named: t,
         } => {
             let to = bytes_emit::put_assign(

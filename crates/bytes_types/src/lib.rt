@@ -29,7 +29,8 @@ const KINDS: u8 = 11;
 // Field `i` of the fields that begin at `from`: a new name, then a type below the struct's own number.
 fn struct_field(s: &[u8], from: usize, i: u8, own: u16) -> Part
     requires { ⌜ from + 4 * i ≤ length (now s) ⌝ }
-    ensures { λ r. ⌜ asPart r ≡ later (from + 4 * i) (mapParse unit (fieldOf own (namesAt (now (s .entry)) from i) (drop (from + 4 * i) (now (s .entry))))) ⌝ }
+    ensures { λ r. ⌜ asPart r ≡ later (from + 4 * i)
+        (mapParse unit (fieldOf own (namesAt (now (s .entry)) from i) (drop (from + 4 * i) (now (s .entry))))) ⌝ }
 {
     let at = from + 4 * (i as usize);
     match bytes_wire::read_u16(&s[at..]) {

@@ -191,7 +191,8 @@ fn cross_builds(
     readers: &[u8],
     marks: &mut [bool],
 )
-    ensures { λ _. ⌜ ((τ : Types) (ks : List Block) → k .0 < length ks → CopiesIn (now (copies .entry)) (copiesOf τ (getD ks (k .0) noBlock .instructions))
+    ensures { λ _. ⌜ ((τ : Types) (ks : List Block) → k .0 < length ks
+        → CopiesIn (now (copies .entry)) (copiesOf τ (getD ks (k .0) noBlock .instructions))
         → Crossed τ ks (λ σ m. crossBlock σ τ ks (k .0) m) (now (s .entry)) b
         (now (facts .entry)) (now (shapes .entry)) (now (eligible .entry)) (now (readers .entry)) (now (marks .entry)) (now (marks .exit))) ⌝ }
 {

@@ -154,7 +154,8 @@ fn blocks_agree(s: &[u8], b: Bounds, facts: &[u16]) -> bool
 // Shelf reason 1 of a routine: its parameters stand 6 bytes behind its type table.
 pub fn types_agree(s: &[u8], b: Bounds, facts: &[u16]) -> bool
     ensures { λ r. ⌜ ((x : Routine) (n : ℕ) → Coded b (now (s .entry)) (now (facts .entry)) (typesIn x) (x .blocks)
-        → definedsOf (b .list) (b .next) (replicate (b .next) false) (drop (getD (now (facts .entry)) (b .types) 0 + 6) (now (s .entry))) ≡ ok (x .parameters) n
+        → definedsOf (b .list) (b .next) (replicate (b .next) false)
+        (drop (getD (now (facts .entry)) (b .types) 0 + 6) (now (s .entry))) ≡ ok (x .parameters) n
         → r ≡ typesAgree false x) ⌝ }
 {
     let behind = table::place(facts, b.types as usize);

@@ -59,7 +59,8 @@ fn mark_dests(t: &[u8], kind: u16, marks: &mut [bool])
 // Whether the instruction in a slot reads no marked value, a Debug aside.
 fn counted_clear(facts: &[u16], slot: u16, kind: u16, marks: &[bool]) -> bool
     requires { ⌜ kind ≡ kindIn (now facts) slot ⌝ }
-    ensures { λ r. ⌜ ((b : AnyBounds) (s : List ℕ) → OfSlot b s (now (facts .entry)) slot (λ τ i. clear (now (marks .entry)) (countedReads false i)) r) ⌝ }
+    ensures { λ r. ⌜ ((b : AnyBounds) (s : List ℕ)
+        → OfSlot b s (now (facts .entry)) slot (λ τ i. clear (now (marks .entry)) (countedReads false i)) r) ⌝ }
 {
     if kind == kind::DEBUG {
         return true;

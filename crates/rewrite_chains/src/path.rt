@@ -22,6 +22,7 @@ ghost use Rattle.fold.specs.Tables.{Ground};
 ghost use Rattle.rewrite.specs.State.{AggStates, stepIndex, chain};
 ghost use Rattle.rewrite_parts.specs.Rows.{ValueAt, Rep, InitAt};
 ghost use Rattle.rewrite_chains.specs.Chained.{asPosition, LeadsTo, hasPart, partAt, OfStep, OfSteps, integerStep, held};
+ghost use Rattle.table.specs.Number.{numbersBelow};
 
 // value.rs, `as_const_integer`.
 fn const_integer(x: Value) -> Position
@@ -117,7 +118,8 @@ pub fn step_part(
 
 // The value that stands at a place, where it is an operand.
 fn operand_at(s: &[u8], at: usize, next: u16) -> Walked
-    ensures { λ r. ⌜ ((x : AnyValue) → Bytes (now (s .entry)) → next ≤ 65536 → ValueAt next (now (s .entry)) at x → LeadsTo next (some x) r) ⌝ }
+    ensures { λ r. ⌜ ((x : AnyValue) → Bytes (now (s .entry)) → next ≤ numbersBelow
+        → ValueAt next (now (s .entry)) at x → LeadsTo next (some x) r) ⌝ }
 {
     match bytes_wire::read_value(bytes_field::tail(s, at), next) {
         ReadValue::Refused(_, _) => Walked::Nothing,

@@ -101,6 +101,13 @@ listed-at empty k f h = absurd (omega arith)
 listed-at (p & ps) zero f h = f _ p
 listed-at (p & ps) (suc k) f h = listed-at ps k f (omega arith)
 
+-- thing k of them, by another reading
+pub listed-each : {A : Type 0} {Q : ℕ → A → Type 0} {end : ℕ → ℕ} {at : ℕ} {xs : List A} (d : A) → Listed Q end at xs → (k : ℕ) → k < length xs → Q (after end k at) (getD xs k d)
+unfolding after
+listed-each d empty k h = absurd (omega arith)
+listed-each d (q & qs) zero h = q
+listed-each d (q & qs) (suc k) h = listed-each d qs k (omega arith)
+
 -- and there is none past their number
 pub listed-past : {A : Type 0} (xs : List A) (k : ℕ) → length xs ≤ k → none ≡ getElem? xs k
 listed-past [] k h = refl

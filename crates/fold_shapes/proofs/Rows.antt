@@ -1,6 +1,6 @@
 -- A type's row says its shape and its number of parts.
 use Prim.Native.Nat.{ℕ, zero, suc, _<_}
-use mathlib.Core.Path.{_≡_, refl, ap, _∙_, sym}
+use mathlib.Core.Path.{_≡_, refl, _∙_, sym}
 use mathlib.Core.List.{List, [], _∷_}
 use mathlib.Core.Bool.{true, false, cond}
 use mathlib.Core.Bool as B
@@ -8,7 +8,7 @@ use mathlib.Core.Option.{Option, some}
 use native.Mathlib.Omega.{arith}
 use borrow.Author.Tests.{ltb-true, ltb-false}
 use lib.ListN.{length, getD, getElem?, drop}
-use lib.Seq.{drop-length, getD-drop}
+use lib.Seq.{drop-length}
 use lib.Dec.{ltb}
 use Rattle.table.proofs.Elements.{some-at, none-at}
 use Rattle.bytes_wire.specs.Parse.{Parse, ok, andThen, mapParse, seqOf}
@@ -19,25 +19,14 @@ use Rattle.bytes_wire.proofs.Laws.{from-32}
 use Rattle.bytes_wire.proofs.Inv.{no-ok, both, behind, image, later-inv, and-inv, map-inv, number-inv, below-inv, tagged-inv, seq-length}
 use Rattle.bytes_field.specs.Decode.{typeIdOf, nameIdOf, countOf, listOf}
 use Rattle.bytes_field.proofs.Rows.{count-first}
-use Rattle.mir.specs.MirType.{StructField, MirType}
-use Rattle.bytes_types.specs.Decode.{newNameOf, structFields, structOf, typeKinds, typeOf}
+use Rattle.mir.specs.MirType.{MirType}
+use Rattle.bytes_types.specs.Decode.{structOf, typeKinds, typeOf}
 use Rattle.bytes_types.specs.Index.{TypesAt}
+use Rattle.bytes_struct.proofs.Placed.{StructAt, struct-at, struct-stands}
 use Rattle.fold.specs.declared.Settings.{Settings}
 use Rattle.mir.specs.Lookup.{shape}
 use Rattle.fold.specs.Scalarizable.{isScalarizable}
 use Rattle.fold_shapes.specs.Shapes.{rowShape, rowEligible}
-
--- a struct has as many fields
-fields-length : (own : ℕ) (names : List NameId) (k : ℕ) (s : List ℕ) {fs : List StructField} {n : ℕ} → structFields own names k s ≡ ok fs n → length fs ≡ k
-unfolding structFields
-fields-length own names zero s {fs} e = let p : fs ≡ [] = cc in ap length p
-fields-length own names (suc k) s e =
-    elim (and-inv s (newNameOf names s) (λ n s. andThen s (typeIdOf own s) (λ t s. mapParse (λ fs. record { name = n; part = t } ∷ fs) (structFields own (n ∷ names) k s))) e) [
-      | both n m j p q r ↦
-          elim (and-inv (drop m s) (typeIdOf own (drop m s)) (λ t s. mapParse (λ fs. record { name = n; part = t } ∷ fs) (structFields own (n ∷ names) k s)) q) [
-            | both t m2 j2 p2 q2 r2 ↦ elim (map-inv (λ fs. record { name = n; part = t } ∷ fs) (structFields own (n ∷ names) k (drop m2 (drop m s))) q2) [ image fs f g ↦ ap length g ∙ ap suc (fields-length own (n ∷ names) k (drop m2 (drop m s)) f) ]
-          ]
-    ]
 
 -- a list has as many as its first byte says
 list-length : {A : Type 0} (most : ℕ) (dec : List ℕ → Parse A) (s : List ℕ) {xs : List A} {n : ℕ} → listOf most dec s ≡ ok xs n → length xs ≡ getD s 0 0
@@ -67,20 +56,11 @@ tuple-said most own t e =
 
 -- a Struct
 struct-said : (most own : ℕ) (t : List ℕ) {ty : MirType} {n : ℕ} → structOf most own t ≡ ok ty n → Said (some ty) (4 ∷ t)
-unfolding shape isScalarizable structOf
-struct-said most own t e =
-    elim (and-inv t (nameIdOf t) (λ n s. andThen s (countOf most s) (λ k s. mapParse (λ fs. MirType.Struct n fs) (structFields own [] k s))) e) [
-      | both n m j p q r ↦
-          elim (and-inv (drop m t) (countOf most (drop m t)) (λ k s. mapParse (λ fs. MirType.Struct n fs) (structFields own [] k s)) q) [
-            | both k m2 j2 p2 q2 r2 ↦
-                elim (map-inv (λ fs. MirType.Struct n fs) (structFields own [] k (drop m2 (drop m t))) q2) [
-                  | image fs f g ↦
-                      let a : m ≡ 2 = name-size t p in
-                      let h : length fs ≡ getD t 2 0 = fields-length own [] k (drop m2 (drop m t)) f ∙ count-first most (drop m t) p2 ∙ rw (a, getD-drop) in
-                      rw g record { shaped = refl; fits = λ σ. rw h }
-                ]
-          ]
-    ]
+unfolding shape isScalarizable
+struct-said most own t {ty} {n} e = go (struct-stands own (4 ∷ t) most .each ty n e)
+  where
+    go : {y : MirType} → StructAt own (4 ∷ t) y → Said (some y) (4 ∷ t)
+    go (struct-at n fs l c) = record { shaped = refl; fits = λ σ. rw c }
 
 -- a FixedArray
 array-said : (own : ℕ) (t : List ℕ) {ty : MirType} {n : ℕ} → andThen t (typeIdOf own t) (λ p s. mapParse (λ size. MirType.FixedArray p size) (u32Of s)) ≡ ok ty n → Said (some ty) (5 ∷ t)
@@ -141,16 +121,6 @@ shape-found most many t s types ts e f g a m = e ∙ rw (f, g) (sym (row-said mo
 
 pub eligible-found : (most many t : ℕ) (s types : List ℕ) (ts : List MirType) (σ : Settings) {r : B.Bool} {at : ℕ} {u : List ℕ} → r ≡ rowEligible σ u → u ≡ drop at s → at ≡ cond (ltb t many) (getD types t 0) (length s) → TypesAt most s types ts → length ts ≡ many → r ≡ isScalarizable σ (getElem? ts t)
 eligible-found most many t s types ts σ e f g a m = e ∙ rw (f, g) (sym (row-said most many t s types ts a m .fits σ))
-
--- the kind of a row of the second shape
-pub struct-kind : (k : ℕ) → _≡_ {A = ℕ} (getD (0 ∷ 0 ∷ 0 ∷ 1 ∷ 2 ∷ 3 ∷ []) k 0) 2 → k ≡ 4
-struct-kind zero e = absurd (omega arith)
-struct-kind (suc zero) e = absurd (omega arith)
-struct-kind (suc (suc zero)) e = absurd (omega arith)
-struct-kind (suc (suc (suc zero))) e = absurd (omega arith)
-struct-kind (suc (suc (suc (suc zero)))) e = refl
-struct-kind (suc (suc (suc (suc (suc zero))))) e = absurd (omega arith)
-struct-kind (suc (suc (suc (suc (suc (suc k)))))) e = absurd (omega arith)
 
 -- a kind that is none of the three
 pub other-kind : {A : Type 0} (d a b c : A) (k : ℕ) → (k ≡ 3 → ⊥) → (k ≡ 4 → ⊥) → (k ≡ 5 → ⊥) → d ≡ getD (d ∷ d ∷ d ∷ a ∷ b ∷ c ∷ []) k d

@@ -17,7 +17,6 @@ use Rattle.mir.specs.declared.TypeId.{TypeId}
 use Rattle.bytes_wire.proofs.Laws.{from-16}
 use Rattle.bytes_wire.proofs.Inv.{both, image, and-inv, map-inv, number-inv, below-inv}
 use Rattle.mir.specs.MirType.{StructField, MirType}
-use Rattle.bytes_types.specs.Index.{TypesAt}
 use Rattle.mir.specs.Syntax.{FieldInit, Instruction, InstructionKind, MakeStruct}
 use Rattle.mir.specs.Reads.{kindNumber}
 use Rattle.bytes_field.specs.Decode.{definedOf, typeIdOf, listOf, fieldInitOf, makeStructOf, instructionOf}
@@ -26,7 +25,6 @@ use Rattle.bytes_operands.specs.Fields.{fieldsPlace}
 use Rattle.bytes_operands.proofs.Instruction.{instruction-fields}
 use Rattle.bytes_sections.specs.Index.{recordedNumber}
 use Rattle.fold_shapes.specs.Shapes.{OfType}
-use Rattle.fold_shapes.proofs.Rows.{type-said, struct-kind}
 use Rattle.fold.specs.declared.Settings.{Settings}
 use Rattle.mir.specs.Lookup.{Types, rowOf, recordedType, valueRow, shape, isStruct, structFieldsOf, isSome}
 use Rattle.fold.specs.Scalarizable.{isScalarizable}
@@ -35,7 +33,8 @@ use Rattle.mir.specs.Parts.{orElse, structRow, fromStructFields, structParts}
 use Rattle.fold.specs.Climb.{buildable}
 use Rattle.bytes_index.specs.Table.{recordedIn, placeIn, endIn, kindIn}
 use Rattle.bytes_index.specs.Code.{noInstruction}
-use Rattle.rewrite_parts.proofs.Builds.{build-inits, type-names}
+use Rattle.rewrite_parts.proofs.Builds.{build-inits}
+use Rattle.bytes_struct.proofs.Placed.{type-fields}
 use Rattle.fold.specs.Tables.{Ground}
 use Rattle.fold_structs.specs.Told.{goesBy, AllGiven, TellsRow, Passes, StructTold, StructsTold}
 use Rattle.fold_climb.proofs.Found.{dest-at}
@@ -172,12 +171,11 @@ module _ (s types : List ℕ) (many : ℕ) (y : TypeId) (t : List ℕ) (shp : �
       let q : shape (some row) ≡ 2 = sym (ap shape (w .1)) ∙ z in
       let v : drop (getD types (y .0) 0) s ≡ u = sym (us ∙ ap (λ a. drop a s) pl) in
       let p = rw v at (at .each (y .0) (w .0)) in
-      let four : getD u 0 0 ≡ 4 = struct-kind (getD u 0 0) (sym (type-said (b .list) (y .0) u p .shaped) ∙ q) in
       let f = build-inits b [] false t 0 i n {d = d} {fs = fs} {y = x} e k off (os ∙ sym (zero-add (fieldsPlace t))) in
       elim (struct-row-of row q) [
         | is-struct nm ts g ↦
-            let o = type-names (b .list) (y .0) u 0 p four g in
-            let a : r ≡ isSome (fromStructFields fs ts) = all (b .next) fs ts (f .0) (f .1 ∙ sym cs) (o .0) (o .1 ∙ sym ms) in
+            let o = type-fields (b .list) (y .0) u p g in
+            let a : r ≡ isSome (fromStructFields fs ts) = all (b .next) fs ts (f .0) (f .1 ∙ sym cs) (o .names) (o .many ∙ sym ms) in
             rw (w .1, g) a
       ]
 

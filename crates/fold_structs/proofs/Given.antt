@@ -12,7 +12,8 @@ use Rattle.mir.specs.Syntax.{FieldInit}
 use Rattle.mir.specs.Parts.{given, consPart, fromStructFields}
 use Rattle.mir.specs.Lookup.{isSome}
 use Rattle.fold_structs.specs.Told.{AllGiven}
-use Rattle.rewrite_parts.specs.Rows.{Inits, Names, InitAt, noField}
+use Rattle.rewrite_parts.specs.Rows.{Inits, InitAt}
+use Rattle.bytes_struct.specs.Fields.{Names, noField}
 use Rattle.rewrite_parts.specs.declared.Init.{Init}
 use Rattle.rewrite_parts.proofs.ByName.{part-given, part-missing}
 

@@ -23,7 +23,8 @@ use Rattle.fold.specs.Family.{Marks}
 use Rattle.fold.specs.Climb.{buildable}
 use Rattle.mir.specs.Parts.{fromStructFields}
 use Rattle.fold.specs.Tables.{Ground}
-use Rattle.rewrite_parts.specs.Rows.{Inits, Names}
+use Rattle.rewrite_parts.specs.Rows.{Inits}
+use Rattle.bytes_struct.specs.Fields.{Names}
 use Rattle.fold_scan.specs.Noted.{StructsAt}
 
 -- each field of a struct's row is given

@@ -16,6 +16,7 @@ use Rattle.mir.specs.MirType.{MirType}
 use Rattle.mir.specs.Syntax.{InstructionKind, Instruction, Terminator, Block, Place, Projection}
 use Rattle.mir.specs.Routine.{Routine}
 use Rattle.mir.specs.Lookup as Lk
+use Rattle.bytes_struct.specs.FindField as Ff
 use Rattle.mir.specs.Parts as Pa
 use Rattle.mir.specs.Phis as Ph
 use Rattle.bytes_wire.specs.Value.{boolByte}
@@ -34,7 +35,7 @@ use Rattle.machine.specs.Document as D
 -- ---- every definition on a run's way, opened
 
 unfoldable lookups : Unit {0}
-unfolding Lk.rowOf Lk.recordedType Lk.valueRow Lk.shape Lk.isStruct Lk.structFieldsOf Lk.next Lk.position Lk.fieldIndex Lk.onSome Ph.behindPhis Ph.phisOf Ph.phiOf
+unfolding Lk.rowOf Lk.recordedType Lk.valueRow Lk.shape Lk.isStruct Lk.structFieldsOf Ff.findFrom Ff.findField Ff.fieldIndex Ff.fieldTypeOf Lk.onSome Ph.behindPhis Ph.phisOf Ph.phiOf
 lookups = tt
 
 unfoldable parts : Unit {0}
@@ -46,7 +47,7 @@ unfolding Vl.equal Vl.equals Vl.consVal Vl.nth Vl.put Vl.partOf Vl.asAggregate V
 values = tt
 
 unfoldable places : Unit {0}
-unfolding P.partRow P.argumentRow P.noRow P.rowAt P.stepPosition P.walked P.changed E.eval E.evalAll E.indexed E.evalStep E.consStep E.evalSteps
+unfolding P.partRow P.argumentRow P.noRow P.stepPosition P.walked P.changed E.eval E.evalAll E.indexed E.evalStep E.consStep E.evalSteps
 places = tt
 
 unfoldable instructions : Unit {0}

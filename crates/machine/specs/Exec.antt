@@ -7,13 +7,14 @@ use Rattle.mir.specs.declared.ValueId.{ValueId}
 use Rattle.mir.specs.Syntax.{InstructionKind, Assign, UnaryOp, BinaryOp, Call, Cast, Load, Store, Debug, Nop, Phi}
 use Rattle.mir.specs.Syntax.{MakeTuple, ExtractTupleElement, MakeStruct, ExtractStructField, InsertField, InsertTuple, MakeFixedArray}
 use Rattle.mir.specs.Syntax.{AssertEq, HeapAllocCells}
-use Rattle.mir.specs.Lookup.{Types, rowOf, recordedType, valueRow, fieldIndex}
+use Rattle.mir.specs.Lookup.{Types, rowOf, recordedType, valueRow}
+use Rattle.bytes_struct.specs.FindField.{fieldIndex, fieldTypeOf}
 use Rattle.mir.specs.Parts.{structRow, operandRow, isPointer, structParts}
 use Rattle.machine.specs.Values.{Val, Vals, aggregate, equal, partOf, withPart}
 use Rattle.machine.specs.Meaning.{Meaning, Operated, gives, fails, asks, Taken, took, refuses, exhausted}
 use Rattle.machine.specs.Records.{Env, Writes, Event, called, allocated, loaded, stored, asserted, printed}
 use Rattle.machine.specs.Records.{Cause, noValue, noSource, noReply, unwritten, missing, tooLarge, own, unequalSides, Out, goes, ends, stops}
-use Rattle.machine.specs.Places.{partRow, argumentRow, noRow, rowAt, walked, changed}
+use Rattle.machine.specs.Places.{partRow, argumentRow, noRow, walked, changed}
 use Rattle.machine.specs.Evaluate.{eval, evalAll, evalSteps}
 
 -- what is not there stops the machine
@@ -90,7 +91,7 @@ module _ {A : Type 0} (M : Meaning A) (τ : Types) where
   exec (ExtractStructField d x n t) E w = need unwritten (eval M E none x) (λ y. extracted d y (fieldIndex (operandRow τ x) n) w)
   exec (InsertField d x n y t) E w =
       need unwritten (eval M E none x) (λ a.
-      need unwritten (eval M E (rowAt τ (rowOf τ (some t)) (fieldIndex (rowOf τ (some t)) n)) y) (λ b.
+      need unwritten (eval M E (rowOf τ (fieldTypeOf (rowOf τ (some t)) n)) y) (λ b.
       inserted d a (fieldIndex (rowOf τ (some t)) n) b w))
   exec (InsertTuple d x k y t) E w =
       need unwritten (eval M E none x) (λ a. need unwritten (eval M E (partRow τ (rowOf τ (some t)) k) y) (λ b. inserted d a (some k) b w))

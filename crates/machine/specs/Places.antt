@@ -5,7 +5,8 @@ use mathlib.Core.List.{List, [], _∷_}
 use lib.ListN.{getElem?}
 use Rattle.mir.specs.declared.TypeId.{TypeId}
 use Rattle.mir.specs.MirType.{MirType}
-use Rattle.mir.specs.Lookup.{Types, rowOf, fieldIndex, onSome}
+use Rattle.mir.specs.Lookup.{Types, rowOf, onSome}
+use Rattle.bytes_struct.specs.FindField.{fieldIndex}
 use Rattle.mir.specs.Parts.{partType}
 use Rattle.machine.specs.Values.{Val, partOf, withPart}
 use Rattle.machine.specs.Meaning.{Meaning}
@@ -22,11 +23,6 @@ argumentRow τ ps k = rowOf τ (getElem? ps k)
 -- at no type
 unfoldable pub noRow : ℕ → Option MirType
 noRow k = none
-
--- the row of a part whose position is looked for
-unfoldable pub rowAt : Types → Option MirType → Option ℕ → Option MirType
-rowAt τ row none = none
-rowAt τ row (some k) = partRow τ row k
 
 -- the part that a step names, in a value of the row
 unfoldable pub stepPosition : {A : Type 0} → Meaning A → Option MirType → Step A → Option ℕ

@@ -10,10 +10,10 @@ use Rattle.mir.specs.MirType.{MirType, Felt, Bool, U32, Tuple, Struct, FixedArr
 use Rattle.mir.specs.Syntax.{Projection, Index, Field, Place, InstructionKind, Assign, UnaryOp, BinaryOp, Call, Cast, Load, Store, Debug, Nop, Phi}
 use Rattle.mir.specs.Syntax.{MakeTuple, ExtractTupleElement, MakeStruct, ExtractStructField, InsertField, InsertTuple, MakeFixedArray, AssertEq, HeapAllocCells}
 use Rattle.mir.specs.Syntax as S
-use Rattle.mir.specs.Lookup.{Types, rowOf, recordedType, valueRow, isTuple, isArray, isAggregate, shape, structFieldsOf, position, fieldIndex, onSome}
+use Rattle.mir.specs.Lookup.{Types, recordedType, valueRow, isAggregate}
 use Rattle.shelf.specs.Lists.{every}
 use Rattle.mir.specs.Parts.{isPointer}
-use Rattle.shelf.specs.Fits.{sameType, fits, fieldTypeOf, stepType, placeType, argumentsFit}
+use Rattle.shelf.specs.Fits.{sameType, fits, placeType, argumentsFit}
 use Rattle.shelf.specs.Agrees.{indexFits, pointee, pointed, reached, placeFits, destsFit, agrees, countedAgrees}
 use Rattle.shelf.proofs.Flag.{agrees-aside}
 use Rattle.machine_simulation.specs.Typing.{leadsTo, typed}

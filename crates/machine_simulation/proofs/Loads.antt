@@ -13,7 +13,9 @@ use Rattle.mir.specs.declared.Value.{Value}
 use Rattle.mir.specs.MirType.{MirType}
 use Rattle.mir.specs.Syntax.{Meta, Place, Instruction, Terminator, Load, Projection, Index, Field, Tuple}
 use Rattle.mir.specs.Reads.{operand, operands, indices}
-use Rattle.mir.specs.Lookup.{Types, rowOf, recordedType, valueRow, shape, isTuple, isArray, structFieldsOf, position, fieldIndex, asConstInteger, onSome}
+use Rattle.mir.specs.Lookup.{Types, rowOf, recordedType, valueRow, shape, isTuple, isArray, structFieldsOf, asConstInteger, onSome}
+use Rattle.bytes_struct.specs.FindField.{findFrom, findField, fieldTypeOf}
+use Rattle.bytes_struct.proofs.Laws.{index-type}
 use Rattle.mir.specs.MirType as Y
 use Rattle.rewrite.specs.State.{AggStates, stateOf, stepIndex, stepPart, chain, firstInteger}
 use Rattle.rewrite.specs.Rebuild.{aggregateType}
@@ -25,7 +27,7 @@ use Rattle.machine.specs.Places.{partRow, stepPosition, walked}
 use Rattle.machine.specs.Evaluate.{eval, indexed, evalStep, consStep, evalSteps}
 use Rattle.machine.specs.Exec.{need, choose, exec}
 use Rattle.shelf.specs.Lists.{every}
-use Rattle.shelf.specs.Fits.{sameType, fits, fieldTypeOf, stepType, placeType, literalKind}
+use Rattle.shelf.specs.Fits.{sameType, fits, stepType, placeType, literalKind}
 use Rattle.shelf.specs.Agrees.{isIndex, indexFits}
 use Rattle.machine_simulation.specs.Typing.{Whole, leadsTo, typed}
 use Rattle.machine_simulation.proofs.Tools.{both-l, both-r, both, none-some, is-none, is-some, opt}
@@ -34,7 +36,7 @@ use Rattle.machine_simulation.proofs.Invariant.{Ctx, Tracked, Tracks}
 use Rattle.machine_simulation.proofs.Generic.{Good, does, Sim, SimP, reads-low}
 use Rattle.machine_simulation.proofs.Cases.{sim-kept, is-typed, sameType→eq, fits-type, same-row, operand-eval}
 use Rattle.machine_simulation.proofs.Builds.{at, through, onSome-inv}
-use Rattle.machine_simulation.proofs.Takes.{nth-eval, operand-at, Took, takes, sim-guarded, taken, on-some}
+use Rattle.machine_simulation.proofs.Takes.{nth-eval, operand-at, Took, takes, sim-guarded, taken}
 
 -- ---- one step
 
@@ -77,10 +79,10 @@ index-steps κ E row Value.Error k q i e ty = absurd (no-error k e)
 -- each kind of step
 pub one-step : {A : Type 0} (κ : Ctx A) (E : Env A) (v : ValueId) (p : Projection) (k : ℕ) (q : TypeId) → T (indexFits (κ .types) p)
     → stepIndex (κ .types) v p ≡ some k → stepType (valueRow (κ .types) v) p ≡ some q → Steps κ E (valueRow (κ .types) v) p k q
-unfolding stepIndex stepType evalStep stepPosition fieldTypeOf indexFits
+unfolding stepIndex stepType evalStep stepPosition indexFits
 one-step κ E v (Index x) k q i e ty = index-steps κ E (valueRow (κ .types) v) x k q i e ty
 one-step κ E v (Field n) k q i e ty =
-    steps (field n) refl e (sym (on-some (fieldIndex (valueRow (κ .types) v) n) (partType (valueRow (κ .types) v)) k e) ∙ ty)
+    steps (field n) refl e (sym (index-type (valueRow (κ .types) v) n k e) ∙ ty)
 one-step κ E v (Tuple j) k q i e ty =
     let z : j ≡ k = cc in
     steps (tuple j) refl e (rw (← z) (cond-some (isTuple (valueRow (κ .types) v)) (partType (valueRow (κ .types) v) j) q ty))
@@ -122,7 +124,7 @@ evalSteps-cons κ E p ps s ss a b = rw (a, b)
 
 -- what has no type has no part of a type
 no-step : (p : Projection) → stepType none p ≡ none
-unfolding stepType fieldTypeOf isArray isTuple shape fieldIndex structFieldsOf position onSome
+unfolding stepType fieldTypeOf isArray isTuple shape structFieldsOf findFrom findField
 no-step (Index x) = refl
 no-step (Field n) = refl
 no-step (Tuple k) = refl

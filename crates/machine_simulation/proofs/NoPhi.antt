@@ -13,7 +13,8 @@ use Rattle.mir.specs.MirType.{MirType}
 use Rattle.mir.specs.Syntax.{Meta, Place, Instruction, InstructionKind, Terminator, Assign, UnaryOp, BinaryOp, Call, Cast, Load, Store, Debug, Nop, Phi, plain}
 use Rattle.mir.specs.Syntax.{MakeTuple, ExtractTupleElement, MakeStruct, ExtractStructField, InsertField, InsertTuple, MakeFixedArray, AssertEq, HeapAllocCells}
 use Rattle.fold.specs.declared.Settings.{Settings}
-use Rattle.mir.specs.Lookup.{Types, rowOf, fieldIndex, onSome}
+use Rattle.mir.specs.Lookup.{Types, rowOf, onSome}
+use Rattle.bytes_struct.specs.FindField.{fieldIndex}
 use Rattle.mir.specs.MirType as Y
 use Rattle.mir.specs.Syntax.{Jump, If, BranchCmp, Return, Unreachable}
 use Rattle.mir.specs.Reads.{isPhi}

@@ -17,6 +17,7 @@ use Rattle.machine_simulation.specs.Static.{fieldsOnce}
 use Rattle.machine_simulation.specs.Static as Sc
 use Rattle.shelf.specs.Reads as Re
 use Rattle.shelf.specs.Fits as Fi
+use Rattle.bytes_struct.specs.FindField.{fieldTypeOf}
 use Rattle.shelf.specs.Agrees as Ag
 use Rattle.machine_simulation.specs.Typing as Ty
 use Rattle.machine_simulation.specs.Statement as Sm
@@ -49,7 +50,7 @@ facts debug σ c r =
 
 -- what fits its type
 unfoldable typing : Unit {0}
-unfolding Fi.literalKind Fi.scalarKind Fi.sameType Fi.fits Fi.allFit Fi.partsFit Fi.fieldTypeOf Fi.stepType Fi.placeType Fi.givenFits Fi.fieldsFit Fi.argumentsFit Ag.isIndex Ag.indexFits Ty.typed
+unfolding Fi.literalKind Fi.scalarKind Fi.sameType Fi.fits Fi.allFit Fi.partsFit fieldTypeOf Fi.stepType Fi.placeType Fi.givenFits Fi.fieldsFit Fi.argumentsFit Ag.isIndex Ag.indexFits Ty.typed
 typing = tt
 
 -- the static facts

@@ -12,7 +12,9 @@ use Rattle.mir.specs.declared.Value.{Value}
 use Rattle.mir.specs.MirType.{MirType}
 use Rattle.mir.specs.Syntax.{Meta, Instruction, Terminator, InsertField, InsertTuple}
 use Rattle.mir.specs.Reads.{operand, operands, dests}
-use Rattle.mir.specs.Lookup.{Types, rowOf, recordedType, valueRow, fieldIndex, onSome}
+use Rattle.mir.specs.Lookup.{Types, rowOf, recordedType, valueRow, onSome}
+use Rattle.bytes_struct.specs.FindField.{fieldIndex, fieldTypeOf}
+use Rattle.bytes_struct.proofs.Laws.{index-type}
 use Rattle.mir.specs.declared.NameId.{NameId}
 use Rattle.rewrite.specs.State.{AggStates, stateOf, consSome}
 use Rattle.rewrite.specs.State as St
@@ -20,11 +22,11 @@ use Rattle.rewrite.specs.Step.{oneInsert, stepInsert, stepKind}
 use Rattle.machine.specs.Values.{Val, Vals, aggregate, then, consVal, put, asAggregate, withPart}
 use Rattle.machine.specs.Records.{Env, goes, stops, unwritten}
 use Rattle.mir.specs.Parts.{partType}
-use Rattle.machine.specs.Places.{partRow, rowAt}
+use Rattle.machine.specs.Places.{partRow}
 use Rattle.machine.specs.Evaluate.{eval, evalAll}
 use Rattle.machine.specs.Exec.{need, inserted, exec}
 use Rattle.shelf.specs.Lists.{every, among}
-use Rattle.shelf.specs.Fits.{sameType, fits, fieldTypeOf}
+use Rattle.shelf.specs.Fits.{sameType, fits}
 use Rattle.machine_simulation.specs.Typing.{Whole, typed}
 use Rattle.shelf.specs.Reads.{definedIn}
 use Rattle.machine_simulation.proofs.Tools.{both-l, both-r, none-some}
@@ -33,7 +35,7 @@ use Rattle.machine_simulation.proofs.Invariant.{Ctx, Parts, Tracked}
 use Rattle.machine_simulation.proofs.Generic.{Good, does, Sim, SimP, reads-low}
 use Rattle.machine_simulation.proofs.Cases.{sim-kept, reads-calm, parts-free, is-typed, Makes, made, stuck, left-out, seen, see, sameType→eq, fits-type, same-row}
 use Rattle.machine_simulation.proofs.Builds.{at, through, onSome-inv}
-use Rattle.machine_simulation.proofs.Takes.{is-val, consVal-inv, sim-guarded, on-some}
+use Rattle.machine_simulation.proofs.Takes.{is-val, consVal-inv, sim-guarded}
 
 -- ---- a part replaced in a list
 
@@ -150,8 +152,10 @@ tuple-puts κ m d v k y u te E w vs a = rw (same-row (κ .types) d (some u) te) 
 field-puts : {A : Type 0} (κ : Ctx A) (m : Meta) (d v : ValueId) (f : NameId) (k : ℕ) (y : Value) (u : TypeId) → recordedType (κ .types) d ≡ some u
     → fieldIndex (rowOf (κ .types) (some u)) f ≡ some k
     → PutsIn κ (at m (InsertField d (Value.Operand v) f y u)) d v k (partRow (κ .types) (valueRow (κ .types) d) k) y
-unfolding PutsIn exec need eval inserted withPart asAggregate rowAt
-field-puts κ m d v f k y u te ix E w vs a = rw (same-row (κ .types) d (some u) te) (λ e. rw ix (rw a (rw e)), λ z zs e h. rw ix (rw a (rw e (rw h))))
+unfolding PutsIn exec need eval inserted withPart asAggregate partRow
+field-puts κ m d v f k y u te ix E w vs a =
+    let ty = index-type (rowOf (κ .types) (some u)) f k ix in
+    rw (same-row (κ .types) d (some u) te) (λ e. rw (ix, ty) (rw a (rw e)), λ z zs e h. rw (ix, ty) (rw a (rw e (rw h))))
 
 -- an insert: kept, or left out with its parts tracked
 inserted-go : {A : Type 0} (κ : Ctx A) (φ : ValueId → Bool) (i : Instruction) (is : List Instruction) (t : Terminator) (S : AggStates) (n : ℕ)
@@ -202,8 +206,7 @@ sim-InsertTuple κ φ m d x k y u is t S n sim =
 -- a field's type is its part's
 pub field-fits : (τ : Types) (row : Option MirType) (f : NameId) (k : ℕ) (y : Value) → fieldIndex row f ≡ some k → T (fits τ y (fieldTypeOf row f))
     → T (fits τ y (partType row k))
-unfolding fieldTypeOf
-field-fits τ row f k y e t = rw (on-some (fieldIndex row f) (partType row) k e) at t
+field-fits τ row f k y e t = rw (index-type row f k e) at t
 
 -- an InsertField
 pub sim-InsertField : {A : Type 0} (κ : Ctx A) (φ : ValueId → Bool) (m : Meta) (d : ValueId) (x : Value) (f : NameId) (y : Value) (u : TypeId)

@@ -18,7 +18,8 @@ use Rattle.mir.specs.Parts.{structRow, operandRow, isPointer, structParts}
 use Rattle.machine.specs.Values.{Val, partOf}
 use Rattle.machine.specs.Meaning.{Meaning, Operated, gives, asks, Taken, took, refuses, exhausted}
 use Rattle.machine.specs.Records.{Env, Writes, Event, loaded, Step, Cause, missing, Out, goes}
-use Rattle.machine.specs.Places.{partRow, argumentRow, rowAt, stepPosition, walked, changed}
+use Rattle.bytes_struct.specs.FindField.{fieldTypeOf}
+use Rattle.machine.specs.Places.{partRow, argumentRow, stepPosition, walked, changed}
 use Rattle.machine.specs.Evaluate.{evalAll}
 use Rattle.machine.specs.Exec.{need, choose, received, replies, answered, built, extracted, inserted, exec}
 use Rattle.machine.specs.Run.{execTerminator}
@@ -137,12 +138,6 @@ module _ (τ : Types) (rs : List (Option TypeId)) where
   unfolding argumentRow
   argumentRow-later ps k = rowOf-later _
 
-  -- the row of a part looked for
-  rowAt-later : (row : Option MirType) (o : Option ℕ) → rowAt τ row o ≡ rowAt (retyped τ rs) row o
-  unfolding rowAt
-  rowAt-later row none = refl
-  rowAt-later row (some k) = partRow-later row k
-
   -- a struct's row
   structRow-later : (d : ValueId) (t : TypeId) → Alike τ rs d → structRow τ d t ≡ structRow (retyped τ rs) d t
   unfolding structRow
@@ -253,7 +248,7 @@ module _ {A : Type 0} (M : Meaning A) (τ : Types) (rs : List (Option TypeId)) w
   exec-later (ExtractTupleElement d x k t) E w h = refl
   exec-later (MakeStruct d fs t) E w h = rw (structParts-later τ rs d fs t (h .0)) (need-cong _ _ _ _ (λ xs. struct-in d t xs E w (h .0)))
   exec-later (ExtractStructField d x n t) E w h = rw (operandRow-later τ rs x [] h)
-  exec-later (InsertField d x n y t) E w h = rw (rowOf-later τ rs (some t)) (rw (rowAt-later τ rs (rowOf (retyped τ rs) (some t)) _))
+  exec-later (InsertField d x n y t) E w h = rw (rowOf-later τ rs (some t)) (rw (rowOf-later τ rs (fieldTypeOf (rowOf (retyped τ rs) (some t)) n)))
   exec-later (InsertTuple d x k y t) E w h = rw (rowOf-later τ rs (some t)) (rw (partRow-later τ rs (rowOf (retyped τ rs) (some t)) k))
   exec-later (MakeFixedArray d xs t c) E w h = tuple-later d xs E w (h .0)
   exec-later (AssertEq x y) E w h = rw (operandRow-later τ rs x (operand y []) h, operandRow-later τ rs y [] (rest-of (Alike τ rs) x (operand y []) h))

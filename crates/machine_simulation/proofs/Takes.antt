@@ -12,7 +12,9 @@ use Rattle.mir.specs.declared.Value.{Value}
 use Rattle.mir.specs.MirType.{MirType}
 use Rattle.mir.specs.Syntax.{Meta, Instruction, Terminator, Assign, ExtractTupleElement, ExtractStructField, plain}
 use Rattle.mir.specs.Reads.{operand, operands, dests}
-use Rattle.mir.specs.Lookup.{Types, rowOf, recordedType, valueRow, fieldIndex, onSome}
+use Rattle.mir.specs.Lookup.{Types, rowOf, recordedType, valueRow, onSome}
+use Rattle.bytes_struct.specs.FindField.{fieldIndex, fieldTypeOf}
+use Rattle.bytes_struct.proofs.Laws.{index-type}
 use Rattle.mir.specs.declared.NameId.{NameId}
 use Rattle.rewrite.specs.State.{AggStates, stateOf}
 use Rattle.rewrite.specs.Step.{Piece, oneExtract, assigned, handOn, stepExtract, extractIndex, guarded, stepKind}
@@ -23,7 +25,7 @@ use Rattle.machine.specs.Places.{partRow}
 use Rattle.machine.specs.Evaluate.{eval, evalAll}
 use Rattle.machine.specs.Exec.{need, extracted, exec}
 use Rattle.shelf.specs.Lists.{every, among}
-use Rattle.shelf.specs.Fits.{sameType, fits, fieldTypeOf}
+use Rattle.shelf.specs.Fits.{sameType, fits}
 use Rattle.machine_simulation.specs.Typing.{typed}
 use Rattle.machine_simulation.proofs.Tools.{both-l, both-r, none-some}
 use Rattle.machine_simulation.proofs.Frame.{changes, changedBase, test-head, test-rest}
@@ -131,16 +133,11 @@ pub tuple-type : (τ : Types) (v : ValueId) (k : ℕ) (u : TypeId) → T (sameTy
 unfolding operandRow
 tuple-type τ v k u t = sameType→eq (partType (valueRow τ v) k) (some u) t
 
--- a lookup that found something
-pub on-some : {A B : Type 0} (o : Option A) (f : A → Option B) (a : A) → o ≡ some a → onSome o f ≡ f a
-unfolding onSome
-on-some o f a e = rw e
-
 -- a field's type
 pub field-type : (τ : Types) (v : ValueId) (f : NameId) (k : ℕ) (u : TypeId) → fieldIndex (valueRow τ v) f ≡ some k
     → T (sameType (fieldTypeOf (operandRow τ (Value.Operand v)) f) (some u)) → partType (valueRow τ v) k ≡ some u
-unfolding operandRow fieldTypeOf
-field-type τ v f k u e t = sym (on-some (fieldIndex (valueRow τ v) f) (partType (valueRow τ v)) k e) ∙ sameType→eq _ (some u) t
+unfolding operandRow
+field-type τ v f k u e t = sym (index-type (valueRow τ v) f k e) ∙ sameType→eq _ (some u) t
 
 -- the pass's position is the machine's
 pub index-of : (τ : Types) (v : ValueId) (f : NameId) (k : ℕ) → extractIndex τ (Value.Operand v) f ≡ some k → fieldIndex (valueRow τ v) f ≡ some k

@@ -13,7 +13,9 @@ use Rattle.mir.specs.Syntax.{Meta, Projection, Index, Field, Tuple, Place, Inst
 use Rattle.mir.specs.Syntax.{Assign, UnaryOp, BinaryOp, Call, Cast, Load, Store, Debug, Nop, Phi}
 use Rattle.mir.specs.Syntax.{MakeTuple, ExtractTupleElement, MakeStruct, ExtractStructField, InsertField, InsertTuple, MakeFixedArray, AssertEq, HeapAllocCells}
 use Rattle.fold.specs.declared.Settings.{Settings}
-use Rattle.mir.specs.Lookup.{Types, rowOf, recordedType, valueRow, isTuple, isStruct, isArray, isAggregate, structFieldsOf, fieldIndex, onSome}
+use Rattle.mir.specs.Lookup.{Types, rowOf, recordedType, valueRow, isTuple, isStruct, isArray, isAggregate, structFieldsOf, onSome}
+use Rattle.bytes_struct.specs.FindField.{fieldIndex, fieldTypeOf}
+use Rattle.bytes_struct.proofs.Laws.{index-type}
 use Rattle.mir.specs.Parts.{structParts, partType, operandRow, isPointer}
 use Rattle.rewrite.specs.State.{AggStates, noStates, insertState, stateOf, stepIndex, stepPart, chain, firstInteger, storePart, storeLast, storeDeeper, storeFrom, forwardStore}
 use Rattle.rewrite.specs.State as St
@@ -21,13 +23,13 @@ use Rattle.rewrite.specs.Rebuild.{Rebuilt, rebuildAll, aggregateType, wantedArg
 use Rattle.rewrite.specs.Step.{Piece, kept, left, tracked, assigned, stepBuild, foldedParts, stepInsert, handOn, stepExtract, extractIndex, stepLoaded, stepLoad, storeRebuilt, storeKept, stepStore, stepAssign, stepCall, guarded, stepKind, step}
 use Rattle.shelf.specs.Lists.{every}
 use Rattle.shelf.specs.Agrees.{indexFits}
-use Rattle.shelf.specs.Fits.{sameType, fits, fieldTypeOf, stepType, placeType, fieldsFit}
+use Rattle.shelf.specs.Fits.{sameType, fits, stepType, placeType, fieldsFit}
 use Rattle.machine_simulation.specs.Typing.{Whole, leadsTo, typed, TypedStates, statesAfter}
 use Rattle.machine_simulation.proofs.Tools.{both-l, both-r, none-some, split, passes, fails, cond-yes, change-other, is-none, is-some, opt}
 use Rattle.machine_simulation.proofs.Frame.{cond-some}
 use Rattle.machine_simulation.proofs.Cases.{sameType→eq, fits-type, same-row}
 use Rattle.machine_simulation.proofs.Builds.{whole-fit, struct-whole, folded-inv, through, onSome-inv}
-use Rattle.machine_simulation.proofs.Takes.{on-some, tuple-type, field-type, index-of}
+use Rattle.machine_simulation.proofs.Takes.{tuple-type, field-type, index-of}
 use Rattle.machine_simulation.proofs.Loads.{array-part, cond-true, stepped, step-inv, no-place, no-pointer, own-fits, has-type, load-type}
 use Rattle.machine_simulation.proofs.Puts.{whole-replaced, field-fits}
 use Rattle.machine_simulation.proofs.Stores.{store-type, array-step, first-number}
@@ -65,9 +67,9 @@ see τ S ts Value.Error xs h = absurd (none-some h)
 -- the part that a step leads to has the step's type
 part-type : (τ : Types) (v : ValueId) (p : Projection) (k : ℕ) (q : TypeId) → stepIndex τ v p ≡ some k → stepType (valueRow τ v) p ≡ some q
     → partType (valueRow τ v) k ≡ some q
-unfolding stepIndex stepType fieldTypeOf
+unfolding stepIndex stepType
 part-type τ v (Index x) k q e ty = array-part (valueRow τ v) (cond-true (isArray (valueRow τ v)) (partType (valueRow τ v) 0) q ty) k 0 ∙ cond-some (isArray (valueRow τ v)) (partType (valueRow τ v) 0) q ty
-part-type τ v (Field n) k q e ty = sym (on-some (fieldIndex (valueRow τ v) n) (partType (valueRow τ v)) k e) ∙ ty
+part-type τ v (Field n) k q e ty = sym (index-type (valueRow τ v) n k e) ∙ ty
 part-type τ v (Tuple j) k q e ty = let z : j ≡ k = cc in rw (← z) (cond-some (isTuple (valueRow τ v)) (partType (valueRow τ v) j) q ty)
 
 -- a part of a tracked value fits its type

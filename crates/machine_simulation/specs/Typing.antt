@@ -20,7 +20,8 @@ use Rattle.rewrite.specs.Step.{step}
 use Rattle.mir.specs.Parts.{partType, partCount, operandRow, isPointer}
 use Rattle.shelf.specs.Lists.{every}
 use Rattle.shelf.specs.Agrees.{indexFits}
-use Rattle.shelf.specs.Fits.{sameType, fits, partsFit, fieldTypeOf, placeType, fieldsFit, argumentsFit}
+use Rattle.shelf.specs.Fits.{sameType, fits, partsFit, placeType, fieldsFit, argumentsFit}
+use Rattle.bytes_struct.specs.FindField.{fieldTypeOf}
 
 -- (T), the typing of a tracked value's parts: the same as a statement
 pub record Whole (τ : Types) (t : Option TypeId) (xs : List Value) : Type 0 where

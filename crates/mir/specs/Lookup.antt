@@ -1,14 +1,13 @@
 -- What is looked up of types and values: one level deep.
-use Prim.Native.Nat.{ℕ, suc}
+use Prim.Native.Nat.{ℕ}
 use mathlib.Core.List.{List, [], _∷_}
-use mathlib.Core.Bool.{true, false, cond, _&&_, _||_}
+use mathlib.Core.Bool.{true, false, _||_}
 use mathlib.Core.Bool as B
 use mathlib.Core.Option.{Option, none, some}
 use lib.ListN.{getD, getElem?}
 use lib.Dec.{eqb}
 use Rattle.mir.specs.declared.ValueId.{ValueId}
 use Rattle.mir.specs.declared.TypeId.{TypeId}
-use Rattle.mir.specs.declared.NameId.{NameId}
 use Rattle.mir.specs.declared.Literal.{Literal}
 use Rattle.mir.specs.declared.Value.{Value}
 use Rattle.mir.specs.MirType.{StructField, MirType, Felt, Bool, U32, Tuple, Struct, FixedArray, Pointer, Function, Unit, Error, Unknown}
@@ -76,19 +75,6 @@ structFieldsOf (some (Function ps r)) = []
 structFieldsOf (some Unit) = []
 structFieldsOf (some Error) = []
 structFieldsOf (some Unknown) = []
-
-unfoldable pub next : Option ℕ → Option ℕ
-next none = none
-next (some k) = some (suc k)
-
--- `fields.iter().position(..)`: the first field of that name
-unfoldable pub position : NameId → List StructField → Option ℕ
-position n [] = none
-position n (f ∷ fs) = cond (eqb (n .0) (f .name .0)) (some 0) (next (position n fs))
-
--- sroa.rs 1411, `struct_field_index`
-unfoldable pub fieldIndex : Option MirType → NameId → Option ℕ
-fieldIndex t n = position n (structFieldsOf t)
 
 -- the value is this operand
 unfoldable pub isOperand : ValueId → Value → B.Bool

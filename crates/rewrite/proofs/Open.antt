@@ -1,5 +1,6 @@
 -- Every definition on the way of a rewriting, opened for computation.
-use Rattle.mir.specs.Lookup.{rowOf, recordedType, valueRow, shape, isTuple, isStruct, isArray, isAggregate, structFieldsOf, next, position, fieldIndex, isOperand, isInteger, asConstInteger, any, isSome, onSome, typesIn}
+use Rattle.mir.specs.Lookup.{rowOf, recordedType, valueRow, shape, isTuple, isStruct, isArray, isAggregate, structFieldsOf, isOperand, isInteger, asConstInteger, any, isSome, onSome, typesIn}
+use Rattle.bytes_struct.specs.FindField.{findFrom, findField, fieldIndex}
 use Rattle.mir.specs.Parts.{given, orElse, structRow, consPart, fromStructFields, structParts}
 use Rattle.mir.specs.Phis.{behindPhis, phisOf}
 use Rattle.fold.specs.Scalarizable.{isScalarizable}
@@ -13,7 +14,7 @@ use Rattle.rewrite.specs.Run.{ends, returned, finish, glue, walk, foldsB
 
 -- look-ups in a routine, and the parts of types
 unfoldable open-lookups : Unit {0}
-unfolding rowOf recordedType valueRow shape isTuple isStruct isArray isAggregate structFieldsOf next position fieldIndex isOperand isInteger asConstInteger any isSome onSome typesIn given orElse structRow consPart fromStructFields structParts behindPhis phisOf isScalarizable
+unfolding rowOf recordedType valueRow shape isTuple isStruct isArray isAggregate structFieldsOf findFrom findField fieldIndex isOperand isInteger asConstInteger any isSome onSome typesIn given orElse structRow consPart fromStructFields structParts behindPhis phisOf isScalarizable
 open-lookups = tt
 
 -- which aggregates are used across blocks

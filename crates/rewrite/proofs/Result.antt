@@ -17,7 +17,8 @@ use Rattle.mir.specs.Syntax.{Assign, UnaryOp, BinaryOp, Call, Cast, Load, Store
 use Rattle.mir.specs.Syntax.{MakeTuple, ExtractTupleElement, MakeStruct, ExtractStructField, InsertField, InsertTuple, MakeFixedArray, AssertEq, HeapAllocCells}
 use Rattle.mir.specs.Routine.{Routine}
 use Rattle.fold.specs.declared.Settings.{Settings}
-use Rattle.mir.specs.Lookup.{Types, rowOf, fieldIndex, onSome, typesIn}
+use Rattle.mir.specs.Lookup.{Types, rowOf, onSome, typesIn}
+use Rattle.bytes_struct.specs.FindField.{fieldIndex}
 use Rattle.mir.specs.Phis.{behindPhis}
 use Rattle.rewrite.specs.State.{AggStates, noStates, insertState, stateOf, firstInteger, storePart, storeFrom, forwardStore}
 use Rattle.rewrite.specs.Rebuild.{Rebuilt, keepValue, oneValue, Wanted, rebuildAll, wantedArguments, wantedReturns}

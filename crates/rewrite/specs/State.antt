@@ -10,7 +10,8 @@ use Rattle.mir.specs.declared.ValueId.{ValueId}
 use Rattle.mir.specs.declared.Literal.{Literal}
 use Rattle.mir.specs.declared.Value.{Value}
 use Rattle.mir.specs.Syntax.{Projection, Index, Field, Tuple, Place}
-use Rattle.mir.specs.Lookup.{Types, valueRow, fieldIndex, asConstInteger, onSome}
+use Rattle.mir.specs.Lookup.{Types, valueRow, asConstInteger, onSome}
+use Rattle.bytes_struct.specs.FindField.{fieldIndex}
 
 -- sroa.rs 797, `agg_states`: ValueId → AggState
 abbrev pub AggStates : Type 0

@@ -12,7 +12,8 @@ use Rattle.mir.specs.Syntax.{Place, Instruction, InstructionKind, Meta, plain}
 use Rattle.mir.specs.Syntax.{Assign, UnaryOp, BinaryOp, Call, Cast, Load, Store, Debug, Nop, Phi}
 use Rattle.mir.specs.Syntax.{MakeTuple, ExtractTupleElement, MakeStruct, ExtractStructField, InsertField, InsertTuple, MakeFixedArray, AssertEq, HeapAllocCells}
 use Rattle.fold.specs.declared.Settings.{Settings}
-use Rattle.mir.specs.Lookup.{Types, rowOf, valueRow, fieldIndex, onSome}
+use Rattle.mir.specs.Lookup.{Types, rowOf, valueRow, onSome}
+use Rattle.bytes_struct.specs.FindField.{fieldIndex}
 use Rattle.mir.specs.Parts.{structParts}
 use Rattle.rewrite.specs.declared.Counts.{Counts}
 use Rattle.rewrite.specs.State.{AggStates, insertState, stateOf, replaced, chain, firstInteger, forwardStore}

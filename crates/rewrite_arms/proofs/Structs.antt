@@ -18,18 +18,19 @@ use Rattle.bytes_types.specs.Decode.{typeOf}
 use Rattle.bytes_types.proofs.Canon.{type-fit}
 use Rattle.mir.specs.Syntax.{FieldInit, Instruction}
 use Rattle.bytes_field.specs.declared.Bounds.{Bounds}
-use Rattle.fold_shapes.proofs.Rows.{type-said}
-use Rattle.mir.specs.Lookup.{Types, rowOf, valueRow, shape, isStruct, structFieldsOf, fieldIndex, onSome}
+use Rattle.mir.specs.Lookup.{Types, rowOf, valueRow, shape, isStruct, structFieldsOf, onSome}
+use Rattle.bytes_struct.specs.FindField.{findField, fieldIndex}
+use Rattle.bytes_struct.specs.Found.{asFound}
+use Rattle.bytes_struct.specs.declared.FieldLookup.{FieldLookup}
 use Rattle.mir.specs.Parts.{fromStructFields, structParts, structRow}
 use Rattle.rewrite.specs.State.{AggStates, stateOf}
 use Rattle.rewrite.specs.Step.{stepBuild, extractIndex}
 use Rattle.bytes_index.specs.Table.{recordedIn}
-use Rattle.rewrite_parts.specs.Rows.{Inits, Names, InitAt}
+use Rattle.rewrite_parts.specs.Rows.{Inits, InitAt}
+use Rattle.bytes_struct.specs.Fields.{Names}
 use Rattle.rewrite_parts.specs.declared.Init.{Init}
-use Rattle.rewrite_parts.proofs.Builds.{type-names}
+use Rattle.bytes_struct.proofs.Placed.{type-fields}
 use Rattle.fold.specs.Tables.{Ground}
-use Rattle.rewrite_chains.specs.Chained.{asPosition}
-use Rattle.rewrite_chains.specs.declared.Position.{Position}
 use Rattle.rewrite_arms.specs.Decided.{Planned}
 use Rattle.rewrite_arms.specs.declared.Plan.{Plan}
 use Rattle.rewrite_arms.specs.declared.Spot.{Spot}
@@ -46,17 +47,17 @@ module _ (τ : Types) (x : Value) (f : NameId) (g : ℕ → Option Value) where
   field-error e = rw e refl
 
   -- by the name's position
-  pub field-unknown : {v : ValueId} {r : Position} → x ≡ Value.Operand v → r ≡ Position.Nothing → asPosition r ≡ fieldIndex (valueRow τ v) f → onSome (extractIndex τ x f) g ≡ none
-  unfolding onSome extractIndex
-  field-unknown {v} {r} e p h = let z : fieldIndex (valueRow τ v) f ≡ none = sym h ∙ ap asPosition p in rw (e, z) refl
+  pub field-unknown : {v : ValueId} {r : FieldLookup} → x ≡ Value.Operand v → r ≡ FieldLookup.Absent → asFound r ≡ findField (valueRow τ v) f → onSome (extractIndex τ x f) g ≡ none
+  unfolding onSome extractIndex fieldIndex
+  field-unknown {v} {r} e p h = let z : findField (valueRow τ v) f ≡ none = sym h ∙ ap asFound p in rw (e, z) refl
 
-  field-known : {v : ValueId} {r : Position} {k : ℕ} → x ≡ Value.Operand v → r ≡ Position.At k → asPosition r ≡ fieldIndex (valueRow τ v) f → onSome (extractIndex τ x f) g ≡ g k
-  unfolding onSome extractIndex
-  field-known {v} {r} {k} e p h = let z : fieldIndex (valueRow τ v) f ≡ some k = sym h ∙ ap asPosition p in rw (e, z) refl
+  field-known : {v : ValueId} {r : FieldLookup} {k n : ℕ} {t : TypeId} → x ≡ Value.Operand v → r ≡ FieldLookup.Found k t n → asFound r ≡ findField (valueRow τ v) f → onSome (extractIndex τ x f) g ≡ g k
+  unfolding onSome extractIndex fieldIndex
+  field-known {v} {r} {k} {n} {t} e p h = let z : findField (valueRow τ v) f ≡ some (record { position = k; part = t; fields = n }) = sym h ∙ ap asFound p in rw (e, z) refl
 
 -- the part at that position
-pub field-part : {next : ℕ} {s : List ℕ} {v : ValueId} {r : Position} {k : ℕ} {q : Init} (S : AggStates) (τ : Types) (x : Value) (f : NameId)
-    → x ≡ Value.Operand v → r ≡ Position.At k → asPosition r ≡ fieldIndex (valueRow τ v) f
+pub field-part : {next : ℕ} {s : List ℕ} {v : ValueId} {r : FieldLookup} {k n : ℕ} {t : TypeId} {q : Init} (S : AggStates) (τ : Types) (x : Value) (f : NameId)
+    → x ≡ Value.Operand v → r ≡ FieldLookup.Found k t n → asFound r ≡ findField (valueRow τ v) f
     → InitAt next s (onSome (stateOf S (Value.Operand v)) (λ xs. getElem? xs k)) q
     → InitAt next s (onSome (extractIndex τ x f) (λ k. onSome (stateOf S x) (λ xs. getElem? xs k))) q
 field-part S τ x f e p h a = init-same (field-known τ x f (λ k. onSome (stateOf S x) (λ xs. getElem? xs k)) e p h) (rw e a)
@@ -80,16 +81,6 @@ shape-struct (some Unit) e = absurd (omega arith)
 shape-struct (some Error) e = absurd (omega arith)
 shape-struct (some Unknown) e = absurd (omega arith)
 
--- and its row begins with the byte 4
-four : (k : ℕ) → _≡_ {A = ℕ} (getD (0 ∷ 0 ∷ 0 ∷ 1 ∷ 2 ∷ 3 ∷ []) k 0) 2 → k ≡ 4
-four zero e = absurd (omega arith)
-four (suc zero) e = absurd (omega arith)
-four (suc (suc zero)) e = absurd (omega arith)
-four (suc (suc (suc zero))) e = absurd (omega arith)
-four (suc (suc (suc (suc zero)))) e = refl
-four (suc (suc (suc (suc (suc zero))))) e = absurd (omega arith)
-four (suc (suc (suc (suc (suc (suc k)))))) e = absurd (omega arith)
-
 -- an element that is there
 element-there : {A : Type 0} (xs : List A) (k : ℕ) (d a : A) → getElem? xs k ≡ some a → (k < length xs) × (getD xs k d ≡ a)
 element-there [] k d a e = absurd (let u : _≡_ {A = ℕ} 0 1 = cc in omega arith)
@@ -109,10 +100,9 @@ struct-fields {b} {s} {types} {recorded} {τ} t row at n g e two h f =
           let own : row ≡ drop (getD types (t .0) 0) s = f ∙ ap (λ a. drop a s) h in
           let m = getD types (suc (t .0)) 0 - getD types (t .0) 0 in
           let q : typeOf (b .list) (t .0) row ≡ ok (Struct name ts) m = rw (← k .1, own) (g .known .rows .each (t .0) (k .0)) in
-          let byte : getD row 0 0 ≡ 4 = four (getD row 0 0) (sym (type-said (b .list) (t .0) row q .shaped)) in
-          let w = type-names (b .list) (t .0) row 0 q byte refl in
+          let w = type-fields (b .list) (t .0) row q refl in
           let fit = type-fit (b .list) (t .0) row (rw f (bytes-drop s at (g .bytes))) q in
-          fields-in name ts p (w .0) (w .1) (omega (arith, fit .1, g .listed))
+          fields-in name ts p (w .names) (w .many) (omega (arith, fit .1, g .listed))
     ]
 
 -- a struct's parts, where its type is one

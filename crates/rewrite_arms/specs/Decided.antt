@@ -25,7 +25,8 @@ use Rattle.rewrite.specs.State.{AggStates, stateOf, replaced}
 use Rattle.rewrite.specs.Step.{Piece, kept, left, tracked, assigned, stepBuild, stepInsert, stepAssign, handOn, extractIndex}
 use Rattle.rewrite.specs.Step.{oneBuild, oneExtract, oneInsert, oneAssign}
 use Rattle.mir.specs.Most.{mostValues}
-use Rattle.rewrite_parts.specs.Rows.{mostParts, ValueAt, Rep, Room, Values, Inits, Names, InitAt}
+use Rattle.rewrite_parts.specs.Rows.{mostParts, ValueAt, Rep, Room, Values, Inits, InitAt}
+use Rattle.bytes_struct.specs.Fields.{Names}
 use Rattle.rewrite_parts.specs.declared.Init.{Init}
 use Rattle.rewrite_arms.specs.declared.Counted.{Counted}
 use Rattle.rewrite_arms.specs.declared.Action.{Action}

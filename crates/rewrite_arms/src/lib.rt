@@ -1,13 +1,13 @@
 // What can be decided of an instruction: what is found of its source, and what is to be done with its dest.
 use bytes_field::Bounds;
 use bytes_lookup::TypeFound;
+use bytes_struct::FieldLookup;
 use bytes_types::layout;
 use mir::NameId;
 use mir::TypeId;
 use mir::Value;
 use mir::ValueId;
 use mir::shape;
-use rewrite_chains::Position;
 use rewrite_parts::Init;
 ghost use mathlib.Core.Path.{_≡_};
 ghost use mathlib.Core.List.{List};
@@ -277,7 +277,7 @@ pub fn field_part(
             given: false,
             place: 0,
         },
-        Value::Operand(v) => match rewrite_chains::value_field_index(
+        Value::Operand(v) => match rewrite_chains::value_field(
             s,
             facts,
             b.types,
@@ -285,11 +285,11 @@ pub fn field_part(
             v,
             name,
         ) {
-            Position::Nothing => Init {
+            FieldLookup::Absent => Init {
                 given: false,
                 place: 0,
             },
-            Position::At(k) => part(tracked, rows, x, k),
+            FieldLookup::Found { position, .. } => part(tracked, rows, x, position),
         },
     }
 }

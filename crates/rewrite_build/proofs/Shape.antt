@@ -23,7 +23,7 @@ use Rattle.bytes_types.specs.Encode.{structFieldBytes, typeBytes}
 use Rattle.bytes_types.specs.Decode.{typeKinds, typeOf}
 use Rattle.bytes_types.proofs.Canon.{type-canon}
 use Rattle.rewrite.specs.Rebuild.{rebuildAt, clashes}
-use Rattle.rewrite_parts.specs.Rows.{noField}
+use Rattle.bytes_struct.specs.Fields.{noField}
 use Rattle.rewrite_build.specs.Written.{NamesIn}
 
 -- the bytes of a type stand in its row, and an array's numbers are those that stand there

@@ -15,7 +15,8 @@ use Rattle.bytes_emit.proofs.Sets.{sets-append}
 use Rattle.mir.specs.MirType.{StructField}
 use Rattle.rewrite.specs.Rebuild.{fitted, named}
 use Rattle.rewrite.proofs.Parts.{length-fitted, getD-fitted}
-use Rattle.rewrite_parts.specs.Rows.{ValueAt, RowAt, noField}
+use Rattle.rewrite_parts.specs.Rows.{ValueAt, RowAt}
+use Rattle.bytes_struct.specs.Fields.{noField}
 use Rattle.bytes_emit.specs.Written.{Writes}
 use Rattle.rewrite_build.specs.Written.{OfParts, OfFields}
 

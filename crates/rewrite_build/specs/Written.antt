@@ -19,7 +19,8 @@ use Rattle.bytes_types.specs.Decode.{typeOf}
 use Rattle.bytes_types.specs.Index.{TypesAt}
 use Rattle.mir.specs.Lookup.{Types, rowOf}
 use Rattle.rewrite.specs.Rebuild.{rebuildAt, clashes}
-use Rattle.rewrite_parts.specs.Rows.{RowAt, noField}
+use Rattle.rewrite_parts.specs.Rows.{RowAt}
+use Rattle.bytes_struct.specs.Fields.{noField}
 use Rattle.rewrite_build.specs.declared.Rebuilt.{Rebuilt}
 
 -- a row of parts begins before this

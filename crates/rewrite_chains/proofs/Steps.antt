@@ -23,7 +23,8 @@ use Rattle.bytes_wire.proofs.Inv.{no-ok}
 use Rattle.mir.specs.Syntax.{Projection, Index, Field, Tuple}
 use Rattle.bytes_operands.specs.Fields.{asStep}
 use Rattle.bytes_operands.specs.declared.Step.{Step}
-use Rattle.mir.specs.Lookup.{isSome, Types, valueRow, fieldIndex, asConstInteger, onSome}
+use Rattle.mir.specs.Lookup.{isSome, Types, valueRow, asConstInteger, onSome}
+use Rattle.bytes_struct.specs.FindField.{FoundField, findField, positionIn, fieldIndex}
 use Rattle.rewrite.specs.State.{AggStates, stepIndex, stepPart}
 use Rattle.rewrite_parts.specs.Rows.{ValueAt, stands, InitAt}
 use Rattle.rewrite_parts.specs.declared.Init.{Init}
@@ -44,9 +45,9 @@ module _ {p : Step} {q : Projection} (τ : Types) (v : ValueId) (e : asStep p �
   unfolding stepIndex
   index-step {r} x h f = let z : some (Index x) ≡ some q = sym (ap asStep h) ∙ e in let w : q ≡ Index x = cc in rw w f
 
-  pub field-step : {r : Option ℕ} (n : NameId) → p ≡ Step.Field n → r ≡ fieldIndex (valueRow τ v) n → r ≡ stepIndex τ v q
-  unfolding stepIndex
-  field-step {r} n h f = let z : some (Field n) ≡ some q = sym (ap asStep h) ∙ e in let w : q ≡ Field n = cc in rw w f
+  pub field-step : {r : Option ℕ} {x : Option FoundField} (n : NameId) → p ≡ Step.Field n → r ≡ positionIn x → x ≡ findField (valueRow τ v) n → r ≡ stepIndex τ v q
+  unfolding stepIndex fieldIndex
+  field-step {r} {x} n h a f = let z : some (Field n) ≡ some q = sym (ap asStep h) ∙ e in let w : q ≡ Field n = cc in rw w (a ∙ ap positionIn f)
 
   pub tuple-step : (k : ℕ) → p ≡ Step.Tuple k → some k ≡ stepIndex τ v q
   unfolding stepIndex

@@ -18,10 +18,10 @@ use Rattle.bytes_field.specs.declared.Bounds.{Bounds}
 use Rattle.bytes_index.specs.Table.{recordedIn}
 use Rattle.bytes_operands.specs.Fields.{placeSteps, asStep}
 use Rattle.bytes_operands.specs.declared.Step.{Step}
-use Rattle.mir.specs.MirType.{MirType}
-use Rattle.bytes_types.specs.Decode.{typeOf}
-use Rattle.bytes_types.specs.Index.{TypesAt}
-use Rattle.mir.specs.Lookup.{isSome, Types, onSome, valueRow, fieldIndex}
+use Rattle.mir.specs.Lookup.{isSome, Types, onSome, valueRow}
+use Rattle.bytes_struct.specs.FindField.{findField}
+use Rattle.bytes_struct.specs.Found.{asFound}
+use Rattle.bytes_struct.specs.declared.FieldLookup.{FieldLookup}
 use Rattle.fold.specs.Family.{Marks}
 use Rattle.fold.specs.Tables.{Known, Ground}
 use Rattle.rewrite.specs.State.{AggStates, chain, firstInteger, stepPart, storePart, storeLast, forwardStore}
@@ -42,29 +42,14 @@ abbrev pub asWalked : Walked → Option ValueId
 asWalked (Walked.Operand v) = some v
 asWalked Walked.Nothing = none
 
--- the position of a name in the type whose bytes are `row`
-abbrev pub RowPosition : List ℕ → NameId → Position → Type 0
-RowPosition row name r =
-    (most own n : ℕ) (T : MirType)
-    → typeOf most own row ≡ ok T n
-    → asPosition r ≡ fieldIndex (some T) name
-
--- in type t of those that stand at the places `types`
-abbrev pub FieldIndex : List ℕ → List ℕ → ℕ → TypeId → NameId → Position → Type 0
-FieldIndex s types many t name r =
-    (most : ℕ) (ts : List MirType)
-    → TypesAt most s types ts
-    → length ts ≡ many
-    → asPosition r ≡ fieldIndex (getElem? ts (t .0)) name
-
--- in the recorded type of v
-abbrev pub ValueFieldIndex : List ℕ → List ℕ → ℕ → List ℕ → ValueId → NameId → Position → Type 0
-ValueFieldIndex s types many recorded v name r =
+-- a field by its name in the recorded type of v
+abbrev pub FoundInType : List ℕ → List ℕ → ℕ → List ℕ → ValueId → NameId → FieldLookup → Type 0
+FoundInType s types many recorded v name r =
     (most : ℕ) (τ : Types)
     → Known most s types recorded τ
     → length (τ .rows) ≡ many
     → v .0 < length (τ .recorded)
-    → asPosition r ≡ fieldIndex (valueRow τ v) name
+    → asFound r ≡ findField (valueRow τ v) name
 
 -- the value where it is an operand
 abbrev pub operandIn : Option Value → Option ValueId

@@ -4,20 +4,13 @@ mod path;
 use bytes_field::Bounds;
 use bytes_lookup::TypeFound;
 use bytes_operands::Step;
-use bytes_types::layout;
+use bytes_struct::FieldLookup;
 use mir::NameId;
-use mir::TypeId;
 use mir::ValueId;
-use mir::type_kind;
 use rewrite_parts::Init;
-ghost use mathlib.Core.Path.{_≡_};
-ghost use mathlib.Core.List.{List};
 ghost use Prim.Native.Nat.{_+_, _≤_, _<_};
-ghost use lib.ListN.{length};
-ghost use Rattle.mir.specs.MirType.{StructField};
-ghost use Rattle.mir.specs.Lookup.{position};
-ghost use Rattle.rewrite_parts.specs.Rows.{rowMost, usedBelow, Names};
-ghost use Rattle.rewrite_chains.specs.Chained.{asPosition, RowPosition, FieldIndex, ValueFieldIndex};
+ghost use Rattle.rewrite_parts.specs.Rows.{rowMost, usedBelow};
+ghost use Rattle.rewrite_chains.specs.Chained.{FoundInType};
 ghost use Rattle.rewrite_chains.specs.Chained.{PartLoaded, PartStored, LastStored, StoreForwarded};
 
 // Where the number of projections stands in the fields of a Load, behind its dest and its base, and in those of a Store,
@@ -46,62 +39,20 @@ pub struct Forwarded {
     pub used: usize,
 }
 
-// The position of a name among the `n` names of a struct type; `row` is that type, from its kind on.
-fn find_name(row: &[u8], n: u8, name: NameId) -> Position
-    ensures { λ r. ⌜ ((ts : List StructField) → Names (now (row .entry)) 4 ts → length ts ≡ n → asPosition r ≡ position name ts) ⌝ }
-{
-    let mut i: u8 = 0;
-    while i < n {
-        if bytes_wire::u16_at(
-            row,
-            layout::STRUCT_NAMES + layout::STRUCT_APART * i as usize,
-        )
-            == name.0
-        {
-            return Position::At(i as u32);
-        }
-        i = i + 1;
-    }
-    Position::Nothing
-}
-
-// The position of a name in the type `row`, from its kind on; none in a type that is no struct.
-fn row_position(row: &[u8], name: NameId) -> Position
-    ensures { λ r. ⌜ RowPosition (now (row .entry)) name r ⌝ }
-{
-    if bytes_wire::byte_at(row, 0) == type_kind::STRUCT {
-        return find_name(row, bytes_wire::byte_at(row, layout::STRUCT_COUNT), name);
-    }
-    Position::Nothing
-}
-
-// sroa.rs 1411, `struct_field_index`: the position of a field's name in type `t` of `many`.
-pub fn field_index(s: &[u8], types: &[u16], many: u16, t: TypeId, name: NameId) -> Position
-    ensures { λ r. ⌜ FieldIndex (now (s .entry)) (now (types .entry)) many t name r ⌝ }
-{
-    if many <= t.0 {
-        return Position::Nothing;
-    }
-    row_position(
-        bytes_field::tail(s, bytes_lookup::type_place(types, t)),
-        name,
-    )
-}
-
-// The position of a field's name in the recorded type of a value; none where it has none.
-pub fn value_field_index(
+// A field by its name in the recorded type of a value; absent where it has none.
+pub fn value_field(
     s: &[u8],
     types: &[u16],
     many: u16,
     recorded: &[u16],
     v: ValueId,
     name: NameId,
-) -> Position
-    ensures { λ r. ⌜ ValueFieldIndex (now (s .entry)) (now (types .entry)) many (now (recorded .entry)) v name r ⌝ }
+) -> FieldLookup
+    ensures { λ r. ⌜ FoundInType (now (s .entry)) (now (types .entry)) many (now (recorded .entry)) v name r ⌝ }
 {
     match bytes_lookup::recorded_type(recorded, v) {
-        TypeFound::Type(t) => field_index(s, types, many, t, name),
-        TypeFound::Nothing => Position::Nothing,
+        TypeFound::Type(t) => bytes_struct::find_field(s, types, many, t, name),
+        TypeFound::Nothing => FieldLookup::Absent,
     }
 }
 

@@ -3,6 +3,7 @@ use crate::Position;
 use crate::Walked;
 use bytes_field::Bounds;
 use bytes_operands::Step;
+use bytes_struct::FieldLookup;
 use bytes_wire::ReadValue;
 use mir::Literal;
 use mir::Value;
@@ -18,6 +19,8 @@ ghost use Rattle.mir.specs.declared.Value.{Value as AnyValue};
 ghost use Rattle.mir.specs.Syntax.{Projection};
 ghost use Rattle.bytes_operands.specs.Fields.{asStep};
 ghost use Rattle.mir.specs.Lookup.{Types, asConstInteger};
+ghost use Rattle.bytes_struct.specs.FindField.{positionIn};
+ghost use Rattle.bytes_struct.specs.Found.{asFound};
 ghost use Rattle.fold.specs.Tables.{Ground};
 ghost use Rattle.rewrite.specs.State.{AggStates, stepIndex, chain};
 ghost use Rattle.rewrite_parts.specs.Rows.{ValueAt, Rep, InitAt};
@@ -39,6 +42,16 @@ fn const_integer(x: Value) -> Position
     }
 }
 
+// The position of a field that was looked for.
+fn position_of(f: FieldLookup) -> Position
+    ensures { λ r. ⌜ asPosition r ≡ positionIn (asFound f) ⌝ }
+{
+    match f {
+        FieldLookup::Found { position, .. } => Position::At(position),
+        FieldLookup::Absent => Position::Nothing,
+    }
+}
+
 // Which part of `v` a projection names.
 pub fn step_index(
     s: &[u8],
@@ -53,7 +66,9 @@ pub fn step_index(
 {
     match p {
         Step::Index(x) => const_integer(x),
-        Step::Field(name) => crate::value_field_index(s, types, b.types, recorded, v, name),
+        Step::Field(name) => {
+            position_of(crate::value_field(s, types, b.types, recorded, v, name))
+        }
         Step::Tuple(k) => Position::At(k),
         Step::Nothing => Position::Nothing,
     }

@@ -24,7 +24,10 @@ use Rattle.bytes_operands.proofs.EachKind.{At}
 use Rattle.bytes_operands.proofs.Values.{value-behind}
 use Rattle.bytes_operands.proofs.Instruction.{chosen, instruction-fields}
 use Rattle.fold.specs.declared.Settings.{Settings}
-use Rattle.mir.specs.Lookup.{Types, rowOf, fieldIndex, isAggregate, onSome}
+use Rattle.mir.specs.Lookup.{Types, rowOf, isAggregate, onSome}
+use Rattle.bytes_struct.specs.FindField.{findField, fieldIndex}
+use Rattle.bytes_struct.specs.Found.{asFound}
+use Rattle.bytes_struct.specs.declared.FieldLookup.{FieldLookup}
 use Rattle.mir.specs.Parts.{structParts}
 use Rattle.fold.specs.Family.{Marks, buildDest}
 use Rattle.rewrite.specs.State.{AggStates, stateOf, replaced, firstInteger}
@@ -34,8 +37,7 @@ use Rattle.rewrite_parts.specs.Rows.{ValueAt, Values, Inits, InitAt}
 use Rattle.rewrite_parts.specs.Here.{Here}
 use Rattle.rewrite_parts.specs.declared.Init.{Init}
 use Rattle.rewrite_parts.proofs.Builds.{build-values, build-inits}
-use Rattle.rewrite_chains.specs.Chained.{asPosition, loadedPart}
-use Rattle.rewrite_chains.specs.declared.Position.{Position}
+use Rattle.rewrite_chains.specs.Chained.{loadedPart}
 use Rattle.rewrite_arms.specs.Decided.{Planned, SpotAt, Below, stepTaken, acts}
 use Rattle.rewrite_arms.specs.declared.Plan.{Plan}
 use Rattle.rewrite_arms.specs.declared.Spot.{Spot}
@@ -186,27 +188,27 @@ module _ {b : Bounds} {s facts : List ℕ} {slot : ℕ} {tracked : Marks} {rows 
             rw (on, ← dest-is dd, ← operand-is fx o, index-is q fe fk) (f v (dest-below dd) there)
 
     -- an insert of a struct's field: where its type has the name, and where not
-    module _ (e : kindNumber (i .kind) ≡ 14) (on : σ .structs ≡ true) (name : NameId) (t : TypeId) (end : ℕ) (o : Position) (fe : end ≡ valueEnd s (p .off + 2)) (fk : name .0 ≡ at16 s end) (ft : Typed t) (fo : asPosition o ≡ fieldIndex (getElem? (τ .rows) (t .0)) name) where
+    module _ (e : kindNumber (i .kind) ≡ 14) (on : σ .structs ≡ true) (name : NameId) (t : TypeId) (end : ℕ) (o : FieldLookup) (fe : end ≡ valueEnd s (p .off + 2)) (fk : name .0 ≡ at16 s end) (ft : Typed t) (fo : asFound o ≡ findField (getElem? (τ .rows) (t .0)) name) where
       c : Chosen 14
       c = chose 14 e
 
-      pub insert-field-step : {r : Plan} (x : Value) (k : ℕ) → Operand x → o ≡ Position.At k → ((y : Value) → p .dest .0 < b .next → ValueAt (b .next) s (end + 2) y → Plans r (stepInsert S i (p .dest) (onSome (stateOf S x) (λ xs. replaced xs k y)))) → Done r
-      unfolding step stepKind guarded rowOf onSome
-      insert-field-step {r} x k fx at f = go (i .kind) (0 + c .size) (insert-field-stands b (drop (p .off) s) .each (i .kind) (c .size) (c .read)) refl
+      pub insert-field-step : {r : Plan} {part : TypeId} {many : ℕ} (x : Value) (k : ℕ) → Operand x → o ≡ FieldLookup.Found k part many → ((y : Value) → p .dest .0 < b .next → ValueAt (b .next) s (end + 2) y → Plans r (stepInsert S i (p .dest) (onSome (stateOf S x) (λ xs. replaced xs k y)))) → Done r
+      unfolding step stepKind guarded rowOf onSome fieldIndex
+      insert-field-step {r} {part} {many} x k fx at f = go (i .kind) (0 + c .size) (insert-field-stands b (drop (p .off) s) .each (i .kind) (c .size) (c .read)) refl
         where
           go : (kind : InstructionKind) (a : ℕ) → IsInsertField b (drop (p .off) s) kind a → a ≡ 0 + c .size → Plans r (stepKind σ τ folds S m i kind)
           go kind a (is-insert-field d y j v u dd l q w tw) z =
               let there : ValueAt (b .next) s (end + 2) v = value-behind (b .next) s (p .off) (valueEnd (drop (p .off) s) 2 + 2) (end + 2) v (omega (arith, behind-value (p .off) 2 s, fe)) w in
-              let found : fieldIndex (getElem? (τ .rows) (t .0)) name ≡ some k = sym fo ∙ ap asPosition at in
+              let found : findField (getElem? (τ .rows) (t .0)) name ≡ some (record { position = k; part = part; fields = many }) = sym fo ∙ ap asFound at in
               rw (on, ← dest-is dd, ← operand-is fx l, ← type-is c tw z ft, name-is {name = name} q fe fk, found) (f v (dest-below dd) there)
 
-      pub insert-field-unknown : o ≡ Position.Nothing → step σ τ folds S m i ≡ kept S i
-      unfolding step stepKind guarded rowOf onSome stepInsert
+      pub insert-field-unknown : o ≡ FieldLookup.Absent → step σ τ folds S m i ≡ kept S i
+      unfolding step stepKind guarded rowOf onSome fieldIndex stepInsert
       insert-field-unknown at = go (i .kind) (0 + c .size) (insert-field-stands b (drop (p .off) s) .each (i .kind) (c .size) (c .read)) refl
         where
           go : (kind : InstructionKind) (a : ℕ) → IsInsertField b (drop (p .off) s) kind a → a ≡ 0 + c .size → stepKind σ τ folds S m i kind ≡ kept S i
           go kind a (is-insert-field d y j v u dd l q w tw) z =
-              let found : fieldIndex (getElem? (τ .rows) (t .0)) name ≡ none = sym fo ∙ ap asPosition at in
+              let found : findField (getElem? (τ .rows) (t .0)) name ≡ none = sym fo ∙ ap asFound at in
               rw (on, ← type-is c tw z ft, name-is {name = name} q fe fk, found) refl
 
     -- a build that is taken apart

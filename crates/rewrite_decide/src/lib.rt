@@ -1,6 +1,7 @@
 // What becomes of one instruction, all kinds but Call and Store: sroa.rs 805 to 1304. The parts of what it defines, if
 // they are tracked then, go into the rows.
 use bytes_field::Bounds;
+use bytes_struct::FieldLookup;
 use fold::Settings;
 use mir::NameId;
 use mir::ValueId;
@@ -12,7 +13,6 @@ use rewrite_arms::Decision;
 use rewrite_arms::PARTS;
 use rewrite_arms::Plan;
 use rewrite_arms::Spot;
-use rewrite_chains::Position;
 ghost use mathlib.Core.Path.{_≡_};
 ghost use mathlib.Core.List.{List};
 ghost use Prim.Native.Nat.{ℕ, _+_, _≤_, _<_};
@@ -133,9 +133,11 @@ fn insert_field(s: &[u8], b: Bounds, facts: &[u16], p: Spot, tracked: &[bool], r
     let end = bytes_operands::value_end(s, p.off + DEST_BYTES);
     let t = rewrite_arms::last_type(s, p.end);
     let name = NameId(bytes_wire::u16_at(s, end));
-    match rewrite_chains::field_index(s, facts, b.types, t, name) {
-        Position::Nothing => Plan::Keep,
-        Position::At(k) => { rewrite_arms::plan_insert(x, k, end + NAME_BYTES, tracked, rows) }
+    match bytes_struct::find_field(s, facts, b.types, t, name) {
+        FieldLookup::Absent => Plan::Keep,
+        FieldLookup::Found { position, .. } => {
+            rewrite_arms::plan_insert(x, position, end + NAME_BYTES, tracked, rows)
+        }
     }
 }
 

@@ -19,7 +19,8 @@ use Rattle.bytes_block.specs.Decode.{marks}
 use Rattle.bytes_block.specs.WellFormed.{FitInstructions}
 use Rattle.fold.specs.declared.Settings.{Settings}
 use Rattle.mir.specs.Lists.{Each}
-use Rattle.mir.specs.Lookup.{Types, rowOf, fieldIndex, onSome}
+use Rattle.mir.specs.Lookup.{Types, rowOf, onSome}
+use Rattle.bytes_struct.specs.FindField.{fieldIndex}
 use Rattle.mir.specs.Parts.{structParts}
 use Rattle.rewrite.specs.State.{AggStates, stateOf, replaced, firstInteger, forwardStore}
 use Rattle.rewrite.specs.Rebuild.{Rebuilt, rebuildAll, wantedArguments, wantedReturns, aggregateType}

@@ -1,43 +1,32 @@
 -- Where the values of an accepted build stand in the input, as the promises of the code ask for them.
-use Prim.Native.Nat.{ℕ, zero, suc, _+_, _*_, _<_}
+use Prim.Native.Nat.{ℕ, zero, suc, _+_}
 use mathlib.Core.Path.{_≡_, refl, ap, _∙_, sym}
-use mathlib.Core.List.{List, [], _∷_}
+use mathlib.Core.List.{List}
 use mathlib.Core.Bool.{Bool, false, not}
 use native.Mathlib.Nat.{add-zero}
 use native.Mathlib.Omega.{arith}
 use lib.ListN.{length, getD, drop}
 use lib.Seq.{drop-drop, getD-drop}
 use lib.Dec.{ltb}
-use Rattle.bytes_wire.specs.Parse.{ok, later}
-use Rattle.bytes_wire.specs.Number.{numberOf, at16}
+use Rattle.bytes_wire.specs.Parse.{ok}
+use Rattle.bytes_wire.specs.Number.{at16}
 use Rattle.bytes_wire.specs.Value.{valueOf}
 use Rattle.bytes_wire.specs.declared.Cause.{Cause}
 use Rattle.mir.specs.declared.Value.{Value}
 use Rattle.mir.specs.declared.ValueId.{ValueId}
 use Rattle.mir.specs.declared.TypeId.{TypeId}
-use Rattle.mir.specs.declared.NameId.{NameId}
-use Rattle.bytes_wire.proofs.Laws.{from-16}
-use Rattle.bytes_wire.proofs.Inv.{behind, image, later-inv, map-inv, checked-inv, number-inv, tagged-inv}
-use Rattle.mir.specs.MirType.{StructField, MirType}
-use Rattle.bytes_types.specs.Decode.{hasName, newNameOf, structFields, structOf, typeKinds, typeOf}
 use Rattle.mir.specs.Syntax.{FieldInit, Instruction, InstructionKind}
 use Rattle.mir.specs.Reads.{kindNumber}
-use Rattle.bytes_field.specs.Decode.{nameIdOf, listOf, fieldInitOf, makeStructOf, instructionOf}
+use Rattle.bytes_field.specs.Decode.{listOf, fieldInitOf, makeStructOf, instructionOf}
 use Rattle.bytes_field.specs.declared.Bounds.{Bounds}
 use Rattle.bytes_field.proofs.Laws.{head}
 use Rattle.bytes_operands.specs.Fields.{listValues, fieldsPlace, valueSize, valueEnd, after, valueStep, listRow, listAt, listCount}
-use Rattle.bytes_operands.proofs.Places.{Stand, Field, then, last, alone, takes-number, takes-map, takes-checked, fixed, Listed, empty, _&_, count, list}
+use Rattle.bytes_operands.proofs.Places.{Stand, Field, then, last, takes-number, takes-map, takes-checked, fixed, Listed, listed-each, list}
 use Rattle.bytes_operands.proofs.EachKind.{At, at, Stands, value-size}
 use Rattle.bytes_operands.proofs.Values.{value-behind}
 use Rattle.bytes_operands.proofs.Instruction.{instruction-fields, instruction-stands}
-use Rattle.rewrite_parts.specs.Rows.{itemOffset, Values, Inits, Names, noInit, noField}
-
--- thing k of those that stand one behind another
-pub listed-each : {A : Type 0} {Q : ℕ → A → Type 0} {end : ℕ → ℕ} {p : ℕ} {xs : List A} (d : A) → Listed Q end p xs → (k : ℕ) → k < length xs → Q (after end k p) (getD xs k d)
-unfolding after
-listed-each d empty k h = absurd (omega arith)
-listed-each d (q & qs) zero h = q
-listed-each d (q & qs) (suc k) h = listed-each d qs k (omega arith)
+use Rattle.rewrite_parts.specs.Rows.{itemOffset, Values, Inits, noInit}
+use Rattle.bytes_struct.proofs.Placed.{name-field}
 
 -- places behind `off` bytes
 place-behind : (s : List ℕ) (off before k p : ℕ) → off + itemOffset (drop off s) before p k ≡ itemOffset s before (off + p) k
@@ -70,18 +59,6 @@ build-values b seen late s p i n e off j f g =
 pub record OneInit (next : ℕ) (t : List ℕ) (q : ℕ) (f : FieldInit) : Type 0 where
   pub named : at16 t q ≡ f .name .0
   pub value : At (valueOf next) t (q + 2) (f .value)
-
--- a name, wherever it stands
-name-field : (t : List ℕ) {p : ℕ} → Field t p nameIdOf (λ a. at16 t p ≡ a .0) (p + 2)
-name-field t {p} =
-    record {
-      each = λ a n e.
-          elim (map-inv (λ x. record { 0 = x }) (numberOf 2 (drop p t)) e) [
-            | image x f g ↦
-                let h = number-inv 2 (drop p t) f in
-                (sym (ap (λ (y : NameId). y .0) g ∙ h .1 ∙ from-16 t p), ap (λ m. p + m) (h .2))
-          ];
-    }
 
 module _ (b : Bounds) (t : List ℕ) where
   -- a value, wherever it stands
@@ -132,59 +109,3 @@ build-inits b seen late s p i n {d} {fs} {y} e k off f =
     let r : makeStructOf b seen (drop off s) ≡ ok (i .kind) (h .size) = rw (t, j) at (h .read) in
     let w = struct-inits b (drop off s) (struct-build b (drop off s) seen .each (i .kind) (h .size) r) k in
     (inits-behind (b .next) s off 3 fs (w .0), w .1 ∙ getD-drop off s 2 0)
-
--- the fields of a struct type: their names stand four bytes apart
-module _ (own : ℕ) (t : List ℕ) where
-  -- a name that is not among those before it
-  new-name : (names : List NameId) (p : ℕ) → Field t p (newNameOf names) (λ a. at16 t p ≡ a .0) (p + 2)
-  new-name names p = record { each = λ a n e. name-field t .each a n (checked-inv Cause.Repeated (λ x. not (hasName x names)) (nameIdOf (drop p t)) e .0) }
-
-  -- k fields from a place on
-  fields-from : (names : List NameId) (k p : ℕ) → Field t p (structFields own names k) (λ ts. Listed (λ q f. at16 t q ≡ f .name .0) (λ q. q + 4) p ts × (length ts ≡ k)) (p + 4 * k)
-  unfolding structFields
-  fields-from names zero p = alone ((empty, refl), omega arith)
-  fields-from names (suc k) p =
-      let four : p + 2 + 2 ≡ p + 4 = omega arith in
-      then (new-name names p) (λ n u.
-      then (fixed (takes-map _ (takes-checked Cause.OutOfRange (λ x. ltb x own) (takes-number 2)))) (λ y v.
-      last _ (fields-from (n ∷ names) k (p + 2 + 2)) (λ ts r. ((u & (rw four at (r .0)), ap suc (r .1)), omega arith))))
-
-  -- a struct type: its fields stand behind its name
-  data FieldsAt : MirType → Type 0 where
-    fields-at : (n : NameId) (ts : List StructField) → Listed (λ q f. at16 t q ≡ f .name .0) (λ q. q + 4) 3 ts → length ts ≡ getD t 2 0 → FieldsAt (MirType.Struct n ts)
-
-  -- so they do where one is read
-  struct-type : (most : ℕ) → Stand t 0 (structOf most own) (λ y e. FieldsAt y)
-  unfolding structOf
-  struct-type most =
-      then (name-field t) (λ n u. then (count most 2) (λ k c. last _ (fields-from [] k 3) (λ ts r. fields-at n ts (r .0) (r .1 ∙ c))))
-
-  -- the fields of the type
-  struct-fields : {y : MirType} {n : NameId} {ts : List StructField} → FieldsAt y → y ≡ MirType.Struct n ts → Listed (λ q f. at16 t q ≡ f .name .0) (λ q. q + 4) 3 ts × (length ts ≡ getD t 2 0)
-  struct-fields {y} {n} {ts} (fields-at m us l c) e = let z : ts ≡ us = cc in rw z (l, c)
-
--- k steps of four bytes
-four-apart : (k p : ℕ) → after (λ q. q + 4) k p ≡ p + 4 * k
-unfolding after
-four-apart zero p = omega arith
-four-apart (suc k) p = four-apart k (p + 4) ∙ omega arith
-
--- the names of an accepted struct type that stands at a place of s, kind byte first
-pub type-names : (most own : ℕ) (s : List ℕ) (p : ℕ) {y : MirType} {m : ℕ} {n : NameId} {ts : List StructField} → typeOf most own (drop p s) ≡ ok y m → getD s p 0 ≡ 4 → y ≡ MirType.Struct n ts → Names s (p + 4) ts × (length ts ≡ getD s (p + 3) 0)
-unfolding typeOf
-type-names most own s p {y} {m} {n} {ts} e four f =
-    let t = drop (p + 1) s in
-    let d : drop 1 (drop p s) ≡ t = drop-drop 1 p s in
-    let h : later 1 (structOf most own (drop 1 (drop p s))) ≡ ok y m = rw (head s p, four) at (tagged-inv (typeKinds most own) (drop p s) e .1) in
-    elim (later-inv 1 (structOf most own (drop 1 (drop p s))) h) [
-      | behind k q r ↦
-          let w = struct-fields own t (struct-type own t most .each y k (rw d at q)) f in (
-            record {
-              each = λ j l.
-                  let z : p + 1 + (3 + 4 * j) ≡ p + 4 + 4 * j = omega arith in
-                  let z′ : p + 1 + (3 + 4 * j + 1) ≡ p + 4 + 4 * j + 1 = omega arith in
-                  rw (four-apart, getD-drop (p + 1) s (3 + 4 * j) 0, getD-drop (p + 1) s (3 + 4 * j + 1) 0, z, z′) at (listed-each noField (w .0) j l);
-            },
-            w .1 ∙ getD-drop (p + 1) s 2 0 ∙ (let z : p + 1 + 2 ≡ p + 3 = omega arith in ap (λ i. getD s i 0) z),
-          )
-    ]

@@ -21,7 +21,8 @@ use Rattle.mir.specs.Parts.{given, consPart, fromStructFields}
 use Rattle.mir.specs.Lookup.{isSome}
 use Rattle.fold.specs.Family.{Marks}
 use Rattle.rewrite.specs.State.{AggStates}
-use Rattle.rewrite_parts.specs.Rows.{Rep, Room, itemOffset, Inits, Names, InitAt, noInit, noField, givenParts}
+use Rattle.rewrite_parts.specs.Rows.{Rep, Room, itemOffset, Inits, InitAt, noInit, givenParts}
+use Rattle.bytes_struct.specs.Fields.{Names, noField}
 use Rattle.rewrite_parts.specs.Filled.{Grown, Filled, NamedRow}
 use Rattle.rewrite_parts.specs.declared.Init.{Init}
 use Rattle.rewrite_parts.proofs.Tables.{rep-old, rep-track}

@@ -14,7 +14,8 @@ use Rattle.mir.specs.Lookup.{isSome}
 use Rattle.fold.specs.Family.{Marks}
 use Rattle.rewrite.specs.State.{AggStates, noStates, insertState, replaced}
 use Rattle.mir.specs.Most.{mostValues}
-use Rattle.rewrite_parts.specs.Rows.{rowsFrom, mostParts, mostBytes, ValueAt, Rep, Room, Values, Inits, Names, givenParts}
+use Rattle.rewrite_parts.specs.Rows.{rowsFrom, mostParts, mostBytes, ValueAt, Rep, Room, Values, Inits, givenParts}
+use Rattle.bytes_struct.specs.Fields.{Names}
 use Rattle.rewrite_parts.specs.declared.Named.{Named}
 
 -- nothing moves below `to`

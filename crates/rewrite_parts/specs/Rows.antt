@@ -1,5 +1,5 @@
 -- How the code keeps the parts of tracked values: the places of values in the input, in rows of a table.
-use Prim.Native.Nat.{ℕ, _+_, _*_, _≤_, _<_}
+use Prim.Native.Nat.{ℕ, _+_, _≤_, _<_}
 use mathlib.Core.Path.{_≡_}
 use mathlib.Core.List.{List}
 use mathlib.Core.Bool.{Bool, true, false}
@@ -9,7 +9,6 @@ use Rattle.bytes_wire.specs.Number.{at16}
 use Rattle.mir.specs.Most.{mostValues}
 use Rattle.mir.specs.declared.Value.{Value}
 use Rattle.mir.specs.declared.ValueId.{ValueId}
-use Rattle.mir.specs.MirType.{StructField}
 use Rattle.mir.specs.Syntax.{FieldInit}
 use Rattle.bytes_operands.specs.Fields.{after, valueStep}
 pub use Rattle.bytes_operands.specs.Fields.{ValueAt, stands}
@@ -90,21 +89,14 @@ itemOffset s before at k = after (valueStep s before 0) k at
 pub record Values (next : ℕ) (s : List ℕ) (before at : ℕ) (xs : List Value) : Type 0 where
   pub each : (k : ℕ) → k < length xs → ValueAt next s (itemOffset s before at k + before) (getD xs k Value.Error)
 
--- past the end of a list of inits, and of a list of fields
+-- past the end of a list of inits
 abbrev pub noInit : FieldInit
 noInit = record { name = record { 0 = 0 }; value = Value.Error }
-
-abbrev pub noField : StructField
-noField = record { name = record { 0 = 0 }; part = record { 0 = 0 } }
 
 -- the inits fs stand one behind another from `at` on, each a name and a value
 pub record Inits (next : ℕ) (s : List ℕ) (at : ℕ) (fs : List FieldInit) : Type 0 where
   pub named : (k : ℕ) → k < length fs → at16 s (itemOffset s 2 at k) ≡ getD fs k noInit .name .0
   pub each : (k : ℕ) → k < length fs → ValueAt next s (itemOffset s 2 at k + 2) (getD fs k noInit .value)
-
--- the names of a struct type's fields stand four bytes apart from `names` on
-pub record Names (s : List ℕ) (names : ℕ) (ts : List StructField) : Type 0 where
-  pub each : (k : ℕ) → k < length ts → at16 s (names + 4 * k) ≡ getD ts k noField .name .0
 
 -- what is found of a name: whether it is given, and where its value stands
 pub record InitAt (next : ℕ) (s : List ℕ) (o : Option Value) (r : Init) : Type 0 where

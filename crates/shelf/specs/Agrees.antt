@@ -19,7 +19,8 @@ use Rattle.mir.specs.Reads.{counted}
 use Rattle.mir.specs.Lookup.{Types, rowOf, recordedType, valueRow, isTuple, isStruct, isArray, isAggregate, structFieldsOf, isSome}
 use Rattle.shelf.specs.Lists.{every}
 use Rattle.mir.specs.Parts.{partType, operandRow}
-use Rattle.shelf.specs.Fits.{literalKind, scalarKind, sameType, fits, partsFit, fieldTypeOf, placeType, fieldsFit, argumentsFit}
+use Rattle.shelf.specs.Fits.{literalKind, scalarKind, sameType, fits, partsFit, placeType, fieldsFit, argumentsFit}
+use Rattle.bytes_struct.specs.FindField.{fieldTypeOf}
 
 -- a value with a recorded type, or a literal
 unfoldable pub isKnown : Types → Value → B.Bool

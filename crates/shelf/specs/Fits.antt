@@ -7,13 +7,13 @@ use mathlib.Core.Bool as B
 use lib.Dec.{eqb}
 use lib.ListN.{length}
 use Rattle.mir.specs.declared.TypeId.{TypeId}
-use Rattle.mir.specs.declared.NameId.{NameId}
 use Rattle.mir.specs.declared.Literal.{Literal}
 use Rattle.mir.specs.declared.Value.{Value}
 use Rattle.mir.specs.MirType.{StructField, MirType, Felt, Bool, U32, Tuple, Struct, FixedArray, Pointer, Function, Unit, Error, Unknown}
 use Rattle.mir.specs.Syntax.{Projection, Index, Field, FieldInit}
 use Rattle.mir.specs.Syntax as S
-use Rattle.mir.specs.Lookup.{Types, rowOf, recordedType, isTuple, isArray, fieldIndex, onSome}
+use Rattle.mir.specs.Lookup.{Types, rowOf, recordedType, isTuple, isArray}
+use Rattle.bytes_struct.specs.FindField.{fieldTypeOf}
 use Rattle.mir.specs.Parts.{given, partType, partCount, counts}
 
 -- 1, 2 and 3 for what an Integer, a Boolean and Unit fit
@@ -57,10 +57,6 @@ allFit τ ts (x ∷ xs) = fits τ x (ts zero) && allFit τ (λ k. ts (suc k)) xs
 -- the parts fit a type: its count, and each its part's type
 unfoldable pub partsFit : Types → Option TypeId → List Value → B.Bool
 partsFit τ t xs = counts (partCount (rowOf τ t)) (length xs) && allFit τ (partType (rowOf τ t)) xs
-
--- the type of a field, by its name
-unfoldable pub fieldTypeOf : Option MirType → NameId → Option TypeId
-fieldTypeOf row n = onSome (fieldIndex row n) (partType row)
 
 -- "Kinds and steps named for tuples, structs or arrays take those alone"; "Index walks arrays"
 unfoldable pub stepType : Option MirType → Projection → Option TypeId

@@ -2,12 +2,12 @@
 use Prim.Native.Nat.{ℕ, _<_}
 use mathlib.Core.Path.{_≡_, refl, ap, _∙_, sym}
 use mathlib.Core.List.{List}
-use mathlib.Core.Bool.{true, false, _&&_, cond, and-false, true≢false}
+use mathlib.Core.Bool.{true, false, _&&_, and-false, true≢false}
 use mathlib.Core.Bool as B
 use mathlib.Core.Option.{Option, none, some}
 use native.Mathlib.Omega.{arith}
-use borrow.Author.Tests.{eqb-true, lt-ltb}
-use lib.ListN.{length, getD, getElem?, drop}
+use borrow.Author.Tests.{eqb-true}
+use lib.ListN.{length, getD, drop}
 use lib.Dec.{eqb}
 use Rattle.mir.specs.declared.ValueId.{ValueId}
 use Rattle.mir.specs.declared.TypeId.{TypeId}
@@ -16,10 +16,8 @@ use Rattle.mir.specs.MirType.{StructField, MirType, Felt, Bool, U32, Tuple, Str
 use Rattle.bytes_types.specs.Decode.{typeOf}
 use Rattle.bytes_types.specs.Index.{TypesAt}
 use Rattle.mir.specs.Syntax.{FieldInit, InstructionKind}
-use Rattle.fold_shapes.specs.Shapes.{rowShape}
-use Rattle.fold_shapes.proofs.Rows.{shape-found, struct-kind}
-use Rattle.rewrite_parts.specs.Rows.{Names, noField}
-use Rattle.rewrite_parts.proofs.Builds.{type-names}
+use Rattle.bytes_struct.specs.Fields.{Names, noField}
+use Rattle.bytes_struct.proofs.Placed.{type-fields}
 use Rattle.table.proofs.Elements.{some-at}
 use Rattle.mir.specs.Lookup.{Types, rowOf, recordedType, shape, isStruct, structFieldsOf}
 use Rattle.mir.specs.Parts.{fieldType, partType, partCount, counts}
@@ -104,6 +102,4 @@ struct-names most many s types τ y n ss u a m l e f =
     let k = y .0 in
     let h : k < length (τ .rows) = omega (arith, l, m) in
     let z : getD (τ .rows) k MirType.Unit ≡ Struct n ss = (let w : some (getD (τ .rows) k MirType.Unit) ≡ some (Struct n ss) = sym (some-at (τ .rows) k MirType.Unit h) ∙ f in cc) in
-    let g : rowShape u ≡ shape (getElem? (τ .rows) k) = shape-found most many k s types (τ .rows) {at = getD types k 0} refl e (ap (λ b. cond b (getD types k 0) (length s)) (sym (lt-ltb k many l))) a m in
-    let j : rowShape u ≡ 2 = g ∙ ap shape f in
-    type-names most k u 0 (ap (typeOf most k) e ∙ a .each k h) (struct-kind (getD u 0 0) j) z .0
+    type-fields most k u (ap (typeOf most k) e ∙ a .each k h) z .names

@@ -1,6 +1,7 @@
 -- Every definition on the way of a rewriting, of its bytes and of a shelf reason, opened for computation.
 use Rattle.mir.specs.Parts.{fieldType, partType, partCount, counts, operandRow, isPointer}
-use Rattle.shelf.specs.Fits.{literalKind, scalarKind, sameType, fits, allFit, partsFit, fieldTypeOf, stepType, placeType, givenFits, fieldsFit, argumentsFit}
+use Rattle.shelf.specs.Fits.{literalKind, scalarKind, sameType, fits, allFit, partsFit, stepType, placeType, givenFits, fieldsFit, argumentsFit}
+use Rattle.bytes_struct.specs.FindField.{fieldTypeOf}
 use Rattle.shelf.specs.Agrees.{isScalarType, isScalar, isIndex, indexFits, pointee, pointed, reached, placeFits, destsFit, equalTypes, agrees, isCondition, isKnown, endAgrees, countedAgrees, blockAgrees}
 use Rattle.shelf.specs.Reads.{definedIn, ordered, aggregateBase, basesIn, bases, apart, isDeep, shallow, clean, cleanTerminator}
 use Rattle.shelf.specs.Reason.{typesAgree, inOrder, keptApart, noDeepStore, readsNoDropped, shelfReason}

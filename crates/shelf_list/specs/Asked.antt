@@ -11,7 +11,8 @@ use Rattle.mir.specs.declared.Value.{Value}
 use Rattle.mir.specs.MirType.{StructField}
 use Rattle.mir.specs.Syntax.{FieldInit}
 use Rattle.bytes_field.specs.declared.Bounds.{Bounds}
-use Rattle.rewrite_parts.specs.Rows.{Inits, Names, InitAt, noField}
+use Rattle.rewrite_parts.specs.Rows.{Inits, InitAt}
+use Rattle.bytes_struct.specs.Fields.{Names, noField}
 use Rattle.rewrite_parts.specs.declared.Init.{Init}
 use Rattle.mir.specs.Lookup.{Types, rowOf}
 use Rattle.mir.specs.Parts.{partType}

@@ -17,7 +17,8 @@ use Rattle.bytes_operands.proofs.Places.{Stand, then, last}
 use Rattle.rewrite_parts.specs.Rows.{ValueAt}
 use Rattle.mir.specs.Lookup.{Types, rowOf, recordedType, valueRow, shape, isTuple}
 use Rattle.mir.specs.Parts.{partType, operandRow}
-use Rattle.shelf.specs.Fits.{sameType, fits, fieldTypeOf}
+use Rattle.shelf.specs.Fits.{sameType, fits}
+use Rattle.bytes_struct.specs.FindField.{fieldTypeOf}
 use Rattle.shelf.specs.Agrees.{agrees}
 use Rattle.rewrite.specs.Rebuild.{returnType}
 use Rattle.shelf_field.specs.Fields.{IdAt, TypeAt}

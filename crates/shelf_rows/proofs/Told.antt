@@ -2,7 +2,7 @@
 use Prim.Native.Nat.{ℕ, zero, suc, _+_, _-_, _*_, _≤_, _<_}
 use mathlib.Core.Path.{_≡_, refl, ap, _∙_, sym}
 use mathlib.Core.List.{List, [], _∷_}
-use mathlib.Core.Bool.{true, false, not, cond}
+use mathlib.Core.Bool.{true, false, cond}
 use mathlib.Core.Bool as B
 use mathlib.Core.Option.{Option, none, some}
 use native.Mathlib.Omega.{arith}
@@ -11,19 +11,18 @@ use lib.ListN.{length, getD, getElem?, drop}
 use lib.Seq.{drop-length}
 use lib.Dec.{ltb}
 use Rattle.bytes_wire.specs.Parse.{ok, andThen, mapParse}
-use Rattle.bytes_wire.specs.Number.{u32Of, at16, at32, below}
-use Rattle.bytes_wire.specs.declared.Cause.{Cause}
-use Rattle.mir.specs.declared.NameId.{NameId}
+use Rattle.bytes_wire.specs.Number.{u32Of, at16, at32}
 use Rattle.mir.specs.declared.TypeId.{TypeId}
-use Rattle.bytes_wire.proofs.Laws.{from-16, from-32}
-use Rattle.bytes_wire.proofs.Inv.{no-ok, behind, image, later-inv, map-inv, number-inv, below-inv, tagged-inv}
+use Rattle.bytes_wire.proofs.Laws.{from-32}
+use Rattle.bytes_wire.proofs.Inv.{no-ok, behind, later-inv, number-inv, tagged-inv}
 use Rattle.bytes_field.specs.Decode.{typeIdOf, listOf}
 use Rattle.mir.specs.MirType.{MirType}
-use Rattle.bytes_types.specs.Decode.{hasName, structFields, structOf, typeKinds, typeOf}
+use Rattle.bytes_types.specs.Decode.{structOf, typeKinds, typeOf}
 use Rattle.bytes_types.specs.Index.{TypesAt}
 use Rattle.bytes_sections.specs.Index.{recordedNumber}
 use Rattle.bytes_operands.specs.Fields.{after}
-use Rattle.bytes_operands.proofs.Places.{Stand, Field, then, last, made, alone, takes-number, takes-map, takes-checked, fixed, Listed, empty, _&_, count, list}
+use Rattle.bytes_operands.proofs.Places.{Stand, Field, then, last, made, because, Listed, empty, _&_, list}
+use Rattle.bytes_struct.proofs.Placed.{Earlier, part-field, StructAt, struct-at, struct-stands}
 use Rattle.mir.specs.Lookup.{Types, rowOf}
 use Rattle.mir.specs.Parts.{fieldType, partType, partCount, counts}
 use Rattle.shelf.specs.Fits.{scalarKind}
@@ -42,22 +41,14 @@ module _ (own : ℕ) (small : own ≤ 65535) (t : List ℕ) where
   Part : ℕ → TypeId → Type 0
   Part p a = numbered (at16 t p) ≡ recordedNumber (some a)
 
-  -- so it does where a part is read
-  part-field : {p : ℕ} → Field t p (typeIdOf own) (Part p) (p + 2)
+  -- so it does where an earlier type stands
+  part-number : {p : ℕ} {a : TypeId} → Earlier own t p a → Part p a
   unfolding Part
-  part-field {p} =
-      record {
-        each = λ a n e.
-            elim (map-inv (λ x. record { 0 = x }) (below own (drop p t)) e) [
-              | image x f g ↦
-                  let u = below-inv own (drop p t) f in
-                  let h = number-inv 2 (drop p t) (u .0) in
-                  let z : at16 t p ≡ a .0 = sym (ap (λ (y : TypeId). y .0) g ∙ h .1 ∙ from-16 t p) in
-                  let y : a .0 ≡ x = ap (λ (y : TypeId). y .0) g in
-                  let l : a .0 < 65535 = omega (arith, u .1, small, y) in
-                  (rw (z, lt-ltb (a .0) 65535 l), ap (λ m. p + m) (h .2))
-            ];
-      }
+  part-number {p} {a} e = let l : a .0 < 65535 = omega (arith, e .under, small) in rw (e .number, lt-ltb (a .0) 65535 l)
+
+  -- and where a part is read
+  part-read : {p : ℕ} → Field t p (typeIdOf own) (Part p) (p + 2)
+  part-read = record { each = λ a n e. let h = part-field own t .each a n e in (part-number (h .0), h .1) }
 
   -- thing k of those that stand one behind another
   number-at : {A : Type 0} {Q : ℕ → A → Type 0} {end : ℕ → ℕ} {p : ℕ} {xs : List A} (f : Option A → Option TypeId) (off : ℕ) → ((q : ℕ) (x : A) → Q q x → numbered (at16 t (q + off)) ≡ recordedNumber (f (some x))) → Listed Q end p xs → (k : ℕ) → k < length xs → numbered (at16 t (after end k p + off)) ≡ recordedNumber (f (getElem? xs k))
@@ -80,7 +71,7 @@ module _ (own : ℕ) (small : own ≤ 65535) (t : List ℕ) where
   tuple-tells : (most : ℕ) → kindAt t ≡ 3 → Stand t 1 (λ s. mapParse MirType.Tuple (listOf most (typeIdOf own) s)) (λ y e. Tells (some y) t)
   unfolding scalarKind partType partCount counts pointee Part
   tuple-tells most d =
-      last _ (list {Q = Part} (λ q. part-field) most 1) (λ ts r.
+      last _ (list {Q = Part} (λ q. part-read) most 1) (λ ts r.
       record {
         scalar = rw d;
         part = λ k. rw d (number-of 2 (λ o. o) 0 (getD t 1 0) (2 + 2 * k) k refl (λ q x h. let z : q + 0 ≡ q = omega arith in rw z h) (r .0) (r .1) (omega arith));
@@ -88,29 +79,19 @@ module _ (own : ℕ) (small : own ≤ 65535) (t : List ℕ) where
         points = rw d;
       })
 
-  -- k fields from a place on
-  fields-from : (names : List NameId) (k p : ℕ) → Field t p (structFields own names k) (λ fs. Listed (λ q f. Part (q + 2) (f .part)) (λ q. q + 4) p fs × (length fs ≡ k)) (p + 4 * k)
-  unfolding structFields
-  fields-from names zero p = alone ((empty, refl), omega arith)
-  fields-from names (suc k) p =
-      let four : p + 2 + 2 ≡ p + 4 = omega arith in
-      then (fixed (takes-checked Cause.Repeated (λ x. not (hasName x names)) (takes-map _ (takes-number 2)))) (λ n u.
-      then part-field (λ y v.
-      last _ (fields-from (n ∷ names) k (p + 2 + 2)) (λ fs r. ((v & (rw four at (r .0)), ap suc (r .1)), omega arith))))
-
   -- a Struct
   struct-tells : (most : ℕ) → kindAt t ≡ 4 → Stand t 1 (structOf most own) (λ y e. Tells (some y) t)
-  unfolding structOf scalarKind partType partCount counts pointee fieldType Part
-  struct-tells most d =
-      then (fixed (takes-map _ (takes-number 2))) (λ n u.
-      then (count most 3) (λ m c.
-      last _ (fields-from [] m 4) (λ fs r.
-      record {
-        scalar = rw d;
-        part = λ k. rw d (number-of 4 fieldType 2 (getD t 3 0) (6 + 4 * k) k refl (λ q x h. h) (r .0) (r .1 ∙ c) (omega arith));
-        parts = λ j. rw (d, r .1, c);
-        points = rw d;
-      })))
+  unfolding scalarKind partType partCount counts pointee fieldType Part
+  struct-tells most d = because (struct-stands own t most) (λ y e. go)
+    where
+      go : {y : MirType} → StructAt own t y → Tells (some y) t
+      go (struct-at n fs l c) =
+          record {
+            scalar = rw d;
+            part = λ k. rw d (number-of 4 fieldType 2 (getD t 3 0) (6 + 4 * k) k refl (λ q x h. part-number (h .typed)) l c (omega arith));
+            parts = λ j. rw (d, c);
+            points = rw d;
+          }
 
   -- a size
   size-field : {p : ℕ} → Field t p u32Of (λ n. at32 t p ≡ n) (p + 4)
@@ -120,20 +101,20 @@ module _ (own : ℕ) (small : own ≤ 65535) (t : List ℕ) where
   array-tells : kindAt t ≡ 5 → Stand t 1 (λ s. andThen s (typeIdOf own s) (λ p s. mapParse (λ size. MirType.FixedArray p size) (u32Of s))) (λ y e. Tells (some y) t)
   unfolding scalarKind partType partCount counts pointee Part
   array-tells d =
-      then part-field (λ a v.
+      then part-read (λ a v.
       last _ size-field (λ size r.
       record { scalar = rw d; part = λ k. rw d v; parts = λ n. rw (d, r); points = rw d }))
 
   -- a Pointer
   pointer-tells : kindAt t ≡ 6 → Stand t 1 (λ s. mapParse MirType.Pointer (typeIdOf own s)) (λ y e. Tells (some y) t)
   unfolding scalarKind partType partCount counts pointee Part
-  pointer-tells d = last _ part-field (λ a v. record { scalar = rw d; part = λ k. rw d; parts = λ n. rw d; points = rw d v })
+  pointer-tells d = last _ part-read (λ a v. record { scalar = rw d; part = λ k. rw d; parts = λ n. rw d; points = rw d v })
 
   -- a Function
   function-tells : (most : ℕ) → kindAt t ≡ 7 → Stand t 1 (λ s. andThen s (listOf most (typeIdOf own) s) (λ ps s. mapParse (λ r. MirType.Function ps r) (typeIdOf own s))) (λ y e. Tells (some y) t)
   unfolding scalarKind partType partCount counts pointee Part
   function-tells most d =
-      then (list {Q = Part} (λ q. part-field) most 1) (λ ps u.
+      then (list {Q = Part} (λ q. part-read) most 1) (λ ps u.
       made (typeIdOf own) (λ r. MirType.Function ps r) (λ r e. record { scalar = rw d; part = λ k. rw d; parts = λ n. rw d; points = rw d }))
 
 -- any type

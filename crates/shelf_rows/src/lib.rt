@@ -41,7 +41,7 @@ fn kind_at(t: &[u8]) -> u8
 }
 
 // A type's number as the table of recorded types has it.
-fn numbered(t: TypeId) -> Recorded
+pub fn numbered(t: TypeId) -> Recorded
     ensures { λ r. ⌜ r .0 ≡ numbered (t .0) ⌝ }
 {
     if t.0 < 65535 {

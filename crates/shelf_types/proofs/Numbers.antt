@@ -6,7 +6,7 @@ use mathlib.Core.Bool.{true, false, not}
 use mathlib.Core.Bool as B
 use mathlib.Core.Option.{Option, none, some}
 use native.Mathlib.Omega.{arith}
-use borrow.Author.Tests.{eq-eqb, ne-eqb, eqb-true, eqb-false}
+use borrow.Author.Tests.{eq-eqb, ne-eqb, eqb-true, eqb-false, lt-ltb}
 use lib.ListN.{length, getD}
 use lib.Dec.{eqb}
 use Rattle.mir.specs.declared.NameId.{NameId}
@@ -18,11 +18,13 @@ use Rattle.mir.specs.MirType.{MirType, Felt, Bool, U32, Tuple, Struct, FixedArr
 use Rattle.bytes_sections.specs.Index.{recordedNumber, RecordedAt}
 use Rattle.bytes_operands.specs.Fields.{asStep}
 use Rattle.bytes_operands.specs.declared.Step.{Step}
-use Rattle.mir.specs.Lookup.{Types, rowOf, recordedType, shape, isTuple, isStruct, isArray, isAggregate, fieldIndex, onSome}
-use Rattle.rewrite_chains.specs.Chained.{asPosition}
-use Rattle.rewrite_chains.specs.declared.Position.{Position}
+use Rattle.mir.specs.Lookup.{Types, rowOf, recordedType, shape, isTuple, isStruct, isArray, isAggregate}
+use Rattle.bytes_struct.specs.FindField.{findField, partIn, fieldTypeOf}
+use Rattle.bytes_struct.specs.Found.{asFound}
+use Rattle.bytes_struct.specs.declared.FieldLookup.{FieldLookup}
+use Rattle.shelf_rows.specs.Rows.{numbered}
 use Rattle.mir.specs.Parts.{partType}
-use Rattle.shelf.specs.Fits.{sameType, fieldTypeOf, stepType}
+use Rattle.shelf.specs.Fits.{sameType, stepType}
 use Rattle.shelf.specs.Agrees.{isScalarType}
 use Rattle.shelf_types.specs.Types.{shapedPart}
 
@@ -78,14 +80,14 @@ unfolding isScalarType
 scalar-some τ none z e f = absurd (z e)
 scalar-some τ (some t) z e f = rw f (plain (rowOf τ (some t)))
 
--- the part of a field that is there, and of one that is not
-pub field-some : {r : ℕ} {p : Position} (row : Option MirType) (name : NameId) (k : ℕ) → p ≡ Position.At k → asPosition p ≡ fieldIndex row name → r ≡ recordedNumber (partType row k) → r ≡ recordedNumber (fieldTypeOf row name)
-unfolding fieldTypeOf onSome
-field-some row name k e f h = h ∙ ap (λ q. recordedNumber (onSome q (partType row))) (sym (ap asPosition e) ∙ f)
+-- the type of a field that is there, an earlier one, and of one that is not
+pub field-some : {r : ℕ} {p : FieldLookup} {u : TypeId} {m : ℕ} (row : Option MirType) (name : NameId) (k : ℕ) → p ≡ FieldLookup.Found k u m → asFound p ≡ findField row name → u .0 < 65535 → r ≡ numbered (u .0) → r ≡ recordedNumber (fieldTypeOf row name)
+unfolding fieldTypeOf
+field-some {u} row name k e f l h = h ∙ rw (lt-ltb (u .0) 65535 l) (ap (λ q. recordedNumber (partIn q)) (sym (ap asFound e) ∙ f))
 
-pub field-none : {p : Position} (row : Option MirType) (name : NameId) → p ≡ Position.Nothing → asPosition p ≡ fieldIndex row name → 0 ≡ recordedNumber (fieldTypeOf row name)
-unfolding fieldTypeOf onSome
-field-none row name e f = ap (λ q. recordedNumber (onSome q (partType row))) (sym (ap asPosition e) ∙ f)
+pub field-none : {p : FieldLookup} (row : Option MirType) (name : NameId) → p ≡ FieldLookup.Absent → asFound p ≡ findField row name → 0 ≡ recordedNumber (fieldTypeOf row name)
+unfolding fieldTypeOf
+field-none row name e f = ap (λ q. recordedNumber (partIn q)) (sym (ap asFound e) ∙ f)
 
 -- a part of a type of that shape, and of another
 pub shaped-part : {r a : ℕ} (row : Option MirType) (kind k : ℕ) → a ≡ shape row → a ≡ kind → r ≡ recordedNumber (partType row k) → r ≡ recordedNumber (shapedPart row kind k)

@@ -1,6 +1,7 @@
 // The recorded types of values, the types of fields and steps, and which values fit which types.
 use bytes_field::Bounds;
 use bytes_operands::Step;
+use bytes_struct::FieldLookup;
 use mir::Literal;
 use mir::NameId;
 use mir::Recorded;
@@ -8,7 +9,6 @@ use mir::TypeId;
 use mir::Value;
 use mir::ValueId;
 use mir::shape;
-use rewrite_chains::Position;
 use shelf::BOOLEANS;
 use shelf::INTEGERS;
 use shelf::UNITS;
@@ -16,7 +16,8 @@ ghost use mathlib.Core.Path.{_≡_};
 ghost use lib.ListN.{length};
 ghost use Rattle.bytes_wire.specs.WellFormed.{FitValue};
 ghost use Rattle.mir.specs.declared.Value.{Value as AnyValue};
-ghost use Rattle.shelf.specs.Fits.{literalKind, fieldTypeOf};
+ghost use Rattle.shelf.specs.Fits.{literalKind};
+ghost use Rattle.bytes_struct.specs.FindField.{fieldTypeOf};
 ghost use Rattle.shelf.specs.Agrees.{isScalarType, isScalar, isIndex, isCondition, isKnown, equalTypes};
 ghost use Rattle.shelf_rows.specs.Rows.{OfType, TypeInRow};
 ghost use Rattle.shelf_types.specs.Types.{shapedPart, StepTo, Noted, TypeOfValue, Same, Fits, OfValue, OfValues};
@@ -46,9 +47,9 @@ pub fn field_type(s: &[u8], b: Bounds, types: &[u16], number: Recorded, name: Na
         return Recorded(0);
     }
     let own = number.0 - 1;
-    match rewrite_chains::field_index(s, types, b.types, TypeId(own), name) {
-        Position::At(k) => shelf_rows::part_type(s, b, types, number, k),
-        Position::Nothing => Recorded(0),
+    match bytes_struct::find_field(s, types, b.types, TypeId(own), name) {
+        FieldLookup::Found { part, .. } => shelf_rows::numbered(part),
+        FieldLookup::Absent => Recorded(0),
     }
 }
 

@@ -17,14 +17,14 @@ enum-known-x c = search needs
 recorded-requires : tie.Need-recorded-requires
 recorded-requires c κs = search needs
 
-value-field-index-requires : tie.Need-value-field-index-requires
-value-field-index-requires c κs = search needs
+value-field-requires : tie.Need-value-field-requires
+value-field-requires c κs = search needs
 
 enum-told-3 : tie.Need-enum-told-3
 enum-told-3 c = search needs
 
-enum-known-k : tie.Need-enum-known-k
-enum-known-k c = search needs
+enum-known-position : tie.Need-enum-known-position
+enum-known-position c = search needs
 
 part-requires : tie.Need-part-requires
 part-requires c κs = search needs
@@ -42,7 +42,7 @@ returns-3 c =
     let c5 = c3 .before .before in
     let c11 = c5 .before .before .before .before .before .before in
     λ τ used S g w r. init-none (field-unknown τ _ _ _ (c5 .x .given .1) (c .enum-told3 .given .1)
-    (c2 .value-field-index .ensures (c11 .args .b .list) τ (rw (c3 .recorded .ensures) (g .known)) (g .rows)
+    (c2 .value-field .ensures (c11 .args .b .list) τ (rw (c3 .recorded .ensures) (g .known)) (g .rows)
     (omega (arith, g .values, w .each _ (c5 .x .given .1)))))
 
 returns-4 : tie.Need-returns-4
@@ -52,8 +52,8 @@ returns-4 c =
     let c5 = c4 .before in
     let c7 = c5 .before .before in
     let c13 = c7 .before .before .before .before .before .before in
-    λ τ used S g w r. field-part S τ _ _ (c7 .x .given .1) (c2 .k .given .1)
-    (c4 .value-field-index .ensures (c13 .args .b .list) τ (rw (c5 .recorded .ensures) (g .known)) (g .rows)
+    λ τ used S g w r. field-part S τ _ _ (c7 .x .given .1) (c2 .position .given .1)
+    (c4 .value-field .ensures (c13 .args .b .list) τ (rw (c5 .recorded .ensures) (g .known)) (g .rows)
     (omega (arith, g .values, w .each _ (c7 .x .given .1)))) (c .part .ensures _ _ used S r)
 
 pub field-part-spec : {M : Type 1} → statement M
@@ -64,9 +64,9 @@ field-part-spec =
     enum-told-2
     enum-known-x
     recorded-requires
-    value-field-index-requires
+    value-field-requires
     enum-told-3
-    enum-known-k
+    enum-known-position
     part-requires
     returns
     returns-2

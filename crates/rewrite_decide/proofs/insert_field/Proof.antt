@@ -22,14 +22,14 @@ last-type-requires c κs = search needs
 u16-at-requires : tie.Need-u16-at-requires
 u16-at-requires c κs = search needs
 
-field-index-requires : tie.Need-field-index-requires
-field-index-requires c κs = search needs
+find-field-requires : tie.Need-find-field-requires
+find-field-requires c κs = search needs
 
 enum-told : tie.Need-enum-told
 enum-told c = search needs
 
-enum-known-k : tie.Need-enum-known-k
-enum-known-k c = search needs
+enum-known-position : tie.Need-enum-known-position
+enum-known-position c = search needs
 
 add-plan-insert : tie.Need-add-plan-insert
 add-plan-insert c = search needs
@@ -40,12 +40,12 @@ plan-insert-requires c κs = search needs
 returns : tie.Need-returns
 returns c = λ slot σ τ S folds m i used h w e on. plans-keep
     (insert-field-unknown h w σ folds m e on _ _ _ _ (c .before .before .before .before .before .value-end .ensures .0) (c .before .before .before .u16-at .ensures) (c .before .before .before .before .last-type .ensures)
-    (c .before .before .field-index .ensures _ (τ .rows) (h .ground .known .rows) (h .ground .rows)) (c .enum-told .given .1))
+    (c .before .before .find-field .ensures _ (τ .rows) (h .ground .known .rows) (h .ground .rows)) (c .enum-told .given .1))
 
 returns-2 : tie.Need-returns-2
 returns-2 c = λ slot σ τ S folds m i used h w e on. insert-field-step h w σ folds m e on _ _ _ _
     (c .before .before .before .before .before .before .before .value-end .ensures .0) (c .before .before .before .before .before .u16-at .ensures) (c .before .before .before .before .before .before .last-type .ensures)
-    (c .before .before .before .before .field-index .ensures _ (τ .rows) (h .ground .known .rows) (h .ground .rows)) _ _ (c .before .before .before .before .before .before .before .before .before .value-at .ensures) (c .before .before .k .given .1)
+    (c .before .before .before .before .find-field .ensures _ (τ .rows) (h .ground .known .rows) (h .ground .rows)) _ _ (c .before .before .before .before .before .before .before .before .before .value-at .ensures) (c .before .before .position .given .1)
     (λ y d v. c .plan-insert .ensures _ _ _ used S i _ y (h .rep) d v)
 
 pub insert-field-spec : {M : Type 1} → statement M
@@ -58,9 +58,9 @@ insert-field-spec =
     value-end-requires
     last-type-requires
     u16-at-requires
-    field-index-requires
+    find-field-requires
     enum-told
-    enum-known-k
+    enum-known-position
     add-plan-insert
     plan-insert-requires
     returns

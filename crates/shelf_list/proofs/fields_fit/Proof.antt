@@ -12,7 +12,8 @@ use Rattle.mir.specs.declared.TypeId.{TypeId}
 use Rattle.mir.specs.declared.NameId.{NameId}
 use Rattle.mir.specs.MirType.{StructField}
 use Rattle.mir.specs.Syntax.{FieldInit}
-use Rattle.rewrite_parts.specs.Rows.{Inits, Names, InitAt, noField}
+use Rattle.rewrite_parts.specs.Rows.{Inits, InitAt}
+use Rattle.bytes_struct.specs.Fields.{Names, noField}
 use Rattle.bytes_sections.specs.Index.{recordedNumber}
 use Rattle.mir.specs.Parts.{given, partType}
 use Rattle.mir.specs.Lookup.{Types, rowOf}

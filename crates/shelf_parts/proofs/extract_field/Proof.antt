@@ -3,7 +3,7 @@ use Rattle.shelf_parts.proofs.extract_field.Tie as tie
 use mathlib.Core.Path.{_≡_, ap, _∙_, sym}
 use mathlib.Core.Option.{some}
 use Rattle.mir.specs.Lookup.{rowOf}
-use Rattle.shelf.specs.Fits.{fieldTypeOf}
+use Rattle.bytes_struct.specs.FindField.{fieldTypeOf}
 use Rattle.rewrite.specs.Rebuild.{returnType}
 use Rattle.shelf_field.proofs.Lines.{and-both}
 use Rattle.shelf_field.proofs.Single.{type-moved}

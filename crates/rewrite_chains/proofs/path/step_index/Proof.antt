@@ -13,8 +13,11 @@ const-integer-requires c κs = search needs
 enum-known-p-2 : tie.Need-enum-known-p-2
 enum-known-p-2 c = search needs
 
-value-field-index-requires : tie.Need-value-field-index-requires
-value-field-index-requires c κs = search needs
+value-field-requires : tie.Need-value-field-requires
+value-field-requires c κs = search needs
+
+position-of-requires : tie.Need-position-of-requires
+position-of-requires c κs = search needs
 
 enum-known-p-3 : tie.Need-enum-known-p-3
 enum-known-p-3 c = search needs
@@ -26,7 +29,7 @@ returns : tie.Need-returns
 returns c = λ τ q g h e. index-step τ _ e _ (c .before .before .p .given .1) (c .const-integer .ensures)
 
 returns-2 : tie.Need-returns-2
-returns-2 c = λ τ q g h e. field-step τ _ e _ (c .before .before .p2 .given .1) (c .value-field-index .ensures _ τ (g .known) (g .rows) (omega (arith, g .values)))
+returns-2 c = λ τ q g h e. field-step τ _ e _ (c .before .before .before .p2 .given .1) (c .position-of .ensures) (c .before .value-field .ensures _ τ (g .known) (g .rows) (omega (arith, g .values)))
 
 returns-3 : tie.Need-returns-3
 returns-3 c = λ τ q g h e. tuple-step τ _ e _ (c .before .p3 .given .1)
@@ -41,7 +44,8 @@ step-index-spec =
     enum-known-p
     const-integer-requires
     enum-known-p-2
-    value-field-index-requires
+    value-field-requires
+    position-of-requires
     enum-known-p-3
     enum-told
     returns

@@ -1,0 +1,4 @@
+pub mod Placed
+pub mod Seek
+pub mod Laws
+pub mod Examples

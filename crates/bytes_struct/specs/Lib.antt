@@ -1,0 +1,3 @@
+pub mod FindField
+pub mod Fields
+pub mod Found

@@ -21,7 +21,7 @@ use Rattle.bytes_field.specs.Decode.{typeIdOf, nameIdOf, listOf}
 use Rattle.bytes_types.specs.Decode.{hasName, newNameOf, structFields, structOf, typeKinds, typeOf}
 use Rattle.bytes_operands.specs.Fields.{after}
 use Rattle.bytes_operands.proofs.Places.{Stand, Field, then, last, alone, Listed, empty, _&_, listed-each, count}
-use Rattle.bytes_struct.specs.Fields.{noField, Names, PartTypes}
+use Rattle.bytes_struct.specs.Fields.{firstName, firstPart, noField, Names, PartTypes}
 
 -- a name, wherever it stands
 pub name-field : (t : List ℕ) {p : ℕ} → Field t p nameIdOf (λ a. at16 t p ≡ a .0) (p + 2)
@@ -35,14 +35,14 @@ name-field t {p} =
           ];
     }
 
--- the number of an earlier type
-pub record Earlier (own : ℕ) (t : List ℕ) (p : ℕ) (a : TypeId) : Type 0 where
+-- a type's number at a place, one below a bound
+pub record TypeBelow (own : ℕ) (t : List ℕ) (p : ℕ) (a : TypeId) : Type 0 where
   pub number : at16 t p ≡ a .0
   pub under : a .0 < own
 
--- a part's type, wherever it stands
-pub part-field : (own : ℕ) (t : List ℕ) {p : ℕ} → Field t p (typeIdOf own) (Earlier own t p) (p + 2)
-part-field own t {p} =
+-- a type, wherever it stands
+pub type-field : (own : ℕ) (t : List ℕ) {p : ℕ} → Field t p (typeIdOf own) (TypeBelow own t p) (p + 2)
+type-field own t {p} =
     record {
       each = λ a n e.
           elim (map-inv (λ x. record { 0 = x }) (below own (drop p t)) e) [
@@ -58,7 +58,7 @@ module _ (own : ℕ) (t : List ℕ) where
   -- a field at a place: its name, and its type behind it
   pub record OneField (q : ℕ) (f : StructField) : Type 0 where
     pub named : at16 t q ≡ f .name .0
-    pub typed : Earlier own t (q + 2) (f .part)
+    pub typed : TypeBelow own t (q + 2) (f .part)
 
   -- a name that is not among those before it
   new-name : (names : List NameId) (p : ℕ) → Field t p (newNameOf names) (λ a. at16 t p ≡ a .0) (p + 2)
@@ -71,7 +71,7 @@ module _ (own : ℕ) (t : List ℕ) where
   fields-from names (suc k) p =
       let four : p + 2 + 2 ≡ p + 4 = omega arith in
       then (new-name names p) (λ n u.
-      then (part-field own t) (λ y v.
+      then (type-field own t) (λ y v.
       last _ (fields-from (n ∷ names) k (p + 2 + 2)) (λ fs r. ((record { named = u; typed = v } & (rw four at (r .0)), ap suc (r .1)), omega arith))))
 
   -- a struct type whose kind is the first byte of t: its fields stand behind its name and their count
@@ -92,8 +92,8 @@ four-apart (suc k) p = four-apart k (p + 4) ∙ omega arith
 
 -- where the fields of a struct type stand, and how many there are
 pub record FieldsIn (own : ℕ) (row : List ℕ) (fs : List StructField) : Type 0 where
-  pub names : Names row 4 fs
-  pub parts : PartTypes row 6 fs
+  pub names : Names row firstName fs
+  pub parts : PartTypes row firstPart fs
   pub earlier : (k : ℕ) → k < length fs → getD fs k noField .part .0 < own
   pub many : length fs ≡ getD row 3 0
 

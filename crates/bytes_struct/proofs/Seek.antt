@@ -17,7 +17,7 @@ use Rattle.mir.specs.Lookup.{structFieldsOf}
 use Rattle.bytes_types.specs.Decode.{typeOf}
 use Rattle.bytes_types.specs.Index.{TypesAt}
 use Rattle.bytes_struct.specs.FindField.{findFrom, findField}
-use Rattle.bytes_struct.specs.Fields.{noField, Names}
+use Rattle.bytes_struct.specs.Fields.{firstName, noField, Names}
 use Rattle.bytes_struct.specs.Found.{asFound, FoundAmong, FoundInRow}
 use Rattle.bytes_struct.specs.declared.FieldLookup.{FieldLookup}
 use Rattle.bytes_struct.proofs.Placed.{kind-fields, other-fields}
@@ -25,7 +25,7 @@ use Rattle.bytes_struct.proofs.Placed.{kind-fields, other-fields}
 -- the name is not that of the first i of n fields
 pub record Seeking (row : List ℕ) (n : ℕ) (name : NameId) (i : ℕ) : Type 0 where
   pub under : i ≤ n
-  pub left : (fs : List StructField) → Names row 4 fs → length fs ≡ n → findFrom 0 (length fs) name fs ≡ findFrom i (length fs) name (drop i fs)
+  pub left : (fs : List StructField) → Names row firstName fs → length fs ≡ n → findFrom 0 (length fs) name fs ≡ findFrom i (length fs) name (drop i fs)
 
 -- none is looked at yet
 pub seeking : (row : List ℕ) (n : ℕ) (name : NameId) → Seeking row n name 0
@@ -33,7 +33,7 @@ seeking row n name = record { under = zero-le; left = λ fs v l. refl }
 
 module _ {row : List ℕ} {n : ℕ} {name : NameId} {i : ℕ} (o : Seeking row n name i) where
   -- the next of them
-  the-next : (fs : List StructField) → Names row 4 fs → length fs ≡ n → i < n → (drop i fs ≡ getD fs i noField ∷ drop (i + 1) fs) × (at16 row (4 + 4 * i) ≡ getD fs i noField .name .0)
+  the-next : (fs : List StructField) → Names row firstName fs → length fs ≡ n → i < n → (drop i fs ≡ getD fs i noField ∷ drop (i + 1) fs) × (at16 row (4 + 4 * i) ≡ getD fs i noField .name .0)
   the-next fs v l h = let m : i < length fs = omega arith in (rw add-one (drop-cons fs i noField m), v .each i m)
 
   -- another name

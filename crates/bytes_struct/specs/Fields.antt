@@ -6,6 +6,13 @@ use lib.ListN.{length, getD}
 use Rattle.bytes_wire.specs.Number.{at16}
 use Rattle.mir.specs.MirType.{StructField}
 
+-- in the bytes of a struct type, its kind first: where the first field's name stands, and its type
+abbrev pub firstName : ℕ
+firstName = 4
+
+abbrev pub firstPart : ℕ
+firstPart = 6
+
 -- past the end of a list of fields
 abbrev pub noField : StructField
 noField = record { name = record { 0 = 0 }; part = record { 0 = 0 } }

@@ -11,7 +11,7 @@ use Rattle.mir.specs.MirType.{StructField, MirType}
 use Rattle.bytes_types.specs.Decode.{typeOf}
 use Rattle.bytes_types.specs.Index.{TypesAt}
 use Rattle.bytes_struct.specs.FindField.{FoundField, findFrom, findField}
-use Rattle.bytes_struct.specs.Fields.{Names, PartTypes}
+use Rattle.bytes_struct.specs.Fields.{firstName, firstPart, Names, PartTypes}
 use Rattle.bytes_struct.specs.declared.FieldLookup.{FieldLookup}
 
 abbrev pub asFound : FieldLookup → Option FoundField
@@ -22,8 +22,8 @@ asFound FieldLookup.Absent = none
 abbrev pub FoundAmong : List ℕ → ℕ → NameId → FieldLookup → Type 0
 FoundAmong row n name r =
     (fs : List StructField)
-    → Names row 4 fs
-    → PartTypes row 6 fs
+    → Names row firstName fs
+    → PartTypes row firstPart fs
     → length fs ≡ n
     → asFound r ≡ findFrom 0 (length fs) name fs
 

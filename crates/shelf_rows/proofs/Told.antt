@@ -22,7 +22,7 @@ use Rattle.bytes_types.specs.Index.{TypesAt}
 use Rattle.bytes_sections.specs.Index.{recordedNumber}
 use Rattle.bytes_operands.specs.Fields.{after}
 use Rattle.bytes_operands.proofs.Places.{Stand, Field, then, last, made, because, Listed, empty, _&_, list}
-use Rattle.bytes_struct.proofs.Placed.{Earlier, part-field, StructAt, struct-at, struct-stands}
+use Rattle.bytes_struct.proofs.Placed.{TypeBelow, type-field, StructAt, struct-at, struct-stands}
 use Rattle.mir.specs.Lookup.{Types, rowOf}
 use Rattle.mir.specs.Parts.{fieldType, partType, partCount, counts}
 use Rattle.shelf.specs.Fits.{scalarKind}
@@ -41,14 +41,14 @@ module _ (own : ℕ) (small : own ≤ 65535) (t : List ℕ) where
   Part : ℕ → TypeId → Type 0
   Part p a = numbered (at16 t p) ≡ recordedNumber (some a)
 
-  -- so it does where an earlier type stands
-  part-number : {p : ℕ} {a : TypeId} → Earlier own t p a → Part p a
+  -- so it does where a type below its own stands
+  part-number : {p : ℕ} {a : TypeId} → TypeBelow own t p a → Part p a
   unfolding Part
   part-number {p} {a} e = let l : a .0 < 65535 = omega (arith, e .under, small) in rw (e .number, lt-ltb (a .0) 65535 l)
 
   -- and where a part is read
   part-read : {p : ℕ} → Field t p (typeIdOf own) (Part p) (p + 2)
-  part-read = record { each = λ a n e. let h = part-field own t .each a n e in (part-number (h .0), h .1) }
+  part-read = record { each = λ a n e. let h = type-field own t .each a n e in (part-number (h .0), h .1) }
 
   -- thing k of those that stand one behind another
   number-at : {A : Type 0} {Q : ℕ → A → Type 0} {end : ℕ → ℕ} {p : ℕ} {xs : List A} (f : Option A → Option TypeId) (off : ℕ) → ((q : ℕ) (x : A) → Q q x → numbered (at16 t (q + off)) ≡ recordedNumber (f (some x))) → Listed Q end p xs → (k : ℕ) → k < length xs → numbered (at16 t (after end k p + off)) ≡ recordedNumber (f (getElem? xs k))

@@ -14,6 +14,7 @@ use Rattle.bytes_struct.specs.FindField.{FoundField, findFrom, findField
 use Rattle.bytes_struct.specs.Fields.{firstName, firstPart, Names, PartTypes}
 use Rattle.bytes_struct.specs.declared.FieldLookup.{FieldLookup}
 
+-- the code's answer, case by case
 abbrev pub asFound : FieldLookup → Option FoundField
 asFound (FieldLookup.Found k t n) = some (record { position = k; part = t; fields = n })
 asFound FieldLookup.Absent = none

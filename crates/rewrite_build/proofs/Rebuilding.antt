@@ -25,7 +25,8 @@ use Rattle.bytes_before.proofs.Same.{no-true}
 use Rattle.mir.specs.Lookup.{Types, rowOf}
 use Rattle.rewrite.specs.Rebuild.{fitted, named, rebuildAt, clashes}
 use Rattle.bytes_emit.specs.Written.{Writes}
-use Rattle.rewrite_build.specs.Written.{NamesIn, Rebuilds}
+use Rattle.rewrite_build.specs.Written.{Rebuilds}
+use Rattle.bytes_struct.specs.Fields.{firstName, Names}
 use Rattle.rewrite_build.proofs.Shape.{tuple, struct, array, other, shape-of}
 
 -- the type T was read from `row`
@@ -65,7 +66,7 @@ module _ (most own n : ℕ) (row : List ℕ) (T : MirType) (xs : List Value) (h 
         ]
 
     -- a struct of its type's fields
-    pub struct-made : getD row 0 0 ≡ 4 → ((fs : List StructField) → length fs ≡ getD row 3 0 → NamesIn row fs → Writes (instructionBytes (plain (InstructionKind.MakeStruct d (named fs xs) t))) out out′ to p) → Writes (eachBytes instructionBytes (rebuildAt d xs t (some T))) out out′ to p
+    pub struct-made : getD row 0 0 ≡ 4 → ((fs : List StructField) → length fs ≡ getD row 3 0 → Names row firstName fs → Writes (instructionBytes (plain (InstructionKind.MakeStruct d (named fs xs) t))) out out′ to p) → Writes (eachBytes instructionBytes (rebuildAt d xs t (some T))) out out′ to p
     unfolding rebuildAt
     struct-made g w =
         elim (shape-of most own row T n h e) [

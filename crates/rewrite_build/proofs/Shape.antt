@@ -1,14 +1,14 @@
 -- What the bytes of a type's row say of the type.
-use Prim.Native.Nat.{ℕ, zero, suc, _+_, _*_, _/_, _%_, _<_}
+use Prim.Native.Nat.{ℕ, _<_}
 use mathlib.Core.Path.{_≡_, refl, ap, _∙_, sym}
-use mathlib.Core.List.{List, [], _∷_}
+use mathlib.Core.List.{List, []}
 use mathlib.Core.Bool.{false}
 use mathlib.Core.Option.{some}
 use native.Mathlib.Omega.{arith}
 use lib.ListN.{length, getD, take, drop}
 use lib.Seq.{getD-take, drop-drop}
 use Rattle.bytes_wire.specs.Parse.{ok, andThen, mapParse}
-use Rattle.bytes_wire.specs.Number.{fromBytes, toBytes, u32Of, below, at16, at32}
+use Rattle.bytes_wire.specs.Number.{fromBytes, u32Of, below, at16, at32}
 use Rattle.bytes_wire.specs.WellFormed.{Bytes}
 use Rattle.mir.specs.declared.ValueId.{ValueId}
 use Rattle.mir.specs.declared.NameId.{NameId}
@@ -17,18 +17,18 @@ use Rattle.mir.specs.declared.Value.{Value}
 use Rattle.bytes_wire.proofs.Inv.{both, behind, image, later-inv, and-inv, map-inv, number-inv, below-inv, tagged-inv}
 use Rattle.bytes_wire.proofs.Laws.{from-16, from-32}
 use Rattle.bytes_field.specs.Decode.{typeIdOf}
-use Rattle.bytes_field.specs.Encode.{eachBytes, nameIdBytes}
 use Rattle.mir.specs.MirType.{StructField, MirType, Felt, Bool, U32, Tuple, Struct, FixedArray, Pointer, Function, Unit, Error, Unknown}
-use Rattle.bytes_types.specs.Encode.{structFieldBytes, typeBytes}
+use Rattle.bytes_types.specs.Encode.{typeBytes}
 use Rattle.bytes_types.specs.Decode.{typeKinds, typeOf}
 use Rattle.bytes_types.proofs.Canon.{type-canon}
 use Rattle.rewrite.specs.Rebuild.{rebuildAt, clashes}
-use Rattle.bytes_struct.specs.Fields.{noField}
-use Rattle.rewrite_build.specs.Written.{NamesIn}
+use Rattle.bytes_struct.specs.Fields.{firstName, Names}
+use Rattle.bytes_struct.proofs.Placed.{type-fields}
 
--- the bytes of a type stand in its row, and an array's numbers are those that stand there
+-- the bytes of a type stand in its row, and so do a struct's names; an array's numbers are those that stand there
 record InRow (row : List ℕ) (T : MirType) : Type 0 where
   byte : (j : ℕ) → j < length (typeBytes T) → getD row j 0 ≡ getD (typeBytes T) j 0
+  names : (n : NameId) (fs : List StructField) → T ≡ Struct n fs → Names row firstName fs
   array : (t : TypeId) (z : ℕ) → T ≡ FixedArray t z → (t ≡ record { 0 = at16 row 1 }) × (z ≡ at32 row 3)
 
 -- an array's numbers, by its kind
@@ -63,55 +63,17 @@ in-row most own row T n h e =
     let at : ((j : ℕ) → j < length (typeBytes T) → getD row j 0 ≡ getD (typeBytes T) j 0) = λ j l. sym (ap (λ b. getD b j 0) (c .same) ∙ getD-take n row j 0 (omega (arith, c .size))) in
     record {
       byte = at;
+      names = λ m fs g. type-fields most own row e g .names;
       array = λ t z g.
           let l : 0 < length (typeBytes T) = rw g (omega arith) in
           let k : getD row 0 0 ≡ 5 = at 0 l ∙ ap (λ U. getD (typeBytes U) 0 0) g in
           array-numbers most own row t z n (rw g at e) k;
     }
 
--- a name is written by its two bytes
-two-bytes : (a b : ℕ) → a < 256 → b < 256 → toBytes 2 (a + 256 * b) ≡ a ∷ b ∷ []
-two-bytes a b h k =
-    let p : (a + 256 * b) % 256 ≡ a = omega arith in
-    let q : (a + 256 * b) / 256 ≡ b = omega arith in
-    let r : b % 256 ≡ b = omega arith in
-    rw (p, q, r)
-
--- the fields take four bytes each
-fields-long : (fs : List StructField) → length (eachBytes structFieldBytes fs) ≡ 4 * length fs
-fields-long [] = refl
-fields-long (f ∷ fs) = omega (arith, fields-long fs)
-
--- and begin with their names
-fields-byte : (fs : List StructField) (k j : ℕ) → k < length fs → j < 2 → getD (eachBytes structFieldBytes fs) (4 * k + j) 0 ≡ getD (nameIdBytes (getD fs k noField .name)) j 0
-fields-byte [] k j h l = absurd (omega arith)
-fields-byte (f ∷ fs) zero zero h l = refl
-fields-byte (f ∷ fs) zero (suc zero) h l = refl
-fields-byte (f ∷ fs) zero (suc (suc j)) h l = absurd (omega arith)
-fields-byte (f ∷ fs) (suc k) j h l =
-    let z : 4 * suc k + j ≡ suc (suc (suc (suc (4 * k + j)))) = omega arith in
-    ap (λ m. getD (eachBytes structFieldBytes (f ∷ fs)) m 0) z ∙ fields-byte fs k j (omega arith) l
-
--- so the names stand in a struct's row
-names-in : (row : List ℕ) (n : NameId) (fs : List StructField) → InRow row (Struct n fs) → NamesIn row fs
-unfolding typeBytes
-names-in row n fs r = record {
-  each = λ k h.
-      let x = getD fs k noField .name .0 in
-      let a : getD row (4 + 4 * k) 0 ≡ x % 256 = at k 0 h (omega arith) (4 + 4 * k) (omega arith) in
-      let b : getD row (4 + 4 * k + 1) 0 ≡ x / 256 % 256 = at k 1 h (omega arith) (4 + 4 * k + 1) (omega arith) in
-      sym (ap (λ m. toBytes 2 (m + 256 * getD row (4 + 4 * k + 1) 0)) a ∙ ap (λ m. toBytes 2 (x % 256 + 256 * m)) b ∙ two-bytes (x % 256) (x / 256 % 256) (omega arith) (omega arith));
-}
-  where
-    at : (k j : ℕ) → k < length fs → j < 2 → (p : ℕ) → p ≡ suc (suc (suc (suc (4 * k + j)))) → getD row p 0 ≡ getD (nameIdBytes (getD fs k noField .name)) j 0
-    at k j h l p e =
-        let m : suc (suc (suc (suc (4 * k + j)))) < length (typeBytes (Struct n fs)) = omega (arith, fields-long fs) in
-        ap (λ q. getD row q 0) e ∙ r .byte (suc (suc (suc (suc (4 * k + j))))) m ∙ fields-byte fs k j h l
-
 -- the type, by its kind
 pub data Shape (row : List ℕ) (T : MirType) : Type 0 where
   tuple : getD row 0 0 ≡ 3 → (ts : List TypeId) → T ≡ Tuple ts → length ts ≡ getD row 1 0 → Shape row T
-  struct : getD row 0 0 ≡ 4 → (n : NameId) (fs : List StructField) → T ≡ Struct n fs → length fs ≡ getD row 3 0 → NamesIn row fs → Shape row T
+  struct : getD row 0 0 ≡ 4 → (n : NameId) (fs : List StructField) → T ≡ Struct n fs → length fs ≡ getD row 3 0 → Names row firstName fs → Shape row T
   array : getD row 0 0 ≡ 5 → (e : TypeId) (z : ℕ) → T ≡ FixedArray e z → e ≡ record { 0 = at16 row 1 } → z ≡ at32 row 3 → Shape row T
   other : (getD row 0 0 ≡ 3 → ⊥) → (getD row 0 0 ≡ 4 → ⊥) → (getD row 0 0 ≡ 5 → ⊥) → ((d : ValueId) (xs : List Value) (t : TypeId) → rebuildAt d xs t (some T) ≡ []) → ((xs : List Value) → clashes xs (some T) ≡ false) → Shape row T
 
@@ -122,7 +84,7 @@ shape-in row Felt r = let k : getD row 0 0 ≡ 0 = r .byte 0 (omega arith) in ot
 shape-in row Bool r = let k : getD row 0 0 ≡ 1 = r .byte 0 (omega arith) in other (λ e. omega arith) (λ e. omega arith) (λ e. omega arith) (λ d xs t. refl) (λ xs. refl)
 shape-in row U32 r = let k : getD row 0 0 ≡ 2 = r .byte 0 (omega arith) in other (λ e. omega arith) (λ e. omega arith) (λ e. omega arith) (λ d xs t. refl) (λ xs. refl)
 shape-in row (Tuple ts) r = tuple (r .byte 0 (omega arith)) ts refl (sym (r .byte 1 (omega arith)))
-shape-in row (Struct n fs) r = struct (r .byte 0 (omega arith)) n fs refl (sym (r .byte 3 (omega arith))) (names-in row n fs r)
+shape-in row (Struct n fs) r = struct (r .byte 0 (omega arith)) n fs refl (sym (r .byte 3 (omega arith))) (r .names n fs refl)
 shape-in row (FixedArray e z) r = array (r .byte 0 (omega arith)) e z refl (r .array e z refl .0) (r .array e z refl .1)
 shape-in row (Pointer e) r = let k : getD row 0 0 ≡ 6 = r .byte 0 (omega arith) in other (λ e. omega arith) (λ e. omega arith) (λ e. omega arith) (λ d xs t. refl) (λ xs. refl)
 shape-in row (Function ps e) r = let k : getD row 0 0 ≡ 7 = r .byte 0 (omega arith) in other (λ e. omega arith) (λ e. omega arith) (λ e. omega arith) (λ d xs t. refl) (λ xs. refl)

@@ -137,7 +137,7 @@ module _ (next : ℕ) (s rows : List ℕ) (from have : ℕ) (row : List ℕ) (wa
         let z : FieldInit = record { name = record { 0 = 0 }; value = unit } in
         let hn : i < length fs = omega arith in
         let hz : i < length (named fs xs) = omega (arith, length-named fs xs) in
-        let g : nameIdBytes (getD fs i noField .name) ≡ nameIdBytes (record { 0 = x }) = n .each i hn ∙ ap (λ y. nameIdBytes (record { 0 = y })) (sym e) in
+        let g : nameIdBytes (getD fs i noField .name) ≡ nameIdBytes (record { 0 = x }) = ap (λ y. nameIdBytes (record { 0 = y })) (sym (e ∙ n .each i hn)) in
         let q = field-writes (nameIdBytes (getD fs i noField .name)) (valueBytes (getD xs i unit)) out out₁ out′ to to′ refl (f ∙ ap (sets out to) (sym g)) (w xs r l) in
         writing-again fieldInitBytes (named fs xs) out₀ to₀ out to i (c .left xs r l fs m n) out′ to′ z hz (rw (getD-named fs i xs z hn) q);
   }

@@ -1,26 +1,24 @@
 -- What the writers of a rebuild promise.
-use Prim.Native.Nat.{ℕ, _+_, _*_, _<_}
+use Prim.Native.Nat.{ℕ, _<_}
 use mathlib.Core.Path.{_≡_}
 use mathlib.Core.List.{List}
 use mathlib.Core.Bool.{true, false}
 use mathlib.Core.Option.{some}
-use lib.ListN.{length, getD}
-use lib.Seq.{sets}
+use lib.ListN.{length}
 use Rattle.bytes_wire.specs.Parse.{ok}
-use Rattle.bytes_wire.specs.Number.{at16}
 use Rattle.bytes_wire.specs.WellFormed.{Bytes}
 use Rattle.mir.specs.declared.ValueId.{ValueId}
 use Rattle.mir.specs.declared.TypeId.{TypeId}
 use Rattle.mir.specs.declared.Value.{Value}
 use Rattle.bytes_emit.specs.Written.{Writes}
-use Rattle.bytes_field.specs.Encode.{eachBytes, instructionBytes, nameIdBytes}
+use Rattle.bytes_field.specs.Encode.{eachBytes, instructionBytes}
 use Rattle.mir.specs.MirType.{StructField, MirType}
 use Rattle.bytes_types.specs.Decode.{typeOf}
 use Rattle.bytes_types.specs.Index.{TypesAt}
 use Rattle.mir.specs.Lookup.{Types, rowOf}
 use Rattle.rewrite.specs.Rebuild.{rebuildAt, clashes}
 use Rattle.rewrite_parts.specs.Rows.{RowAt}
-use Rattle.bytes_struct.specs.Fields.{noField}
+use Rattle.bytes_struct.specs.Fields.{firstName, Names}
 use Rattle.rewrite_build.specs.declared.Rebuilt.{Rebuilt}
 
 -- a row of parts begins before this
@@ -31,18 +29,13 @@ rowRoom = 1099511627776
 abbrev pub rebuildMost : ℕ
 rebuildMost = 1792
 
--- the names of a struct's fields stand four bytes apart in its type's bytes, from the fifth on
-pub record NamesIn (row : List ℕ) (fs : List StructField) : Type 0 where
-  pub each : (k : ℕ) → k < length fs
-      → nameIdBytes (getD fs k noField .name) ≡ nameIdBytes (record { 0 = at16 row (4 + 4 * k) })
-
 -- P holds of the `have` parts whose places stand in the rows from `from` on
 abbrev pub OfParts : ℕ → List ℕ → List ℕ → ℕ → ℕ → (List Value → Type 0) → Type 0
 OfParts next s rows from have P = (xs : List Value) → RowAt next s rows from xs → length xs ≡ have → P xs
 
 -- P holds of the `want` fields whose names stand in a type's bytes
 abbrev pub OfFields : List ℕ → ℕ → (List StructField → Type 0) → Type 0
-OfFields row want P = (fs : List StructField) → length fs ≡ want → NamesIn row fs → P fs
+OfFields row want P = (fs : List StructField) → length fs ≡ want → Names row firstName fs → P fs
 
 -- P holds of the type that is read from its bytes
 abbrev pub OfType : List ℕ → (MirType → Type 0) → Type 0

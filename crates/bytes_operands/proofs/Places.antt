@@ -101,7 +101,7 @@ listed-at empty k f h = absurd (omega arith)
 listed-at (p & ps) zero f h = f _ p
 listed-at (p & ps) (suc k) f h = listed-at ps k f (omega arith)
 
--- thing k of them, by another reading
+-- what holds of the k-th of them
 pub listed-each : {A : Type 0} {Q : ℕ → A → Type 0} {end : ℕ → ℕ} {at : ℕ} {xs : List A} (d : A) → Listed Q end at xs → (k : ℕ) → k < length xs → Q (after end k at) (getD xs k d)
 unfolding after
 listed-each d empty k h = absurd (omega arith)

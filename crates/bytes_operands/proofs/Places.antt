@@ -1,5 +1,5 @@
 -- Where the fields of a thing stand: how places are put together.
-use Prim.Native.Nat.{ℕ, zero, suc, _+_, _≤_, _<_}
+use Prim.Native.Nat.{ℕ, zero, suc, _+_, _*_, _≤_, _<_}
 use mathlib.Core.Path.{_≡_, refl, ap, _∙_}
 use mathlib.Core.List.{List, [], _∷_, map}
 use mathlib.Core.Bool.{Bool}
@@ -100,6 +100,12 @@ unfolding after
 listed-at empty k f h = absurd (omega arith)
 listed-at (p & ps) zero f h = f _ p
 listed-at (p & ps) (suc k) f h = listed-at ps k f (omega arith)
+
+-- where the k-th stands, each w bytes behind the one before
+pub apart : (w k p : ℕ) → after (λ q. q + w) k p ≡ p + w * k
+unfolding after
+apart w zero p = omega arith
+apart w (suc k) p = apart w k (p + w) ∙ (let z : w * suc k ≡ w + w * k = omega arith in omega arith)
 
 -- what holds of the k-th of them
 pub listed-each : {A : Type 0} {Q : ℕ → A → Type 0} {end : ℕ → ℕ} {at : ℕ} {xs : List A} (d : A) → Listed Q end at xs → (k : ℕ) → k < length xs → Q (after end k at) (getD xs k d)

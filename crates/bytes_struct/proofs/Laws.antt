@@ -129,7 +129,7 @@ module _ (t : Option MirType) (n : NameId) (f : FoundField) (e : findField t n �
   found-below = let r = is-field in omega (arith, r .inside, r .position, r .fields)
 
 -- a part of a struct type, by its position
-field-part : (t : Option MirType) (k : ℕ) → k < length (structFieldsOf t) → partType t k ≡ some (getD (structFieldsOf t) k noField .part)
+pub field-part : (t : Option MirType) (k : ℕ) → k < length (structFieldsOf t) → partType t k ≡ some (getD (structFieldsOf t) k noField .part)
 unfolding structFieldsOf partType fieldType
 field-part none k h = absurd (omega arith)
 field-part (some Felt) k h = absurd (omega arith)

@@ -20,7 +20,7 @@ use Rattle.mir.specs.Lookup.{shape, isStruct, structFieldsOf}
 use Rattle.bytes_field.specs.Decode.{typeIdOf, nameIdOf, listOf}
 use Rattle.bytes_types.specs.Decode.{hasName, newNameOf, structFields, structOf, typeKinds, typeOf}
 use Rattle.bytes_operands.specs.Fields.{after}
-use Rattle.bytes_operands.proofs.Places.{Stand, Field, then, last, alone, Listed, empty, _&_, listed-each, count}
+use Rattle.bytes_operands.proofs.Places.{Stand, Field, then, last, alone, Listed, empty, _&_, apart, listed-each, count}
 use Rattle.bytes_struct.specs.Fields.{firstName, firstPart, noField, Names, PartTypes}
 
 -- a name, wherever it stands
@@ -84,12 +84,6 @@ module _ (own : ℕ) (t : List ℕ) where
   struct-stands most =
       then (name-field t) (λ n u. then (count most 3) (λ k c. last _ (fields-from [] k 4) (λ fs r. struct-at n fs (r .0) (r .1 ∙ c))))
 
--- k steps of four bytes
-four-apart : (k p : ℕ) → after (λ q. q + 4) k p ≡ p + 4 * k
-unfolding after
-four-apart zero p = omega arith
-four-apart (suc k) p = four-apart k (p + 4) ∙ omega arith
-
 -- where the fields of a struct type stand, and how many there are
 pub record FieldsIn (own : ℕ) (row : List ℕ) (fs : List StructField) : Type 0 where
   pub names : Names row firstName fs
@@ -101,8 +95,8 @@ pub record FieldsIn (own : ℕ) (row : List ℕ) (fs : List StructField) : Type 
 fields-in : (own : ℕ) (row : List ℕ) (fs : List StructField) → Listed (OneField own row) (λ q. q + 4) 4 fs → length fs ≡ getD row 3 0 → FieldsIn own row fs
 fields-in own row fs l m =
     record {
-      names = record { each = λ k h. ap (λ q. at16 row q) (sym (four-apart k 4)) ∙ field k h .named };
-      parts = record { each = λ k h. let z : 6 + 4 * k ≡ after (λ q. q + 4) k 4 + 2 = omega (arith, four-apart k 4) in ap (λ q. at16 row q) z ∙ field k h .typed .number };
+      names = record { each = λ k h. ap (λ q. at16 row q) (sym (apart 4 k 4)) ∙ field k h .named };
+      parts = record { each = λ k h. let z : 6 + 4 * k ≡ after (λ q. q + 4) k 4 + 2 = omega (arith, apart 4 k 4) in ap (λ q. at16 row q) z ∙ field k h .typed .number };
       earlier = λ k h. field k h .typed .under;
       many = m;
     }

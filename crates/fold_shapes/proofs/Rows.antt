@@ -12,12 +12,11 @@ use lib.Seq.{drop-length}
 use lib.Dec.{ltb}
 use Rattle.table.proofs.Elements.{some-at, none-at}
 use Rattle.bytes_wire.specs.Parse.{Parse, ok, andThen, mapParse, seqOf}
-use Rattle.bytes_wire.specs.Number.{u16Of, u32Of, below, at32}
-use Rattle.mir.specs.declared.NameId.{NameId}
+use Rattle.bytes_wire.specs.Number.{u32Of, below, at32}
 use Rattle.mir.specs.declared.TypeId.{TypeId}
 use Rattle.bytes_wire.proofs.Laws.{from-32}
 use Rattle.bytes_wire.proofs.Inv.{no-ok, both, behind, image, later-inv, and-inv, map-inv, number-inv, below-inv, tagged-inv, seq-length}
-use Rattle.bytes_field.specs.Decode.{typeIdOf, nameIdOf, countOf, listOf}
+use Rattle.bytes_field.specs.Decode.{typeIdOf, countOf, listOf}
 use Rattle.bytes_field.proofs.Rows.{count-first}
 use Rattle.mir.specs.MirType.{MirType}
 use Rattle.bytes_types.specs.Decode.{structOf, typeKinds, typeOf}
@@ -34,10 +33,7 @@ unfolding listOf
 list-length most dec s e =
     elim (and-inv s (countOf most s) (λ n t. seqOf dec n t) e) [ both k m j p q r ↦ seq-length dec k (drop m s) q ∙ count-first most s p ]
 
--- two bytes for a name, or a type
-name-size : (s : List ℕ) {x : NameId} {n : ℕ} → nameIdOf s ≡ ok x n → n ≡ 2
-name-size s e = elim (map-inv (λ x. record { 0 = x }) (u16Of s) e) [ image x f g ↦ number-inv 2 s f .2 ]
-
+-- two bytes for a type
 type-size : (own : ℕ) (s : List ℕ) {x : TypeId} {n : ℕ} → typeIdOf own s ≡ ok x n → n ≡ 2
 type-size own s e = elim (map-inv (λ x. record { 0 = x }) (below own s) e) [ image x f g ↦ number-inv 2 s (below-inv own s f .0) .2 ]
 

@@ -18,9 +18,10 @@ use Rattle.bytes_types.specs.Index.{TypesAt}
 use Rattle.mir.specs.Syntax.{FieldInit, InstructionKind}
 use Rattle.bytes_struct.specs.Fields.{Names, noField}
 use Rattle.bytes_struct.proofs.Placed.{type-fields}
+use Rattle.bytes_struct.proofs.Laws.{field-part}
 use Rattle.table.proofs.Elements.{some-at}
 use Rattle.mir.specs.Lookup.{Types, rowOf, recordedType, shape, isStruct, structFieldsOf}
-use Rattle.mir.specs.Parts.{fieldType, partType, partCount, counts}
+use Rattle.mir.specs.Parts.{partType, partCount, counts}
 use Rattle.shelf.specs.Fits.{sameType, fieldsFit}
 use Rattle.shelf.specs.Agrees.{agrees}
 
@@ -93,8 +94,8 @@ struct-yes τ d fs y p q = p ∙ ap (λ b. sameType (recordedType τ d) (some y)
 
 -- the row of a struct type
 pub struct-parts : (n : NameId) (ss : List StructField) (row : Option MirType) → row ≡ some (Struct n ss) → (k : ℕ) → k < length ss → partType row k ≡ some (getD ss k noField .part)
-unfolding partType fieldType
-struct-parts n ss row e k h = rw e (ap fieldType (some-at ss k noField h))
+unfolding structFieldsOf
+struct-parts n ss row e k h = rw e (field-part (some (Struct n ss)) k h)
 
 pub struct-names : (most many : ℕ) (s types : List ℕ) (τ : Types) (y : TypeId) (n : NameId) (ss : List StructField) (u : List ℕ) → TypesAt most s types (τ .rows) → length (τ .rows) ≡ many → y .0 < many → u ≡ drop (getD types (y .0) 0) s → rowOf τ (some y) ≡ some (Struct n ss) → Names u 4 ss
 unfolding rowOf shape

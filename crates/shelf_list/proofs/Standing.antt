@@ -17,7 +17,7 @@ use Rattle.bytes_field.specs.declared.Bounds.{Bounds}
 use Rattle.bytes_operands.specs.Fields.{valueEnd, after, valueStep}
 use Rattle.bytes_operands.proofs.Loops.{plain-step, plain-values}
 use Rattle.bytes_operands.proofs.Places as P
-use Rattle.bytes_operands.proofs.Places.{then, last, alone, because, count, list, sequence, fixed, takes-map, takes-checked, takes-number}
+use Rattle.bytes_operands.proofs.Places.{then, last, alone, because, apart, count, list, sequence, fixed, takes-map, takes-checked, takes-number}
 use Rattle.bytes_operands.proofs.EachKind.{At, at}
 use Rattle.rewrite_parts.specs.Rows.{ValueAt, stands, Inits}
 use Rattle.rewrite_parts.proofs.Builds.{OneInit, inits-behind}
@@ -33,12 +33,6 @@ lined-at {Q} d (x ∷ xs) p (q & l) zero h = let z : p ≡ p + 2 * 0 = omega ari
 lined-at {Q} d (x ∷ xs) p (q & l) (suc k) h =
     let z : p + 2 + 2 * k ≡ p + 2 * suc k = omega arith in
     rw z at (lined-at {Q = Q} d xs (p + 2) l k (omega (arith, h)))
-
--- behind some things of two bytes
-pub after-two : (k p : ℕ) → after (λ q. q + 2) k p ≡ p + 2 * k
-unfolding after
-after-two zero p = omega arith
-after-two (suc k) p = after-two k (p + 2) ∙ omega arith
 
 module _ (b : Bounds) (t : List ℕ) where
   pub values-field : {p : ℕ} → P.Field t p (listOf (b .list) (valueOf (b .next))) (λ xs. ValuesAt (b .next) t (p + 1) xs × (length xs ≡ getD t p 0)) (after (valueStep t 0 0) (getD t p 0) (p + 1))
@@ -60,7 +54,7 @@ module _ (b : Bounds) (t : List ℕ) where
   types-field {p} =
       because
       (list {Q = TypeAt (b .types) t} {end = two} (λ q. type-field b t) (b .list) p)
-      (λ xs e q. ((lined (λ p x r. r) (λ q. refl) (q .0 .0), q .0 .1), q .1 ∙ after-two (getD t p 0) (p + 1)))
+      (λ xs e q. ((lined (λ p x r. r) (λ q. refl) (q .0 .0), q .0 .1), q .1 ∙ apart 2 (getD t p 0) (p + 1)))
 
   -- a Call's return types, as many as its dests
   counted : (many p : ℕ) → P.Field t p (λ s. checked Cause.CallCounts (λ n. eqb n many) (countOf (b .list) s)) (λ k. k ≡ many) (p + 1)
@@ -76,7 +70,7 @@ module _ (b : Bounds) (t : List ℕ) where
   returns-field seen {p} many =
       then
       (counted many p)
-      (λ k q. because (sequence {Q = TypeAt (b .types) t} {end = two} (λ q. type-field b t) k (p + 1)) (λ xs e r. ((lined (λ p x r. r) (λ q. refl) (r .0 .0), r .0 .1 ∙ q), r .1 ∙ after-two k (p + 1) ∙ ap (λ m. p + 1 + 2 * m) q)))
+      (λ k q. because (sequence {Q = TypeAt (b .types) t} {end = two} (λ q. type-field b t) k (p + 1)) (λ xs e r. ((lined (λ p x r. r) (λ q. refl) (r .0 .0), r .0 .1 ∙ q), r .1 ∙ apart 2 k (p + 1) ∙ ap (λ m. p + 1 + 2 * m) q)))
 
   news : (seen : List Bool) (k p : ℕ) → P.Field t p (definedSeq (b .next) seen k) (λ ds. IdsAt (b .next) t p ds × (length ds ≡ k)) (p + 2 * k)
   unfolding definedSeq

@@ -21,7 +21,7 @@ use Rattle.bytes_types.specs.Decode.{structOf, typeKinds, typeOf}
 use Rattle.bytes_types.specs.Index.{TypesAt}
 use Rattle.bytes_sections.specs.Index.{recordedNumber}
 use Rattle.bytes_operands.specs.Fields.{after}
-use Rattle.bytes_operands.proofs.Places.{Stand, Field, then, last, made, because, Listed, empty, _&_, list}
+use Rattle.bytes_operands.proofs.Places.{Stand, Field, then, last, made, because, Listed, empty, _&_, apart, list}
 use Rattle.bytes_struct.proofs.Placed.{TypeBelow, type-field, StructAt, struct-at, struct-stands}
 use Rattle.mir.specs.Lookup.{Types, rowOf}
 use Rattle.mir.specs.Parts.{fieldType, partType, partCount, counts}
@@ -29,12 +29,6 @@ use Rattle.shelf.specs.Fits.{scalarKind}
 use Rattle.shelf.specs.Agrees.{pointee}
 use Rattle.table.proofs.Elements.{some-at, none-at}
 use Rattle.shelf_rows.specs.Rows.{kindAt, numbered, rowScalar, rowPart, rowCounts, rowPointee, Tells}
-
--- k steps of some bytes each
-apart : (w k p : ℕ) → after (λ q. q + w) k p ≡ p + w * k
-unfolding after
-apart w zero p = omega arith
-apart w (suc k) p = apart w k (p + w) ∙ (let z : w * suc k ≡ w + w * k = omega arith in omega arith)
 
 module _ (own : ℕ) (small : own ≤ 65535) (t : List ℕ) where
   -- the part's number stands at a place

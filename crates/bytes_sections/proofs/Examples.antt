@@ -56,9 +56,14 @@ unfoldable kinds : Unit {0}
 unfolding assignOf unaryOf binaryOf returnsOf callOf castOf loadOf storeOf debugOf phiOf makeTupleOf extractTupleOf makeStructOf extractFieldOf insertFieldOf insertTupleOf makeArrayOf assertEqOf heapAllocOf
 kinds = tt
 
+-- all of it
+unfoldable pub reading : Unit {0}
+unfolding decoding kinds
+reading = tt
+
 -- the answer
 unfoldable answer : List ℕ → Parse Routine
-unfolding decoding kinds
+unfolding reading
 answer s = wholeOf mosts s
 
 pub example-decodes : wholeOf mosts exampleBytes ≡ ok example 56

@@ -9,7 +9,7 @@ use lib.Dec.{eqb, ltb}
 use Rattle.mir.specs.declared.TypeId.{TypeId}
 use Rattle.mir.specs.declared.Value.{Value}
 use Rattle.mir.specs.MirType.{MirType, Error, Unknown}
-use Rattle.mir.specs.Syntax.{Index, Field, InstructionKind, Call, Load, Store, MakeFixedArray, HeapAllocCells, Jump, Return, Unreachable}
+use Rattle.mir.specs.Syntax.{Index, Field, InstructionKind, Call, Load, Store, Debug, MakeFixedArray, HeapAllocCells, Jump, Return, Unreachable}
 use Rattle.mir.specs.Syntax as S
 use Rattle.mir.specs.Routine.{Routine}
 use Rattle.mir.specs.Lookup.{Types, rowOf}
@@ -205,7 +205,7 @@ unfoldable pub long : Option ℕ → B.Bool
 long none = false
 long (some n) = ltb 2 n
 
--- a machine that holds no more
+-- a machine that holds no more, and does not record Debug
 unfoldable pub cramped : Meaning ℕ
 cramped =
     record {
@@ -251,3 +251,10 @@ large-held = refl
 pub small-build : Runs cramped (routine [] (recorded (5 ∷ [])) (block (MakeFixedArray (val 0) (integer 1 ∷ integer 2 ∷ []) (typ 0) false ∷ []) (Return (op 0 ∷ [])) ∷ [])) [] 1 (returned (vals (pair 1 2 ∷ [])) ∷ []) (ended atReturn)
 unfolding computes cramped long
 small-build = refl
+
+-- ---- of a machine that does not record Debug, it does nothing: it does not even read
+
+pub unrecorded : Runs cramped (routine (val 0 ∷ []) (recorded (0 ∷ 0 ∷ [])) (block (Debug 4 (op 0 ∷ op 1 ∷ Value.Error ∷ []) ∷ []) (Return (op 0 ∷ [])) ∷ [])) (scalar 10 ∷ []) 1
+    (returned (vals (scalar 10 ∷ [])) ∷ []) (ended atReturn)
+unfolding computes cramped long
+unrecorded = refl

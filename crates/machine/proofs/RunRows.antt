@@ -1,4 +1,4 @@
--- Document 01 on runs, sentence by sentence, by computation: AssertEq, phis, ends, operations, Debug, the record and the standing.
+-- Documents 01 and 02 on runs, sentence by sentence, by computation: AssertEq, phis, ends, operations, Debug, the record and the standing.
 use Prim.Native.Nat.{ℕ, zero, suc}
 use mathlib.Core.Path.{_≡_, refl}
 use mathlib.Core.Option.{Option, none, some}
@@ -122,7 +122,7 @@ unreachable = refl
 -- ---- "Scalar operations have any fixed meaning"
 
 -- a machine that answers with what it is asked: a literal, its number and the kind of the type where it stands; an operation, its number, the kind of its dest's type
--- and its operands. Operation 0 fails with a cause of its own, operation 1 asks for a reply; comparison 0 balks. It records Debug
+-- and its operands. Operation 0 fails with a cause of its own, operation 1 asks for a reply; comparison 0 balks
 unfoldable pub answerOf : ℕ → Val ℕ → Operated ℕ
 answerOf zero y = fails 7
 answerOf (suc zero) y = asks
@@ -286,19 +286,40 @@ pub boolean-no-index : (indexedBy (integer 1) ≡ record { recorded = returned (
 unfolding machine tokens tokenOf tokenIndex
 boolean-no-index = (refl, refl)
 
--- ---- "Debug and Nop do nothing": Debug does not even read
+-- ---- Nop does nothing
 
-pub does-nothing : Goes (block (Debug 4 (op 0 ∷ op 2 ∷ Value.Error ∷ []) ∷ Nop ∷ []) (Return (op 0 ∷ [])) ∷ []) 1 (returned (vals (scalar 10 ∷ [])) ∷ []) (ended atReturn)
+pub does-nothing : Goes (block (Nop ∷ []) (Return (op 0 ∷ [])) ∷ []) 1 (returned (vals (scalar 10 ∷ [])) ∷ []) (ended atReturn)
 unfolding computes
 does-nothing = refl
 
--- where the machine records Debug, it reads: its message and its values, at no type
-abbrev Prints : List Value → List (Event ℕ) → Standing → Type 0
-Prints xs es s = Runs echo (routine (val 0 ∷ []) (recorded (0 ∷ 0 ∷ [])) (block (Debug 4 xs ∷ []) Unreachable ∷ [])) (scalar 10 ∷ []) 1 es s
+-- ---- "Debug becomes a recorded event of the machine with its message and values" (document 02)
 
-pub prints : Prints (op 0 ∷ integer 5 ∷ []) (printed 4 (vals (scalar 10 ∷ pair 5 99 ∷ [])) ∷ []) (ended atUnreachable) × Prints (op 1 ∷ []) [] (stopped unwritten)
-unfolding echoes
+-- a block that prints values of which 0, a Felt, and 1, a pair, are given and 2 is not written
+abbrev Prints : Meaning ℕ → List Value → List (Event ℕ) → Standing → Type 0
+Prints M xs es s =
+    Runs M (routine (val 0 ∷ val 1 ∷ []) (recorded (0 ∷ 5 ∷ 0 ∷ [])) (block (Debug 4 xs ∷ []) Unreachable ∷ [])) (scalar 10 ∷ pair 7 8 ∷ []) 1 es s
+
+-- its values in their order, an aggregate whole; of none too
+pub prints : Prints numbers (op 1 ∷ op 0 ∷ op 0 ∷ []) (printed 4 (vals (pair 7 8 ∷ scalar 10 ∷ scalar 10 ∷ [])) ∷ []) (ended atUnreachable)
+    × Prints numbers [] (printed 4 (vals []) ∷ []) (ended atUnreachable)
+unfolding computes
 prints = (refl, refl)
+
+-- a literal stands at no type
+pub prints-literal : Prints echo (integer 5 ∷ op 0 ∷ []) (printed 4 (vals (pair 5 99 ∷ scalar 10 ∷ [])) ∷ []) (ended atUnreachable)
+unfolding echoes
+prints-literal = refl
+
+-- it reads first: an unwritten value stops the run, and so does Error; then nothing of it is recorded
+pub prints-unwritten : Prints numbers (op 0 ∷ op 2 ∷ []) [] (stopped unwritten) × Prints numbers (op 0 ∷ Value.Error ∷ []) [] (stopped unwritten)
+unfolding computes
+prints-unwritten = (refl, refl)
+
+-- it stands in the record where it is met
+pub prints-in-turn : Goes (block (AssertEq (op 0) (op 0) ∷ Debug 4 (op 1 ∷ []) ∷ []) (Jump (blk 1)) ∷ block (Debug 5 (op 0 ∷ []) ∷ []) (Return (op 1 ∷ [])) ∷ []) 2
+    (asserted (scalar 10) (scalar 10) ∷ printed 4 (vals (scalar 11 ∷ [])) ∷ printed 5 (vals (scalar 10 ∷ [])) ∷ returned (vals (scalar 11 ∷ [])) ∷ []) (ended atReturn)
+unfolding computes
+prints-in-turn = refl
 
 -- ---- "A run starts at the entry block with nothing written but the parameters; each block takes over the values that the last one left"
 

@@ -1,5 +1,5 @@
--- Document 01's own machine: a literal is what it is at every type, an operation gives a value, no aggregate is too large,
--- Debug does nothing, and a value is of a type as document 01 says ("Error, Unknown and no type have none").
+-- Document 01's own machine, with document 02's Debug: a literal is what it is at every type, an operation gives a value, no aggregate
+-- is too large, Debug is recorded, and a value is of a type as document 01 says ("Error, Unknown and no type have none").
 use Prim.Native.Nat.{ℕ, zero, suc}
 use mathlib.Core.Path.{_≡_}
 use mathlib.Core.Option.{Option, none, some}
@@ -65,7 +65,7 @@ unfoldable pub takeFirst : {A : Type 0} → (Val A → B.Bool) → List (Val A) 
 takeFirst is [] = exhausted
 takeFirst is (y ∷ w) = cond (is y) (took y w) refuses
 
--- the machine of document 01, for any operations
+-- the machine of document 01, for any operations; "Debug becomes a recorded event of the machine" (document 02)
 abbrev pub document01 : {A : Type 0} → Operations A → Meaning A
 document01 O =
     record {
@@ -80,5 +80,5 @@ document01 O =
       literal-position = O .literal-position;
       take = λ rows t w. takeFirst (λ y. isOf (O .has) (onRows rows) y t) w;
       large = λ rows t. false;
-      debug = false;
+      debug = true;
     }

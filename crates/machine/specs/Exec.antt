@@ -64,7 +64,8 @@ module _ {A : Type 0} (M : Meaning A) (τ : Types) where
   inserted d x o y w = need missing o (λ k. need missing (withPart x k y) (λ z. goes ((d, z) ∷ []) w []))
 
   -- "Assign, Make, Insert, Extract, Phi and a Load from an aggregate base copy; a Store into an aggregate base changes that
-  -- value's part"; "Debug and Nop do nothing" (Debug under the flag). A Phi behind another kind is refusal 7.
+  -- value's part"; Nop does nothing; Debug is "a recorded event of the machine with its message and values", which it reads first, or,
+  -- of a machine that does not record it, nothing. A Phi behind another kind is refusal 7.
   unfoldable pub exec : InstructionKind → Env A → List (Val A) → Out A
   exec (Assign d x t) E w = need unwritten (eval M E (rowOf τ (some t)) x) (λ y. goes ((d, y) ∷ []) w [])
   exec (UnaryOp op d x) E w = need unwritten (eval M E none x) (λ y. answered d w (M .unary op (valueRow τ d) y))

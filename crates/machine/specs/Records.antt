@@ -16,7 +16,8 @@ pub data Step (A : Type 0) : Type 0 where
   tuple : ℕ → Step A
 
 -- "Call, HeapAllocCells, and Load or Store on a Pointer base are outside events: their kind, callee, place steps and values
--- are recorded"; "AssertEq is recorded"; "Return records its values"; Debug under the flag
+-- are recorded"; "AssertEq is recorded"; "Return records its values"; "Debug becomes a recorded event .. with its message and values"
+-- (document 02)
 pub data Event (A : Type 0) : Type 0 where
   called : ℕ → Vals A → Event A
   allocated : Val A → Event A

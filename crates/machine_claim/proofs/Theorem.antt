@@ -21,18 +21,19 @@ use Rattle.rewrite.specs.Outcome.{Outcome, fittedIn, rewritten, ofInput, outcom
 use Rattle.rewrite_laws.proofs.Whole.{output-decodes}
 use Rattle.shelf.specs.Reason.{shelfReason}
 use Rattle.shelf.specs.Answer.{Answer, refused, lowered, reasonOf, withReason, answer}
+use Rattle.shelf.proofs.Flag.{answered-under}
 use Rattle.machine.specs.Meaning.{Meaning}
 use Rattle.machine.specs.Document.{Operations, document01}
 use Rattle.machine_simulation.specs.Statement.{RunsAlike}
 use Rattle.machine_simulation.proofs.Theorem.{pass-simulates}
-use Rattle.machine_claim.specs.Claim.{Silent, CannotTell}
+use Rattle.machine_claim.specs.Claim.{CannotTell}
 use Rattle.machine_claim.proofs.Facts.{static}
 
 -- ---- what a lowered answer says
 
 -- the routine behind it, its rewriting's bytes, which have room, and its reason
 data From (σ : Settings) (room : ℕ) (p : Parse Routine) (k : ℕ) (bytes : List ℕ) : Type 0 where
-  from : (r : Routine) (n : ℕ) → p ≡ ok r n → bytes ≡ encode (rewrite σ r) → length bytes ≤ room → k ≡ shelfReason false r (rewrittenBlocks σ r) → From σ room p k bytes
+  from : (r : Routine) (n : ℕ) → p ≡ ok r n → bytes ≡ encode (rewrite σ r) → length bytes ≤ room → k ≡ reasonOf σ (ok r n) → From σ room p k bytes
 
 no-refusal : {n o : ℕ} {w : Bool} {c : Counts} {k : ℕ} {bytes : List ℕ} → Answer.refused n o ≡ Answer.lowered w c k bytes → ⊥
 no-refusal {n} {o} {w} {c} {k} {bytes} e = let z : _≡_ {A = ℕ} 0 1 = cc in omega arith
@@ -51,7 +52,7 @@ of-input : (σ : Settings) (room : ℕ) (p : Parse Routine) (w : Bool) (c : Coun
 unfolding reasonOf ofInput rewritten rewrite withReason
 of-input σ room (bad q o) w c k bytes h = absurd (no-refusal h)
 of-input σ room (ok r n) w c k bytes h =
-    let z = of-clash room (rewrittenBlocks σ r) r ((rewrittenBlocks σ r) .clash) w c k (shelfReason false r (rewrittenBlocks σ r)) bytes h in
+    let z = of-clash room (rewrittenBlocks σ r) r ((rewrittenBlocks σ r) .clash) w c k (reasonOf σ (ok r n)) bytes h in
     From.from r n refl (z .0) (z .1) (z .2)
 
 of-settings : (σ : Settings) (room : ℕ) (p : Parse Routine) (x w : Bool) (c : Counts) (k : ℕ) (bytes : List ℕ) → withReason (reasonOf σ p) (cond x (Outcome.refused 12 0) (ofInput σ room p)) ≡ Answer.lowered w c k bytes → From σ room p k bytes
@@ -74,16 +75,16 @@ pub shelved-alike : {A : Type 0} (M : Meaning A) (σ : Settings) (r : Routine) �
 unfolding rewrittenBlocks
 shelved-alike M σ r h e = pass-simulates M σ r (static mosts (M .debug) σ (choice σ r) r h e)
 
--- of bytes, whose reason leaves Debug aside: for every meaning that does not record Debug, settings, room and bytes
-pub indistinguishable : {A : Type 0} (M : Meaning A) → Silent M → CannotTell M
+-- of bytes: for every meaning, whether it records Debug or not, settings, room and bytes
+pub indistinguishable : {A : Type 0} (M : Meaning A) → CannotTell M
 unfolding RunsAlike rewrite rewrittenBy rewrittenBlocks
-indistinguishable M d σ room s w c k bytes b h q =
+indistinguishable M σ room s w c k bytes b h q =
     elim (of-answer σ room s w c k bytes h) [
       | from r n e f l g ↦
           let z : n ≡ length s = whole-canon mosts s b e .1 in
           let ok-all : wholeOf mosts s ≡ ok r (length s) = e ∙ ap (λ q. ok r q) z in
           let fit = whole-fit mosts s mosts-wide b e in
-          let runs = shelved-alike M σ r fit (ap (λ x. shelfReason x r (rewrittenBlocks σ r)) d ∙ sym g ∙ q) in
+          let runs = shelved-alike M σ r fit (answered-under (M .debug) σ r n (sym g ∙ q)) in
           record {
             original = r;
             rewritten = rewrite σ r;
@@ -96,4 +97,4 @@ indistinguishable M d σ room s w c k bytes b h q =
 
 -- on document 01's own machine, with any operations
 pub cannot-tell : {A : Type 0} (O : Operations A) → CannotTell (document01 O)
-cannot-tell O = indistinguishable (document01 O) refl
+cannot-tell O = indistinguishable (document01 O)

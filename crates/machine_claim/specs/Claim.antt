@@ -2,7 +2,7 @@
 use Prim.Native.Nat.{ℕ}
 use mathlib.Core.Path.{_≡_}
 use mathlib.Core.List.{List}
-use mathlib.Core.Bool.{Bool, false}
+use mathlib.Core.Bool.{Bool}
 use lib.ListN.{length}
 use Rattle.bytes_wire.specs.Parse.{ok}
 use Rattle.bytes_wire.specs.WellFormed.{Bytes}
@@ -20,7 +20,7 @@ use Rattle.machine_simulation.specs.Statement.{Fine}
 -- of the routine that the input's bytes are and of the routine that the output's bytes are: for every outside list and
 -- every n, where the original gets through n blocks without stopping at an unwritten value, a missing part or an aggregate too
 -- large for the machine (document 01's has none), both runs have the same record and standing, and so the rewritten one has
--- not stopped so either
+-- not stopped so either. "What a reader cannot tell apart includes the Debug record" (document 02)
 pub record Indistinguishable {A : Type 0} (M : Meaning A) (input output : List ℕ) : Type 0 where
   pub original : Routine
   pub rewritten : Routine
@@ -28,10 +28,6 @@ pub record Indistinguishable {A : Type 0} (M : Meaning A) (input output : List �
   pub filed : wholeOf lifted output ≡ ok rewritten (length output)
   pub same : (w : List (Val A)) (n : ℕ) → Fine (run M original w n) → run M original w n ≡ run M rewritten w n
   pub fine : (w : List (Val A)) (n : ℕ) → Fine (run M original w n) → Fine (run M rewritten w n)
-
--- "Debug and Nop do nothing": of a machine that records Debug, shelf reason 0, which leaves Debug aside, says nothing
-abbrev pub Silent : {A : Type 0} → Meaning A → Type 0
-Silent M = M .debug ≡ false
 
 -- "a routine with shelf reason 0": of every call that lowered its input, whatever the settings and the room
 abbrev pub CannotTell : {A : Type 0} → Meaning A → Type 0

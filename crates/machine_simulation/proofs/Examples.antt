@@ -5,13 +5,14 @@ use mathlib.Core.Bool.{true, false}
 use mathlib.Core.Option.{some}
 use mathlib.Core.List.{[], _∷_}
 use Rattle.bytes_wire.specs.Value.{integer}
+use Rattle.mir.specs.declared.Value.{Value}
 use Rattle.mir.specs.MirType.{MirType}
 use Rattle.mir.specs.Syntax.{Projection, InstructionKind, Terminator}
 use Rattle.mir.specs.Routine.{Routine}
 use Rattle.bytes_sections.proofs.Examples.{example}
 use Rattle.rewrite.specs.Run.{Choice, choice, rewrite}
-use Rattle.machine.specs.Values.{scalar, ends, then}
-use Rattle.machine.specs.Records.{called, returned, ended, atReturn, stopped, unwritten, tooLarge, Trace}
+use Rattle.machine.specs.Values.{Val, scalar, aggregate, ends, then}
+use Rattle.machine.specs.Records.{called, printed, returned, ended, atReturn, stopped, unwritten, tooLarge, Trace}
 use Rattle.machine.specs.Run.{run}
 use Rattle.fold.specs.Scalarizable.{defaults}
 use Rattle.machine.proofs.OutsideRows.{long, cramped}
@@ -30,8 +31,8 @@ pub example-same : run numbers example [] 1 ≡ run numbers (rewrite defaults ex
 unfolding everything
 example-same = refl
 
--- it has the static facts, so the theorem is of it, for every meaning that does not record Debug
-pub example-static : Static false defaults (choice defaults example) example
+-- it has the static facts with Debug counted, so the theorem is of it, for every meaning that records Debug
+pub example-static : Static true defaults (choice defaults example) example
 unfolding shelf
 example-static = record { recorded = refl; parameters = tt; below = tt; belowEnds = tt; fields = tt; once = tt; phisFirst = tt; typed = tt; ordered = tt; apart = tt; shallow = tt; clean = tt; cleanEnds = tt }
 
@@ -106,7 +107,7 @@ pub mixed-rewritten : run numbers (rewritten defaults all mixed) (scalar 3 ∷ s
 unfolding everything
 mixed-rewritten = refl
 
-pub mixed-static : Static false defaults all mixed
+pub mixed-static : Static true defaults all mixed
 unfolding shelf
 mixed-static = record { recorded = refl; parameters = tt; below = tt; belowEnds = tt; fields = tt; once = tt; phisFirst = tt; typed = tt; ordered = tt; apart = tt; shallow = tt; clean = tt; cleanEnds = tt }
 
@@ -124,7 +125,7 @@ unwrittenPart =
       blocks = record { instructions = ins (InstructionKind.MakeTuple (val 1) (op 0 ∷ [])) ∷ []; terminator = Terminator.Return [] } ∷ [];
     }
 
-pub unwritten-static : Static false defaults (choice defaults unwrittenPart) unwrittenPart
+pub unwritten-static : Static true defaults (choice defaults unwrittenPart) unwrittenPart
 unfolding shelf
 unwritten-static = record { recorded = refl; parameters = tt; below = tt; belowEnds = tt; fields = tt; once = tt; phisFirst = tt; typed = tt; ordered = tt; apart = tt; shallow = tt; clean = tt; cleanEnds = tt }
 
@@ -160,3 +161,41 @@ large-original = refl
 pub large-rewritten : run cramped (rewrite defaults largeBuild) [] 1 ≡ record { recorded = returned ends ∷ []; standing = ended atReturn }
 unfolding everything cramped long
 large-rewritten = refl
+
+-- ---- "What a reader cannot tell apart includes the Debug record" (document 02)
+
+-- a tuple of 7, its part 0, and a Debug
+abbrev pub printing : Value → Routine
+printing x =
+    record {
+      types = MirType.Felt ∷ MirType.Tuple (typ 0 ∷ []) ∷ [];
+      next = 2;
+      entry = record { 0 = 0 };
+      parameters = [];
+      recorded = some (typ 1) ∷ some (typ 0) ∷ [];
+      blocks =
+          record {
+            instructions =
+                ins (InstructionKind.MakeTuple (val 0) (integer 7 ∷ []))
+                ∷ ins (InstructionKind.ExtractTupleElement (val 1) (op 0) 0 (typ 0))
+                ∷ ins (InstructionKind.Debug 4 (x ∷ integer 9 ∷ []))
+                ∷ [];
+            terminator = Terminator.Return [];
+          }
+          ∷ [];
+    }
+
+-- what it prints first is x
+abbrev printedFirst : Val ℕ → Trace ℕ
+printedFirst x = record { recorded = printed 4 (then x (then (scalar 9) ends)) ∷ returned ends ∷ []; standing = ended atReturn }
+
+-- of the part, both print it
+pub part-printed : (run numbers (printing (op 1)) [] 1 ≡ printedFirst (scalar 7)) × (run numbers (rewrite defaults (printing (op 1))) [] 1 ≡ printedFirst (scalar 7))
+unfolding everything
+part-printed = (refl, refl)
+
+-- of the tuple, whose build is left out, only the original does: shelf reason 5 is needed for Debug too
+pub dropped-printed : (run numbers (printing (op 0)) [] 1 ≡ printedFirst (aggregate (then (scalar 7) ends)))
+    × (run numbers (rewrite defaults (printing (op 0))) [] 1 ≡ record { recorded = []; standing = stopped unwritten })
+unfolding everything
+dropped-printed = (refl, refl)

@@ -260,6 +260,6 @@ rust-choice σ r = refl
 pub pass-simulates : {A : Type 0} (M : Meaning A) (σ : Settings) (r : Routine) → Static (M .debug) σ (choice σ r) r → RunsAlike M r (rewrite σ r)
 pass-simulates M σ r s = rw (rust-choice σ r) at (runs-alike M σ (choice σ r) r s)
 
--- the pass, on document 01's own machine: any operations, Debug not recorded
-pub document-simulates : {A : Type 0} (O : Operations A) (σ : Settings) (r : Routine) → Static false σ (choice σ r) r → RunsAlike (document01 O) r (rewrite σ r)
+-- the pass, on document 01's own machine: any operations, Debug recorded
+pub document-simulates : {A : Type 0} (O : Operations A) (σ : Settings) (r : Routine) → Static true σ (choice σ r) r → RunsAlike (document01 O) r (rewrite σ r)
 document-simulates O σ r s = pass-simulates (document01 O) σ r s

@@ -2,7 +2,7 @@
 use Prim.Native.Nat.{ℕ}
 use mathlib.Core.Path.{_≡_, refl, ap, _∙_}
 use mathlib.Core.List.{List}
-use mathlib.Core.Bool.{Bool, false}
+use mathlib.Core.Bool.{Bool}
 use lib.ListN.{length, take}
 use lib.Seq.{sets}
 use Rattle.bytes_wire.specs.WellFormed.{Bytes}
@@ -28,11 +28,11 @@ stands : (σ : Settings) (s out out′ : List ℕ) (w : Bool) (c : Counts) (k : 
 stands σ s out out′ w c k bytes e f = ap (take (length bytes)) (f ∙ ap (λ o. leaves o out) e) ∙ take-sets bytes out (with-room σ (length out) s w c k bytes e)
 
 -- demand 3, for scalars of any type
-unseen : {A : Type 0} (σ : Settings) (s out out′ : List ℕ) → Bytes s → out′ ≡ leaves (given σ (length out) s) out → (w : Bool) (c : Counts) (bytes : List ℕ) → given σ (length out) s ≡ lowered w c 0 bytes → (M : Meaning A) → M .debug ≡ false → Indistinguishable M s (take (length bytes) out′)
-unseen σ s out out′ b f w c bytes e M d = rw (stands σ s out out′ w c 0 bytes e f) (indistinguishable M d σ (length out) s w c 0 bytes b e refl)
+unseen : {A : Type 0} (σ : Settings) (s out out′ : List ℕ) → Bytes s → out′ ≡ leaves (given σ (length out) s) out → (w : Bool) (c : Counts) (bytes : List ℕ) → given σ (length out) s ≡ lowered w c 0 bytes → (M : Meaning A) → Indistinguishable M s (take (length bytes) out′)
+unseen σ s out out′ b f w c bytes e M = rw (stands σ s out out′ w c 0 bytes e f) (indistinguishable M σ (length out) s w c 0 bytes b e refl)
 
 -- so it follows from what the entries promise
-pub for-every-meaning : {A : Type 0} {σ : Settings} {input out out′ numbers numbers′ : List ℕ} → Bytes input → Lowers σ input out out′ numbers numbers′ → (w : Bool) (c : Counts) (bytes : List ℕ) → given σ (length out) input ≡ lowered w c 0 bytes → (M : Meaning A) → M .debug ≡ false → Indistinguishable M input (take (length bytes) out′)
+pub for-every-meaning : {A : Type 0} {σ : Settings} {input out out′ numbers numbers′ : List ℕ} → Bytes input → Lowers σ input out out′ numbers numbers′ → (w : Bool) (c : Counts) (bytes : List ℕ) → given σ (length out) input ≡ lowered w c 0 bytes → (M : Meaning A) → Indistinguishable M input (take (length bytes) out′)
 for-every-meaning {A} {σ} {input} {out} {out′} b h = unseen σ input out out′ b (h .left)
 
 -- the answer's numbers are those that are given

@@ -2,7 +2,7 @@
 use Prim.Native.Nat.{ℕ}
 use mathlib.Core.Path.{_≡_}
 use mathlib.Core.List.{List}
-use mathlib.Core.Bool.{Bool, false}
+use mathlib.Core.Bool.{Bool}
 use lib.ListN.{length, take}
 use lib.Seq.{sets}
 use Rattle.fold.specs.declared.Settings.{Settings}
@@ -16,14 +16,14 @@ use Rattle.pass_answers.specs.Totals.{totalsAfter}
 use Rattle.machine.specs.Meaning.{Meaning}
 use Rattle.machine_claim.specs.Claim.{Indistinguishable}
 
--- demand 3: with shelf reason 0, whoever runs what now stands in the output cannot tell it from the input. Scalars are numbered here, since
+-- demand 3: with shelf reason 0, whoever runs what now stands in the output cannot tell it from the input, by the Debug record either; the
+-- meaning is any, one that records Debug or one that does not. Scalars are numbered here, since
 -- a contract speaks of no collection of all types; `for-every-meaning` (proofs/Entry.antt) has scalars of any type
 abbrev pub Unseen : Settings → List ℕ → List ℕ → List ℕ → Type 0
 Unseen σ input out out′ =
     (w : Bool) (c : Counts) (bytes : List ℕ)
     → answer σ (length out) input ≡ lowered w c 0 bytes
     → (M : Meaning ℕ)
-    → M .debug ≡ false
     → Indistinguishable M input (take (length bytes) out′)
 
 -- a call for any caller: of the input, of the output before and after it, and of the caller's numbers before and after it

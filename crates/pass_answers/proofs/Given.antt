@@ -2,7 +2,7 @@
 use Prim.Native.Nat.{ℕ, _≤_, _<_}
 use mathlib.Core.Path.{_≡_, refl}
 use mathlib.Core.List.{List}
-use mathlib.Core.Bool.{Bool, false}
+use mathlib.Core.Bool.{Bool}
 use lib.ListN.{length}
 use Rattle.bytes_wire.specs.Parse.{ok, bad, numberOfCause}
 use Rattle.bytes_wire.specs.declared.Cause.{Cause}
@@ -14,6 +14,7 @@ use Rattle.rewrite.specs.Run.{rewrittenBlocks}
 use Rattle.rewrite.specs.Outcome.{outcome}
 use Rattle.rewrite.specs.Outcome as O
 use Rattle.rewrite.proofs.Outcomes.{too-large, refused-input}
+use Rattle.shelf.specs.Reads.{withDebug}
 use Rattle.shelf.specs.Reason.{shelfReason}
 use Rattle.shelf.specs.Answer.{refused, lowered, reasonOf, withReason, answer as given}
 use Rattle.pass_numbers.proofs.Laws.{given-refused}
@@ -21,7 +22,7 @@ use Rattle.pass_answers.specs.declared.Answer.{Answer}
 use Rattle.pass_answers.specs.Numbers.{Answers}
 use Rattle.pass_answers.proofs.Laws.{answers}
 
-pub given-lowered : (σ : Settings) (room : ℕ) (s : List ℕ) (x : Routine) (n k : ℕ) (w : Bool) (c : Counts) (bytes : List ℕ) → wholeOf mosts s ≡ ok x n → k ≡ shelfReason false x (rewrittenBlocks σ x) → outcome σ room s ≡ O.lowered w c bytes → given σ room s ≡ lowered w c k bytes
+pub given-lowered : (σ : Settings) (room : ℕ) (s : List ℕ) (x : Routine) (n k : ℕ) (w : Bool) (c : Counts) (bytes : List ℕ) → wholeOf mosts s ≡ ok x n → k ≡ shelfReason withDebug x (rewrittenBlocks σ x) → outcome σ room s ≡ O.lowered w c bytes → given σ room s ≡ lowered w c k bytes
 unfolding given withReason reasonOf
 given-lowered σ room s x n k w c bytes e f g = rw (e, g, f)
 

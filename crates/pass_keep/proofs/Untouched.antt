@@ -74,9 +74,9 @@ module _ {σ : Settings} {s facts : List ℕ} {b : Bounds} (u : Unchanged σ s f
   none-dropped v = ap (λ (w : Rewritten). among v (w .dropped)) untouched
 
   -- where it has room
-  pub same-written : length s ≤ length out → (k : ShelfReason) → numberOfReason k ≡ inputReason false x → (r : Answer) → asAnswer r ≡ acceptance false noCounts (numberOfReason k) (length s) → (out′ : List ℕ) → out′ ≡ sets out 0 s → Answers (given σ (length out) s) r out out′
+  pub same-written : length s ≤ length out → (k : ShelfReason) → numberOfReason k ≡ inputReason x → (r : Answer) → asAnswer r ≡ acceptance false noCounts (numberOfReason k) (length s) → (out′ : List ℕ) → out′ ≡ sets out 0 s → Answers (given σ (length out) s) r out out′
   same-written l k ek r er out′ eo =
       let e : encode x ≡ s = canon (u .accepted) in
       answers _ (lowered false noCounts (numberOfReason k) (encode x)) r out out′
-      (given-lowered σ (length out) s x (u .accepted .used) (numberOfReason k) false noCounts (encode x) (u .accepted .reads) (reason-undropped false x (rewrittenBlocks σ x) (numberOfReason k) ek none-dropped) (accepted-unchanged σ (length out) s (u .small) x (u .accepted .used) (u .accepted .reads) (u .still) (rw e l)))
+      (given-lowered σ (length out) s x (u .accepted .used) (numberOfReason k) false noCounts (encode x) (u .accepted .reads) (reason-undropped x (rewrittenBlocks σ x) (numberOfReason k) ek none-dropped) (accepted-unchanged σ (length out) s (u .small) x (u .accepted .used) (u .accepted .reads) (u .still) (rw e l)))
       (rw e er) (rw e eo)

@@ -30,6 +30,7 @@ use Rattle.rewrite_progress.specs.declared.Put.{Put}
 use Rattle.rewrite_progress.proofs.Laws.{numbers-length}
 use Rattle.rewrite_head.specs.Head.{headBytes, Tabled}
 use Rattle.rewrite_opening.specs.Opens.{Opens}
+use Rattle.shelf.specs.Reads.{withDebug}
 use Rattle.shelf.specs.Reason.{shelfReason}
 use Rattle.shelf.specs.Answer.{refused, lowered, answer as given}
 use Rattle.shelf_test.specs.declared.ShelfReason.{ShelfReason}
@@ -147,7 +148,7 @@ module _ {σ : Settings} {s facts : List ℕ} {b : Bounds} {flags : List Bool} {
           let z : sets out 0 (head ++ bodyOf w) ≡ sets (sets out 0 head) (0 + length head) (bodyOf w) = sets-append out 0 head (bodyOf w) in
           g ∙ ap (λ k. sets out₁ k (bodyOf w)) (h .0) ∙ ap (λ t. sets t (0 + length head) (bodyOf w)) (h .1) ∙ sym z
 
-      pub answers-written : (k : ShelfReason) (r : Answer) → numberOfReason k ≡ shelfReason false x w → asAnswer r ≡ acceptance (not (eqb (p .counts .builds) 0)) (p .counts) (numberOfReason k) (to + p .to) → Answers (given σ (length out) s) r out out₂
+      pub answers-written : (k : ShelfReason) (r : Answer) → numberOfReason k ≡ shelfReason withDebug x w → asAnswer r ≡ acceptance (not (eqb (p .counts .builds) 0)) (p .counts) (numberOfReason k) (to + p .to) → Answers (given σ (length out) s) r out out₂
       answers-written k r f z =
           let i : to + p .to ≡ length (encode (rewrite σ x)) = omega (arith, whole-length, begun .place, h .0) in
           let j : out₂ ≡ sets out 0 (encode (rewrite σ x)) = written-all ∙ ap (sets out 0) (sym (rewritten-bytes σ x)) in

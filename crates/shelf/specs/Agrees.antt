@@ -140,7 +140,7 @@ endAgrees τ (BranchCmp op x y a b) = isScalar τ x && isScalar τ y
 endAgrees τ (Return xs) = every (isKnown τ) xs
 endAgrees τ Unreachable = true
 
--- the same of an instruction that counts: "Debug's aside"; with the flag, Debug's too
+-- the same of an instruction that counts, Debug only under the flag
 unfoldable pub countedAgrees : B.Bool → Types → InstructionKind → B.Bool
 countedAgrees debug τ i = cond (counted debug i) (agrees τ i) true
 

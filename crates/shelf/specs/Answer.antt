@@ -1,7 +1,7 @@
 -- What a call gives, the shelf reason too: demand 1 whole.
 use Prim.Native.Nat.{ℕ}
 use mathlib.Core.List.{List}
-use mathlib.Core.Bool.{Bool, false}
+use mathlib.Core.Bool.{Bool}
 use Rattle.bytes_wire.specs.Parse.{Parse, ok, bad}
 use Rattle.mir.specs.Routine.{Routine}
 use Rattle.bytes_sections.specs.Decode.{mosts, wholeOf}
@@ -9,6 +9,7 @@ use Rattle.fold.specs.declared.Settings.{Settings}
 use Rattle.rewrite.specs.declared.Counts.{Counts}
 use Rattle.rewrite.specs.Run.{rewrittenBlocks}
 use Rattle.rewrite.specs.Outcome.{Outcome, outcome}
+use Rattle.shelf.specs.Reads.{withDebug}
 use Rattle.shelf.specs.Reason.{shelfReason}
 
 -- a refusal's number and offset, or the result, the counts, the shelf reason and the bytes of the rewritten routine
@@ -16,9 +17,9 @@ pub data Answer : Type 0 where
   refused : ℕ → ℕ → Answer
   lowered : Bool → Counts → ℕ → List ℕ → Answer
 
--- the reason of the routine that the input is, Debug aside
+-- the reason of the routine that the input is; Debug's values count (document 02)
 unfoldable pub reasonOf : Settings → Parse Routine → ℕ
-reasonOf σ (ok r n) = shelfReason false r (rewrittenBlocks σ r)
+reasonOf σ (ok r n) = shelfReason withDebug r (rewrittenBlocks σ r)
 reasonOf σ (bad c o) = 0
 
 unfoldable pub withReason : ℕ → Outcome → Answer

@@ -12,6 +12,10 @@ use Rattle.mir.specs.Lookup.{Types, valueRow, isAggregate}
 use Rattle.mir.specs.Phis.{behindPhis}
 use Rattle.shelf.specs.Lists.{every, among}
 
+-- the flag that a call answers by: Debug's "values, Error too, count like any other instruction's" (document 02)
+abbrev pub withDebug : B.Bool
+withDebug = true
+
 -- the values that an instruction reads, Debug's only under the flag
 abbrev pub countedReads : B.Bool → InstructionKind → List ValueId
 countedReads debug i = cond (counted debug i) (reads i) []
@@ -21,7 +25,7 @@ unfoldable pub definedIn : List Instruction → List ValueId
 definedIn [] = []
 definedIn (i ∷ is) = dests (i .kind) ++ definedIn is
 
--- "A block reads a value that it defines there or later, phis and Debug aside" (reason 2; with the flag, Debug too)
+-- "A block reads a value that it defines there or later" (reason 2)
 unfoldable pub ordered : B.Bool → List Instruction → B.Bool
 ordered debug [] = true
 ordered debug (i ∷ is) = every (λ v. not (among (v .0) (definedIn (i ∷ is)))) (countedReads debug (i .kind)) && ordered debug is
@@ -96,7 +100,7 @@ shallow dropped (MakeFixedArray d xs t c) = true
 shallow dropped (AssertEq x y) = true
 shallow dropped (HeapAllocCells d x) = true
 
--- "The output reads a dropped value anywhere but in Debug" (reason 5; with the flag, in Debug too)
+-- "The output reads a dropped value" (reason 5)
 unfoldable pub clean : B.Bool → (ℕ → B.Bool) → List Instruction → B.Bool
 clean debug dropped [] = true
 clean debug dropped (i ∷ is) = every (λ v. not (dropped (v .0))) (countedReads debug (i .kind)) && clean debug dropped is

@@ -1,5 +1,6 @@
--- The shelf test: "Reason 0 is passed; else the lowest that holds". Reasons 1, 2 and 5 take a flag: document 01 leaves Debug aside
--- in them; with the flag, Debug's values count like any other instruction's.
+-- The shelf test: "Reason 0 is passed; else the lowest that holds". Reasons 1, 2 and 5 take a flag: with it Debug's "values, Error
+-- too, count like any other instruction's" (document 02), and that is what a call answers by (`reasonOf`); without it Debug is left
+-- aside (document 01). What passes with it passes without it (proofs/Flag.antt).
 use Prim.Native.Nat.{ℕ}
 use mathlib.Core.List.{List}
 use mathlib.Core.Bool.{Bool, cond, _&&_}
@@ -13,11 +14,11 @@ use Rattle.shelf.specs.Lists.{every, among}
 use Rattle.shelf.specs.Reads.{ordered, bases, apart, shallow, clean, cleanTerminator}
 use Rattle.shelf.specs.Agrees.{blockAgrees}
 
--- 1. "Types disagree", Debug's aside; with the flag, Debug's too. A parameter is defined, so that it has a recorded type
+-- 1. "Types disagree". A parameter is defined, so that it has a recorded type
 unfoldable pub typesAgree : Bool → Routine → Bool
 typesAgree debug r = every (λ v. isSome (recordedType (typesIn r) v)) (r .parameters) && every (blockAgrees debug (typesIn r)) (r .blocks)
 
--- 2. "A block reads a value that it defines there or later, phis and Debug aside"; with the flag, Debug too. Phis stand in front
+-- 2. "A block reads a value that it defines there or later, phis .. aside". Phis stand in front
 unfoldable pub inOrder : Bool → Routine → Bool
 inOrder debug r = every (λ k. ordered debug (behindPhis (k .instructions))) (r .blocks)
 
@@ -29,7 +30,7 @@ keptApart r = every (λ k. apart (λ x. among x (bases (typesIn r) (r .blocks)))
 unfoldable pub noDeepStore : List ValueId → Routine → Bool
 noDeepStore dropped r = every (λ k. every (λ i. shallow (λ x. among x dropped) (i .kind)) (behindPhis (k .instructions))) (r .blocks)
 
--- 5. "The output reads a dropped value anywhere but in Debug"; with the flag, in Debug too
+-- 5. "The output reads a dropped value"
 unfoldable pub readsNoDropped : Bool → List ValueId → List Block → Bool
 readsNoDropped debug dropped ks =
     every (λ k. clean debug (λ x. among x dropped) (k .instructions)) ks && every (λ k. cleanTerminator (λ x. among x dropped) (k .terminator)) ks

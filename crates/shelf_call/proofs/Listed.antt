@@ -1,4 +1,4 @@
--- Call and Phi, field by field.
+-- Call, Phi and Debug, field by field.
 use Prim.Native.Nat.{ℕ, _+_, _*_}
 use mathlib.Core.Path.{_≡_, refl, ap, _∙_, sym}
 use mathlib.Core.List.{List}
@@ -9,16 +9,16 @@ use Rattle.mir.specs.declared.ValueId.{ValueId}
 use Rattle.mir.specs.declared.TypeId.{TypeId}
 use Rattle.mir.specs.declared.Value.{Value}
 use Rattle.mir.specs.Syntax.{Source}
-use Rattle.bytes_field.specs.Decode.{callOf, phiOf}
+use Rattle.bytes_field.specs.Decode.{callOf, phiOf, debugOf}
 use Rattle.bytes_field.specs.declared.Bounds.{Bounds}
 use Rattle.bytes_operands.specs.Fields.{after, valueStep}
 use Rattle.bytes_operands.proofs.Places.{Stand, then, last, fixed, takes-number}
 use Rattle.mir.specs.Lookup.{Types, recordedType}
 use Rattle.shelf.specs.Lists.{every}
 use Rattle.shelf.specs.Fits.{sameType, fits, argumentsFit}
-use Rattle.shelf.specs.Agrees.{agrees, destsFit}
+use Rattle.shelf.specs.Agrees.{agrees, destsFit, isKnown}
 use Rattle.shelf_field.specs.Fields.{IdAt, TypeAt}
-use Rattle.shelf_field.proofs.Standing.{dest-field, type-field}
+use Rattle.shelf_field.proofs.Standing.{dest-field, type-field, long-field}
 use Rattle.shelf_list.specs.Lists.{ValuesAt, SourcesAt, TypesIn, IdsAt}
 use Rattle.shelf_list.proofs.Standing.{values-field, sources-field, types-field, returns-field, dests-field}
 
@@ -27,6 +27,10 @@ module _ (b : Bounds) (t : List ℕ) where
     pub phi-agrees : ((d : ValueId) (y : TypeId) (ss : List Source) → IdAt (b .next) t 0 d → TypeAt (b .types) t 2 y → SourcesAt (b .next) t 5 ss → length ss ≡ getD t 4 0 → r ≡ (sameType (recordedType τ d) (some y) && every (λ s. fits τ (s .value) (some y)) ss)) → Stand t 0 (phiOf b seen) (λ i e. r ≡ agrees τ i)
     unfolding phiOf agrees
     phi-agrees f = then (dest-field b t seen) (λ d u. then (type-field b t) (λ y v. last _ (sources-field b t) (λ ss q. f d y ss u v (q .0) (q .1))))
+
+    pub debug-agrees : ((xs : List Value) → ValuesAt (b .next) t 5 xs → length xs ≡ getD t 4 0 → r ≡ every (isKnown τ) xs) → Stand t 0 (debugOf b seen) (λ i e. r ≡ agrees τ i)
+    unfolding debugOf agrees
+    debug-agrees f = then (long-field b t) (λ m u. last _ (values-field b t) (λ xs q. f xs (q .0) (q .1)))
 
     pub call-agrees : ((ds : List ValueId) (xs : List Value) (ps rs : List TypeId) (at e : ℕ) → at ≡ 1 + 2 * getD t 0 0 + 2
         → e ≡ after (valueStep t 0 0) (getD t at 0) (at + 1) → IdsAt (b .next) t 1 ds → length ds ≡ getD t 0 0 → ValuesAt (b .next) t (at + 1) xs

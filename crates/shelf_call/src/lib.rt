@@ -1,6 +1,8 @@
-// Call and Phi; `t` are the own fields of an instruction.
+// Call, Phi and Debug; `t` are the own fields of an instruction.
 use bytes_field::Bounds;
-ghost use Rattle.bytes_field.specs.Decode.{callOf, phiOf};
+ghost use mathlib.Core.List.{List};
+ghost use Prim.Native.Nat.{ℕ};
+ghost use Rattle.bytes_field.specs.Decode.{callOf, phiOf, debugOf};
 ghost use Rattle.shelf_field.specs.Asked.{Judged};
 
 // Where a Call's dests stand, behind their count; and how long a number of a value or a type, and the callee's, is.
@@ -20,6 +22,11 @@ const TYPE: usize = 2;
 const SOURCES_COUNT: usize = 4;
 
 const SOURCES: usize = 5;
+
+// Where a Debug's values stand, behind its message and their count.
+const SHOWN_COUNT: usize = 4;
+
+const SHOWN: usize = 5;
 
 // A Call has as many arguments as parameter types, each of its type, and its dests have the return types.
 pub fn call(s: &[u8], b: Bounds, types: &[u16], recorded: &[u16], t: &[u8]) -> bool
@@ -47,4 +54,12 @@ pub fn phi(s: &[u8], b: Bounds, types: &[u16], recorded: &[u16], t: &[u8]) -> bo
     let n = bytes_wire::byte_at(t, SOURCES_COUNT);
     let sources = shelf_list::sources_fit(s, b, types, recorded, t, SOURCES, n, y);
     shelf_field::both(dest, sources)
+}
+
+// Each value of a Debug has a recorded type or is a literal.
+pub fn debug(b: Bounds, recorded: &[u16], t: &[u8]) -> bool
+    ensures { λ r. ⌜ ((s types : List ℕ) → Judged debugOf b s types (now (recorded .entry)) (now (t .entry)) r) ⌝ }
+{
+    let n = bytes_wire::byte_at(t, SHOWN_COUNT);
+    shelf_list::all_known(b, recorded, t, SHOWN, n)
 }

@@ -1,4 +1,4 @@
--- Every definition on the way of a rewriting, of its bytes and of a shelf reason, opened for computation.
+-- Every definition on the way of a rewriting, of its bytes, of a shelf reason and of an answer, opened for computation.
 use Rattle.mir.specs.Parts.{fieldType, partType, partCount, counts, operandRow, isPointer}
 use Rattle.shelf.specs.Fits.{literalKind, scalarKind, sameType, fits, allFit, partsFit, stepType, placeType, givenFits, fieldsFit, argumentsFit}
 use Rattle.bytes_struct.specs.FindField.{fieldTypeOf}
@@ -10,6 +10,10 @@ use Rattle.bytes_field.specs.Encode.{fieldBytes, instructionBytes, terminatorBy
 use Rattle.bytes_block.specs.Encode.{blockBytes}
 use Rattle.bytes_types.specs.Encode.{typeBytes, typesBytes}
 use Rattle.bytes_sections.specs.Encode.{encode}
+use Rattle.bytes_sections.proofs.Examples.{reading}
+use Rattle.rewrite.specs.Outcome.{fittedIn, rewritten, ofInput, outcome}
+use Rattle.shelf.specs.Answer.{reasonOf, withReason, answer}
+use Rattle.shelf_corners.specs.Words.{summary, asideOf}
 
 -- the bytes of a routine
 unfoldable open-bytes : Unit {0}
@@ -35,3 +39,8 @@ open-reasons = tt
 unfoldable pub opened : Unit {0}
 unfolding all-open open-bytes open-parts open-types open-reasons
 opened = tt
+
+-- what is answered of bytes
+unfoldable pub answering : Unit {0}
+unfolding opened reading fittedIn rewritten ofInput outcome reasonOf withReason answer summary asideOf
+answering = tt

@@ -2,9 +2,10 @@
 use Prim.Native.Nat.{ℕ}
 use mathlib.Core.Path.{_≡_}
 use mathlib.Core.List.{List, [], _∷_, map}
-use mathlib.Core.Bool.{Bool, true, false, cond}
+use mathlib.Core.Bool.{Bool, false}
 use mathlib.Core.Option.{Option, none, some}
 use lib.ListN.{length, replicate}
+use Rattle.bytes_wire.specs.Parse.{Parse, ok, bad}
 use Rattle.bytes_wire.specs.Value.{integer}
 use Rattle.mir.specs.declared.ValueId.{ValueId}
 use Rattle.mir.specs.declared.TypeId.{TypeId}
@@ -19,7 +20,10 @@ use Rattle.rewrite.specs.declared.Counts.{Counts}
 use Rattle.rewrite.specs.State.{AggStates, forwardStore}
 use Rattle.rewrite.specs.Step.{kept, stepKind}
 use Rattle.rewrite.specs.Run.{rewrittenBlocks}
+use Rattle.bytes_sections.specs.Decode.{mosts, wholeOf}
+use Rattle.shelf.specs.Reads.{withDebug}
 use Rattle.shelf.specs.Reason.{shelfReason}
+use Rattle.shelf.specs.Answer.{Answer, refused, lowered, answer}
 
 -- ## The types, one table for all rows
 
@@ -138,9 +142,6 @@ call xs ps = plain (InstructionKind.Call [] 3 xs ps [])
 abbrev pub phi : ℕ → TypeId → Instruction
 phi d t = plain (InstructionKind.Phi (v d) t [])
 
-abbrev pub print : Value → Instruction
-print x = plain (InstructionKind.Debug 0 (x ∷ []))
-
 -- the same instruction with a span, an expression id and a comment
 abbrev pub marked : Instruction → Instruction
 marked i = record {
@@ -192,13 +193,29 @@ shows is xs ds c = record { blocks = block is xs ∷ []; dropped = map v ds; cou
 abbrev pub Untouched : Settings → Routine → Type 0
 Untouched σ r = pass σ r ≡ record { blocks = r .blocks; dropped = []; counts = counts 0 0 0 0 0 }
 
--- its shelf reason, Debug aside
+-- its shelf reason
 abbrev pub reason : Routine → ℕ
-reason r = shelfReason false r (rewrittenBlocks defaults r)
+reason r = shelfReason withDebug r (rewrittenBlocks defaults r)
 
--- its shelf reason is n where Debug's values count, and 0 where they do not
-abbrev pub ByFlag : ℕ → Routine → Type 0
-ByFlag n r = (debug : Bool) → shelfReason debug r (rewrittenBlocks defaults r) ≡ cond debug n 0
+-- ## What is answered of bytes, the output's aside
+
+pub record Summary : Type 0 where
+  pub changed : Bool
+  pub counts : Counts
+  pub reason : ℕ
+
+unfoldable pub summary : Answer → Option Summary
+summary (refused n o) = none
+summary (lowered w c k bytes) = some (record { changed = w; counts = c; reason = k })
+
+-- the shelf reason with Debug left aside, as it was before document 02
+unfoldable pub asideOf : Parse Routine → ℕ
+asideOf (ok r n) = shelfReason false r (rewrittenBlocks defaults r)
+asideOf (bad c o) = 0
+
+-- under the usual settings: result, counts and shelf reason, and what the reason was
+abbrev pub Says : List ℕ → Bool → Counts → ℕ → ℕ → Type 0
+Says s w c before after = (asideOf (wholeOf mosts s) ≡ before) × (summary (answer defaults (length s) s) ≡ some (record { changed = w; counts = c; reason = after }))
 
 -- ## A step that comes first
 

@@ -1,4 +1,4 @@
-// Lists of an instruction: a build's parts, a Phi's sources, a Call's arguments and dests, a struct build's fields.
+// Lists of an instruction: a build's parts, a Phi's sources, a Call's arguments and dests, a struct build's fields, a Debug's values.
 use bytes_field::Bounds;
 use bytes_types::layout;
 use mir::NameId;
@@ -204,7 +204,7 @@ fn value_known(b: Bounds, recorded: &[u16], t: &[u8], at: usize) -> bool
     shelf_types::is_known(recorded, shelf_field::value_at(t, at, b.next))
 }
 
-// Each of a Return's `n` values has a recorded type or is a literal.
+// Each of a Return's or a Debug's `n` values has a recorded type or is a literal.
 pub fn all_known(b: Bounds, recorded: &[u16], t: &[u8], at: usize, n: u8) -> bool
     requires { ⌜ Inner at ⌝ }
     ensures { λ r. ⌜ OfEach b (now (recorded .entry)) (ValuesAt (b .next) (now (t .entry)) at) n (λ τ xs. every (isKnown τ) xs) r ⌝ }

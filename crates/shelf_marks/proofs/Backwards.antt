@@ -22,8 +22,8 @@ use Rattle.mir.specs.Lookup.{Types}
 use Rattle.mir.specs.Phis.{behindPhis}
 use Rattle.rewrite_progress.specs.Ground.{Coded}
 use Rattle.shelf.specs.Lists.{every, among, clear}
-use Rattle.shelf.specs.Reads.{countedReads, definedIn, ordered}
-use Rattle.shelf_marks.specs.Tests.{OfSlot, OfBlock, BehindPhis, orderedBehind, destCount, destFirst, destsAt, destsOf}
+use Rattle.shelf.specs.Reads.{countedReads, definedIn, ordered, withDebug}
+use Rattle.shelf_marks.specs.Tests.{OfBlock, BehindPhis, orderedBehind, destCount, destFirst, destsAt, destsOf}
 use Rattle.shelf_marks.proofs.Scanning.{next-of, none-of, slot-holds, Slots, slots-start, slots-again, every-same}
 use Rattle.table.proofs.Elements.{clear-at}
 use Rattle.shelf_marks.proofs.Bases.{marks-are, among-append}
@@ -79,14 +79,6 @@ dests-marked t kind m {u} {fp} {first} {count} ef eu e1 ec em =
     let own : u ≡ drop (fieldsPlace t) t = eu ∙ ap (λ q. drop q t) ef in
     em ∙ ap (λ q. marks m (destsAt u q count)) e1 ∙ ap (λ q. marks m (destsAt u (destFirst kind) q)) ec ∙ ap (λ q. marks m (destsAt q (destFirst kind) (destCount q kind))) own
 
--- a Debug's reads do not count
-module _ (b : Bounds) (s facts : List ℕ) (slot : ℕ) (m : List Bool) {kind : ℕ} (ek : kind ≡ kindIn facts slot) where
-  pub counted-debug : kind ≡ 7 → OfSlot b s facts slot (λ τ i. clear m (countedReads false i)) true
-  counted-debug h τ i g a = rw (eq-eqb (kindNumber (i .kind)) 7 (sym (a .kind) ∙ sym ek ∙ h))
-
-  pub counted-other : (kind ≡ 7 → ⊥) → {r : Bool} → ((vs : List ValueId) → ReadsIn facts slot vs → r ≡ clear m vs) → OfSlot b s facts slot (λ τ i. clear m (countedReads false i)) r
-  counted-other h f τ i g a = rw (ne-eqb (kindNumber (i .kind)) 7 (λ y. h (ek ∙ a .kind ∙ y))) (f (reads (i .kind)) (a .reads-in))
-
 -- the slots before one of block k are phis
 abbrev pub Fronts : List ℕ → ℕ → ℕ → Type 0
 Fronts facts k slot = (b : Bounds) (s : List ℕ) → Slots {X = Unit {0}} b s facts k (λ τ u is. behindPhis is) tt tt slot
@@ -141,7 +133,7 @@ pub record Seen (facts : List ℕ) (k : ℕ) (m : List Bool) (is : List Instruct
   pub over : getD (startsIn facts) k 0 ≤ slot
   pub under : slot ≤ getD (startsIn facts) k 0 + length is
   pub marked : (v : ℕ) → getD m v false ≡ among v (definedIn (drop (slot - getD (startsIn facts) k 0) is))
-  pub sound : ordered false (drop (slot - getD (startsIn facts) k 0) is) ≡ true
+  pub sound : ordered withDebug (drop (slot - getD (startsIn facts) k 0) is) ≡ true
 
 pub record Backward (s facts : List ℕ) (k : ℕ) (m : List Bool) (slot : ℕ) : Type 0 where
   pub long : length m ≡ 256
@@ -160,11 +152,11 @@ module _ (s facts : List ℕ) (k : ℕ) {front last : ℕ} (el : LastSlot facts 
               over = omega (arith, el b s ks (c .code) h);
               under = omega (arith, el b s ks (c .code) h);
               marked = λ v. ap (λ q. getD q v false) e ∙ clear-at 256 v ∙ sym (ap (λ q. among v (definedIn q)) z);
-              sound = ap (ordered false) z;
+              sound = ap (ordered withDebug) z;
             };
       }
 
-  module _ {m m′ : List Bool} {slot at kind : ℕ} {t : List ℕ} {r : Bool} (w : Backward s facts k m slot) (g : front < slot) (ek : kind ≡ kindIn facts (slot - 1)) (ea : at ≡ placeIn facts (slot - 1)) (et : t ≡ drop at s) (em : m′ ≡ marks m (destsOf t kind)) (er : (b : Bounds) → OfSlot b s facts (slot - 1) (λ τ i. clear m′ (countedReads false i)) r) where
+  module _ {m m′ : List Bool} {slot at kind : ℕ} {t : List ℕ} {r : Bool} (w : Backward s facts k m slot) (g : front < slot) (ek : kind ≡ kindIn facts (slot - 1)) (ea : at ≡ placeIn facts (slot - 1)) (et : t ≡ drop at s) (em : m′ ≡ marks m (destsOf t kind)) (er : (vs : List ValueId) → ReadsIn facts (slot - 1) vs → r ≡ clear m′ vs) where
     module _ (b : Bounds) (τ : Types) (ks : List Block) (c : Coded b s facts τ ks) (h : k < length ks) where
       abbrev own : List Instruction
       own = getD ks k noBlock .instructions
@@ -196,13 +188,13 @@ module _ (s facts : List ℕ) (k : ℕ) {front last : ℕ} (el : LastSlot facts 
           ∙ ap (λ q. among v (dests (here .kind)) || q) (w .left b τ ks c h .marked v)
           ∙ sym (among-append v (dests (here .kind)) (definedIn (drop (slot - getD (startsIn facts) k 0) own)))
 
-      order-here : ordered false (drop j own) ≡ (r && ordered false (drop (slot - getD (startsIn facts) k 0) own))
+      order-here : ordered withDebug (drop j own) ≡ (r && ordered withDebug (drop (slot - getD (startsIn facts) k 0) own))
       unfolding ordered
       order-here =
           let rest = drop (slot - getD (startsIn facts) k 0) own in
-          let z : r ≡ every (λ v. not (among (v .0) (definedIn (here ∷ rest)))) (countedReads false (here .kind)) =
-          er b τ here (c .ground) stands-here ∙ every-same (λ v. not (getD m′ (v .0) false)) (λ v. not (among (v .0) (definedIn (here ∷ rest)))) (λ v. ap not (marked-here (v .0))) (countedReads false (here .kind)) in
-          ap (ordered false) split-here ∙ ap (λ q. q && ordered false rest) (sym z)
+          let z : r ≡ every (λ v. not (among (v .0) (definedIn (here ∷ rest)))) (reads (here .kind)) =
+          er (reads (here .kind)) (stands-here .reads-in) ∙ every-same (λ v. not (getD m′ (v .0) false)) (λ v. not (among (v .0) (definedIn (here ∷ rest)))) (λ v. ap not (marked-here (v .0))) (reads (here .kind)) in
+          ap (ordered withDebug) split-here ∙ ap (λ q. q && ordered withDebug rest) (sym z)
 
     pub backward-again : not r ≡ false → length m′ ≡ length m → Backward s facts k m′ (slot - 1)
     backward-again n lm =
@@ -213,24 +205,24 @@ module _ (s facts : List ℕ) (k : ℕ) {front last : ℕ} (el : LastSlot facts 
                 over = omega (arith, ef b s τ ks c h .from);
                 under = omega (arith, w .left b τ ks c h .under);
                 marked = λ v. marked-here b τ ks c h v ∙ sym (ap (λ q. among v (definedIn q)) (split-here b τ ks c h));
-                sound = order-here b τ ks c h ∙ ap (λ q. q && ordered false (drop (slot - getD (startsIn facts) k 0) (own b τ ks c h))) (not-false r n) ∙ w .left b τ ks c h .sound;
+                sound = order-here b τ ks c h ∙ ap (λ q. q && ordered withDebug (drop (slot - getD (startsIn facts) k 0) (own b τ ks c h))) (not-false r n) ∙ w .left b τ ks c h .sound;
               };
         }
 
-    pub backward-stop : not r ≡ true → (b : Bounds) → OfBlock b s facts k (λ τ x. orderedBehind false (x .instructions)) false
+    pub backward-stop : not r ≡ true → (b : Bounds) → OfBlock b s facts k (λ τ x. orderedBehind (x .instructions)) false
     backward-stop n b τ ks c h =
         let is = getD ks k noBlock .instructions in
         let first = getD (startsIn facts) k 0 in
-        let z : ordered false (drop (slot - 1 - first) is) ≡ false = order-here b τ ks c h ∙ ap (λ q. q && ordered false (drop (slot - first) is)) (not-true r n) in
+        let z : ordered withDebug (drop (slot - 1 - first) is) ≡ false = order-here b τ ks c h ∙ ap (λ q. q && ordered withDebug (drop (slot - first) is)) (not-true r n) in
         let d : front - first + (slot - 1 - front) ≡ slot - 1 - first = omega (arith, ef b s τ ks c h .from) in
         let y : drop (slot - 1 - front) (drop (front - first) is) ≡ drop (slot - 1 - first) is = drop-drop (slot - 1 - front) (front - first) is ∙ ap (λ q. drop q is) d in
-        sym (ap (ordered false) (ef b s τ ks c h .same) ∙ ordered-fails false (slot - 1 - front) (drop (front - first) is) (ap (ordered false) y ∙ z))
+        sym (ap (ordered withDebug) (ef b s τ ks c h .same) ∙ ordered-fails withDebug (slot - 1 - front) (drop (front - first) is) (ap (ordered withDebug) y ∙ z))
 
-  pub backward-done : {m : List Bool} {slot : ℕ} → Backward s facts k m slot → slot ≤ front → (b : Bounds) → OfBlock b s facts k (λ τ x. orderedBehind false (x .instructions)) true
+  pub backward-done : {m : List Bool} {slot : ℕ} → Backward s facts k m slot → slot ≤ front → (b : Bounds) → OfBlock b s facts k (λ τ x. orderedBehind (x .instructions)) true
   backward-done {m} {slot} w g b τ ks c h =
       let is = getD ks k noBlock .instructions in
       let first = getD (startsIn facts) k 0 in
       let d : slot - first + (front - slot) ≡ front - first = omega (arith, w .left b τ ks c h .over) in
       let y : drop (front - slot) (drop (slot - first) is) ≡ drop (front - first) is = drop-drop (front - slot) (slot - first) is ∙ ap (λ q. drop q is) d in
-      let z : ordered false (drop (front - slot) (drop (slot - first) is)) ≡ true = still false (front - slot) (drop (slot - first) is) (w .left b τ ks c h .sound) in
-      sym (ap (ordered false) (ef b s τ ks c h .same ∙ sym y) ∙ z)
+      let z : ordered withDebug (drop (front - slot) (drop (slot - first) is)) ≡ true = still withDebug (front - slot) (drop (slot - first) is) (w .left b τ ks c h .sound) in
+      sym (ap (ordered withDebug) (ef b s τ ks c h .same ∙ sym y) ∙ z)

@@ -13,13 +13,13 @@ use Rattle.mir.specs.Syntax.{Instruction, InstructionKind, Block}
 use Rattle.mir.specs.Reads.{operand}
 use Rattle.bytes_field.specs.declared.Bounds.{Bounds}
 use Rattle.bytes_index.specs.Table.{recordedIn, startsIn}
-use Rattle.bytes_index.specs.Code.{noBlock, InstructionIn, CodeIn}
+use Rattle.bytes_index.specs.Code.{noBlock, InstructionIn}
 use Rattle.bytes_operands.specs.Fields.{fieldsPlace}
 use Rattle.mir.specs.Lookup.{Types}
 use Rattle.mir.specs.Phis.{behindPhis}
 use Rattle.rewrite_progress.specs.Ground.{Ground, Coded}
 use Rattle.shelf.specs.Lists.{every, among, clear}
-use Rattle.shelf.specs.Reads.{ordered, partsTaken, bases, apart, shallow}
+use Rattle.shelf.specs.Reads.{ordered, partsTaken, bases, apart, shallow, withDebug}
 
 -- what is answered of the instruction in a slot, of block k, of all blocks
 abbrev pub OfSlot : {A : Type 0} → Bounds → List ℕ → List ℕ → ℕ → (Types → InstructionKind → A) → A → Type 0
@@ -51,13 +51,13 @@ eachKind p is = every (λ i. p (i .kind)) is
 abbrev pub eachBlock : (List Instruction → Bool) → List Block → Bool
 eachBlock q ks = every (λ k. q (k .instructions)) ks
 
--- reason 2 of a block
-abbrev pub orderedBehind : Bool → List Instruction → Bool
-orderedBehind debug is = ordered debug (behindPhis is)
+-- reason 2 of a block, Debug counted
+abbrev pub orderedBehind : List Instruction → Bool
+orderedBehind is = ordered withDebug (behindPhis is)
 
 -- reasons 2, 3 and 4 of all blocks
 abbrev pub allOrdered : List Block → Bool
-allOrdered ks = every (λ k. orderedBehind false (k .instructions)) ks
+allOrdered ks = every (λ k. orderedBehind (k .instructions)) ks
 
 abbrev pub allApart : Types → List Block → Bool
 allApart τ ks = every (λ k. apart (λ x. among x (bases τ ks)) (behindPhis (k .instructions))) ks

@@ -3,74 +3,62 @@ use Prim.Native.Nat.{ℕ, zero, suc, _-_}
 use mathlib.Core.Path.{_≡_, refl, ap, _∙_, sym}
 use mathlib.Core.List.{List, [], map}
 use mathlib.Core.Bool.{Bool, true, false, _&&_}
-use lib.Dec.{T, eqb, ltb, ltb→lt}
 use lib.ListN.{length, getD, drop}
 use Rattle.bytes_wire.specs.Parse.{Parse, ok, bad, later}
 use Rattle.bytes_wire.specs.declared.Cause.{Cause}
 use Rattle.mir.specs.declared.ValueId.{ValueId}
 use Rattle.bytes_wire.proofs.Inv.{no-ok, behind, image, later-inv, map-inv, tagged-inv}
 use Rattle.mir.specs.Syntax.{InstructionKind, Instruction, Terminator}
-use Rattle.mir.specs.Reads.{kindNumber}
-use Rattle.bytes_field.specs.Decode.{kinds, bit, debugOf, instructionOf, terminatorOf, terminators, jumpOf, ifOf, branchOf, returnOf, blockIdOf, definedsOf}
+use Rattle.bytes_field.specs.Decode.{kinds, bit, instructionOf, terminatorOf, terminators, jumpOf, ifOf, branchOf, returnOf, blockIdOf, definedsOf}
 use Rattle.bytes_field.specs.declared.Bounds.{Bounds}
-use Rattle.bytes_field.proofs.Rows.{kind-number}
 use Rattle.bytes_operands.specs.Fields.{fieldsPlace}
-use Rattle.bytes_operands.proofs.Places.{Stand, then, last}
 use Rattle.bytes_operands.proofs.Instruction.{instruction-fields}
 use Rattle.bytes_index.specs.Table.{recordedIn, placeIn, endIn, kindIn}
 use Rattle.bytes_index.specs.Code.{noBlock, InstructionIn, TerminatorIn, LastSlot}
 use Rattle.mir.specs.Routine.{Routine}
 use Rattle.mir.specs.Lookup.{isSome, Types, recordedType, typesIn}
 use Rattle.rewrite_progress.specs.Ground.{Ground}
+use Rattle.shelf.specs.Reads.{withDebug}
 use Rattle.shelf_marks.specs.Tests.{OfBlock, eachKind}
 use Rattle.shelf.specs.Lists.{every}
 use Rattle.shelf.specs.Agrees.{agrees, endAgrees, countedAgrees, blockAgrees}
 use Rattle.shelf.specs.Reason.{typesAgree}
 use Rattle.shelf_list.specs.Lists.{IdsAt}
-use Rattle.shelf_field.proofs.Standing.{long-field}
-use Rattle.shelf_list.proofs.Standing.{values-field, dests-field}
+use Rattle.shelf_list.proofs.Standing.{dests-field}
 
--- a kind that is not Debug counts
-pub counts : (b : Bounds) (seen : List Bool) (c : Bool) (τ : Types) (t : List ℕ) (i : InstructionKind) (n : ℕ) (j : ℕ) → T (ltb j 19) → eqb j 7 ≡ false → {k : ℕ} {r : Bool} → k ≡ j → getD (map (λ f. f t) (kinds b seen c)) k (bad Cause.Undefined 0) ≡ ok i n → (getD (map (λ f. f t) (kinds b seen c)) j (bad Cause.Undefined 0) ≡ ok i n → r ≡ agrees τ i) → r ≡ countedAgrees false τ i
-unfolding countedAgrees
-counts b seen c τ t i n j low other {k} e q f =
-    let here : getD (map (λ f. f t) (kinds b seen c)) j (bad Cause.Undefined 0) ≡ ok i n = rw e at q in
-    let z : eqb (kindNumber i) 7 ≡ false = ap (λ m. eqb m 7) (kind-number b seen c j t i n (ltb→lt j 19 low) here) ∙ other in
-    rw z (f here)
+-- the fields of an instruction of kind j
+pub at-kind : (b : Bounds) (seen : List Bool) (c : Bool) (τ : Types) (t : List ℕ) (i : InstructionKind) (n : ℕ) (j : ℕ) → {k : ℕ} {r : Bool} → k ≡ j → getD (map (λ f. f t) (kinds b seen c)) k (bad Cause.Undefined 0) ≡ ok i n → (getD (map (λ f. f t) (kinds b seen c)) j (bad Cause.Undefined 0) ≡ ok i n → r ≡ agrees τ i) → r ≡ agrees τ i
+at-kind b seen c τ t i n j e q f = f (rw e at q)
 
--- the kinds of which nothing is asked
-debug-agrees : (b : Bounds) (seen : List Bool) (τ : Types) (t : List ℕ) → Stand t 0 (debugOf b seen) (λ i e. true ≡ countedAgrees false τ i)
-unfolding debugOf countedAgrees
-debug-agrees b seen τ t = then (long-field b t) (λ m u. last _ (values-field b t) (λ xs q. refl))
-
-nop-agrees : (τ : Types) {i : InstructionKind} {n : ℕ} → ok InstructionKind.Nop 0 ≡ ok i n → true ≡ countedAgrees false τ i
-unfolding agrees countedAgrees
+-- of a Nop nothing is asked
+nop-agrees : (τ : Types) {i : InstructionKind} {n : ℕ} → ok InstructionKind.Nop 0 ≡ ok i n → true ≡ agrees τ i
+unfolding agrees
 nop-agrees τ {i} e = let z : i ≡ InstructionKind.Nop = cc in rw z refl
 
 pub other-agrees : (b : Bounds) (seen : List Bool) (c : Bool) (τ : Types) (t : List ℕ) (i : InstructionKind) (n : ℕ) (k : ℕ) → (k ≡ 0 → ⊥) → (k ≡ 1
-    → ⊥) → (k ≡ 2 → ⊥) → (k ≡ 3 → ⊥) → (k ≡ 4 → ⊥) → (k ≡ 5 → ⊥) → (k ≡ 6 → ⊥) → (k ≡ 9 → ⊥) → (k ≡ 10 → ⊥) → (k ≡ 11 → ⊥) → (k ≡ 12 → ⊥) → (k ≡ 13
+    → ⊥) → (k ≡ 2 → ⊥) → (k ≡ 3 → ⊥) → (k ≡ 4 → ⊥) → (k ≡ 5 → ⊥) → (k ≡ 6 → ⊥) → (k ≡ 7 → ⊥) → (k ≡ 9 → ⊥) → (k ≡ 10 → ⊥) → (k ≡ 11 → ⊥) → (k ≡ 12 → ⊥) → (k ≡ 13
     → ⊥) → (k ≡ 14 → ⊥) → (k ≡ 15 → ⊥) → (k ≡ 16 → ⊥) → (k ≡ 17 → ⊥) → (k ≡ 18 → ⊥)
-    → getD (map (λ f. f t) (kinds b seen c)) k (bad Cause.Undefined 0) ≡ ok i n → true ≡ countedAgrees false τ i
-other-agrees b seen c τ t i n zero f0 f1 f2 f3 f4 f5 f6 f9 f10 f11 f12 f13 f14 f15 f16 f17 f18 e = absurd (f0 refl)
-other-agrees b seen c τ t i n (suc zero) f0 f1 f2 f3 f4 f5 f6 f9 f10 f11 f12 f13 f14 f15 f16 f17 f18 e = absurd (f1 refl)
-other-agrees b seen c τ t i n (suc (suc zero)) f0 f1 f2 f3 f4 f5 f6 f9 f10 f11 f12 f13 f14 f15 f16 f17 f18 e = absurd (f2 refl)
-other-agrees b seen c τ t i n (suc (suc (suc zero))) f0 f1 f2 f3 f4 f5 f6 f9 f10 f11 f12 f13 f14 f15 f16 f17 f18 e = absurd (f3 refl)
-other-agrees b seen c τ t i n (suc (suc (suc (suc zero)))) f0 f1 f2 f3 f4 f5 f6 f9 f10 f11 f12 f13 f14 f15 f16 f17 f18 e = absurd (f4 refl)
-other-agrees b seen c τ t i n (suc (suc (suc (suc (suc zero))))) f0 f1 f2 f3 f4 f5 f6 f9 f10 f11 f12 f13 f14 f15 f16 f17 f18 e = absurd (f5 refl)
-other-agrees b seen c τ t i n (suc (suc (suc (suc (suc (suc zero)))))) f0 f1 f2 f3 f4 f5 f6 f9 f10 f11 f12 f13 f14 f15 f16 f17 f18 e = absurd (f6 refl)
-other-agrees b seen c τ t i n (suc (suc (suc (suc (suc (suc (suc zero))))))) f0 f1 f2 f3 f4 f5 f6 f9 f10 f11 f12 f13 f14 f15 f16 f17 f18 e = debug-agrees b seen τ t .each i n e
-other-agrees b seen c τ t i n (suc (suc (suc (suc (suc (suc (suc (suc zero)))))))) f0 f1 f2 f3 f4 f5 f6 f9 f10 f11 f12 f13 f14 f15 f16 f17 f18 e = nop-agrees τ e
-other-agrees b seen c τ t i n (suc (suc (suc (suc (suc (suc (suc (suc (suc zero))))))))) f0 f1 f2 f3 f4 f5 f6 f9 f10 f11 f12 f13 f14 f15 f16 f17 f18 e = absurd (f9 refl)
-other-agrees b seen c τ t i n (suc (suc (suc (suc (suc (suc (suc (suc (suc (suc zero)))))))))) f0 f1 f2 f3 f4 f5 f6 f9 f10 f11 f12 f13 f14 f15 f16 f17 f18 e = absurd (f10 refl)
-other-agrees b seen c τ t i n (suc (suc (suc (suc (suc (suc (suc (suc (suc (suc (suc zero))))))))))) f0 f1 f2 f3 f4 f5 f6 f9 f10 f11 f12 f13 f14 f15 f16 f17 f18 e = absurd (f11 refl)
-other-agrees b seen c τ t i n (suc (suc (suc (suc (suc (suc (suc (suc (suc (suc (suc (suc zero)))))))))))) f0 f1 f2 f3 f4 f5 f6 f9 f10 f11 f12 f13 f14 f15 f16 f17 f18 e = absurd (f12 refl)
-other-agrees b seen c τ t i n (suc (suc (suc (suc (suc (suc (suc (suc (suc (suc (suc (suc (suc zero))))))))))))) f0 f1 f2 f3 f4 f5 f6 f9 f10 f11 f12 f13 f14 f15 f16 f17 f18 e = absurd (f13 refl)
-other-agrees b seen c τ t i n (suc (suc (suc (suc (suc (suc (suc (suc (suc (suc (suc (suc (suc (suc zero)))))))))))))) f0 f1 f2 f3 f4 f5 f6 f9 f10 f11 f12 f13 f14 f15 f16 f17 f18 e = absurd (f14 refl)
-other-agrees b seen c τ t i n (suc (suc (suc (suc (suc (suc (suc (suc (suc (suc (suc (suc (suc (suc (suc zero))))))))))))))) f0 f1 f2 f3 f4 f5 f6 f9 f10 f11 f12 f13 f14 f15 f16 f17 f18 e = absurd (f15 refl)
-other-agrees b seen c τ t i n (suc (suc (suc (suc (suc (suc (suc (suc (suc (suc (suc (suc (suc (suc (suc (suc zero)))))))))))))))) f0 f1 f2 f3 f4 f5 f6 f9 f10 f11 f12 f13 f14 f15 f16 f17 f18 e = absurd (f16 refl)
-other-agrees b seen c τ t i n (suc (suc (suc (suc (suc (suc (suc (suc (suc (suc (suc (suc (suc (suc (suc (suc (suc zero))))))))))))))))) f0 f1 f2 f3 f4 f5 f6 f9 f10 f11 f12 f13 f14 f15 f16 f17 f18 e = absurd (f17 refl)
-other-agrees b seen c τ t i n (suc (suc (suc (suc (suc (suc (suc (suc (suc (suc (suc (suc (suc (suc (suc (suc (suc (suc zero)))))))))))))))))) f0 f1 f2 f3 f4 f5 f6 f9 f10 f11 f12 f13 f14 f15 f16 f17 f18 e = absurd (f18 refl)
-other-agrees b seen c τ t i n (suc (suc (suc (suc (suc (suc (suc (suc (suc (suc (suc (suc (suc (suc (suc (suc (suc (suc (suc k))))))))))))))))))) f0 f1 f2 f3 f4 f5 f6 f9 f10 f11 f12 f13 f14 f15 f16 f17 f18 e = absurd (no-ok e)
+    → getD (map (λ f. f t) (kinds b seen c)) k (bad Cause.Undefined 0) ≡ ok i n → true ≡ agrees τ i
+other-agrees b seen c τ t i n zero f0 f1 f2 f3 f4 f5 f6 f7 f9 f10 f11 f12 f13 f14 f15 f16 f17 f18 e = absurd (f0 refl)
+other-agrees b seen c τ t i n (suc zero) f0 f1 f2 f3 f4 f5 f6 f7 f9 f10 f11 f12 f13 f14 f15 f16 f17 f18 e = absurd (f1 refl)
+other-agrees b seen c τ t i n (suc (suc zero)) f0 f1 f2 f3 f4 f5 f6 f7 f9 f10 f11 f12 f13 f14 f15 f16 f17 f18 e = absurd (f2 refl)
+other-agrees b seen c τ t i n (suc (suc (suc zero))) f0 f1 f2 f3 f4 f5 f6 f7 f9 f10 f11 f12 f13 f14 f15 f16 f17 f18 e = absurd (f3 refl)
+other-agrees b seen c τ t i n (suc (suc (suc (suc zero)))) f0 f1 f2 f3 f4 f5 f6 f7 f9 f10 f11 f12 f13 f14 f15 f16 f17 f18 e = absurd (f4 refl)
+other-agrees b seen c τ t i n (suc (suc (suc (suc (suc zero))))) f0 f1 f2 f3 f4 f5 f6 f7 f9 f10 f11 f12 f13 f14 f15 f16 f17 f18 e = absurd (f5 refl)
+other-agrees b seen c τ t i n (suc (suc (suc (suc (suc (suc zero)))))) f0 f1 f2 f3 f4 f5 f6 f7 f9 f10 f11 f12 f13 f14 f15 f16 f17 f18 e = absurd (f6 refl)
+other-agrees b seen c τ t i n (suc (suc (suc (suc (suc (suc (suc zero))))))) f0 f1 f2 f3 f4 f5 f6 f7 f9 f10 f11 f12 f13 f14 f15 f16 f17 f18 e = absurd (f7 refl)
+other-agrees b seen c τ t i n (suc (suc (suc (suc (suc (suc (suc (suc zero)))))))) f0 f1 f2 f3 f4 f5 f6 f7 f9 f10 f11 f12 f13 f14 f15 f16 f17 f18 e = nop-agrees τ e
+other-agrees b seen c τ t i n (suc (suc (suc (suc (suc (suc (suc (suc (suc zero))))))))) f0 f1 f2 f3 f4 f5 f6 f7 f9 f10 f11 f12 f13 f14 f15 f16 f17 f18 e = absurd (f9 refl)
+other-agrees b seen c τ t i n (suc (suc (suc (suc (suc (suc (suc (suc (suc (suc zero)))))))))) f0 f1 f2 f3 f4 f5 f6 f7 f9 f10 f11 f12 f13 f14 f15 f16 f17 f18 e = absurd (f10 refl)
+other-agrees b seen c τ t i n (suc (suc (suc (suc (suc (suc (suc (suc (suc (suc (suc zero))))))))))) f0 f1 f2 f3 f4 f5 f6 f7 f9 f10 f11 f12 f13 f14 f15 f16 f17 f18 e = absurd (f11 refl)
+other-agrees b seen c τ t i n (suc (suc (suc (suc (suc (suc (suc (suc (suc (suc (suc (suc zero)))))))))))) f0 f1 f2 f3 f4 f5 f6 f7 f9 f10 f11 f12 f13 f14 f15 f16 f17 f18 e = absurd (f12 refl)
+other-agrees b seen c τ t i n (suc (suc (suc (suc (suc (suc (suc (suc (suc (suc (suc (suc (suc zero))))))))))))) f0 f1 f2 f3 f4 f5 f6 f7 f9 f10 f11 f12 f13 f14 f15 f16 f17 f18 e = absurd (f13 refl)
+other-agrees b seen c τ t i n (suc (suc (suc (suc (suc (suc (suc (suc (suc (suc (suc (suc (suc (suc zero)))))))))))))) f0 f1 f2 f3 f4 f5 f6 f7 f9 f10 f11 f12 f13 f14 f15 f16 f17 f18 e = absurd (f14 refl)
+other-agrees b seen c τ t i n (suc (suc (suc (suc (suc (suc (suc (suc (suc (suc (suc (suc (suc (suc (suc zero))))))))))))))) f0 f1 f2 f3 f4 f5 f6 f7 f9 f10 f11 f12 f13 f14 f15 f16 f17 f18 e = absurd (f15 refl)
+other-agrees b seen c τ t i n (suc (suc (suc (suc (suc (suc (suc (suc (suc (suc (suc (suc (suc (suc (suc (suc zero)))))))))))))))) f0 f1 f2 f3 f4 f5 f6 f7 f9 f10 f11 f12 f13 f14 f15 f16 f17 f18 e = absurd (f16 refl)
+other-agrees b seen c τ t i n (suc (suc (suc (suc (suc (suc (suc (suc (suc (suc (suc (suc (suc (suc (suc (suc (suc zero))))))))))))))))) f0 f1 f2 f3 f4 f5 f6 f7 f9 f10 f11 f12 f13 f14 f15 f16 f17 f18 e = absurd (f17 refl)
+other-agrees b seen c τ t i n (suc (suc (suc (suc (suc (suc (suc (suc (suc (suc (suc (suc (suc (suc (suc (suc (suc (suc zero)))))))))))))))))) f0 f1 f2 f3 f4 f5 f6 f7 f9 f10 f11 f12 f13 f14 f15 f16 f17 f18 e = absurd (f18 refl)
+other-agrees b seen c τ t i n (suc (suc (suc (suc (suc (suc (suc (suc (suc (suc (suc (suc (suc (suc (suc (suc (suc (suc (suc k))))))))))))))))))) f0 f1 f2 f3 f4 f5 f6 f7 f9 f10 f11 f12 f13 f14 f15 f16 f17 f18 e = absurd (no-ok e)
 
 -- an instruction, by its kind and its own fields
 pub slot-told : (b : Bounds) (s facts : List ℕ) (slot : ℕ) {u t : List ℕ} {at fp j : ℕ} → at ≡ placeIn facts slot → u ≡ drop at s → fp ≡ fieldsPlace u → t ≡ drop fp u → j ≡ kindIn facts slot → (i : Instruction) → InstructionIn b s facts slot i → {A : Type 0} → ((c : Bool) (m : ℕ) → getD (map (λ f. f t) (kinds b [] c)) j (bad Cause.Undefined 0) ≡ ok (i .kind) m → A) → A
@@ -120,12 +108,12 @@ module _ (b : Bounds) (u t : List ℕ) (i : Terminator) (n : ℕ) (e : terminato
   end-other τ (suc (suc (suc (suc (suc k))))) z f1 f2 f3 = absurd (no-ok (chosen (suc (suc (suc (suc (suc k))))) (sym z)))
 
 -- a block, its terminator last
-pub block-fail : (b : Bounds) (s facts : List ℕ) (k : ℕ) → OfBlock b s facts k (λ τ x. eachKind (countedAgrees false τ) (x .instructions)) false → OfBlock b s facts k (blockAgrees false) false
-unfolding blockAgrees
+pub block-fail : (b : Bounds) (s facts : List ℕ) (k : ℕ) → OfBlock b s facts k (λ τ x. eachKind (agrees τ) (x .instructions)) false → OfBlock b s facts k (blockAgrees withDebug) false
+unfolding blockAgrees countedAgrees
 block-fail b s facts k e τ ks c h = ap (λ z. z && endAgrees τ (getD ks k noBlock .terminator)) (e τ ks c h)
 
-pub block-end : (b : Bounds) (s facts : List ℕ) (k : ℕ) {last : ℕ} {r : Bool} → LastSlot facts k last → OfBlock b s facts k (λ τ x. eachKind (countedAgrees false τ) (x .instructions)) true → ((τ : Types) (x : Terminator) → Ground b s facts (recordedIn facts) τ → TerminatorIn b s facts last x → r ≡ endAgrees τ x) → OfBlock b s facts k (blockAgrees false) r
-unfolding blockAgrees
+pub block-end : (b : Bounds) (s facts : List ℕ) (k : ℕ) {last : ℕ} {r : Bool} → LastSlot facts k last → OfBlock b s facts k (λ τ x. eachKind (agrees τ) (x .instructions)) true → ((τ : Types) (x : Terminator) → Ground b s facts (recordedIn facts) τ → TerminatorIn b s facts last x → r ≡ endAgrees τ x) → OfBlock b s facts k (blockAgrees withDebug) r
+unfolding blockAgrees countedAgrees
 block-end b s facts k {last} el e f τ ks c h =
     let x = getD ks k noBlock .terminator in
     let a : TerminatorIn b s facts last x = rw (el b s ks (c .code) h) (c .code .each k h .terminator) in

@@ -16,8 +16,9 @@ ghost use Rattle.bytes_index.specs.Table.{recordedIn};
 ghost use Rattle.bytes_index.specs.Code.{TerminatorIn};
 ghost use Rattle.mir.specs.Lookup.{Types, typesIn};
 ghost use Rattle.rewrite_progress.specs.Ground.{Ground, Coded};
+ghost use Rattle.shelf.specs.Reads.{withDebug};
 ghost use Rattle.shelf.specs.Lists.{every};
-ghost use Rattle.shelf.specs.Agrees.{endAgrees, countedAgrees, blockAgrees};
+ghost use Rattle.shelf.specs.Agrees.{agrees, endAgrees, blockAgrees};
 ghost use Rattle.shelf.specs.Reason.{typesAgree};
 ghost use Rattle.shelf_marks.specs.Tests.{OfSlot, OfBlock, OfRoutine};
 ghost use Rattle.shelf_reason1.specs.Told.{OfKind, OfEnd};
@@ -32,7 +33,7 @@ const PARAMETERS: usize = 6;
 
 const FIRST: usize = 1;
 
-// An instruction of a kind, by its own fields. Debug is left aside.
+// An instruction of a kind, by its own fields.
 fn agrees(s: &[u8], b: Bounds, types: &[u16], recorded: &[u16], t: &[u8], kind: u16) -> bool
     ensures { λ r. ⌜ OfKind b (now (s .entry)) (now (types .entry)) (now (recorded .entry)) (now (t .entry)) kind r ⌝ }
 {
@@ -44,6 +45,7 @@ fn agrees(s: &[u8], b: Bounds, types: &[u16], recorded: &[u16], t: &[u8], kind: 
         kind::CAST => shelf_plain::cast(s, b, types, recorded, t),
         kind::LOAD => shelf_memory::load(s, b, types, recorded, t),
         kind::STORE => shelf_memory::store(s, b, types, recorded, t),
+        kind::DEBUG => shelf_call::debug(b, recorded, t),
         kind::PHI => shelf_call::phi(s, b, types, recorded, t),
         kind::MAKE_TUPLE => shelf_build::make_tuple(s, b, types, recorded, t),
         kind::EXTRACT_TUPLE_ELEMENT => shelf_parts::extract_tuple(s, b, types, recorded, t),
@@ -60,7 +62,7 @@ fn agrees(s: &[u8], b: Bounds, types: &[u16], recorded: &[u16], t: &[u8], kind: 
 
 // The instruction in a slot agrees with the recorded types.
 fn one_agrees(s: &[u8], b: Bounds, facts: &[u16], slot: u16) -> bool
-    ensures { λ r. ⌜ OfSlot b (now (s .entry)) (now (facts .entry)) slot (λ τ. countedAgrees false τ) r ⌝ }
+    ensures { λ r. ⌜ OfSlot b (now (s .entry)) (now (facts .entry)) slot agrees r ⌝ }
 {
     let u = bytes_field::tail(s, bytes_index::place(facts, slot));
     let t = bytes_field::tail(u, bytes_operands::fields_place(u));
@@ -123,7 +125,7 @@ fn end_agrees(s: &[u8], b: Bounds, facts: &[u16], slot: u16) -> bool
 
 // Each instruction of block `k` and its terminator agree.
 fn block_agrees(s: &[u8], b: Bounds, facts: &[u16], k: BlockId) -> bool
-    ensures { λ r. ⌜ OfBlock b (now (s .entry)) (now (facts .entry)) (k .0) (blockAgrees false) r ⌝ }
+    ensures { λ r. ⌜ OfBlock b (now (s .entry)) (now (facts .entry)) (k .0) (blockAgrees withDebug) r ⌝ }
 {
     let block = k.0;
     let last = bytes_index::last_slot(facts, k);
@@ -139,7 +141,7 @@ fn block_agrees(s: &[u8], b: Bounds, facts: &[u16], k: BlockId) -> bool
 
 // So do all blocks.
 fn blocks_agree(s: &[u8], b: Bounds, facts: &[u16]) -> bool
-    ensures { λ r. ⌜ OfRoutine b (now (s .entry)) (now (facts .entry)) (λ τ ks. every (blockAgrees false τ) ks) r ⌝ }
+    ensures { λ r. ⌜ OfRoutine b (now (s .entry)) (now (facts .entry)) (λ τ ks. every (blockAgrees withDebug τ) ks) r ⌝ }
 {
     let mut k: u16 = 0;
     while k < b.blocks {
@@ -156,7 +158,7 @@ pub fn types_agree(s: &[u8], b: Bounds, facts: &[u16]) -> bool
     ensures { λ r. ⌜ ((x : Routine) (n : ℕ) → Coded b (now (s .entry)) (now (facts .entry)) (typesIn x) (x .blocks)
         → definedsOf (b .list) (b .next) (replicate (b .next) false)
         (drop (getD (now (facts .entry)) (b .types) 0 + 6) (now (s .entry))) ≡ ok (x .parameters) n
-        → r ≡ typesAgree false x) ⌝ }
+        → r ≡ typesAgree withDebug x) ⌝ }
 {
     let behind = table::place(facts, b.types as usize);
     let t = bytes_field::tail(s, behind + PARAMETERS);

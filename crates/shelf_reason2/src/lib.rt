@@ -5,16 +5,11 @@ use mir::kind;
 use mir::most;
 ghost use mathlib.Core.Path.{_≡_};
 ghost use mathlib.Core.Bool.{false};
-ghost use mathlib.Core.List.{List};
-ghost use Prim.Native.Nat.{ℕ, _<_};
-ghost use Rattle.bytes_index.specs.Table.{kindIn};
+ghost use Prim.Native.Nat.{_<_};
 ghost use Rattle.bytes_block.specs.Decode.{marks as marksOf};
 ghost use Rattle.bytes_field.specs.declared.Bounds.{Bounds as AnyBounds};
-ghost use Rattle.shelf.specs.Reads.{countedReads};
-ghost use Rattle.shelf_marks.specs.Tests.{OfSlot, OfBlock, OfRoutine, BehindPhis, orderedBehind, allOrdered, destCount, destFirst, destsOf};
-ghost use Rattle.shelf.specs.Lists.{clear};
+ghost use Rattle.shelf_marks.specs.Tests.{OfBlock, OfRoutine, BehindPhis, orderedBehind, allOrdered, destCount, destFirst, destsOf};
 
-// The most values of a routine.
 // How many dests an instruction of a kind has, whose fields are `u`.
 fn dest_count(u: &[u8], kind: u16) -> u8
     ensures { λ r. ⌜ r ≡ destCount (now (u .entry)) kind ⌝ }
@@ -56,18 +51,6 @@ fn mark_dests(t: &[u8], kind: u16, marks: &mut [bool])
     }
 }
 
-// Whether the instruction in a slot reads no marked value, a Debug aside.
-fn counted_clear(facts: &[u16], slot: u16, kind: u16, marks: &[bool]) -> bool
-    requires { ⌜ kind ≡ kindIn (now facts) slot ⌝ }
-    ensures { λ r. ⌜ ((b : AnyBounds) (s : List ℕ)
-        → OfSlot b s (now (facts .entry)) slot (λ τ i. clear (now (marks .entry)) (countedReads false i)) r) ⌝ }
-{
-    if kind == kind::DEBUG {
-        return true;
-    }
-    shelf_marks::reads_clear(facts, slot, marks)
-}
-
 // The first slot of block `k` behind its phis.
 fn behind_phis(facts: &[u16], k: BlockId) -> u16
     ensures { λ r. ⌜ BehindPhis (now (facts .entry)) (k .0) r ⌝ }
@@ -86,7 +69,7 @@ fn behind_phis(facts: &[u16], k: BlockId) -> u16
 
 // Whether no instruction of block `k`, phis aside, reads a value that it or a later one defines: from the last to the first.
 fn block_ordered(s: &[u8], facts: &[u16], k: BlockId) -> bool
-    ensures { λ r. ⌜ ((b : AnyBounds) → OfBlock b (now (s .entry)) (now (facts .entry)) (k .0) (λ τ x. orderedBehind false (x .instructions)) r) ⌝ }
+    ensures { λ r. ⌜ ((b : AnyBounds) → OfBlock b (now (s .entry)) (now (facts .entry)) (k .0) (λ τ x. orderedBehind (x .instructions)) r) ⌝ }
 {
     let block = k.0;
     let front = behind_phis(facts, BlockId(block));
@@ -97,14 +80,14 @@ fn block_ordered(s: &[u8], facts: &[u16], k: BlockId) -> bool
         let kind = bytes_index::kind(facts, slot);
         let t = bytes_field::tail(s, bytes_index::place(facts, slot));
         mark_dests(t, kind, &mut marks);
-        if !counted_clear(facts, slot, kind, &marks) {
+        if !shelf_marks::reads_clear(facts, slot, &marks) {
             return false;
         }
     }
     true
 }
 
-// Whether no block reads a value that it defines there or later, phis and Debug aside (reason 2).
+// Whether no block reads a value that it defines there or later, phis aside (reason 2).
 pub fn in_order(s: &[u8], b: Bounds, facts: &[u16]) -> bool
     ensures { λ r. ⌜ OfRoutine b (now (s .entry)) (now (facts .entry)) (λ τ. allOrdered) r ⌝ }
 {

@@ -26,7 +26,7 @@ use Rattle.bytes_block.specs.declared.Mosts.{Mosts}
 use Rattle.bytes_laws_whole.specs.WellFormed.{FitBlocks}
 use Rattle.bytes_block.proofs.Relax.{relax}
 use Rattle.shelf.specs.Lists.{every, among}
-use Rattle.shelf.specs.Reads.{countedReads, clean, cleanTerminator}
+use Rattle.shelf.specs.Reads.{clean, cleanTerminator, withDebug}
 use Rattle.shelf.specs.Reason.{readsNoDropped}
 use Rattle.shelf_reason5.specs.Unread.{marked, cleanBlock, walked, Alone, Legible, Written}
 use Rattle.shelf_reason5.specs.declared.Walked.{Walked}
@@ -176,10 +176,10 @@ module _ (ms : List Bool) (ds : List ValueId) (same : (v : ℕ) → getD ms v fa
   values-same [] = refl
   values-same (v ∷ vs) = rw (same (v .0), values-same vs)
 
-  code-same : (is : List Instruction) → clean false (marked ms) is ≡ clean false (λ x. among x ds) is
+  code-same : (is : List Instruction) → clean withDebug (marked ms) is ≡ clean withDebug (λ x. among x ds) is
   unfolding clean
   code-same [] = refl
-  code-same (i ∷ is) = rw (values-same (countedReads false (i .kind)), code-same is)
+  code-same (i ∷ is) = rw (values-same (reads (i .kind)), code-same is)
 
   end-same : (t : Terminator) → cleanTerminator (marked ms) t ≡ cleanTerminator (λ x. among x ds) t
   unfolding cleanTerminator
@@ -191,16 +191,16 @@ module _ (ms : List Bool) (ds : List ValueId) (same : (v : ℕ) → getD ms v fa
   swap true false false e = refl
   swap false c d e = refl
 
-  pub blocks-same : (ks : List Block) → every (cleanBlock ms) ks ≡ readsNoDropped false ds ks
+  pub blocks-same : (ks : List Block) → every (cleanBlock ms) ks ≡ readsNoDropped withDebug ds ks
   unfolding readsNoDropped
   blocks-same [] = refl
   blocks-same (k ∷ ks) =
-      let p = clean false (λ x. among x ds) (k .instructions) in
+      let p = clean withDebug (λ x. among x ds) (k .instructions) in
       let q = cleanTerminator (λ x. among x ds) (k .terminator) in
-      let d = every (λ k. clean false (λ x. among x ds) (k .instructions)) ks in
+      let d = every (λ k. clean withDebug (λ x. among x ds) (k .instructions)) ks in
       let e = every (λ k. cleanTerminator (λ x. among x ds) (k .terminator)) ks in
       rw (code-same (k .instructions), end-same (k .terminator), blocks-same ks) (swap p q d e)
 
 -- the answer on a written output
-pub told : (b : Bounds) (s : List ℕ) (at : ℕ) (ms : List Bool) (many : ℕ) (r : Bool) → ((ks : List Block) (rest : List ℕ) → drop at s ≡ eachBytes blockBytes ks ++ rest → length ks ≡ many → Each (Legible b) ks → r ≡ every (cleanBlock ms) ks) → (ks : List Block) (ds : List ValueId) → Written b s at many ks → ((v : ℕ) → getD ms v false ≡ among v ds) → r ≡ readsNoDropped false ds ks
+pub told : (b : Bounds) (s : List ℕ) (at : ℕ) (ms : List Bool) (many : ℕ) (r : Bool) → ((ks : List Block) (rest : List ℕ) → drop at s ≡ eachBytes blockBytes ks ++ rest → length ks ≡ many → Each (Legible b) ks → r ≡ every (cleanBlock ms) ks) → (ks : List Block) (ds : List ValueId) → Written b s at many ks → ((v : ℕ) → getD ms v false ≡ among v ds) → r ≡ readsNoDropped withDebug ds ks
 told b s at ms many r f ks ds w same = f ks (w .rest) (w .bytes) (w .as-many) (legible-each b (w .short) (w .mosts) (w .total) (w .seen) ks (w .counted) (w .wide) (w .fits)) ∙ blocks-same ms ds same ks

@@ -6,7 +6,7 @@ use mathlib.Core.Bool.{Bool, true, false, not, _&&_}
 use native.Mathlib.Numerals.{add-one}
 use native.Mathlib.Nat.{add-zero, zero-add}
 use native.Mathlib.Omega.{arith}
-use borrow.Author.Tests.{lt-ltb, eq-eqb, ne-eqb}
+use borrow.Author.Tests.{lt-ltb}
 use lib.ListN.{length, getD, set, drop, length-drop, length-set}
 use lib.Seq.{drop-cons, drop-length, getD-set-same, getD-set-other}
 use Rattle.bytes_wire.specs.Parse.{Parse, ok, mapParse}
@@ -15,15 +15,14 @@ use Rattle.mir.specs.declared.ValueId.{ValueId}
 use Rattle.bytes_wire.proofs.Laws.{size, size-map}
 use Rattle.bytes_wire.proofs.Inv.{no-ok}
 use Rattle.mir.specs.Syntax.{Instruction, Terminator}
-use Rattle.mir.specs.Reads.{reads, dests, kindNumber, terminatorReads}
+use Rattle.mir.specs.Reads.{reads, dests, terminatorReads}
 use Rattle.bytes_field.specs.Decode.{mark, instructionOf, terminatorOf}
 use Rattle.bytes_field.specs.Walk.{Walk, walkOf, uses, defines, fold, passes, leaves, asScan}
 use Rattle.bytes_field.specs.declared.Bounds.{Bounds}
 use Rattle.bytes_field.specs.declared.Scan.{Scan}
 use Rattle.bytes_block.specs.Decode.{marks}
 use Rattle.bytes_block.proofs.Sizes.{size-instruction, size-terminator}
-use Rattle.bytes_operands.proofs.Instruction.{instruction-fields}
-use Rattle.shelf.specs.Reads.{countedReads, cleanTerminator}
+use Rattle.shelf.specs.Reads.{cleanTerminator}
 use Rattle.shelf_reason5.specs.Unread.{Buffered, marked, walked}
 use Rattle.shelf_reason5.specs.declared.Walked.{Walked}
 use Rattle.shelf.specs.Lists.{clear}
@@ -116,11 +115,11 @@ module _ {X : Type 0} (w : X → Walk) (d : Parse X) (v : List ℕ) (seen : List
     scan-walk : (x : X) (n : ℕ) → d ≡ ok x n → walkOf seen v m late ≡ w x
     scan-walk x n t = let z = scanned x n t in cc
 
--- of an instruction, a Debug's reads do not count; and of a terminator
+-- of an instruction, and of a terminator
 module _ (b : Bounds) (s t : List ℕ) (at : ℕ) (ms : List Bool) (u v : List ℕ) (seen : List Bool) (r : Scan) (h : t ≡ drop at s) (lu : length u ≡ 32) where
   module _ (e : asScan r seen v ≡ mapParse (passes (walkOf [] u 0 false)) (instructionOf b [] false t)) where
     abbrev Next : Walked → Type 0
-    Next a = (i : Instruction) (n : ℕ) → instructionOf b [] false (drop at s) ≡ ok i n → length (reads (i .kind)) ≤ 32 → a ≡ walked (clear ms (countedReads false (i .kind))) (at + n)
+    Next a = (i : Instruction) (n : ℕ) → instructionOf b [] false (drop at s) ≡ ok i n → length (reads (i .kind)) ≤ 32 → a ≡ walked (clear ms (reads (i .kind))) (at + n)
 
     pub next-within : {took m : ℕ} {late : Bool} → r ≡ Scan.Used took m late → took ≤ length s - at
     next-within f = omega (arith, scan-within (passes (walkOf [] u 0 false)) (instructionOf b [] false t) v seen r e f (size-instruction b [] false t), ap (λ q. length q) h, length-drop at s)
@@ -128,34 +127,26 @@ module _ (b : Bounds) (s t : List ℕ) (at : ℕ) (ms : List Bool) (u v : List �
     pub next-refused : {c : Cause} {o : ℕ} → r ≡ Scan.Refused c o → Next Walked.Reads
     next-refused f i n g k = scan-refused (passes (walkOf [] u 0 false)) (instructionOf b [] false t) v seen r e f i n (ap (λ q. instructionOf b [] false q) h ∙ g)
 
-    module _ {took m : ℕ} {late : Bool} (f : r ≡ Scan.Used took m late) {kind : ℕ} (ek : kind ≡ getD t 1 0) where
+    module _ {took m : ℕ} {late : Bool} (f : r ≡ Scan.Used took m late) {c : Bool} (says : (vs : List ValueId) → Buffered v m vs → c ≡ clear ms vs) where
       next-took : (i : Instruction) (n : ℕ) → instructionOf b [] false (drop at s) ≡ ok i n → took ≡ n
       next-took i n g = scan-took (passes (walkOf [] u 0 false)) (instructionOf b [] false t) v seen r e f i n (ap (λ q. instructionOf b [] false q) h ∙ g)
 
-      next-kind : (i : Instruction) (n : ℕ) → instructionOf b [] false (drop at s) ≡ ok i n → kindNumber (i .kind) ≡ kind
-      next-kind i n g = instruction-fields b [] false t i n (ap (λ q. instructionOf b [] false q) h ∙ g) .numbered ∙ sym ek
+      next-clean : (i : Instruction) (n : ℕ) → instructionOf b [] false (drop at s) ≡ ok i n → length (reads (i .kind)) ≤ 32 → c ≡ clear ms (reads (i .kind))
+      next-clean i n g k =
+          let y = scan-walk (passes (walkOf [] u 0 false)) (instructionOf b [] false t) v seen r e f i n (ap (λ q. instructionOf b [] false q) h ∙ g) in
+          let w : behindOf i ≡ fold uses (walkOf (marks [] (dests (i .kind))) u 0 false) (reads (i .kind)) = ap (λ q. fold uses q (reads (i .kind))) (defined [] u 0 false (dests (i .kind))) in
+          let p : m ≡ behindOf i .count = ap (λ q. q .count) y in
+          let o : v ≡ behindOf i .buffer = ap (λ q. q .buffer) y in
+          says (reads (i .kind)) (buffered (marks [] (dests (i .kind))) u (reads (i .kind)) lu k (p ∙ ap (λ q. q .count) w) (o ∙ ap (λ q. q .buffer) w))
+        where
+          behindOf : Instruction → Walk
+          behindOf i = fold uses (fold defines (walkOf [] u 0 false) (dests (i .kind))) (reads (i .kind))
 
-      pub next-debug : kind ≡ 7 → Next (Walked.Behind (at + took))
-      next-debug z i n g k = rw (eq-eqb (kindNumber (i .kind)) 7 (next-kind i n g ∙ z), next-took i n g)
+      pub next-behind : c ≡ true → Next (Walked.Behind (at + took))
+      next-behind z i n g k = rw (← next-clean i n g k, z, next-took i n g)
 
-      module _ (other : kind ≡ 7 → ⊥) {c : Bool} (says : (vs : List ValueId) → Buffered v m vs → c ≡ clear ms vs) where
-        next-clean : (i : Instruction) (n : ℕ) → instructionOf b [] false (drop at s) ≡ ok i n → length (reads (i .kind)) ≤ 32 → c ≡ clear ms (countedReads false (i .kind))
-        next-clean i n g k =
-            let y = scan-walk (passes (walkOf [] u 0 false)) (instructionOf b [] false t) v seen r e f i n (ap (λ q. instructionOf b [] false q) h ∙ g) in
-            let w : behindOf i ≡ fold uses (walkOf (marks [] (dests (i .kind))) u 0 false) (reads (i .kind)) = ap (λ q. fold uses q (reads (i .kind))) (defined [] u 0 false (dests (i .kind))) in
-            let p : m ≡ behindOf i .count = ap (λ q. q .count) y in
-            let o : v ≡ behindOf i .buffer = ap (λ q. q .buffer) y in
-            rw (ne-eqb (kindNumber (i .kind)) 7 (λ q. other (sym (next-kind i n g) ∙ q)))
-            (says (reads (i .kind)) (buffered (marks [] (dests (i .kind))) u (reads (i .kind)) lu k (p ∙ ap (λ q. q .count) w) (o ∙ ap (λ q. q .buffer) w)))
-          where
-            behindOf : Instruction → Walk
-            behindOf i = fold uses (fold defines (walkOf [] u 0 false) (dests (i .kind))) (reads (i .kind))
-
-        pub next-behind : c ≡ true → Next (Walked.Behind (at + took))
-        next-behind z i n g k = rw (← next-clean i n g k, z, next-took i n g)
-
-        pub next-reads : c ≡ false → Next Walked.Reads
-        next-reads z i n g k = rw (← next-clean i n g k, z)
+      pub next-reads : c ≡ false → Next Walked.Reads
+      next-reads z i n g k = rw (← next-clean i n g k, z)
 
   module _ (e : asScan r seen v ≡ mapParse (leaves (walkOf [] u 0 false)) (terminatorOf b t)) where
     abbrev Last : Walked → Type 0

@@ -18,7 +18,7 @@ use Rattle.bytes_field.specs.Encode.{eachBytes, instructionBytes, terminatorByt
 use Rattle.bytes_field.specs.declared.Bounds.{Bounds}
 use Rattle.mir.specs.Lists.{Each}
 use Rattle.bytes_block.specs.Encode.{blockBytes}
-use Rattle.shelf.specs.Reads.{countedReads, clean, cleanTerminator}
+use Rattle.shelf.specs.Reads.{clean, cleanTerminator, withDebug}
 use Rattle.shelf_reason5.specs.Unread.{marked, cleanBlock, walked, Alone, Legible}
 use Rattle.shelf_reason5.specs.declared.Walked.{Walked}
 use Rattle.shelf.specs.Lists.{clear}
@@ -29,7 +29,7 @@ pub record Left (b : Bounds) (s : List ℕ) (at : ℕ) (ms : List Bool) (count k
   pub sound : Each (Alone b) is
   pub bytes : drop here s ≡ eachBytes instructionBytes is ++ (terminatorBytes (x .terminator) ++ rest)
   pub end : here + length (eachBytes instructionBytes is) + length (terminatorBytes (x .terminator)) ≡ at + length (blockBytes x)
-  pub same : cleanBlock ms x ≡ (clean false (marked ms) is && cleanTerminator (marked ms) (x .terminator))
+  pub same : cleanBlock ms x ≡ (clean withDebug (marked ms) is && cleanTerminator (marked ms) (x .terminator))
 
 pub data SomeLeft (b : Bounds) (s : List ℕ) (at : ℕ) (ms : List Bool) (count k here : ℕ) (x : Block) (rest : List ℕ) : Type 0 where
   some-left : (is : List Instruction) → Left b s at ms count k here x rest is → SomeLeft b s at ms count k here x rest
@@ -96,11 +96,11 @@ reads-told true e h = absurd (no-behind (sym h))
 reads-told false e h = refl
 
 -- the next instruction
-module _ (b : Bounds) (s : List ℕ) (at : ℕ) (ms : List Bool) (count k here : ℕ) (u : Walking b s at ms count k here) (h : k < count) (r : Walked) (says : (i : Instruction) (n : ℕ) → instructionOf b [] false (drop here s) ≡ ok i n → length (reads (i .kind)) ≤ 32 → r ≡ walked (clear ms (countedReads false (i .kind))) (here + n)) where
+module _ (b : Bounds) (s : List ℕ) (at : ℕ) (ms : List Bool) (count k here : ℕ) (u : Walking b s at ms count k here) (h : k < count) (r : Walked) (says : (i : Instruction) (n : ℕ) → instructionOf b [] false (drop here s) ≡ ok i n → length (reads (i .kind)) ≤ 32 → r ≡ walked (clear ms (reads (i .kind))) (here + n)) where
   split-left : (i : Instruction) (is : List Instruction) {x : Block} {rest : List ℕ} → Left b s at ms count k here x rest (i ∷ is) → drop here s ≡ instructionBytes i ++ (eachBytes instructionBytes is ++ (terminatorBytes (x .terminator) ++ rest))
   split-left i is {x} {rest} l = l .bytes ∙ append-assoc (instructionBytes i) (eachBytes instructionBytes is) (terminatorBytes (x .terminator) ++ rest)
 
-  says-left : (i : Instruction) (is : List Instruction) {x : Block} {rest : List ℕ} → Left b s at ms count k here x rest (i ∷ is) → r ≡ walked (clear ms (countedReads false (i .kind))) (here + length (instructionBytes i))
+  says-left : (i : Instruction) (is : List Instruction) {x : Block} {rest : List ℕ} → Left b s at ms count k here x rest (i ∷ is) → r ≡ walked (clear ms (reads (i .kind))) (here + length (instructionBytes i))
   says-left i is l = says i (length (instructionBytes i)) (ap (λ q. instructionOf b [] false q) (split-left i is l) ∙ l .sound .0 .read _) (l .sound .0 .few)
 
   -- reads a marked value
@@ -108,8 +108,8 @@ module _ (b : Bounds) (s : List ℕ) (at : ℕ) (ms : List Bool) (count k here :
   unfolding clean
   reads-left [] l z = absurd (omega (arith, l .many))
   reads-left {x} (i ∷ is) l z =
-      let w = reads-told (clear ms (countedReads false (i .kind))) _ (sym z ∙ says-left i is l) in
-      l .same ∙ ap (λ q. (q && clean false (marked ms) is) && cleanTerminator (marked ms) (x .terminator)) w
+      let w = reads-told (clear ms (reads (i .kind))) _ (sym z ∙ says-left i is l) in
+      l .same ∙ ap (λ q. (q && clean withDebug (marked ms) is) && cleanTerminator (marked ms) (x .terminator)) w
 
   pub walk-reads : r ≡ Walked.Reads → (x : Block) (rest : List ℕ) → drop at s ≡ blockBytes x ++ rest → Legible b x → Walked.Reads ≡ walked (cleanBlock ms x) (at + length (blockBytes x))
   walk-reads z x rest e f =
@@ -123,13 +123,13 @@ module _ (b : Bounds) (s : List ℕ) (at : ℕ) (ms : List Bool) (count k here :
   one-less [] l end z = absurd (omega (arith, l .many))
   one-less {x} {rest} (i ∷ is) l end z =
       let a = instructionBytes i in
-      let w = end-told (clear ms (countedReads false (i .kind))) (here + length a) end (sym z ∙ says-left i is l) in
+      let w = end-told (clear ms (reads (i .kind))) (here + length a) end (sym z ∙ says-left i is l) in
       some-left is (record {
         many = omega (arith, l .many);
         sound = l .sound .1;
         bytes = rw (w .1) (behind s here (length a) a (eachBytes instructionBytes is ++ (terminatorBytes (x .terminator) ++ rest)) (split-left i is l) refl);
         end = omega (arith, l .end, w .1, length-append a (eachBytes instructionBytes is));
-        same = l .same ∙ ap (λ q. (q && clean false (marked ms) is) && cleanTerminator (marked ms) (x .terminator)) (w .0);
+        same = l .same ∙ ap (λ q. (q && clean withDebug (marked ms) is) && cleanTerminator (marked ms) (x .terminator)) (w .0);
       })
 
   pub walk-again : (end : ℕ) → r ≡ Walked.Behind end → Walking b s at ms count (k + 1) end

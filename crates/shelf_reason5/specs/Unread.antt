@@ -16,7 +16,7 @@ use Rattle.bytes_laws.specs.WellFormed.{Wide}
 use Rattle.bytes_block.specs.Encode.{blockBytes}
 use Rattle.bytes_block.specs.declared.Mosts.{Mosts}
 use Rattle.bytes_laws_whole.specs.WellFormed.{FitBlocks}
-use Rattle.shelf.specs.Reads.{clean, cleanTerminator}
+use Rattle.shelf.specs.Reads.{clean, cleanTerminator, withDebug}
 use Rattle.shelf_reason5.specs.declared.Walked.{Walked}
 
 -- the reads that stand in a buffer
@@ -28,9 +28,9 @@ pub record Buffered (buffer : List ℕ) (n : ℕ) (vs : List ValueId) : Type 0 w
 abbrev pub marked : List Bool → ℕ → Bool
 marked ms v = getD ms v false
 
--- a block reads no marked value, Debug aside
+-- a block reads no marked value
 abbrev pub cleanBlock : List Bool → Block → Bool
-cleanBlock ms k = clean false (marked ms) (k .instructions) && cleanTerminator (marked ms) (k .terminator)
+cleanBlock ms k = clean withDebug (marked ms) (k .instructions) && cleanTerminator (marked ms) (k .terminator)
 
 -- what a walk answers: the place behind, or that a marked value is read
 abbrev pub walked : Bool → ℕ → Walked

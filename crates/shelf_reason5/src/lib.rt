@@ -1,7 +1,6 @@
 // Whether the written output reads a dropped value: shelf reason 5.
 use bytes_field::Bounds;
 use bytes_field::Scan;
-use mir::kind;
 ghost use mathlib.Core.Path.{_≡_};
 ghost use mathlib.Core.List.{List, [], _++_};
 ghost use mathlib.Core.Bool.{false};
@@ -14,14 +13,9 @@ ghost use Rattle.bytes_field.specs.Decode.{instructionOf, terminatorOf};
 ghost use Rattle.mir.specs.Reads.{reads, terminatorReads};
 ghost use Rattle.bytes_block.specs.Encode.{blockBytes};
 ghost use Rattle.shelf.specs.Lists.{among, clear};
-ghost use Rattle.shelf.specs.Reads.{countedReads, cleanTerminator};
+ghost use Rattle.shelf.specs.Reads.{cleanTerminator, withDebug};
 ghost use Rattle.shelf.specs.Reason.{readsNoDropped};
 ghost use Rattle.shelf_reason5.specs.Unread.{Buffered, marked, cleanBlock, walked, Legible, Written};
-
-// The kind of a Debug, and where an instruction has its kind.
-const DEBUG: u8 = kind::DEBUG as u8;
-
-const KIND: usize = 1;
 
 // The most values that an instruction or a terminator reads.
 const READS: usize = 32;
@@ -46,21 +40,23 @@ fn clean_buffer(buffer: &[u16], n: usize, dropped: &[bool]) -> bool
     true
 }
 
-// Walks the instruction that stands at `at`; a Debug's reads do not count.
+// Walks the instruction that stands at `at`.
 fn walk_instruction(s: &[u8], at: usize, b: Bounds, dropped: &[bool]) -> Walked
     ensures { λ r. ⌜ ((i : Instruction) (n : ℕ) → instructionOf b [] false (drop at (now (s .entry))) ≡ ok i n → length (reads (i .kind)) ≤ 32
-        → r ≡ walked (clear (now (dropped .entry)) (countedReads false (i .kind))) (at + n)) ⌝ }
+        → r ≡ walked (clear (now (dropped .entry)) (reads (i .kind))) (at + n)) ⌝ }
 {
     let mut none: [bool; 0] = [false; 0];
     let mut buffer: [u16; READS] = [0; READS];
-    let t = bytes_field::tail(s, at);
-    match bytes_block::read_instruction(t, b, 0, false, &mut none, &mut buffer) {
+    match bytes_block::read_instruction(
+        bytes_field::tail(s, at),
+        b,
+        0,
+        false,
+        &mut none,
+        &mut buffer,
+    ) {
         Scan::Refused(_, _) => Walked::Reads,
         Scan::Used(took, n, _) => {
-            let kind = bytes_wire::byte_at(t, KIND);
-            if kind == DEBUG {
-                return Walked::Behind(at + took);
-            }
             if clean_buffer(&buffer, n, dropped) {
                 return Walked::Behind(at + took);
             }
@@ -118,10 +114,10 @@ fn walk_block(s: &[u8], at: usize, b: Bounds, dropped: &[bool]) -> Walked
     walk_terminator(s, here, b, dropped)
 }
 
-// The `many` blocks that stand in `out` from `at` on read no dropped value, Debug aside.
+// The `many` blocks that stand in `out` from `at` on read no dropped value.
 pub fn reads_no_dropped(out: &[u8], at: usize, b: Bounds, many: u16, dropped: &[bool]) -> bool
     ensures { λ r. ⌜ ((ks : List Block) (ds : List ValueId) → Written b (now (out .entry)) at many ks
-        → ((v : ℕ) → getD (now (dropped .entry)) v false ≡ among v ds) → r ≡ readsNoDropped false ds ks) ⌝ }
+        → ((v : ℕ) → getD (now (dropped .entry)) v false ≡ among v ds) → r ≡ readsNoDropped withDebug ds ks) ⌝ }
 {
     let mut here = at;
     let mut k: u16 = 0;

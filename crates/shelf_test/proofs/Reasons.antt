@@ -1,7 +1,7 @@
 -- Which reason it is, by the first test that fails.
 use Prim.Native.Nat.{ℕ}
 use mathlib.Core.Path.{_≡_, refl, ap, _∙_, sym}
-use mathlib.Core.Bool.{Bool, true, false, cond, not, _&&_, and-false}
+use mathlib.Core.Bool.{Bool, true, false, cond, not, and-false}
 use native.Mathlib.Omega.{arith}
 use Rattle.mir.specs.Syntax.{Instruction, InstructionKind, Terminator, Block}
 use Rattle.mir.specs.Syntax.{Assign, UnaryOp, BinaryOp, Call, Cast, Load, Store, Debug, Nop, Phi}
@@ -15,7 +15,7 @@ use Rattle.mir.specs.declared.ValueId.{ValueId}
 use Rattle.mir.specs.Phis.{behindPhis}
 use Rattle.mir.specs.Lookup.{typesIn}
 use Rattle.shelf.specs.Lists.{every, among}
-use Rattle.shelf.specs.Reads.{countedReads, isDeep, shallow, clean, cleanTerminator}
+use Rattle.shelf.specs.Reads.{countedReads, isDeep, shallow, clean, cleanTerminator, withDebug}
 use Rattle.shelf_marks.specs.Tests.{allOrdered, allApart, allShallow}
 use Rattle.shelf_reason5.specs.Unread.{Written}
 use Rattle.shelf_test.specs.Shelved.{outputBounds, inputReason, Shelved}
@@ -27,7 +27,7 @@ told true q b e f = ap not (sym f) ∙ e
 told false q b e f = ap not (sym f) ∙ e
 
 -- what the scans answer, as the tests have it
-pub of-order : (x : Routine) (r : Bool) → r ≡ allOrdered (x .blocks) → r ≡ inOrder false x
+pub of-order : (x : Routine) (r : Bool) → r ≡ allOrdered (x .blocks) → r ≡ inOrder withDebug x
 unfolding inOrder
 of-order x r e = e
 
@@ -107,20 +107,20 @@ blocks-written h =
     }
 
 -- the reasons of the input
-module _ (debug : Bool) (x : Routine) where
-  pub input-1 : false ≡ typesAgree debug x → 1 ≡ inputReason debug x
+module _ (x : Routine) where
+  pub input-1 : false ≡ typesAgree withDebug x → 1 ≡ inputReason x
   unfolding inputReason
   input-1 a = rw (← a)
 
-  pub input-2 : true ≡ typesAgree debug x → false ≡ inOrder debug x → 2 ≡ inputReason debug x
+  pub input-2 : true ≡ typesAgree withDebug x → false ≡ inOrder withDebug x → 2 ≡ inputReason x
   unfolding inputReason
   input-2 a b = rw (← a, ← b)
 
-  pub input-3 : true ≡ typesAgree debug x → true ≡ inOrder debug x → false ≡ keptApart x → 3 ≡ inputReason debug x
+  pub input-3 : true ≡ typesAgree withDebug x → true ≡ inOrder withDebug x → false ≡ keptApart x → 3 ≡ inputReason x
   unfolding inputReason
   input-3 a b c = rw (← a, ← b, ← c)
 
-  pub input-0 : true ≡ typesAgree debug x → true ≡ inOrder debug x → true ≡ keptApart x → 0 ≡ inputReason debug x
+  pub input-0 : true ≡ typesAgree withDebug x → true ≡ inOrder withDebug x → true ≡ keptApart x → 0 ≡ inputReason x
   unfolding inputReason
   input-0 a b c = rw (← a, ← b, ← c)
 
@@ -137,26 +137,26 @@ first-none true true false rest e = absurd (omega arith)
 first-none true false c rest e = absurd (omega arith)
 first-none false b c rest e = absurd (omega arith)
 
-module _ (debug : Bool) (x : Routine) (w : Rewritten) where
-  pub reason-first : (n : ℕ) → n ≡ inputReason debug x → (n ≡ 0 → ⊥) → n ≡ shelfReason debug x w
+module _ (x : Routine) (w : Rewritten) where
+  pub reason-first : (n : ℕ) → n ≡ inputReason x → (n ≡ 0 → ⊥) → n ≡ shelfReason withDebug x w
   unfolding inputReason shelfReason
-  reason-first n e h = first-some (typesAgree debug x) (inOrder debug x) (keptApart x) _ n e h
+  reason-first n e h = first-some (typesAgree withDebug x) (inOrder withDebug x) (keptApart x) _ n e h
 
   -- where none of them holds, the others
-  others : 0 ≡ inputReason debug x → cond (noDeepStore (w .dropped) x) (cond (readsNoDropped debug (w .dropped) (w .blocks)) 0 5) 4 ≡ shelfReason debug x w
+  others : 0 ≡ inputReason x → cond (noDeepStore (w .dropped) x) (cond (readsNoDropped withDebug (w .dropped) (w .blocks)) 0 5) 4 ≡ shelfReason withDebug x w
   unfolding inputReason shelfReason
-  others e = first-none (typesAgree debug x) (inOrder debug x) (keptApart x) _ e
+  others e = first-none (typesAgree withDebug x) (inOrder withDebug x) (keptApart x) _ e
 
-  pub reason-4 : 0 ≡ inputReason debug x → false ≡ noDeepStore (w .dropped) x → 4 ≡ shelfReason debug x w
+  pub reason-4 : 0 ≡ inputReason x → false ≡ noDeepStore (w .dropped) x → 4 ≡ shelfReason withDebug x w
   reason-4 e d = rw (← d) at (others e)
 
-  pub reason-5 : 0 ≡ inputReason debug x → true ≡ noDeepStore (w .dropped) x → false ≡ readsNoDropped debug (w .dropped) (w .blocks) → 5 ≡ shelfReason debug x w
+  pub reason-5 : 0 ≡ inputReason x → true ≡ noDeepStore (w .dropped) x → false ≡ readsNoDropped withDebug (w .dropped) (w .blocks) → 5 ≡ shelfReason withDebug x w
   reason-5 e d f = rw (← d, ← f) at (others e)
 
-  pub reason-0 : 0 ≡ inputReason debug x → true ≡ noDeepStore (w .dropped) x → true ≡ readsNoDropped debug (w .dropped) (w .blocks) → 0 ≡ shelfReason debug x w
+  pub reason-0 : 0 ≡ inputReason x → true ≡ noDeepStore (w .dropped) x → true ≡ readsNoDropped withDebug (w .dropped) (w .blocks) → 0 ≡ shelfReason withDebug x w
   reason-0 e d f = rw (← d, ← f) at (others e)
 
   -- where no value is dropped, only the input has reasons
-  pub reason-undropped : (n : ℕ) → n ≡ inputReason debug x → ((v : ℕ) → among v (w .dropped) ≡ false) → n ≡ shelfReason debug x w
+  pub reason-undropped : (n : ℕ) → n ≡ inputReason x → ((v : ℕ) → among v (w .dropped) ≡ false) → n ≡ shelfReason withDebug x w
   unfolding inputReason shelfReason
-  reason-undropped n e h = rw (← none-deep (w .dropped) h x, ← none-dropped (w .dropped) h debug (w .blocks)) e
+  reason-undropped n e h = rw (← none-deep (w .dropped) h x, ← none-dropped (w .dropped) h withDebug (w .blocks)) e

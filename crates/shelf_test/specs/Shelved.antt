@@ -16,6 +16,7 @@ use Rattle.bytes_laws_whole.specs.WellFormed.{FitBlocks}
 use Rattle.rewrite.specs.Run.{Rewritten}
 use Rattle.mir.specs.Lookup.{typesIn}
 use Rattle.rewrite_progress.specs.Ground.{Coded}
+use Rattle.shelf.specs.Reads.{withDebug}
 use Rattle.shelf.specs.Lists.{among}
 use Rattle.shelf.specs.Reason.{typesAgree, inOrder, keptApart}
 
@@ -30,8 +31,8 @@ pub record Input (s : List ℕ) (b : Bounds) (facts : List ℕ) (x : Routine) : 
   pub given : definedsOf (b .list) (b .next) (replicate (b .next) false) (drop (getD facts (b .types) 0 + 6) s) ≡ ok (x .parameters) used
 
 -- the lowest of the reasons 1, 2 and 3, which do not ask for the output; else 0
-unfoldable pub inputReason : Bool → Routine → ℕ
-inputReason debug x = cond (typesAgree debug x) (cond (inOrder debug x) (cond (keptApart x) 0 3) 2) 1
+unfoldable pub inputReason : Routine → ℕ
+inputReason x = cond (typesAgree withDebug x) (cond (inOrder withDebug x) (cond (keptApart x) 0 3) 2) 1
 
 -- and the blocks of its rewriting
 pub record Shelved (s : List ℕ) (b : Bounds) (facts out : List ℕ) (at next : ℕ) (dropped : List Bool) (x : Routine) (w : Rewritten) : Type 0 where

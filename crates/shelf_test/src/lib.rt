@@ -1,9 +1,9 @@
 // The shelf test: the reason of a rewritten routine.
 use bytes_field::Bounds;
 ghost use mathlib.Core.Path.{_≡_};
-ghost use mathlib.Core.Bool.{false};
 ghost use Rattle.mir.specs.Routine.{Routine};
 ghost use Rattle.rewrite.specs.Run.{Rewritten};
+ghost use Rattle.shelf.specs.Reads.{withDebug};
 ghost use Rattle.shelf.specs.Reason.{shelfReason};
 ghost use Rattle.shelf_test.specs.Number.{numberOfReason};
 ghost use Rattle.shelf_test.specs.Shelved.{Input, inputReason, Shelved};
@@ -34,7 +34,7 @@ pub fn reason_number(k: ShelfReason) -> u8
 
 // The lowest of the reasons 1, 2 and 3, which are reasons of the input alone; else passed.
 pub fn input_reason(s: &[u8], b: Bounds, facts: &[u16]) -> ShelfReason
-    ensures { λ r. ⌜ ((x : Routine) → Input (now (s .entry)) b (now (facts .entry)) x → numberOfReason r ≡ inputReason false x) ⌝ }
+    ensures { λ r. ⌜ ((x : Routine) → Input (now (s .entry)) b (now (facts .entry)) x → numberOfReason r ≡ inputReason x) ⌝ }
 {
     if !shelf_reason1::types_agree(s, b, facts) {
         return ShelfReason::TypesDisagree;
@@ -60,7 +60,7 @@ pub fn reason(
     dropped: &[bool],
 ) -> ShelfReason
     ensures { λ r. ⌜ ((x : Routine) (w : Rewritten) → Shelved (now (s .entry)) b (now (facts .entry)) (now (out .entry)) at next (now (dropped .entry)) x w
-        → numberOfReason r ≡ shelfReason false x w) ⌝ }
+        → numberOfReason r ≡ shelfReason withDebug x w) ⌝ }
 {
     let first = input_reason(s, b, facts);
     if reason_number(first) != 0 {

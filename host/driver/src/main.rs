@@ -37,7 +37,7 @@ const USAGE: &str = "usage: driver COMMAND [--NAME VALUE]...
   examples    --to FOLDER                        the routines of the folder examples/
   run         --hex HEX [--tuples N] [--structs N] [--max N] [--lent N]
                                                  what the Rust makes of one input
-sorts: typed, wild, near, damaged, bytes; without one, a mix of all";
+sorts: typed, wild, near, damaged, bytes, debugs; without one, a mix of all";
 
 /// The archive's `check`.
 type Check = fn(&[u8]) -> (u8, u64);

@@ -4,7 +4,8 @@ use std::collections::BTreeMap;
 
 use gen::Rng;
 use oracle::form::{Kind, Routine, Type};
-use oracle::{read, Settings, LENT};
+use oracle::rows::DEBUGS;
+use oracle::{from_hex, read, Settings, LENT};
 
 use crate::args::Args;
 use crate::judged::Judged;
@@ -13,8 +14,8 @@ use crate::stored;
 /// The longest input and output of a row.
 const LONGEST: usize = 700;
 
-/// Writes rows to the file `--to`: of `--count` made inputs those that show a case which fewer than
-/// `--times` rows before them show.
+/// Writes rows to the file `--to`: of the stored inputs with Debugs, then of `--count` made inputs,
+/// those that show a case which fewer than `--times` rows before them show.
 pub fn command(args: &Args) -> Result<bool, String> {
     args.only(&["count", "seed", "times", "to"])?;
     let count = args.number("count", 60_000)?;
@@ -24,12 +25,10 @@ pub fn command(args: &Args) -> Result<bool, String> {
     let mut seen: BTreeMap<String, u64> = BTreeMap::new();
     let mut file = Vec::new();
     let mut rows = 0;
-    for number in 0..count {
-        let (_, input) = gen::input(seed, number, None);
-        let mut rng = Rng::of(!seed, number);
-        let settings = some_settings(&mut rng);
+    for (input, mut rng) in inputs(seed, count) {
+        let settings = rng.as_mut().map_or_else(Settings::default, some_settings);
         let judged = Judged::of(&input, settings);
-        let lent = some_length(&mut rng, &judged);
+        let lent = rng.map_or(LENT, |mut rng| some_length(&mut rng, &judged));
         let cases = cases(&input, settings, &judged, lent);
         let new = cases.iter().any(|case| seen.get(case).copied().unwrap_or(0) < times);
         if !new || input.len() > LONGEST || judged.within(lent).1.len() > LONGEST {
@@ -44,6 +43,14 @@ pub fn command(args: &Args) -> Result<bool, String> {
     std::fs::write(to, &file).map_err(|e| format!("{to}: {e}"))?;
     println!("{rows} rows, {} bytes, {} cases", file.len(), seen.len());
     Ok(true)
+}
+
+/// The inputs in order; a made one with the generator of its settings and of what is lent.
+fn inputs(seed: u64, count: u64) -> impl Iterator<Item = (Vec<u8>, Option<Rng>)> {
+    let debugs = DEBUGS.iter().map(|row| from_hex(row.hex).expect("stored rows are hexadecimal"));
+    let made = (0..count)
+        .map(move |number| (gen::input(seed, number, None).1, Some(Rng::of(!seed, number))));
+    debugs.map(|input| (input, None)).chain(made)
 }
 
 /// The usual settings as a rule.
@@ -86,6 +93,7 @@ fn cases(input: &[u8], settings: Settings, judged: &Judged, lent: usize) -> Vec<
         return cases;
     };
     cases.push(format!("reason {reason}"));
+    cases.push(format!("reason {reason}, {} without Debugs", aside(&before, &after)));
     let (was, is) = (kinds(&before), kinds(&after));
     for kind in 0..19 {
         if was[kind] > 0 {
@@ -95,6 +103,19 @@ fn cases(input: &[u8], settings: Settings, judged: &Judged, lent: usize) -> Vec<
     cases.extend(rebuilds(&before, &after));
     cases.push(format!("blocks {}", before.blocks.len().min(4)));
     cases
+}
+
+/// The shelf reason that the Debugs do not decide.
+fn aside(before: &Routine, after: &Routine) -> u8 {
+    let without = |routine: &Routine| {
+        let mut routine = routine.clone();
+        for block in &mut routine.blocks {
+            block.instructions.retain(|i| !matches!(i.kind, Kind::Debug { .. }));
+        }
+        routine
+    };
+    let dropped = shelf::dropped(before, after);
+    shelf::reason(&without(before), &without(after), &dropped)
 }
 
 fn kinds(routine: &Routine) -> [usize; 19] {
@@ -122,4 +143,32 @@ fn rebuilds(before: &Routine, after: &Routine) -> Vec<String> {
         _ => false,
     });
     types.chain(stored.then(|| "Store of a rebuild".to_string())).collect()
+}
+
+#[cfg(test)]
+mod tests {
+    use std::path::Path;
+
+    use oracle::run_routine;
+
+    use super::*;
+
+    /// Debugs decide each of the reasons 1, 2 and 5 in at least three rows of `replay`.
+    #[test]
+    fn debugs_decide_stored_reasons() {
+        let file = Path::new(env!("CARGO_MANIFEST_DIR")).join("../../crates/replay/stdin");
+        let rows = std::fs::read(&file).unwrap_or_else(|e| panic!("{}: {e}", file.display()));
+        let mut decided = [0; 6];
+        for input in stored::inputs(&rows).expect("whole rows") {
+            let Ok(before) = read(input) else { continue };
+            let Ok(lowered) = run_routine(before.clone(), Settings::default()) else { continue };
+            let dropped = shelf::dropped(&before, &lowered.routine);
+            let reason = shelf::reason(&before, &lowered.routine, &dropped);
+            if reason != aside(&before, &lowered.routine) {
+                decided[usize::from(reason)] += 1;
+            }
+        }
+        assert!([1, 2, 5].iter().all(|reason| decided[*reason] >= 3), "{decided:?}");
+        assert_eq!([decided[0], decided[3], decided[4]], [0; 3]);
+    }
 }

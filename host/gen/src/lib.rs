@@ -1,8 +1,9 @@
-//! Routines from a seed: well typed, wild, near every most, damaged, and plain bytes.
+//! Routines from a seed: well typed, wild, near every most, damaged, full of Debugs, and plain bytes.
 
 mod churn;
 mod damage;
 mod damage_routine;
+mod debugs;
 mod draft;
 mod fields;
 mod near;
@@ -38,9 +39,12 @@ pub enum Sort {
     Damaged,
     /// Bytes that are no routine but by chance.
     Bytes,
+    /// A routine, typed as a rule, with Debugs put into it.
+    Debugs,
 }
 
-pub const SORTS: [Sort; 5] = [Sort::Typed, Sort::Wild, Sort::Near, Sort::Damaged, Sort::Bytes];
+pub const SORTS: [Sort; 6] =
+    [Sort::Typed, Sort::Wild, Sort::Near, Sort::Damaged, Sort::Bytes, Sort::Debugs];
 
 impl Sort {
     pub fn name(self) -> &'static str {
@@ -50,6 +54,7 @@ impl Sort {
             Sort::Near => "near",
             Sort::Damaged => "damaged",
             Sort::Bytes => "bytes",
+            Sort::Debugs => "debugs",
         }
     }
 }
@@ -62,7 +67,8 @@ pub fn input(seed: u64, number: u64, only: Option<Sort>) -> (Sort, Vec<u8>) {
         25..=44 => Sort::Wild,
         45..=46 => Sort::Near,
         47..=91 => Sort::Damaged,
-        _ => Sort::Bytes,
+        92..=96 => Sort::Bytes,
+        _ => Sort::Debugs,
     };
     let sort = only.unwrap_or(mixed);
     (sort, of_sort(&mut rng, sort))
@@ -82,6 +88,7 @@ pub fn of_sort(rng: &mut Rng, sort: Sort) -> Vec<u8> {
             damage::damaged(rng, routine)
         }
         Sort::Bytes => bytes(rng),
+        Sort::Debugs => with_debugs(rng),
     }
 }
 
@@ -108,9 +115,13 @@ pub fn sized(rng: &mut Rng, size: usize) -> Vec<u8> {
 /// A well-typed routine with a twist: types agree as a rule, but values are read where they do not
 /// reach, and blocks entered from anywhere.
 pub fn twisted(rng: &mut Rng) -> Vec<u8> {
+    oracle::write(&twisted_routine(rng))
+}
+
+fn twisted_routine(rng: &mut Rng) -> Routine {
     let mut routine = routine(rng, Sort::Typed);
     twist::twist(rng, &mut routine);
-    oracle::write(&routine)
+    routine
 }
 
 /// A well-typed routine that changes a few aggregates again and again, and then shows them.
@@ -123,6 +134,20 @@ pub fn churned(rng: &mut Rng) -> Vec<u8> {
 pub fn churned_deep(rng: &mut Rng) -> Vec<u8> {
     let size = rng.within(3, 40);
     oracle::write(&churn::routine(rng, size, true))
+}
+
+/// A routine of some sort, with Debugs put into it.
+fn with_debugs(rng: &mut Rng) -> Vec<u8> {
+    let size = rng.within(3, 40);
+    let mut routine = match rng.below(100) {
+        0..=29 => routine(rng, Sort::Typed),
+        30..=54 => churn::routine(rng, size, false),
+        55..=59 => churn::routine(rng, size, true),
+        60..=84 => twisted_routine(rng),
+        _ => routine(rng, Sort::Wild),
+    };
+    debugs::put(rng, &mut routine);
+    oracle::write(&routine)
 }
 
 /// Short rows of bytes, small ones more often, at times behind the beginning of a routine.

@@ -1,7 +1,7 @@
 //! Each sort gives what it says: valid routines, and every refusal.
 
 use gen::{input, of_sort, sized, Rng, Sort};
-use oracle::form::{most, Kind, Mosts, Routine};
+use oracle::form::{most, Instruction, Kind, Mosts, Routine, Value};
 use oracle::{function_of, read, read_output, routine_of, run_routine, write, Settings, TypeTable};
 
 /// Routines of a sort, read back.
@@ -70,6 +70,17 @@ fn every_kind_stands_in_wild_routines() {
         }
     }
     assert!(seen.iter().all(|times| *times > 20), "{seen:?}");
+}
+
+/// Routines with Debugs are read, and every other one or more has a Debug that shows an operand.
+#[test]
+fn debugs_stand_in_their_sort() {
+    let shows = |i: &Instruction| match &i.kind {
+        Kind::Debug { values, .. } => values.iter().any(|v| matches!(v, Value::Operand(_))),
+        _ => false,
+    };
+    let with = routines(Sort::Debugs, 1000).filter(|r| r.instructions().any(shows)).count();
+    assert!(with > 500, "{with}");
 }
 
 /// Each most is met exactly.

@@ -20,6 +20,7 @@ pub enum Event {
     Load { pointer: Datum, steps: Vec<Step> },
     Store { pointer: Datum, steps: Vec<Step>, value: Datum },
     AssertEq { left: Datum, right: Datum },
+    Debug { message: u32, values: Vec<Datum> },
     Return { values: Vec<Datum> },
 }
 

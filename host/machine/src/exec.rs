@@ -36,7 +36,8 @@ impl<'a> State<'a> {
             Kind::Load { dest, place, .. } => self.load(*dest, place),
             Kind::Store { place, value, ty } => self.store(place, *value, *ty),
             Kind::AssertEq { left, right } => self.assert_eq(*left, *right),
-            Kind::Debug { .. } | Kind::Nop => Ok(()),
+            Kind::Debug { message, values } => self.debug(*message, values),
+            Kind::Nop => Ok(()),
             // A Phi behind another kind is refusal 7.
             Kind::Phi { .. } => stop(Cause::NoSource),
             _ => self.exec_aggregate(kind),
@@ -119,6 +120,16 @@ impl<'a> State<'a> {
         } else {
             Err(Halt::Ended(End::UnequalSides))
         }
+    }
+
+    /// "Debug becomes a recorded event of the machine with its message and values"; a literal stands
+    /// at no type.
+    fn debug(&mut self, message: u32, values: &'a [Value]) -> Done<()> {
+        if self.meaning.records_debug() {
+            let values = self.values(values, |_| None)?;
+            self.record.push(Event::Debug { message, values });
+        }
+        Ok(())
     }
 
     /// The block that the run goes to. "Return records its values; it and Unreachable end the run."

@@ -1,4 +1,5 @@
-//! Document 01's machine, run plainly: what a routine does, as a record and a standing.
+//! Document 01's machine, with document 02's Debug, run plainly: what a routine does, as a record and a
+//! standing.
 
 mod aggregate;
 mod datum;
@@ -9,6 +10,7 @@ mod meaning;
 mod place;
 mod plain;
 mod run;
+mod silent;
 mod state;
 
 pub use datum::Datum;
@@ -17,4 +19,5 @@ pub use hashed::Hashed;
 pub use meaning::{Answer, Literal, Meaning};
 pub use plain::Plain;
 pub use run::{run, Run};
+pub use silent::Silent;
 pub use state::{List, Outside};

@@ -35,6 +35,11 @@ pub trait Meaning {
     fn compare(&self, op: u8, left: &Datum, right: &Datum) -> Result<bool, u8> {
         self.binary(op, None, left, right).map(|answer| self.truth(&answer))
     }
+
+    /// Whether Debug is "a recorded event of the machine"; else it does nothing.
+    fn records_debug(&self) -> bool {
+        true
+    }
 }
 
 /// A literal that is what it is at every type.

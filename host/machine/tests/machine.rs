@@ -1,6 +1,7 @@
 //! Document 01's sentences about the machine, one small routine each.
 
-use machine::{run, Cause, Datum, End, Event, Hashed, List, Plain, Standing, Step, Trace};
+use machine::{run, Cause, Datum, End, Event, Hashed, List, Literal, Meaning};
+use machine::{Plain, Silent, Standing, Step, Trace};
 use oracle::form::*;
 
 const FELT: TypeNo = TypeNo(0);
@@ -219,7 +220,7 @@ fn unequal_sides_end_the_run() {
     assert_eq!(equal(int(2)).record, [Event::AssertEq { left: num(1), right: num(2) }]);
 }
 
-/// "The machine stops at an unwritten value or missing part"; Debug does nothing.
+/// "The machine stops at an unwritten value or missing part".
 #[test]
 fn unwritten_values_and_missing_parts_stop() {
     let third = Projection::Tuple(2);
@@ -235,8 +236,48 @@ fn unwritten_values_and_missing_parts_stop() {
     for (kinds, cause) in cases {
         assert_eq!(one(&[PAIR, FELT], kinds, &[], &[]).standing, stopped(cause));
     }
-    let debug = Kind::Debug { message: 0, values: vec![v(0), Value::Error] };
-    assert_eq!(one(&[FELT], vec![debug, Kind::Nop], &[], &[]).record.len(), 1);
+    assert_eq!(one(&[FELT], vec![Kind::Nop], &[], &[]).record.len(), 1);
+}
+
+/// "Debug becomes a recorded event of the machine with its message and values": it reads first, and
+/// an unwritten value or Error stops the run before anything of it is recorded.
+#[test]
+fn debug_is_recorded() {
+    let debug = |values: &[Value]| Kind::Debug { message: 7, values: values.to_vec() };
+    let shown = |values: &[Value]| {
+        let kinds = vec![tuple(0, &[int(1), int(2)]), debug(values)];
+        one(&[PAIR, FELT], kinds, &[], &[])
+    };
+    let event = |values: &[Datum]| Event::Debug { message: 7, values: values.to_vec() };
+    let ended = Event::Return { values: Vec::new() };
+    let both = shown(&[v(0), int(5), v(0)]);
+    assert_eq!(both.record, [event(&[pair(1, 2), num(5), pair(1, 2)]), ended.clone()]);
+    assert_eq!(shown(&[]).record, [event(&[]), ended]);
+    for value in [v(1), Value::Error] {
+        let trace = shown(&[v(0), value]);
+        assert_eq!((trace.record, trace.standing), (Vec::new(), stopped(Cause::Unwritten)));
+    }
+}
+
+/// A literal in Debug stands at no type.
+#[test]
+fn a_literal_in_debug_stands_at_no_type() {
+    let meaning = Hashed { seed: 3, stops: false };
+    let kinds = vec![Kind::Debug { message: 0, values: vec![int(5), Value::Boolean(true)] }];
+    let routine = routine(&[], &[], vec![block(kinds, returns(&[]))]);
+    let trace = run(&routine, &meaning, &mut List(&[]), 9).trace;
+    let values = [Literal::Integer(5), Literal::Boolean(true)].map(|l| meaning.literal(l, None));
+    assert_eq!(trace.record[0], Event::Debug { message: 0, values: values.to_vec() });
+}
+
+/// On a machine that does not record Debug it does nothing: it does not even read.
+#[test]
+fn an_unrecorded_debug_does_nothing() {
+    let kinds = vec![Kind::Debug { message: 0, values: vec![v(0), Value::Error] }];
+    let routine = routine(&[FELT], &[], vec![block(kinds, returns(&[]))]);
+    let trace = run(&routine, &Silent(Plain), &mut List(&[]), 9).trace;
+    assert_eq!(trace.record, [Event::Return { values: Vec::new() }]);
+    assert_eq!(trace.standing, Standing::Ended(End::Return));
 }
 
 /// A loop that exchanges two values: "Phis read together, by the first source for the block just

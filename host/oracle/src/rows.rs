@@ -1,5 +1,6 @@
 //! Stored inputs with the first line that they print, shelf reason aside: document 01's worked
-//! example, and what was decided where it leaves a point open.
+//! example, and what was decided where it leaves a point open; and inputs whose Debugs decide the
+//! shelf reason, or do not.
 
 /// An input in hexadecimal and what it prints.
 pub struct Row {
@@ -28,5 +29,78 @@ pub const ROWS: [Row; 8] = [
     Row {
         hex: "020000030100000200010000000003000001000100000a0100010300000300",
         prints: "1 1 0 0 0 0",
+    },
+];
+
+/// An input with a Debug, what it prints and its shelf reason.
+pub struct DebugRow {
+    pub hex: &'static str,
+    pub prints: &'static str,
+    pub reason: u8,
+}
+
+pub const DEBUGS: [DebugRow; 9] = [
+    // Error.
+    DebugRow {
+        hex: "000000000100000000010000070000000001040300",
+        prints: "0 0 0 0 0 0",
+        reason: 1,
+    },
+    // A value without a recorded type.
+    DebugRow {
+        hex: "000001000100000000000100000700000000010300000300",
+        prints: "0 0 0 0 0 0",
+        reason: 1,
+    },
+    // A value that the block defines later.
+    DebugRow {
+        hex: "0100000100010000000001000002000007000000000103000000000000000700000000000300",
+        prints: "0 0 0 0 0 0",
+        reason: 2,
+    },
+    // A tuple that is left out.
+    DebugRow {
+        hex: "02000003010000010001000000000101000200000a0000010007000000000700000000010300000300",
+        prints: "1 1 0 0 0 0",
+        reason: 5,
+    },
+    // The same in another block, which the Rust's scan does not look at.
+    DebugRow {
+        hex: concat!(
+            "02000003010000010002000000000101000100000a00000100010000000001000100000700000000",
+            "010300000300"
+        ),
+        prints: "1 1 0 0 0 0",
+        reason: 5,
+    },
+    // The same, and that block returns it: it is kept.
+    DebugRow {
+        hex: concat!(
+            "02000003010000010002000000000101000100000a00000100070000000001000100000700000000",
+            "010300000301030000"
+        ),
+        prints: "0 0 0 0 0 0",
+        reason: 0,
+    },
+    // Literals, and a tuple that is a parameter.
+    DebugRow {
+        hex: "0200000301000001000100000001000001010001000007050000000400070000000101020300000300",
+        prints: "0 0 0 0 0 0",
+        reason: 0,
+    },
+    // A part of a tuple that is left out.
+    DebugRow {
+        hex: concat!(
+            "020000030100000200010000000003010000000300000a0000010007000000000b01000300000000",
+            "00000000000700000000010301000300"
+        ),
+        prints: "1 1 1 0 0 0",
+        reason: 0,
+    },
+    // A value that is defined nowhere: the run stops there, the shelf test says nothing of it.
+    DebugRow {
+        hex: "010000010001000000000100000100000700000000010300000300",
+        prints: "0 0 0 0 0 0",
+        reason: 0,
     },
 ];

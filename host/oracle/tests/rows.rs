@@ -1,6 +1,6 @@
 //! The stored inputs print what document 01 and the readings of it say.
 
-use oracle::rows::{EXAMPLE, EXAMPLE_OUTPUT, ROWS};
+use oracle::rows::{DEBUGS, EXAMPLE, EXAMPLE_OUTPUT, ROWS};
 use oracle::{from_hex, run_oracle, to_hex, Outcome, Settings, LENT};
 
 fn first_line(hex: &str) -> String {
@@ -17,6 +17,9 @@ fn first_line(hex: &str) -> String {
 #[test]
 fn rows_print_what_they_say() {
     for row in &ROWS {
+        assert_eq!(first_line(row.hex), row.prints, "{}", row.hex);
+    }
+    for row in &DEBUGS {
         assert_eq!(first_line(row.hex), row.prints, "{}", row.hex);
     }
 }

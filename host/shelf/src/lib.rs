@@ -1,4 +1,5 @@
-//! Document 01's shelf test: why a rewritten routine is kept off the shelf, by number.
+//! Document 01's shelf test, Debug's values counted as document 02 has it: why a rewritten routine is
+//! kept off the shelf, by number.
 
 mod order;
 mod typing;

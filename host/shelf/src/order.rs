@@ -6,7 +6,8 @@ use oracle::form::*;
 
 use crate::{operand, Dropped};
 
-/// Reason 2: "A block reads a value that it defines there or later, phis and Debug aside."
+/// Reason 2: "A block reads a value that it defines there or later, phis .. aside"; Debug's values
+/// "count like any other instruction's".
 pub fn reads_ahead(routine: &Routine) -> bool {
     routine.blocks.iter().any(block_reads_ahead)
 }
@@ -15,7 +16,7 @@ fn block_reads_ahead(block: &Block) -> bool {
     let mut ahead: BTreeSet<ValueNo> = BTreeSet::new();
     block.instructions.iter().rev().any(|instruction| {
         ahead.extend(instruction.kind.dests());
-        let aside = matches!(instruction.kind, Kind::Phi { .. } | Kind::Debug { .. });
+        let aside = matches!(instruction.kind, Kind::Phi { .. });
         let mut reads = instruction.kind.values().into_iter().filter_map(operand);
         !aside && reads.any(|v| ahead.contains(&v))
     })
@@ -56,10 +57,9 @@ pub fn stores_deep(routine: &Routine, dropped: &Dropped) -> bool {
     })
 }
 
-/// Reason 5: "The output reads a dropped value anywhere but in Debug."
+/// Reason 5: "The output reads a dropped value", in Debug too.
 pub fn reads_dropped(routine: &Routine, dropped: &Dropped) -> bool {
     let kinds = routine.instructions().map(|i| &i.kind);
-    let kinds = kinds.filter(|kind| !matches!(kind, Kind::Debug { .. }));
     let ends = routine.blocks.iter().flat_map(|block| block.terminator.values());
     let mut reads = kinds.flat_map(Kind::values).chain(ends).filter_map(operand);
     reads.any(|v| dropped.contains(&v))

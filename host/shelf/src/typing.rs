@@ -75,11 +75,8 @@ impl Typing<'_> {
         self.is_scalar(Value::Operand(dest))
     }
 
-    /// All that is asked of an instruction, Debug's values aside.
+    /// All that is asked of an instruction; of a Debug, that its values may be read.
     fn instruction(&self, kind: &Kind) -> bool {
-        if matches!(kind, Kind::Debug { .. }) {
-            return true;
-        }
         let reads = kind.values().into_iter().all(|value| self.may_stand(value));
         let defines = kind.dests().iter().all(|dest| self.is_recorded(*dest));
         reads && defines && self.kind(kind)

@@ -4,9 +4,10 @@ mod common;
 
 use common::*;
 use oracle::form::*;
+use oracle::rows::DEBUGS;
 use oracle::{from_hex, read};
 
-/// Reason 2: the reading instruction itself counts; phis and Debug do not.
+/// Reason 2: the reading instruction itself counts, and Debug; phis do not.
 #[test]
 fn reading_ahead_is_two() {
     let ends =
@@ -14,10 +15,11 @@ fn reading_ahead_is_two() {
     let first = assign(D, int(1), FELT);
     let second = assign(D + 1, v(D), FELT);
     assert_eq!(ends(vec![first.clone(), second.clone()]), 0);
-    assert_eq!(ends(vec![second, first.clone()]), 2);
+    assert_eq!(ends(vec![second.clone(), first.clone()]), 2);
     assert_eq!(ends(vec![assign(D, v(D), FELT)]), 2);
     let debug = Kind::Debug { message: 0, values: vec![v(D)] };
-    assert_eq!(ends(vec![debug, first.clone()]), 0);
+    assert_eq!(ends(vec![first.clone(), debug.clone(), second.clone()]), 0);
+    assert_eq!(ends(vec![debug, first.clone()]), 2);
     let phi =
         Kind::Phi { dest: ValueNo(D + 1), ty: TypeNo(FELT), sources: vec![(BlockNo(0), v(D))] };
     assert_eq!(ends(vec![phi, first]), 0);
@@ -57,7 +59,7 @@ fn a_deep_store_into_a_dropped_base_is_four() {
 }
 
 /// Reason 5: "Returning a tuple of a tracked tuple leaves a read of a dropped value"; a kept Store
-/// reads its base; Debug's reads do not count.
+/// reads its base; Debug's reads count.
 #[test]
 fn reading_a_dropped_value_is_five() {
     let build = vec![tuple(D, &[int(1), int(2)]), tuple(D + 1, &[v(D)])];
@@ -67,7 +69,9 @@ fn reading_a_dropped_value_is_five() {
     let first = build[..1].to_vec();
     let with = |kind| first.iter().cloned().chain([kind]).collect();
     let debug = Kind::Debug { message: 0, values: vec![v(D)] };
-    assert_eq!(ends(with(debug), Terminator::Unreachable), 0);
+    assert_eq!(ends(with(debug), Terminator::Unreachable), 5);
+    let other = Kind::Debug { message: 0, values: vec![v(PAIR)] };
+    assert_eq!(ends(with(other), Terminator::Unreachable), 0);
     let all = store(place(D, &[]), v(PAIR), PAIR);
     assert_eq!(ends(with(all), Terminator::Unreachable), 5);
     let equal = Kind::AssertEq { left: v(D), right: v(PAIR) };
@@ -84,4 +88,23 @@ fn the_lowest_is_given() {
     let hex = "020000030100000200010000000003000001000100000a0100010300000300";
     let stored = read(&from_hex(hex).expect("hexadecimal")).expect("a routine");
     assert_eq!(reason_of(&stored), 0);
+}
+
+/// "Its values, Error too, count like any other instruction's in shelf reasons 1, 2 and 5", on the
+/// stored rows.
+#[test]
+fn stored_debugs_have_their_reasons() {
+    for row in &DEBUGS {
+        let routine = read(&from_hex(row.hex).expect("hexadecimal")).expect("a routine");
+        assert_eq!(reason_of(&routine), row.reason, "{}", row.hex);
+        let aside = reason_of(&without_debugs(routine));
+        assert_eq!(aside, 0, "{}: without its Debugs it passes", row.hex);
+    }
+}
+
+fn without_debugs(mut routine: Routine) -> Routine {
+    for block in &mut routine.blocks {
+        block.instructions.retain(|i| !matches!(i.kind, Kind::Debug { .. }));
+    }
+    routine
 }

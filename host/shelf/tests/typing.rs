@@ -252,8 +252,8 @@ fn terminators_are_judged() {
     }
 }
 
-/// "a value read or defined .. lacks a recorded type, or Error stands as a value (in both, Debug's
-/// aside)"; a parameter is defined.
+/// "a value read or defined .. lacks a recorded type, or Error stands as a value", in Debug too; a
+/// parameter is defined.
 #[test]
 fn every_value_has_a_recorded_type() {
     let without = |value: u16, kind: Kind| {
@@ -266,6 +266,9 @@ fn every_value_has_a_recorded_type() {
     let op = Kind::UnaryOp { op: 0, dest: DEST, source: int(1) };
     assert_eq!(without(D, op), 1);
     assert_eq!(without(D, store(place(D, &[]), int(1), FELT)), 1);
-    let debug = Kind::Debug { message: 0, values: vec![v(D), Value::Error] };
-    assert_eq!(without(D, debug), 0);
+    let debug = |values| Kind::Debug { message: 0, values };
+    assert_eq!(without(D, debug(vec![])), 0);
+    assert_eq!(without(D, debug(vec![v(PAIR), int(1), Value::Boolean(true), Value::Unit])), 0);
+    assert_eq!(without(D, debug(vec![v(PAIR), v(D)])), 1);
+    assert_eq!(without(D, debug(vec![int(1), Value::Error])), 1);
 }

@@ -1,4 +1,5 @@
 use borrow.Author.Needs.{needs}
+use Rattle.shelf.specs.Reads.{withDebug}
 use Rattle.shelf_reason1.proofs.types_agree.Statement.{statement}
 use Rattle.shelf_reason1.proofs.types_agree.Tie as tie
 use mathlib.Core.Path.{ap, _∙_, sym}
@@ -40,7 +41,7 @@ both-requires c κs = search needs
 returns : tie.Need-returns
 returns c = let a = c .before .before .before .before .before .before .before .before .before .before .args in let seen = replicate (a .b .next) false in λ x n e d.
     let w = parameters-told (a .b) (c .before .before .before .before .before .tail .result .now) seen (x .parameters) n (ap (definedsOf (a .b .list) (a .b .next) seen) (c .before .before .before .before .before .tail .ensures ∙ ap (λ q. drop (q + 6) (a .s .now)) (c .before .before .before .before .before .before .place .ensures)) ∙ d) in
-    routine-told false x (c .both .ensures) (c .before .before .all-typed .ensures (a .s .now) (a .facts .now) (typesIn x) (x .parameters) (rw (c .before .before .before .before .recorded .ensures) (e .ground)) (w .0) (w .1 ∙ sym (c .before .before .before .byte-at .ensures))) (c .before .blocks-agree .ensures (typesIn x) (x .blocks) e)
+    routine-told withDebug x (c .both .ensures) (c .before .before .all-typed .ensures (a .s .now) (a .facts .now) (typesIn x) (x .parameters) (rw (c .before .before .before .before .recorded .ensures) (e .ground)) (w .0) (w .1 ∙ sym (c .before .before .before .byte-at .ensures))) (c .before .blocks-agree .ensures (typesIn x) (x .blocks) e)
 
 pub types-agree-spec : {M : Type 1} → statement M
 types-agree-spec =

@@ -37,11 +37,11 @@ slice-aggregate-mark-dests c = search needs
 mark-dests-requires : tie.Need-mark-dests-requires Inv-loop μ-loop
 mark-dests-requires c κs = search needs
 
-slice-aggregate-counted-clear : tie.Need-slice-aggregate-counted-clear Inv-loop μ-loop
-slice-aggregate-counted-clear c = search needs
+slice-aggregate-reads-clear : tie.Need-slice-aggregate-reads-clear Inv-loop μ-loop
+slice-aggregate-reads-clear c = search needs
 
-counted-clear-requires : tie.Need-counted-clear-requires Inv-loop μ-loop
-counted-clear-requires c κs = search needs
+reads-clear-requires : tie.Need-reads-clear-requires Inv-loop μ-loop
+reads-clear-requires c κs = search needs
 
 returns : tie.Need-returns Inv-loop μ-loop
 returns c =
@@ -56,7 +56,7 @@ returns c =
     let c15 = c12 .before .before .before in
     let a = c15 .args in
     backward-stop (a .s .now) (a .facts .now) (a .k .0) (c11 .last-slot .ensures) (c12 .behind-phis .ensures) (c10 .loop .inv) (c9 .loop-test .taken)
-    (c8 .kind .ensures) (c7 .place .ensures .0) (c6 .tail .ensures) (c4 .mark-dests .ensures) (λ b. c .before .counted-clear .ensures b (a .s .now))
+    (c8 .kind .ensures) (c7 .place .ensures .0) (c6 .tail .ensures) (c4 .mark-dests .ensures) (c .before .reads-clear .ensures)
     (c .if1 .taken)
 
 loop-less : tie.Need-loop-less Inv-loop μ-loop
@@ -70,7 +70,7 @@ loop-again c =
     .before .behind-phis .ensures) (c .before .before .before .before .before .before .before .before .before .before .loop .inv) (c .before .before
     .before .before .before .before .before .before .before .loop-test .taken) (c .before .before .before .before .before .before .before
     .before .kind .ensures) (c .before .before .before .before .before .before .before .place .ensures .0) (c .before .before .before .before .before
-    .before .tail .ensures) (c .before .before .before .before .mark-dests .ensures) (λ b. c .before .counted-clear .ensures b (a .s .now))
+    .before .tail .ensures) (c .before .before .before .before .mark-dests .ensures) (c .before .reads-clear .ensures)
     (c .if1 .left) (search needs)
 
 returns-2 : tie.Need-returns-2 Inv-loop μ-loop
@@ -91,8 +91,8 @@ block-ordered-spec =
     tail-requires
     slice-aggregate-mark-dests
     mark-dests-requires
-    slice-aggregate-counted-clear
-    counted-clear-requires
+    slice-aggregate-reads-clear
+    reads-clear-requires
     returns
     loop-less
     loop-again

@@ -5,7 +5,6 @@ use borrow.Author.Tests.{not-true}
 use borrow.Author.Needs.{needs}
 use Rattle.shelf_test.proofs.reason.Statement.{statement}
 use Rattle.shelf_test.proofs.reason.Tie as tie
-use mathlib.Core.Bool.{false}
 use Rattle.mir.specs.Lookup.{typesIn}
 
 input-reason-requires : tie.Need-input-reason-requires
@@ -15,13 +14,13 @@ reason-number-requires : tie.Need-reason-number-requires
 reason-number-requires c κs = search needs
 
 returns : tie.Need-returns
-returns c = λ x w h. reason-first false x w _ (c .before .before .input-reason .ensures x (h .input)) (λ e. c .if1 .taken (c .before .reason-number .ensures ∙ e))
+returns c = λ x w h. reason-first x w _ (c .before .before .input-reason .ensures x (h .input)) (λ e. c .if1 .taken (c .before .reason-number .ensures ∙ e))
 
 any-requires : tie.Need-any-requires
 any-requires c κs = search needs
 
 returns-2 : tie.Need-returns-2
-returns-2 c = λ x w h. reason-undropped false x w 0 (sym (c .before .before .if1 .left) ∙ c .before .before .before .reason-number .ensures ∙ c .before .before .before .before .input-reason .ensures x (h .input)) (λ v. sym (h .marked v) ∙ none-stands _ (c .before .any .ensures) (not-true _ (c .if2 .taken)) v)
+returns-2 c = λ x w h. reason-undropped x w 0 (sym (c .before .before .if1 .left) ∙ c .before .before .before .reason-number .ensures ∙ c .before .before .before .before .input-reason .ensures x (h .input)) (λ v. sym (h .marked v) ∙ none-stands _ (c .before .any .ensures) (not-true _ (c .if2 .taken)) v)
 
 no-deep-store-requires : tie.Need-no-deep-store-requires
 no-deep-store-requires c κs = search needs
@@ -31,7 +30,7 @@ returns-3 c = λ x w h.
     let c4 = c .before .before .before .before in
     let c5 = c4 .before in
     let c6 = c5 .before in
-    reason-4 false x w (sym (c4 .if1 .left) ∙ c5 .reason-number .ensures ∙ c6 .input-reason .ensures x (h .input)) (told _ _ _ (of-deep x (w .dropped) _
+    reason-4 x w (sym (c4 .if1 .left) ∙ c5 .reason-number .ensures ∙ c6 .input-reason .ensures x (h .input)) (told _ _ _ (of-deep x (w .dropped) _
     (c .before .no-deep-store .ensures (w .dropped) (h .marked) (typesIn x) (x .blocks) (h .input .coded))) (c .if3 .taken))
 
 reads-no-dropped-requires : tie.Need-reads-no-dropped-requires
@@ -43,7 +42,7 @@ returns-4 c = λ x w h.
     let c6 = c3 .before .before .before in
     let c7 = c6 .before in
     let c8 = c7 .before in
-    reason-5 false x w (sym (c6 .if1 .left) ∙ c7 .reason-number .ensures ∙ c8 .input-reason .ensures x (h .input)) (told _ _ _ (of-deep x (w .dropped) _
+    reason-5 x w (sym (c6 .if1 .left) ∙ c7 .reason-number .ensures ∙ c8 .input-reason .ensures x (h .input)) (told _ _ _ (of-deep x (w .dropped) _
     (c3 .no-deep-store .ensures (w .dropped) (h .marked) (typesIn x) (x .blocks) (h .input .coded))) (c .before .before .if3 .left)) (told _ _ _
     (c .before .reads-no-dropped .ensures (w .blocks) (w .dropped) (blocks-written h) (h .marked)) (c .if4 .taken))
 
@@ -53,7 +52,7 @@ returns-5 c = λ x w h.
     let c6 = c3 .before .before .before in
     let c7 = c6 .before in
     let c8 = c7 .before in
-    reason-0 false x w (sym (c6 .if1 .left) ∙ c7 .reason-number .ensures ∙ c8 .input-reason .ensures x (h .input)) (told _ _ _ (of-deep x (w .dropped) _
+    reason-0 x w (sym (c6 .if1 .left) ∙ c7 .reason-number .ensures ∙ c8 .input-reason .ensures x (h .input)) (told _ _ _ (of-deep x (w .dropped) _
     (c3 .no-deep-store .ensures (w .dropped) (h .marked) (typesIn x) (x .blocks) (h .input .coded))) (c .before .before .if3 .left)) (told _ _ _
     (c .before .reads-no-dropped .ensures (w .blocks) (w .dropped) (blocks-written h) (h .marked)) (c .if4 .left))
 

@@ -90,6 +90,14 @@ pub fn every_count() -> Routine {
     of_n(pair_types(), &[FELT, PAIR, PAIR, FELT, PAIR], vec![block(kinds, returned(4))])
 }
 
+/// The pair, and a Debug of its part 1 and of 9.
+pub fn debugged() -> Routine {
+    let mut routine = pair();
+    let shown = debug(3, vec![value(1), Value::Integer(9)]);
+    routine.blocks[0].instructions.push(Instruction::plain(shown));
+    routine
+}
+
 /// `let one = (x,);` where `x` is never written: the original stops there, the rewritten routine has
 /// no such build any more.
 pub fn unwritten() -> Routine {

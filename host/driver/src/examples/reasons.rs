@@ -1,4 +1,5 @@
-//! Routines that do not pass the shelf test, one for each reason; reason 5 has two.
+//! Routines that do not pass the shelf test, one for each reason; reason 5 has two, and three fail by
+//! a Debug.
 
 use oracle::form::*;
 
@@ -65,4 +66,26 @@ pub fn returned_nest() -> Routine {
     let types = [pair_types(), vec![Type::Tuple(vec![PAIR, FELT])]].concat();
     let kinds = vec![tuple(0, integers([1, 2])), tuple(1, vec![value(0), Value::Integer(3)])];
     routine(types, &[PAIR, TypeNo(2)], vec![block(kinds, returned(1))])
+}
+
+/// The pair with a Debug at a place of its block.
+fn debugged(at: usize, values: Vec<Value>) -> Routine {
+    let mut routine = pair();
+    routine.blocks[0].instructions.insert(at, Instruction::plain(debug(3, values)));
+    routine
+}
+
+/// A Debug of the part and of Error.
+pub fn debugged_error() -> Routine {
+    debugged(2, vec![value(1), Value::Error])
+}
+
+/// A Debug of the part that stands before the part is taken.
+pub fn debugged_ahead() -> Routine {
+    debugged(1, vec![value(1)])
+}
+
+/// A Debug of the pair, for which nothing is built again.
+pub fn debugged_dropped() -> Routine {
+    debugged(2, vec![value(0)])
 }

@@ -76,8 +76,10 @@ fn every_reason_and_refusal_is_shown() {
         let row = rows(&table).into_iter().find(|[file, ..]| *file == name);
         row.unwrap_or_else(|| panic!("{name} has no row"))[2]
     };
-    for reason in 1..=5 {
-        assert!(line(format!("reason-{reason}.hex")).ends_with(&format!(" {reason}")));
+    let reasons = (1..=5).map(|reason| (reason, format!("reason-{reason}.hex")));
+    let debugs = [1, 2, 5].map(|reason| (reason, format!("debug-{reason}.hex")));
+    for (reason, name) in reasons.chain(debugs) {
+        assert!(line(name).ends_with(&format!(" {reason}")));
     }
     for number in 1..=11 {
         let refused = line(format!("refused-{number}.hex"));
@@ -133,6 +135,15 @@ fn what_passed_does_the_same() {
     }
 }
 
+/// "What a reader cannot tell apart includes the Debug record".
+#[test]
+fn what_passed_shows_the_same() {
+    let [original, rewritten] = runs(&passed::debugged(), Datum::Unit);
+    let shown = Event::Debug { message: 3, values: vec![Datum::Number(8), Datum::Number(9)] };
+    assert_eq!(original.record[..1], [shown]);
+    assert_eq!(original, rewritten);
+}
+
 /// The theorem says nothing of an original that stops at a value that was never written.
 #[test]
 fn an_unwritten_value_is_left_aside() {
@@ -150,7 +161,7 @@ fn what_did_not_pass_may_do_another_thing() {
         assert_eq!(original, gives(vec![Datum::Number(value)]));
         assert_eq!(rewritten, gives(vec![Datum::Number(9)]));
     }
-    for routine in [reasons::asserted(), reasons::returned_nest()] {
+    for routine in [reasons::asserted(), reasons::returned_nest(), reasons::debugged_dropped()] {
         let [original, rewritten] = runs(&routine, Datum::Unit);
         assert_eq!(original.standing, Standing::Ended(End::Return));
         let stopped = Trace { record: Vec::new(), standing: Standing::Stopped(Cause::Unwritten) };

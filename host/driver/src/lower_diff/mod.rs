@@ -7,7 +7,7 @@ pub mod small;
 
 use gen::{Rng, Sort, SORTS};
 use oracle::from_hex;
-use oracle::rows::ROWS;
+use oracle::rows::{DEBUGS, ROWS};
 
 use crate::args::Args;
 use crate::Lower;
@@ -67,8 +67,9 @@ impl Diff {
     }
 
     fn stored(&mut self) {
-        for row in &ROWS {
-            let input = from_hex(row.hex).expect("stored rows are hexadecimal");
+        let debugs = DEBUGS.iter().map(|row| row.hex);
+        for hex in ROWS.iter().map(|row| row.hex).chain(debugs) {
+            let input = from_hex(hex).expect("stored rows are hexadecimal");
             let from = || "a stored row".to_string();
             self.comparison.compare(STORED, from, &input, &all_settings(), Calls::Many(0));
         }

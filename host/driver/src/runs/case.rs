@@ -11,15 +11,17 @@ use super::plan::{plans, Plan};
 /// How many runs each routine takes part in.
 const RUNS: usize = 6;
 
-/// Input `number` of a seed, with settings: typed as a rule, else with a twist, and some wild.
+/// Input `number` of a seed, with settings: typed as a rule, else with a twist, and some wild; a
+/// third with Debugs put in.
 pub fn input(seed: u64, number: u64) -> (Vec<u8>, Settings) {
     let mut rng = Rng::of(seed, number);
     let settings = settings(&mut rng);
     let bytes = match rng.below(100) {
-        0..=29 => gen::of_sort(&mut rng, Sort::Typed),
-        30..=64 => gen::churned(&mut rng),
-        65..=94 => gen::twisted(&mut rng),
-        _ => gen::of_sort(&mut rng, Sort::Wild),
+        0..=19 => gen::of_sort(&mut rng, Sort::Typed),
+        20..=43 => gen::churned(&mut rng),
+        44..=62 => gen::twisted(&mut rng),
+        63..=66 => gen::of_sort(&mut rng, Sort::Wild),
+        _ => gen::of_sort(&mut rng, Sort::Debugs),
     };
     (bytes, settings)
 }

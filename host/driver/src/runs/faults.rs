@@ -18,14 +18,20 @@ pub enum Fault {
     LostCall,
     /// An Assign that stands for an extract takes the part that another extract took.
     OtherPart,
+    /// A Debug is left out.
+    LostDebug,
+    /// A Debug shows its first two values exchanged.
+    OtherDebug,
 }
 
-pub const FAULTS: [(&str, Fault); 5] = [
+pub const FAULTS: [(&str, Fault); 7] = [
     ("stale", Fault::Stale),
     ("lost-store", Fault::LostStore),
     ("swapped", Fault::Swapped),
     ("lost-call", Fault::LostCall),
     ("other-part", Fault::OtherPart),
+    ("lost-debug", Fault::LostDebug),
+    ("other-debug", Fault::OtherDebug),
 ];
 
 impl Fault {
@@ -49,6 +55,8 @@ impl Fault {
             }
             Fault::LostCall => each_kind(rewritten, lost_call),
             Fault::OtherPart => other_part(original, rewritten),
+            Fault::LostDebug => each_kind(rewritten, lost_debug),
+            Fault::OtherDebug => each_kind(rewritten, other_debug),
         }
     }
 }
@@ -102,6 +110,20 @@ fn swapped(kind: &mut Kind, fresh: usize) {
 fn lost_call(kind: &mut Kind) {
     if matches!(kind, Kind::Call(call) if call.dests.is_empty()) {
         *kind = Kind::Nop;
+    }
+}
+
+fn lost_debug(kind: &mut Kind) {
+    if matches!(kind, Kind::Debug { .. }) {
+        *kind = Kind::Nop;
+    }
+}
+
+fn other_debug(kind: &mut Kind) {
+    if let Kind::Debug { values, .. } = kind {
+        if values.len() > 1 {
+            values.swap(0, 1);
+        }
     }
 }
 

@@ -54,6 +54,8 @@ struct Comparison {
     events: Tally,
     /// Compared runs of changed routines, and those that went through a changed block.
     changed: [u64; 2],
+    /// Compared runs whose record has a Debug.
+    debugs: u64,
     compared: u64,
     differences: Vec<Difference>,
 }
@@ -75,7 +77,8 @@ const STANDINGS: [&str; 8] = [
     "stopped: operation",
 ];
 
-const EVENTS: [&str; 6] = ["Call", "HeapAllocCells", "Load", "Store", "AssertEq", "Return"];
+const EVENTS: [&str; 7] =
+    ["Call", "HeapAllocCells", "Load", "Store", "AssertEq", "Return", "Debug"];
 
 impl Comparison {
     fn new(seed: u64, wanted: Wanted) -> Self {
@@ -93,6 +96,7 @@ impl Comparison {
             aside: Tally::new("runs not compared", ["unwritten value", "missing part"]),
             events: Tally::new("events of compared runs", EVENTS),
             changed: [0; 2],
+            debugs: 0,
             compared: 0,
             differences: Vec::new(),
         }
@@ -158,6 +162,8 @@ impl Comparison {
     }
 
     fn events(&mut self, run: &Run) {
+        let is_debug = |event: &Event| matches!(event, Event::Debug { .. });
+        self.debugs += u64::from(run.trace.record.iter().any(is_debug));
         for event in &run.trace.record {
             let at = match event {
                 Event::Call { .. } => 0,
@@ -166,6 +172,7 @@ impl Comparison {
                 Event::Store { .. } => 3,
                 Event::AssertEq { .. } => 4,
                 Event::Return { .. } => 5,
+                Event::Debug { .. } => 6,
             };
             self.events.add(at, 1);
         }
@@ -188,6 +195,7 @@ impl Comparison {
         let (compared, differences) = (self.compared, self.differences.len());
         println!("{compared} compared runs, {changed} of changed routines");
         println!("{through} compared runs went through a changed block");
+        println!("{} compared runs have a Debug in their record", self.debugs);
         println!("{differences} differences");
         self.differences.iter().for_each(|difference| self.show(difference));
         let met = [&self.lists, &self.meanings, &self.standings, &self.aside, &self.events];
@@ -244,6 +252,7 @@ mod tests {
         assert!(comparison.differences.is_empty());
         assert!(comparison.compared > 2500);
         assert!(comparison.changed[1] > 1000);
+        assert!(comparison.debugs > 500);
     }
 
     /// Each planted fault is found, and by a small routine.
@@ -252,7 +261,7 @@ mod tests {
         for (name, fault) in FAULTS {
             let comparison = compared(Wanted { reason: 0, fault }, 1500);
             let small = comparison.differences.iter().map(|d| write(&d.routine).len()).min();
-            assert!(small.is_some_and(|length| length < 150), "{name}: {small:?}");
+            assert!(small.is_some_and(|length| length < 200), "{name}: {small:?}");
         }
     }
 

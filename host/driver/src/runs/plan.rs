@@ -1,7 +1,7 @@
 //! How a run is made: outside lists, meanings, numbers of blocks.
 
 use gen::Rng;
-use machine::{run, Datum, Hashed, Meaning, Outside, Plain};
+use machine::{run, Datum, Hashed, Meaning, Outside, Plain, Silent};
 use oracle::form::*;
 
 /// How a list came about.
@@ -16,7 +16,11 @@ pub enum ListSort {
 }
 
 pub const LIST_SORTS: [&str; 3] = ["right", "one value wrong", "too short"];
-pub const MEANINGS: [&str; 3] = ["arithmetic", "drawn", "drawn, some stop"];
+pub const MEANINGS: [&str; 4] =
+    ["arithmetic", "drawn", "drawn, some stop", "arithmetic, Debug unrecorded"];
+
+/// The meanings of a routine's runs, in turn.
+const TURNS: [usize; 6] = [0, 1, 2, 0, 1, 3];
 
 pub struct Plan {
     /// The place in [`MEANINGS`].
@@ -33,9 +37,10 @@ pub fn plans(rng: &mut Rng, routine: &Routine, count: usize) -> Vec<Plan> {
 }
 
 fn plan(rng: &mut Rng, routine: &Routine, at: usize) -> Plan {
-    let meant = at % MEANINGS.len();
+    let meant = TURNS[at % TURNS.len()];
     let meaning: Box<dyn Meaning> = match meant {
         0 => Box::new(Plain),
+        3 => Box::new(Silent(Plain)),
         _ => Box::new(Hashed { seed: rng.word(), stops: meant == 2 }),
     };
     let blocks = if rng.chance(70) { rng.within(8, 40) } else { rng.below(8) };

@@ -9,7 +9,7 @@ use native.Mathlib.Omega.{arith}
 use borrow.Author.Tests.{lt-ltb}
 use lib.ListN.{length, getD, set, drop, length-drop, length-set}
 use lib.Seq.{drop-cons, drop-length, getD-set-same, getD-set-other}
-use Rattle.bytes_wire.specs.Parse.{Parse, ok, mapParse}
+use Rattle.bytes_wire.specs.Parse.{Parse, ok, later, mapParse}
 use Rattle.bytes_wire.specs.declared.Cause.{Cause}
 use Rattle.mir.specs.declared.ValueId.{ValueId}
 use Rattle.bytes_wire.proofs.Laws.{size, size-map}
@@ -17,13 +17,13 @@ use Rattle.bytes_wire.proofs.Inv.{no-ok}
 use Rattle.mir.specs.Syntax.{Instruction, Terminator}
 use Rattle.mir.specs.Reads.{reads, dests, terminatorReads}
 use Rattle.bytes_field.specs.Decode.{mark, instructionOf, terminatorOf}
-use Rattle.bytes_field.specs.Walk.{Walk, walkOf, uses, defines, fold, passes, leaves, asScan}
+use Rattle.bytes_field.specs.Walk.{Walk, walkOf, uses, defines, fold, passes, leaves, asScan, bytesOf}
 use Rattle.bytes_field.specs.declared.Bounds.{Bounds}
 use Rattle.bytes_field.specs.declared.Scan.{Scan}
 use Rattle.bytes_block.specs.Decode.{marks}
 use Rattle.bytes_block.proofs.Sizes.{size-instruction, size-terminator}
 use Rattle.shelf.specs.Reads.{cleanTerminator}
-use Rattle.shelf_reason5.specs.Unread.{Buffered, marked, walked}
+use Rattle.shelf_reason5.specs.Unread.{Buffered, marked, walked, Judges}
 use Rattle.shelf_reason5.specs.declared.Walked.{Walked}
 use Rattle.shelf.specs.Lists.{clear}
 
@@ -97,79 +97,62 @@ defined : (seen : List Bool) (u : List ℕ) (n : ℕ) (late : Bool) (ds : List V
 defined seen u n late [] = refl
 defined seen u n late (d ∷ ds) = defined (mark seen d) u n late ds
 
--- what a scan answers, that leaves w behind what it reads
-module _ {X : Type 0} (w : X → Walk) (d : Parse X) (v : List ℕ) (seen : List Bool) (r : Scan) (e : asScan r seen v ≡ mapParse w d) where
-  pub scan-refused : {c : Cause} {o : ℕ} → r ≡ Scan.Refused c o → (x : X) (n : ℕ) → d ≡ ok x n → {A : Type 0} → A
-  scan-refused f x n t = absurd (no-ok (sym (ap (λ q. asScan q seen v) f) ∙ e ∙ ap (mapParse w) t))
+-- what is answered of a scan, by what it was
+module _ (v : List ℕ) (ms : List Bool) (r : Scan) where
+  pub refused-told : {c : Cause} {o : ℕ} → r ≡ Scan.Refused c o → Judges r v ms Walked.Reads
+  refused-told e = rw e refl
 
-  module _ {took m : ℕ} {late : Bool} (f : r ≡ Scan.Used took m late) where
-    scan-within : {n : ℕ} → size d ≤ n → took ≤ n
-    scan-within h = omega (arith, h, size-map w d, ap (λ q. size q) (sym (ap (λ q. asScan q seen v) f) ∙ e))
+  module _ {end n : ℕ} {late : Bool} (e : r ≡ Scan.Used end n late) {c : Bool} (says : (vs : List ValueId) → Buffered v n vs → c ≡ clear ms vs) where
+    pub clean-told : c ≡ true → Judges r v ms (Walked.Behind end)
+    clean-told z = rw e (λ vs b. rw (← says vs b, z) refl)
 
-    scanned : (x : X) (n : ℕ) → d ≡ ok x n → ok (walkOf seen v m late) took ≡ ok (w x) n
-    scanned x n t = sym (ap (λ q. asScan q seen v) f) ∙ e ∙ ap (mapParse w) t
+    pub dropped-told : c ≡ false → Judges r v ms Walked.Reads
+    dropped-told z = rw e (λ vs b. rw (← says vs b, z) refl)
 
-    scan-took : (x : X) (n : ℕ) → d ≡ ok x n → took ≡ n
-    scan-took x n t = ap (λ q. size q) (scanned x n t)
+-- a scan that leaves w behind what it reads, and what stands behind it
+module _ {X : Type 0} (w : X → Walk) (d : Parse X) (v : List ℕ) (seen : List Bool) where
+  scan-size : (r : Scan) → asScan r seen v ≡ mapParse w d → bytesOf r ≡ size d
+  scan-size (Scan.Used k n late) e = ap (λ q. size q) e ∙ size-map w d
+  scan-size (Scan.Refused c o) e = ap (λ q. size q) e ∙ size-map w d
 
-    scan-walk : (x : X) (n : ℕ) → d ≡ ok x n → walkOf seen v m late ≡ w x
-    scan-walk x n t = let z = scanned x n t in cc
+  -- further on: the reads of what it reads stand in the buffer
+  scan-judged : (readsOf : X → List ValueId) (at : ℕ) (ms : List Bool) → ((x : X) (m : ℕ) (late : Bool) → length (readsOf x) ≤ 32 → walkOf seen v m late ≡ w x → Buffered v m (readsOf x))
+      → (r : Scan) → asScan r seen v ≡ later at (mapParse w d) → (a : Walked) → Judges r v ms a → (x : X) (n : ℕ) → d ≡ ok x n → length (readsOf x) ≤ 32 → a ≡ walked (clear ms (readsOf x)) (at + n)
+  scan-judged readsOf at ms fill (Scan.Refused c o) e a j x n t k = absurd (no-ok (e ∙ ap (λ q. later at (mapParse w q)) t))
+  scan-judged readsOf at ms fill (Scan.Used end m late) e a j x n t k =
+      let z : ok (walkOf seen v m late) end ≡ ok (w x) (at + n) = e ∙ ap (λ q. later at (mapParse w q)) t in
+      let y : walkOf seen v m late ≡ w x = cc in
+      let g : end ≡ at + n = ap (λ q. size q) z in
+      rw g at (j (readsOf x) (fill x m late k y))
 
 -- of an instruction, and of a terminator
-module _ (b : Bounds) (s t : List ℕ) (at : ℕ) (ms : List Bool) (u v : List ℕ) (seen : List Bool) (r : Scan) (h : t ≡ drop at s) (lu : length u ≡ 32) where
+module _ (b : Bounds) (s t : List ℕ) (at : ℕ) (ms : List Bool) (u v : List ℕ) (seen : List Bool) (r q : Scan) (h : t ≡ drop at s) (lu : length u ≡ 32) (f : asScan q seen v ≡ later at (asScan r seen v)) (a : Walked) (j : Judges q v ms a) where
   module _ (e : asScan r seen v ≡ mapParse (passes (walkOf [] u 0 false)) (instructionOf b [] false t)) where
-    abbrev Next : Walked → Type 0
-    Next a = (i : Instruction) (n : ℕ) → instructionOf b [] false (drop at s) ≡ ok i n → length (reads (i .kind)) ≤ 32 → a ≡ walked (clear ms (reads (i .kind))) (at + n)
+    next-buffered : (i : Instruction) (m : ℕ) (late : Bool) → length (reads (i .kind)) ≤ 32 → walkOf seen v m late ≡ passes (walkOf [] u 0 false) i → Buffered v m (reads (i .kind))
+    next-buffered i m late k y =
+        let w : behindOf ≡ fold uses (walkOf (marks [] (dests (i .kind))) u 0 false) (reads (i .kind)) = ap (λ q. fold uses q (reads (i .kind))) (defined [] u 0 false (dests (i .kind))) in
+        let p : m ≡ behindOf .count = ap (λ q. q .count) y in
+        let o : v ≡ behindOf .buffer = ap (λ q. q .buffer) y in
+        buffered (marks [] (dests (i .kind))) u (reads (i .kind)) lu k (p ∙ ap (λ q. q .count) w) (o ∙ ap (λ q. q .buffer) w)
+      where
+        behindOf : Walk
+        behindOf = fold uses (fold defines (walkOf [] u 0 false) (dests (i .kind))) (reads (i .kind))
 
-    pub next-within : {took m : ℕ} {late : Bool} → r ≡ Scan.Used took m late → took ≤ length s - at
-    next-within f = omega (arith, scan-within (passes (walkOf [] u 0 false)) (instructionOf b [] false t) v seen r e f (size-instruction b [] false t), ap (λ q. length q) h, length-drop at s)
-
-    pub next-refused : {c : Cause} {o : ℕ} → r ≡ Scan.Refused c o → Next Walked.Reads
-    next-refused f i n g k = scan-refused (passes (walkOf [] u 0 false)) (instructionOf b [] false t) v seen r e f i n (ap (λ q. instructionOf b [] false q) h ∙ g)
-
-    module _ {took m : ℕ} {late : Bool} (f : r ≡ Scan.Used took m late) {c : Bool} (says : (vs : List ValueId) → Buffered v m vs → c ≡ clear ms vs) where
-      next-took : (i : Instruction) (n : ℕ) → instructionOf b [] false (drop at s) ≡ ok i n → took ≡ n
-      next-took i n g = scan-took (passes (walkOf [] u 0 false)) (instructionOf b [] false t) v seen r e f i n (ap (λ q. instructionOf b [] false q) h ∙ g)
-
-      next-clean : (i : Instruction) (n : ℕ) → instructionOf b [] false (drop at s) ≡ ok i n → length (reads (i .kind)) ≤ 32 → c ≡ clear ms (reads (i .kind))
-      next-clean i n g k =
-          let y = scan-walk (passes (walkOf [] u 0 false)) (instructionOf b [] false t) v seen r e f i n (ap (λ q. instructionOf b [] false q) h ∙ g) in
-          let w : behindOf i ≡ fold uses (walkOf (marks [] (dests (i .kind))) u 0 false) (reads (i .kind)) = ap (λ q. fold uses q (reads (i .kind))) (defined [] u 0 false (dests (i .kind))) in
-          let p : m ≡ behindOf i .count = ap (λ q. q .count) y in
-          let o : v ≡ behindOf i .buffer = ap (λ q. q .buffer) y in
-          says (reads (i .kind)) (buffered (marks [] (dests (i .kind))) u (reads (i .kind)) lu k (p ∙ ap (λ q. q .count) w) (o ∙ ap (λ q. q .buffer) w))
-        where
-          behindOf : Instruction → Walk
-          behindOf i = fold uses (fold defines (walkOf [] u 0 false) (dests (i .kind))) (reads (i .kind))
-
-      pub next-behind : c ≡ true → Next (Walked.Behind (at + took))
-      next-behind z i n g k = rw (← next-clean i n g k, z, next-took i n g)
-
-      pub next-reads : c ≡ false → Next Walked.Reads
-      next-reads z i n g k = rw (← next-clean i n g k, z)
+    pub next-told : (i : Instruction) (n : ℕ) → instructionOf b [] false (drop at s) ≡ ok i n → length (reads (i .kind)) ≤ 32 → a ≡ walked (clear ms (reads (i .kind))) (at + n)
+    next-told i n g = scan-judged (passes (walkOf [] u 0 false)) (instructionOf b [] false t) v seen (λ i. reads (i .kind)) at ms next-buffered q (f ∙ ap (later at) e) a j i n (ap (λ q. instructionOf b [] false q) h ∙ g)
 
   module _ (e : asScan r seen v ≡ mapParse (leaves (walkOf [] u 0 false)) (terminatorOf b t)) where
-    abbrev Last : Walked → Type 0
-    Last a = (x : Terminator) (n : ℕ) → terminatorOf b (drop at s) ≡ ok x n → length (terminatorReads x) ≤ 32 → a ≡ walked (cleanTerminator (marked ms) x) (at + n)
+    last-buffered : (x : Terminator) (m : ℕ) (late : Bool) → length (terminatorReads x) ≤ 32 → walkOf seen v m late ≡ leaves (walkOf [] u 0 false) x → Buffered v m (terminatorReads x)
+    last-buffered x m late k y = buffered [] u (terminatorReads x) lu k (ap (λ q. q .count) y) (ap (λ q. q .buffer) y)
 
-    pub last-within : {took m : ℕ} {late : Bool} → r ≡ Scan.Used took m late → took ≤ length s - at
-    last-within f = omega (arith, scan-within (leaves (walkOf [] u 0 false)) (terminatorOf b t) v seen r e f (size-terminator b t), ap (λ q. length q) h, length-drop at s)
+    pub last-told : (x : Terminator) (n : ℕ) → terminatorOf b (drop at s) ≡ ok x n → length (terminatorReads x) ≤ 32 → a ≡ walked (cleanTerminator (marked ms) x) (at + n)
+    unfolding cleanTerminator
+    last-told x n g = scan-judged (leaves (walkOf [] u 0 false)) (terminatorOf b t) v seen terminatorReads at ms last-buffered q (f ∙ ap (later at) e) a j x n (ap (λ q. terminatorOf b q) h ∙ g)
 
-    pub last-refused : {c : Cause} {o : ℕ} → r ≡ Scan.Refused c o → Last Walked.Reads
-    last-refused f x n g k = scan-refused (leaves (walkOf [] u 0 false)) (terminatorOf b t) v seen r e f x n (ap (λ q. terminatorOf b q) h ∙ g)
+-- their places do not wrap
+module _ (b : Bounds) (s t : List ℕ) (at : ℕ) (u v : List ℕ) (seen : List Bool) (r : Scan) (h : t ≡ drop at s) where
+  pub next-within : asScan r seen v ≡ mapParse (passes (walkOf [] u 0 false)) (instructionOf b [] false t) → bytesOf r ≤ length s - at
+  next-within e = omega (arith, scan-size (passes (walkOf [] u 0 false)) (instructionOf b [] false t) v seen r e, size-instruction b [] false t, ap (λ q. length q) h, length-drop at s)
 
-    module _ {took m : ℕ} {late : Bool} (f : r ≡ Scan.Used took m late) {c : Bool} (says : (vs : List ValueId) → Buffered v m vs → c ≡ clear ms vs) where
-      last-took : (x : Terminator) (n : ℕ) → terminatorOf b (drop at s) ≡ ok x n → took ≡ n
-      last-took x n g = scan-took (leaves (walkOf [] u 0 false)) (terminatorOf b t) v seen r e f x n (ap (λ q. terminatorOf b q) h ∙ g)
-
-      last-clean : (x : Terminator) (n : ℕ) → terminatorOf b (drop at s) ≡ ok x n → length (terminatorReads x) ≤ 32 → c ≡ cleanTerminator (marked ms) x
-      unfolding cleanTerminator
-      last-clean x n g k =
-          let y = scan-walk (leaves (walkOf [] u 0 false)) (terminatorOf b t) v seen r e f x n (ap (λ q. terminatorOf b q) h ∙ g) in
-          says (terminatorReads x) (buffered [] u (terminatorReads x) lu k (ap (λ q. q .count) y) (ap (λ q. q .buffer) y))
-
-      pub last-behind : c ≡ true → Last (Walked.Behind (at + took))
-      last-behind z x n g k = rw (← last-clean x n g k, z, last-took x n g)
-
-      pub last-reads : c ≡ false → Last Walked.Reads
-      last-reads z x n g k = rw (← last-clean x n g k, z)
+  pub last-within : asScan r seen v ≡ mapParse (leaves (walkOf [] u 0 false)) (terminatorOf b t) → bytesOf r ≤ length s - at
+  last-within e = omega (arith, scan-size (leaves (walkOf [] u 0 false)) (terminatorOf b t) v seen r e, size-terminator b t, ap (λ q. length q) h, length-drop at s)

@@ -11,11 +11,13 @@ use Rattle.bytes_field.specs.Decode.{instructionOf, terminatorOf}
 use Rattle.mir.specs.Reads.{reads, terminatorReads}
 use Rattle.bytes_field.specs.Encode.{eachBytes, instructionBytes, terminatorBytes}
 use Rattle.bytes_field.specs.declared.Bounds.{Bounds}
+use Rattle.bytes_field.specs.declared.Scan.{Scan}
 use Rattle.mir.specs.Lists.{Each}
 use Rattle.bytes_laws.specs.WellFormed.{Wide}
 use Rattle.bytes_block.specs.Encode.{blockBytes}
 use Rattle.bytes_block.specs.declared.Mosts.{Mosts}
 use Rattle.bytes_laws_whole.specs.WellFormed.{FitBlocks}
+use Rattle.shelf.specs.Lists.{clear}
 use Rattle.shelf.specs.Reads.{clean, cleanTerminator, withDebug}
 use Rattle.shelf_reason5.specs.declared.Walked.{Walked}
 
@@ -35,6 +37,11 @@ cleanBlock ms k = clean withDebug (marked ms) (k .instructions) && cleanTerminat
 -- what a walk answers: the place behind, or that a marked value is read
 abbrev pub walked : Bool → ℕ → Walked
 walked c end = cond c (Walked.Behind end) Walked.Reads
+
+-- what a scan leaves whose reads stand in a buffer: of one that was refused nothing goes on
+abbrev pub Judges : Scan → List ℕ → List Bool → Walked → Type 0
+Judges (Scan.Refused c o) buffer ms r = r ≡ Walked.Reads
+Judges (Scan.Used end n late) buffer ms r = (vs : List ValueId) → Buffered buffer n vs → r ≡ walked (clear ms vs) end
 
 -- an instruction's bytes are read as it, whatever was defined before and whatever follows; its reads are few
 pub record Alone (b : Bounds) (i : Instruction) : Type 0 where

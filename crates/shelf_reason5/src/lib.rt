@@ -15,7 +15,7 @@ ghost use Rattle.bytes_block.specs.Encode.{blockBytes};
 ghost use Rattle.shelf.specs.Lists.{among, clear};
 ghost use Rattle.shelf.specs.Reads.{cleanTerminator, withDebug};
 ghost use Rattle.shelf.specs.Reason.{readsNoDropped};
-ghost use Rattle.shelf_reason5.specs.Unread.{Buffered, marked, cleanBlock, walked, Legible, Written};
+ghost use Rattle.shelf_reason5.specs.Unread.{Buffered, marked, cleanBlock, walked, Judges, Legible, Written};
 
 // The most values that an instruction or a terminator reads.
 const READS: usize = 32;
@@ -40,6 +40,21 @@ fn clean_buffer(buffer: &[u16], n: usize, dropped: &[bool]) -> bool
     true
 }
 
+// The place behind what was scanned, where none of its reads, which stand in `buffer`, is dropped.
+fn judge(scan: Scan, buffer: &[u16], dropped: &[bool]) -> Walked
+    ensures { λ r. ⌜ Judges scan (now (buffer .entry)) (now (dropped .entry)) r ⌝ }
+{
+    match scan {
+        Scan::Refused(_, _) => Walked::Reads,
+        Scan::Used(end, n, _) => {
+            if clean_buffer(buffer, n, dropped) {
+                return Walked::Behind(end);
+            }
+            Walked::Reads
+        }
+    }
+}
+
 // Walks the instruction that stands at `at`.
 fn walk_instruction(s: &[u8], at: usize, b: Bounds, dropped: &[bool]) -> Walked
     ensures { λ r. ⌜ ((i : Instruction) (n : ℕ) → instructionOf b [] false (drop at (now (s .entry))) ≡ ok i n → length (reads (i .kind)) ≤ 32
@@ -47,22 +62,9 @@ fn walk_instruction(s: &[u8], at: usize, b: Bounds, dropped: &[bool]) -> Walked
 {
     let mut none: [bool; 0] = [false; 0];
     let mut buffer: [u16; READS] = [0; READS];
-    match bytes_block::read_instruction(
-        bytes_field::tail(s, at),
-        b,
-        0,
-        false,
-        &mut none,
-        &mut buffer,
-    ) {
-        Scan::Refused(_, _) => Walked::Reads,
-        Scan::Used(took, n, _) => {
-            if clean_buffer(&buffer, n, dropped) {
-                return Walked::Behind(at + took);
-            }
-            Walked::Reads
-        }
-    }
+    let t = bytes_field::tail(s, at);
+    let scan = bytes_block::read_instruction(t, b, 0, false, &mut none, &mut buffer);
+    judge(bytes_field::further(scan, at), &buffer, dropped)
 }
 
 // Walks the terminator that stands at `at`.
@@ -72,22 +74,9 @@ fn walk_terminator(s: &[u8], at: usize, b: Bounds, dropped: &[bool]) -> Walked
 {
     let mut none: [bool; 0] = [false; 0];
     let mut buffer: [u16; READS] = [0; READS];
-    match bytes_block::read_terminator(
-        bytes_field::tail(s, at),
-        b,
-        0,
-        false,
-        &mut none,
-        &mut buffer,
-    ) {
-        Scan::Refused(_, _) => Walked::Reads,
-        Scan::Used(took, count, _) => {
-            if clean_buffer(&buffer, count, dropped) {
-                return Walked::Behind(at + took);
-            }
-            Walked::Reads
-        }
-    }
+    let t = bytes_field::tail(s, at);
+    let scan = bytes_block::read_terminator(t, b, 0, false, &mut none, &mut buffer);
+    judge(bytes_field::further(scan, at), &buffer, dropped)
 }
 
 // Walks the block that begins at `at`: its count, its instructions, its terminator.

@@ -14,8 +14,8 @@ use crate::stored;
 /// The longest input and output of a row.
 const LONGEST: usize = 700;
 
-/// Writes rows to the file `--to`: of the stored inputs with Debugs, then of `--count` made inputs,
-/// those that show a case which fewer than `--times` rows before them show.
+/// Writes rows to the file `--to`: of `--count` made inputs those that show a case which fewer than
+/// `--times` rows before them show, then the stored inputs with Debugs.
 pub fn command(args: &Args) -> Result<bool, String> {
     args.only(&["count", "seed", "times", "to"])?;
     let count = args.number("count", 60_000)?;
@@ -25,10 +25,12 @@ pub fn command(args: &Args) -> Result<bool, String> {
     let mut seen: BTreeMap<String, u64> = BTreeMap::new();
     let mut file = Vec::new();
     let mut rows = 0;
-    for (input, mut rng) in inputs(seed, count) {
-        let settings = rng.as_mut().map_or_else(Settings::default, some_settings);
+    for number in 0..count {
+        let (_, input) = gen::input(seed, number, None);
+        let mut rng = Rng::of(!seed, number);
+        let settings = some_settings(&mut rng);
         let judged = Judged::of(&input, settings);
-        let lent = rng.map_or(LENT, |mut rng| some_length(&mut rng, &judged));
+        let lent = some_length(&mut rng, &judged);
         let cases = cases(&input, settings, &judged, lent);
         let new = cases.iter().any(|case| seen.get(case).copied().unwrap_or(0) < times);
         if !new || input.len() > LONGEST || judged.within(lent).1.len() > LONGEST {
@@ -40,17 +42,15 @@ pub fn command(args: &Args) -> Result<bool, String> {
         stored::put(&mut file, &input, settings, lent, &judged);
         rows += 1;
     }
+    for row in &DEBUGS {
+        let input = from_hex(row.hex).expect("stored rows are hexadecimal");
+        let settings = Settings::default();
+        stored::put(&mut file, &input, settings, LENT, &Judged::of(&input, settings));
+        rows += 1;
+    }
     std::fs::write(to, &file).map_err(|e| format!("{to}: {e}"))?;
     println!("{rows} rows, {} bytes, {} cases", file.len(), seen.len());
     Ok(true)
-}
-
-/// The inputs in order; a made one with the generator of its settings and of what is lent.
-fn inputs(seed: u64, count: u64) -> impl Iterator<Item = (Vec<u8>, Option<Rng>)> {
-    let debugs = DEBUGS.iter().map(|row| from_hex(row.hex).expect("stored rows are hexadecimal"));
-    let made = (0..count)
-        .map(move |number| (gen::input(seed, number, None).1, Some(Rng::of(!seed, number))));
-    debugs.map(|input| (input, None)).chain(made)
 }
 
 /// The usual settings as a rule.

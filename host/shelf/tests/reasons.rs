@@ -4,7 +4,6 @@ mod common;
 
 use common::*;
 use oracle::form::*;
-use oracle::rows::DEBUGS;
 use oracle::{from_hex, read};
 
 /// Reason 2: the reading instruction itself counts, and Debug; phis do not.
@@ -88,23 +87,4 @@ fn the_lowest_is_given() {
     let hex = "020000030100000200010000000003000001000100000a0100010300000300";
     let stored = read(&from_hex(hex).expect("hexadecimal")).expect("a routine");
     assert_eq!(reason_of(&stored), 0);
-}
-
-/// "Its values, Error too, count like any other instruction's in shelf reasons 1, 2 and 5", on the
-/// stored rows.
-#[test]
-fn stored_debugs_have_their_reasons() {
-    for row in &DEBUGS {
-        let routine = read(&from_hex(row.hex).expect("hexadecimal")).expect("a routine");
-        assert_eq!(reason_of(&routine), row.reason, "{}", row.hex);
-        let aside = reason_of(&without_debugs(routine));
-        assert_eq!(aside, 0, "{}: without its Debugs it passes", row.hex);
-    }
-}
-
-fn without_debugs(mut routine: Routine) -> Routine {
-    for block in &mut routine.blocks {
-        block.instructions.retain(|i| !matches!(i.kind, Kind::Debug { .. }));
-    }
-    routine
 }

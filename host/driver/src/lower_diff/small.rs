@@ -11,7 +11,7 @@ use crate::judged::Judged;
 use crate::{stored, Lower};
 
 /// How many routines are changed.
-const ROUTINES: u64 = 50;
+const ROUTINES: u64 = 60;
 
 /// The stored answers, from this crate.
 const STORED: &str = "../../crates/replay/stdin";

@@ -7,7 +7,7 @@ use mathlib.Core.Bool as B
 use mathlib.Core.Option.{Option, none, some}
 use native.Mathlib.Omega.{arith}
 use borrow.Author.Tests.{eq-eqb}
-use lib.ListN.{length, getD, getElem?, set, drop, replicate, length-set, length-replicate}
+use lib.ListN.{length, getD, getElem?, set, drop, replicate, length-set, length-replicate, List·getD-eq-default}
 use lib.Seq.{getD-set-same, getD-set-other}
 use lib.Dec.{eqb, eqb→eq}
 use Rattle.table.proofs.Elements.{clear-at}
@@ -98,16 +98,11 @@ aggregate-low : (τ : Types) (v : ValueId) → isAggregate (valueRow τ v) ≡ t
 unfolding valueRow recordedType
 aggregate-low τ v e = listed-low τ (τ .recorded) (v .0) e
 
-past : (xs : List (Option TypeId)) (k : ℕ) → length xs ≤ k → getD xs k none ≡ none
-past [] k h = refl
-past (x ∷ xs) zero h = absurd (omega arith)
-past (x ∷ xs) (suc k) h = past xs k (omega arith)
-
 -- what is_aggregate finds
 module _ (b : Bounds) (s types recorded : List ℕ) (v : ℕ) where
   pub aggregate-past : b .next ≤ v → (τ : Types) → Ground b s types recorded τ → false ≡ isAggregate (valueRow τ (record { 0 = v }))
   unfolding valueRow recordedType rowOf
-  aggregate-past h τ g = no-aggregate ∙ ap (λ q. isAggregate (rowOf τ q)) (sym (past (τ .recorded) v (omega (arith, g .values))))
+  aggregate-past h τ g = no-aggregate ∙ ap (λ q. isAggregate (rowOf τ q)) (sym (List·getD-eq-default (τ .recorded) none (omega (arith, g .values))))
 
   known-number : {number : ℕ} → number ≡ getD recorded v 0 → v < b .next → (τ : Types) → Ground b s types recorded τ → number ≡ recordedNumber (recordedType τ (record { 0 = v }))
   unfolding recordedType

@@ -1,9 +1,12 @@
 -- Instructions, terminators, blocks and the routine.
-use Prim.Native.Nat.{ℕ, zero, suc, _-_}
+use Prim.Native.Nat.{ℕ, zero, suc, _-_, _≤_, zero-le}
 use mathlib.Core.Path.{_≡_, refl, ap, _∙_, sym}
 use mathlib.Core.List.{List, [], map}
 use mathlib.Core.Bool.{Bool, true, false, _&&_}
-use lib.ListN.{length, getD, drop}
+use native.Mathlib.Omega.{arith}
+use borrow.Author.Tests.{eqb-true, eqb-false}
+use lib.Dec.{eqb}
+use lib.ListN.{length, getD, drop, List·getD-eq-default}
 use Rattle.bytes_wire.specs.Parse.{Parse, ok, bad, later}
 use Rattle.bytes_wire.specs.declared.Cause.{Cause}
 use Rattle.mir.specs.declared.ValueId.{ValueId}
@@ -35,30 +38,23 @@ nop-agrees : (τ : Types) {i : InstructionKind} {n : ℕ} → ok InstructionKind
 unfolding agrees
 nop-agrees τ {i} e = let z : i ≡ InstructionKind.Nop = cc in rw z refl
 
+-- a number that is none of the first ones
+up : {j k : ℕ} → (k ≡ j → ⊥) → j ≤ k → suc j ≤ k
+up f h = omega (arith, f, h)
+
+-- a kind that has no arm is Nop's or none
 pub other-agrees : (b : Bounds) (seen : List Bool) (c : Bool) (τ : Types) (t : List ℕ) (i : InstructionKind) (n : ℕ) (k : ℕ) → (k ≡ 0 → ⊥) → (k ≡ 1
     → ⊥) → (k ≡ 2 → ⊥) → (k ≡ 3 → ⊥) → (k ≡ 4 → ⊥) → (k ≡ 5 → ⊥) → (k ≡ 6 → ⊥) → (k ≡ 7 → ⊥) → (k ≡ 9 → ⊥) → (k ≡ 10 → ⊥) → (k ≡ 11 → ⊥) → (k ≡ 12 → ⊥) → (k ≡ 13
     → ⊥) → (k ≡ 14 → ⊥) → (k ≡ 15 → ⊥) → (k ≡ 16 → ⊥) → (k ≡ 17 → ⊥) → (k ≡ 18 → ⊥)
     → getD (map (λ f. f t) (kinds b seen c)) k (bad Cause.Undefined 0) ≡ ok i n → true ≡ agrees τ i
-other-agrees b seen c τ t i n zero f0 f1 f2 f3 f4 f5 f6 f7 f9 f10 f11 f12 f13 f14 f15 f16 f17 f18 e = absurd (f0 refl)
-other-agrees b seen c τ t i n (suc zero) f0 f1 f2 f3 f4 f5 f6 f7 f9 f10 f11 f12 f13 f14 f15 f16 f17 f18 e = absurd (f1 refl)
-other-agrees b seen c τ t i n (suc (suc zero)) f0 f1 f2 f3 f4 f5 f6 f7 f9 f10 f11 f12 f13 f14 f15 f16 f17 f18 e = absurd (f2 refl)
-other-agrees b seen c τ t i n (suc (suc (suc zero))) f0 f1 f2 f3 f4 f5 f6 f7 f9 f10 f11 f12 f13 f14 f15 f16 f17 f18 e = absurd (f3 refl)
-other-agrees b seen c τ t i n (suc (suc (suc (suc zero)))) f0 f1 f2 f3 f4 f5 f6 f7 f9 f10 f11 f12 f13 f14 f15 f16 f17 f18 e = absurd (f4 refl)
-other-agrees b seen c τ t i n (suc (suc (suc (suc (suc zero))))) f0 f1 f2 f3 f4 f5 f6 f7 f9 f10 f11 f12 f13 f14 f15 f16 f17 f18 e = absurd (f5 refl)
-other-agrees b seen c τ t i n (suc (suc (suc (suc (suc (suc zero)))))) f0 f1 f2 f3 f4 f5 f6 f7 f9 f10 f11 f12 f13 f14 f15 f16 f17 f18 e = absurd (f6 refl)
-other-agrees b seen c τ t i n (suc (suc (suc (suc (suc (suc (suc zero))))))) f0 f1 f2 f3 f4 f5 f6 f7 f9 f10 f11 f12 f13 f14 f15 f16 f17 f18 e = absurd (f7 refl)
-other-agrees b seen c τ t i n (suc (suc (suc (suc (suc (suc (suc (suc zero)))))))) f0 f1 f2 f3 f4 f5 f6 f7 f9 f10 f11 f12 f13 f14 f15 f16 f17 f18 e = nop-agrees τ e
-other-agrees b seen c τ t i n (suc (suc (suc (suc (suc (suc (suc (suc (suc zero))))))))) f0 f1 f2 f3 f4 f5 f6 f7 f9 f10 f11 f12 f13 f14 f15 f16 f17 f18 e = absurd (f9 refl)
-other-agrees b seen c τ t i n (suc (suc (suc (suc (suc (suc (suc (suc (suc (suc zero)))))))))) f0 f1 f2 f3 f4 f5 f6 f7 f9 f10 f11 f12 f13 f14 f15 f16 f17 f18 e = absurd (f10 refl)
-other-agrees b seen c τ t i n (suc (suc (suc (suc (suc (suc (suc (suc (suc (suc (suc zero))))))))))) f0 f1 f2 f3 f4 f5 f6 f7 f9 f10 f11 f12 f13 f14 f15 f16 f17 f18 e = absurd (f11 refl)
-other-agrees b seen c τ t i n (suc (suc (suc (suc (suc (suc (suc (suc (suc (suc (suc (suc zero)))))))))))) f0 f1 f2 f3 f4 f5 f6 f7 f9 f10 f11 f12 f13 f14 f15 f16 f17 f18 e = absurd (f12 refl)
-other-agrees b seen c τ t i n (suc (suc (suc (suc (suc (suc (suc (suc (suc (suc (suc (suc (suc zero))))))))))))) f0 f1 f2 f3 f4 f5 f6 f7 f9 f10 f11 f12 f13 f14 f15 f16 f17 f18 e = absurd (f13 refl)
-other-agrees b seen c τ t i n (suc (suc (suc (suc (suc (suc (suc (suc (suc (suc (suc (suc (suc (suc zero)))))))))))))) f0 f1 f2 f3 f4 f5 f6 f7 f9 f10 f11 f12 f13 f14 f15 f16 f17 f18 e = absurd (f14 refl)
-other-agrees b seen c τ t i n (suc (suc (suc (suc (suc (suc (suc (suc (suc (suc (suc (suc (suc (suc (suc zero))))))))))))))) f0 f1 f2 f3 f4 f5 f6 f7 f9 f10 f11 f12 f13 f14 f15 f16 f17 f18 e = absurd (f15 refl)
-other-agrees b seen c τ t i n (suc (suc (suc (suc (suc (suc (suc (suc (suc (suc (suc (suc (suc (suc (suc (suc zero)))))))))))))))) f0 f1 f2 f3 f4 f5 f6 f7 f9 f10 f11 f12 f13 f14 f15 f16 f17 f18 e = absurd (f16 refl)
-other-agrees b seen c τ t i n (suc (suc (suc (suc (suc (suc (suc (suc (suc (suc (suc (suc (suc (suc (suc (suc (suc zero))))))))))))))))) f0 f1 f2 f3 f4 f5 f6 f7 f9 f10 f11 f12 f13 f14 f15 f16 f17 f18 e = absurd (f17 refl)
-other-agrees b seen c τ t i n (suc (suc (suc (suc (suc (suc (suc (suc (suc (suc (suc (suc (suc (suc (suc (suc (suc (suc zero)))))))))))))))))) f0 f1 f2 f3 f4 f5 f6 f7 f9 f10 f11 f12 f13 f14 f15 f16 f17 f18 e = absurd (f18 refl)
-other-agrees b seen c τ t i n (suc (suc (suc (suc (suc (suc (suc (suc (suc (suc (suc (suc (suc (suc (suc (suc (suc (suc (suc k))))))))))))))))))) f0 f1 f2 f3 f4 f5 f6 f7 f9 f10 f11 f12 f13 f14 f15 f16 f17 f18 e = absurd (no-ok e)
+other-agrees b seen c τ t i n k f0 f1 f2 f3 f4 f5 f6 f7 f9 f10 f11 f12 f13 f14 f15 f16 f17 f18 e = at (eqb k 8) refl
+  where
+    at : (x : Bool) → eqb k 8 ≡ x → true ≡ agrees τ i
+    at true z = nop-agrees τ (rw (eqb-true k 8 z) at e)
+    at false z =
+        let f8 : (k ≡ 8 → ⊥) = eqb-false k 8 z in
+        let over : 19 ≤ k = up f18 (up f17 (up f16 (up f15 (up f14 (up f13 (up f12 (up f11 (up f10 (up f9 (up f8 (up f7 (up f6 (up f5 (up f4 (up f3 (up f2 (up f1 (up f0 zero-le)))))))))))))))))) in
+        absurd (no-ok (sym (List·getD-eq-default (map (λ (f : List ℕ → Parse InstructionKind). f t) (kinds b seen c)) (bad Cause.Undefined 0) over) ∙ e))
 
 -- an instruction, by its kind and its own fields
 pub slot-told : (b : Bounds) (s facts : List ℕ) (slot : ℕ) {u t : List ℕ} {at fp j : ℕ} → at ≡ placeIn facts slot → u ≡ drop at s → fp ≡ fieldsPlace u → t ≡ drop fp u → j ≡ kindIn facts slot → (i : Instruction) → InstructionIn b s facts slot i → {A : Type 0} → ((c : Bool) (m : ℕ) → getD (map (λ f. f t) (kinds b [] c)) j (bad Cause.Undefined 0) ≡ ok (i .kind) m → A) → A

@@ -11,6 +11,7 @@ use Rattle.mir.specs.Syntax.{Projection, InstructionKind, Terminator}
 use Rattle.mir.specs.Routine.{Routine}
 use Rattle.bytes_sections.proofs.Examples.{example}
 use Rattle.rewrite.specs.Run.{Choice, choice, rewrite}
+use Rattle.shelf.specs.Reads.{withDebug}
 use Rattle.machine.specs.Values.{Val, scalar, aggregate, ends, then}
 use Rattle.machine.specs.Records.{called, printed, returned, ended, atReturn, stopped, unwritten, tooLarge, Trace}
 use Rattle.machine.specs.Run.{run}
@@ -32,7 +33,7 @@ unfolding everything
 example-same = refl
 
 -- it has the static facts with Debug counted, so the theorem is of it, for every meaning that records Debug
-pub example-static : Static true defaults (choice defaults example) example
+pub example-static : Static withDebug defaults (choice defaults example) example
 unfolding shelf
 example-static = record { recorded = refl; parameters = tt; below = tt; belowEnds = tt; fields = tt; once = tt; phisFirst = tt; typed = tt; ordered = tt; apart = tt; shallow = tt; clean = tt; cleanEnds = tt }
 
@@ -107,7 +108,7 @@ pub mixed-rewritten : run numbers (rewritten defaults all mixed) (scalar 3 ∷ s
 unfolding everything
 mixed-rewritten = refl
 
-pub mixed-static : Static true defaults all mixed
+pub mixed-static : Static withDebug defaults all mixed
 unfolding shelf
 mixed-static = record { recorded = refl; parameters = tt; below = tt; belowEnds = tt; fields = tt; once = tt; phisFirst = tt; typed = tt; ordered = tt; apart = tt; shallow = tt; clean = tt; cleanEnds = tt }
 
@@ -125,7 +126,7 @@ unwrittenPart =
       blocks = record { instructions = ins (InstructionKind.MakeTuple (val 1) (op 0 ∷ [])) ∷ []; terminator = Terminator.Return [] } ∷ [];
     }
 
-pub unwritten-static : Static true defaults (choice defaults unwrittenPart) unwrittenPart
+pub unwritten-static : Static withDebug defaults (choice defaults unwrittenPart) unwrittenPart
 unfolding shelf
 unwritten-static = record { recorded = refl; parameters = tt; below = tt; belowEnds = tt; fields = tt; once = tt; phisFirst = tt; typed = tt; ordered = tt; apart = tt; shallow = tt; clean = tt; cleanEnds = tt }
 

@@ -20,11 +20,12 @@ use Rattle.machine.specs.Records.{Env, Writes, writeAll, Event, goes}
 use Rattle.machine.specs.Places.{partRow}
 use Rattle.machine.specs.Evaluate.{evalAll}
 use Rattle.machine.specs.Exec.{exec}
+use Rattle.shelf.proofs.Both.{every-imp}
 use Rattle.shelf.specs.Lists.{every, among}
 use Rattle.machine_simulation.specs.Typing.{Whole}
 use Rattle.shelf.specs.Reads.{definedIn}
 use Rattle.machine_simulation.specs.Static.{fieldsOnce}
-use Rattle.machine_simulation.proofs.Tools.{every-two→Each, every-imp, among-l, among-r, none-of}
+use Rattle.machine_simulation.proofs.Tools.{every-two→Each, among-l, among-r, none-of}
 use Rattle.machine_simulation.proofs.Frame.{Same, evalAll-same, Keeps, changes, exec-keeps}
 use Rattle.machine_simulation.proofs.Retype.{Alike}
 

@@ -28,7 +28,7 @@ use Rattle.machine.specs.Run.{taking, takeAll, noneWritten, run}
 use Rattle.shelf.specs.Lists.{every, among}
 use Rattle.shelf.specs.Fits.{sameType, fits, placeType}
 use Rattle.machine_simulation.specs.Typing.{typed}
-use Rattle.shelf.specs.Reads.{ordered, aggregateBase, basesIn, bases, apart, shallow, clean, cleanTerminator}
+use Rattle.shelf.specs.Reads.{ordered, aggregateBase, basesIn, bases, apart, shallow, clean, cleanTerminator, withDebug}
 use Rattle.machine_simulation.specs.Static.{below, once, noPhi, fieldsOnce, Static}
 use Rattle.machine_simulation.specs.Statement.{Fine, rewritten, RunsAlike}
 use Rattle.machine_simulation.proofs.Tools.{both-l, both-r, both, split, passes, fails, cond-yes, cond-no, every-l, every-r, every-at, all-among}
@@ -261,5 +261,5 @@ pub pass-simulates : {A : Type 0} (M : Meaning A) (σ : Settings) (r : Routine) 
 pass-simulates M σ r s = rw (rust-choice σ r) at (runs-alike M σ (choice σ r) r s)
 
 -- the pass, on document 01's own machine: any operations, Debug recorded
-pub document-simulates : {A : Type 0} (O : Operations A) (σ : Settings) (r : Routine) → Static true σ (choice σ r) r → RunsAlike (document01 O) r (rewrite σ r)
+pub document-simulates : {A : Type 0} (O : Operations A) (σ : Settings) (r : Routine) → Static withDebug σ (choice σ r) r → RunsAlike (document01 O) r (rewrite σ r)
 document-simulates O σ r s = pass-simulates (document01 O) σ r s

@@ -102,17 +102,6 @@ pub every-r : {A : Type 0} (p : A → Bool) (a b : List A) → T (every p (a ++ 
 every-r p [] b t = t
 every-r p (x ∷ a) b t = every-r p a b (both-r (p x) (every p (a ++ b)) t)
 
--- one test follows from two others
-pub every-two : {A : Type 0} (p q r : A → Bool) → ((x : A) → T (p x) → T (q x) → T (r x)) → (xs : List A) → T (every p xs) → T (every q xs) → T (every r xs)
-every-two p q r f [] s t = tt
-every-two p q r f (x ∷ xs) s t =
-    both (r x) (every r xs) (f x (both-l (p x) (every p xs) s) (both-l (q x) (every q xs) t))
-    (every-two p q r f xs (both-r (p x) (every p xs) s) (both-r (q x) (every q xs) t))
-
--- or from one
-pub every-imp : {A : Type 0} (p q : A → Bool) → ((x : A) → T (p x) → T (q x)) → (xs : List A) → T (every p xs) → T (every q xs)
-every-imp p q f xs t = every-two p p q (λ x a b. f x a) xs t t
-
 -- two tests, as a statement of each element
 pub every-two→Each : {A : Type 0} (p q : A → Bool) (P : A → Type 0) → ((x : A) → T (p x) → T (q x) → P x) → (xs : List A) → T (every p xs)
     → T (every q xs) → Each P xs

@@ -19,7 +19,7 @@ use Rattle.shelf.specs.Reads.{countedReads, definedIn, ordered, clean, c
 use Rattle.shelf.specs.Agrees.{agrees, countedAgrees, blockAgrees, endAgrees}
 use Rattle.shelf.specs.Reason.{typesAgree, inOrder, keptApart, noDeepStore, readsNoDropped, shelfReason}
 use Rattle.shelf.specs.Answer.{reasonOf}
-use Rattle.shelf.proofs.Both.{both-l, both-r, both}
+use Rattle.shelf.proofs.Both.{both-l, both-r, both, every-imp}
 
 -- reasons 1, 2 and 5 with the flag: of every instruction, all that it reads
 pub agrees-all : (τ : Types) (i : InstructionKind) → T (countedAgrees true τ i) → T (agrees τ i)
@@ -56,10 +56,6 @@ agrees-aside true τ i t = some-of (counted false i)
 agrees-aside false τ i t = t
 
 -- ---- reason 0 with Debug counted is reason 0 with it left aside
-
-every-imp : {A : Type 0} (p q : A → Bool) → ((a : A) → T (p a) → T (q a)) → (xs : List A) → T (every p xs) → T (every q xs)
-every-imp p q h [] t = tt
-every-imp p q h (a ∷ xs) t = both (q a) (every q xs) (h a (both-l (p a) (every p xs) t)) (every-imp p q h xs (both-r (p a) (every p xs) t))
 
 module _ (debug : Bool) where
   -- reason 1

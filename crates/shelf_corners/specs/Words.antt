@@ -215,7 +215,9 @@ asideOf (bad c o) = 0
 
 -- under the usual settings: result, counts and shelf reason, and what the reason was
 abbrev pub Says : List ℕ → Bool → Counts → ℕ → ℕ → Type 0
-Says s w c before after = (asideOf (wholeOf mosts s) ≡ before) × (summary (answer defaults (length s) s) ≡ some (record { changed = w; counts = c; reason = after }))
+Says s w c before after =
+    (asideOf (wholeOf mosts s) ≡ before)
+    × (summary (answer defaults (length s) s) ≡ some (record { changed = w; counts = c; reason = after }))
 
 -- ## A step that comes first
 

@@ -107,15 +107,8 @@ fn cases(input: &[u8], settings: Settings, judged: &Judged, lent: usize) -> Vec<
 
 /// The shelf reason that the Debugs do not decide.
 fn aside(before: &Routine, after: &Routine) -> u8 {
-    let without = |routine: &Routine| {
-        let mut routine = routine.clone();
-        for block in &mut routine.blocks {
-            block.instructions.retain(|i| !matches!(i.kind, Kind::Debug { .. }));
-        }
-        routine
-    };
     let dropped = shelf::dropped(before, after);
-    shelf::reason(&without(before), &without(after), &dropped)
+    shelf::reason(&shelf::without_debugs(before), &shelf::without_debugs(after), &dropped)
 }
 
 fn kinds(routine: &Routine) -> [usize; 19] {
@@ -149,8 +142,6 @@ fn rebuilds(before: &Routine, after: &Routine) -> Vec<String> {
 mod tests {
     use std::path::Path;
 
-    use oracle::run_routine;
-
     use super::*;
 
     /// Debugs decide each of the reasons 1, 2 and 5 in at least three rows of `replay`.
@@ -160,12 +151,11 @@ mod tests {
         let rows = std::fs::read(&file).unwrap_or_else(|e| panic!("{}: {e}", file.display()));
         let mut decided = [0; 6];
         for input in stored::inputs(&rows).expect("whole rows") {
-            let Ok(before) = read(input) else { continue };
-            let Ok(lowered) = run_routine(before.clone(), Settings::default()) else { continue };
-            let dropped = shelf::dropped(&before, &lowered.routine);
-            let reason = shelf::reason(&before, &lowered.routine, &dropped);
-            if reason != aside(&before, &lowered.routine) {
-                decided[usize::from(reason)] += 1;
+            let judged = Judged::of(input, Settings::default());
+            let (Ok(before), Ok(after)) = (read(input), read(&judged.output)) else { continue };
+            let [.., reason, _] = judged.numbers;
+            if reason != u64::from(aside(&before, &after)) {
+                decided[reason as usize] += 1;
             }
         }
         assert!([1, 2, 5].iter().all(|reason| decided[*reason] >= 3), "{decided:?}");

@@ -22,7 +22,8 @@ pub fn put(rng: &mut Rng, routine: &mut Routine) {
     }
 }
 
-fn phis(block: &Block) -> usize {
+/// How many phis stand in front of a block.
+pub fn phis(block: &Block) -> usize {
     block.instructions.iter().take_while(|i| matches!(i.kind, Kind::Phi { .. })).count()
 }
 

@@ -3,6 +3,7 @@
 
 use oracle::form::*;
 
+use crate::debugs::phis;
 use crate::rng::Rng;
 use crate::tables::{BOOL, FELT, U32};
 
@@ -28,7 +29,7 @@ fn any_block(rng: &mut Rng, routine: &Routine) -> BlockNo {
 fn some_instruction(rng: &mut Rng, routine: &Routine) -> Option<(usize, usize)> {
     let block = any_block(rng, routine).index();
     let instructions = &routine.blocks[block].instructions;
-    let phis = instructions.iter().take_while(|i| matches!(i.kind, Kind::Phi { .. })).count();
+    let phis = phis(&routine.blocks[block]);
     (phis < instructions.len()).then(|| (block, rng.within(phis, instructions.len() - 1)))
 }
 

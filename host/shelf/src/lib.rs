@@ -6,7 +6,7 @@ mod typing;
 
 use std::collections::BTreeSet;
 
-use oracle::form::{Routine, Value, ValueNo};
+use oracle::form::{Kind, Routine, Value, ValueNo};
 
 /// The values whose definition the pass left out.
 pub type Dropped = BTreeSet<ValueNo>;
@@ -35,6 +35,15 @@ pub fn reason(original: &Routine, rewritten: &Routine, dropped: &Dropped) -> u8 
     } else {
         0
     }
+}
+
+/// The routine with its Debugs left out: what they do not decide is judged of it.
+pub fn without_debugs(routine: &Routine) -> Routine {
+    let mut routine = routine.clone();
+    for block in &mut routine.blocks {
+        block.instructions.retain(|i| !matches!(i.kind, Kind::Debug { .. }));
+    }
+    routine
 }
 
 /// The value that an operand reads.

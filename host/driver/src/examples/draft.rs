@@ -52,10 +52,6 @@ pub fn store(place: Place, value: Value, ty: TypeNo) -> Kind {
     Kind::Store { place, value, ty }
 }
 
-pub fn debug(message: u32, values: Vec<Value>) -> Kind {
-    Kind::Debug { message, values }
-}
-
 pub fn returned(number: u16) -> Terminator {
     Terminator::Return(vec![value(number)])
 }

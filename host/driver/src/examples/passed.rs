@@ -90,12 +90,17 @@ pub fn every_count() -> Routine {
     of_n(pair_types(), &[FELT, PAIR, PAIR, FELT, PAIR], vec![block(kinds, returned(4))])
 }
 
+/// The pair with a Debug at a place of its block.
+pub fn pair_with_debug(at: usize, values: Vec<Value>) -> Routine {
+    let mut routine = pair();
+    let debug = Kind::Debug { message: 3, values };
+    routine.blocks[0].instructions.insert(at, Instruction::plain(debug));
+    routine
+}
+
 /// The pair, and a Debug of its part 1 and of 9.
 pub fn debugged() -> Routine {
-    let mut routine = pair();
-    let shown = debug(3, vec![value(1), Value::Integer(9)]);
-    routine.blocks[0].instructions.push(Instruction::plain(shown));
-    routine
+    pair_with_debug(2, vec![value(1), Value::Integer(9)])
 }
 
 /// `let one = (x,);` where `x` is never written: the original stops there, the rewritten routine has

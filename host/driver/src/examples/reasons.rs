@@ -4,7 +4,7 @@
 use oracle::form::*;
 
 use super::draft::*;
-use super::passed::pair;
+use super::passed::{pair, pair_with_debug};
 
 /// The pair with `true` for its second part, which is a Felt.
 pub fn other_type() -> Routine {
@@ -68,24 +68,17 @@ pub fn returned_nest() -> Routine {
     routine(types, &[PAIR, TypeNo(2)], vec![block(kinds, returned(1))])
 }
 
-/// The pair with a Debug at a place of its block.
-fn debugged(at: usize, values: Vec<Value>) -> Routine {
-    let mut routine = pair();
-    routine.blocks[0].instructions.insert(at, Instruction::plain(debug(3, values)));
-    routine
-}
-
 /// A Debug of the part and of Error.
 pub fn debugged_error() -> Routine {
-    debugged(2, vec![value(1), Value::Error])
+    pair_with_debug(2, vec![value(1), Value::Error])
 }
 
 /// A Debug of the part that stands before the part is taken.
 pub fn debugged_ahead() -> Routine {
-    debugged(1, vec![value(1)])
+    pair_with_debug(1, vec![value(1)])
 }
 
 /// A Debug of the pair, for which nothing is built again.
 pub fn debugged_dropped() -> Routine {
-    debugged(2, vec![value(0)])
+    pair_with_debug(2, vec![value(0)])
 }

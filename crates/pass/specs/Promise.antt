@@ -17,8 +17,8 @@ use Rattle.machine.specs.Meaning.{Meaning}
 use Rattle.machine_claim.specs.Claim.{Indistinguishable}
 
 -- demand 3: with shelf reason 0, whoever runs what now stands in the output cannot tell it from the input, by the Debug record either; the
--- meaning is any, one that records Debug or one that does not. Scalars are numbered here, since
--- a contract speaks of no collection of all types; `for-every-meaning` (proofs/Entry.antt) has scalars of any type
+-- meaning is any, one that records Debug or one that does not. Scalars are numbered here, since a contract speaks of no collection of all
+-- types; `for-every-meaning` (proofs/Entry.antt) has scalars of any type
 abbrev pub Unseen : Settings → List ℕ → List ℕ → List ℕ → Type 0
 Unseen σ input out out′ =
     (w : Bool) (c : Counts) (bytes : List ℕ)

@@ -131,8 +131,8 @@ sequence x zero = whole (alone refl (refl, tt)) zero-le
 sequence {m} x (suc k) = whole (then x (λ a p. last (λ xs. a ∷ xs) (sequence x k) (λ xs q. (refl, (ap suc q.0, (p, q.1)))))) (omega (arith, suc-mul k m))
 
 -- a count, at most so many, then as many things as it says
-pub counted : {A : Type 0} {enc : A → List ℕ} {P : ℕ → List A → Type 0} {f : ℕ → List ℕ → Parse (List A)} (most m : ℕ) → ((k : ℕ) → Exact (f k) (eachBytes enc) (λ xs. (length xs ≡ k) × P k xs) (k * m)) → Exact (λ s. and_then s (count_of most s) f) (listBytes enc) (λ xs. (length xs ≤ most) × P (length xs) xs) (1 + most * m)
-counted {A} {enc} {P} {f} most m x =
+pub counted : {A : Type 0} (enc : A → List ℕ) {P : ℕ → List A → Type 0} {f : ℕ → List ℕ → Parse (List A)} (most m : ℕ) → ((k : ℕ) → Exact (f k) (eachBytes enc) (λ xs. (length xs ≡ k) × P k xs) (k * m)) → Exact (λ s. and_then s (count_of most s) f) (listBytes enc) (λ xs. (length xs ≤ most) × P (length xs) xs) (1 + most * m)
+counted {A} enc {P} {f} most m x =
     whole
     (then (tested Cause.TooMany (λ n. leb n most) byte) (λ k p.
     let l : k ≤ most = leb-true k most p.1 in
@@ -142,4 +142,4 @@ counted {A} {enc} {P} {f} most m x =
 -- "lists u8 count first"
 pub list : {A : Type 0} {dec : List ℕ → Parse A} {enc : A → List ℕ} {G : A → Type 0} {m : ℕ} (most : ℕ) → Exact dec enc G m → Exact (list_of most dec) (listBytes enc) (FitList most G) (1 + most * m)
 unfolding list_of
-list {A} {dec} {enc} {G} {m} most x = counted most m (λ k. sequence x k)
+list {A} {dec} {enc} {G} {m} most x = counted enc most m (λ k. sequence x k)

@@ -75,7 +75,7 @@ news b seen (suc k) = whole (then (dest b seen) (λ d p. last _ (news b (mark se
 
 pub dests : (b : Bounds) (seen : List Bool) → Exact (definedsOf b.list b.next seen) (listBytes valueIdBytes) (λ ds. (length ds ≤ b.list) × FitNews b seen ds) (1 + b.list * 2)
 unfolding definedsOf
-dests b seen = counted b.list 2 (λ k. news b seen k)
+dests b seen = counted valueIdBytes b.list 2 (λ k. news b seen k)
 
 -- an operation
 pub operation : (many : ℕ) → Exact (operationOf many) (λ x. x ∷ []) (λ x. x < many) 1
@@ -96,10 +96,10 @@ place b = whole (then (operand b.next) (λ v p. last _ (items b.projections (pro
 
 -- the pairs of a Phi and of a MakeStruct
 pub sources : (b : Bounds) → Exact (list_of b.list (source_of b)) (listBytes sourceBytes) (λ ss. Wide b → FitList b.list (FitSource b) ss) (1 + b.list * 7)
-sources b = items b.list (whole (then (block b) (λ p q. last _ (value b) (λ x r. (refl, λ w. (q, r w))))) (le_refl 7))
+sources b = items {enc = sourceBytes} b.list (whole (then (block b) (λ p q. last _ (value b) (λ x r. (refl, λ w. (q, r w))))) (le_refl 7))
 
 pub inits : (b : Bounds) → Exact (list_of b.list (fieldInitOf b)) (listBytes fieldInitBytes) (λ fs. Wide b → FitList b.list (FitInit b) fs) (1 + b.list * 7)
-inits b = items b.list (whole (then name (λ n q. last _ (value b) (λ x r. (refl, λ w. (q, r w))))) (le_refl 7))
+inits b = items {enc = fieldInitBytes} b.list (whole (then name (λ n q. last _ (value b) (λ x r. (refl, λ w. (q, r w))))) (le_refl 7))
 
 -- a field whose bit may stand
 maybe : {A : Type 0} {dec : List ℕ → Parse A} {enc : A → List ℕ} {P : A → Type 0} {m : ℕ} (c : Bool) → Exact dec enc P m → Exact (optional c dec) (optionBytes enc) (λ o. (stands o ≡ bool_byte c) × FitOption P o) m

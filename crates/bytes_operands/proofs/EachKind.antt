@@ -168,11 +168,11 @@ module _ (b : Bounds) (seen : List Bool) (c : Bool) (t : List ℕ) where
   -- the kinds in order, each field with its law, then what stands where
   assign : Of 0 (assignOf b seen)
   unfolding assignOf
-  assign = then dest (λ d u. then value (λ x p. last _ type (λ y v. stands (p & empty) empty refl empty refl)))
+  assign = then dest (λ d u. then (value {p = 2}) (λ x p. last _ type (λ y v. stands (p & empty) empty refl empty refl)))
 
   unary : Of 1 (unaryOf b seen)
   unfolding unaryOf
-  unary = then (operation 16) (λ o u. then dest (λ d u. last _ value (λ x p. stands (p & empty) empty refl empty refl)))
+  unary = then (operation 16) (λ o u. then dest (λ d u. last _ (value {p = 3}) (λ x p. stands (p & empty) empty refl empty refl)))
 
   binary : Of 2 (binaryOf b seen)
   unfolding binaryOf
@@ -184,7 +184,7 @@ module _ (b : Bounds) (seen : List Bool) (c : Bool) (t : List ℕ) where
 
   cast : Of 4 (castOf b seen)
   unfolding castOf
-  cast = then dest (λ d u. then value (λ x p. then type (λ y u. last _ type (λ z u. stands (p & empty) empty refl empty refl))))
+  cast = then dest (λ d u. then (value {p = 2}) (λ x p. then type (λ y u. last _ type (λ z u. stands (p & empty) empty refl empty refl))))
 
   load : Of 5 (load_of b seen)
   unfolding load_of
@@ -211,7 +211,7 @@ module _ (b : Bounds) (seen : List Bool) (c : Bool) (t : List ℕ) where
 
   extract-tuple : Of 11 (extractTupleOf b seen)
   unfolding extractTupleOf
-  extract-tuple = then dest (λ d u. then value (λ x p. then (number 4) (λ k u. last _ type (λ y u. stands (p & empty) empty refl empty refl))))
+  extract-tuple = then dest (λ d u. then (value {p = 2}) (λ x p. then (number 4) (λ k u. last _ type (λ y u. stands (p & empty) empty refl empty refl))))
 
   make-struct : Of 12 (makeStructOf b seen)
   unfolding makeStructOf
@@ -219,7 +219,7 @@ module _ (b : Bounds) (seen : List Bool) (c : Bool) (t : List ℕ) where
 
   extract-field : Of 13 (extractFieldOf b seen)
   unfolding extractFieldOf
-  extract-field = then dest (λ d u. then value (λ x p. then name (λ k u. last _ type (λ y u. stands (p & empty) empty refl empty refl))))
+  extract-field = then dest (λ d u. then (value {p = 2}) (λ x p. then name (λ k u. last _ type (λ y u. stands (p & empty) empty refl empty refl))))
 
   insert-field : Of 14 (insertFieldOf b seen)
   unfolding insertFieldOf
@@ -239,7 +239,7 @@ module _ (b : Bounds) (seen : List Bool) (c : Bool) (t : List ℕ) where
 
   heap-alloc : Of 18 (heapAllocOf b seen)
   unfolding heapAllocOf
-  heap-alloc = then dest (λ d u. last _ value (λ x p. stands (p & empty) empty refl empty refl))
+  heap-alloc = then dest (λ d u. last _ (value {p = 2}) (λ x p. stands (p & empty) empty refl empty refl))
 
   -- decoders of the kinds from number j on
   infixr 67 ◌and◌

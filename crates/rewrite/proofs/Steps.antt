@@ -31,9 +31,13 @@ to m e r = rw (← e) r
 rebuild-at : (b : Bool) (n m : ℕ) (x : Value) (zs : List Value) (t : TypeId) (row : Option MirType) (xs ys : List Value) (is : List Instruction) → T (b || isAggregate row) → Rebuilds b (suc n) xs ys is m → Rebuilds b n (x ∷ xs) (Value.Operand (record { 0 = n }) ∷ ys) (rebuildAt (record { 0 = n }) zs t row ++ is) m
 unfolding rebuildAt isAggregate isTuple isStruct isArray shape
 rebuild-at true n m x zs t none xs ys is e r = Rebuilds.bare r
+rebuild-at false n m x zs t none xs ys is e r = elim e [ ]
 rebuild-at true n m x zs t (some MirType.Felt) xs ys is e r = Rebuilds.bare r
+rebuild-at false n m x zs t (some MirType.Felt) xs ys is e r = elim e [ ]
 rebuild-at true n m x zs t (some MirType.Bool) xs ys is e r = Rebuilds.bare r
+rebuild-at false n m x zs t (some MirType.Bool) xs ys is e r = elim e [ ]
 rebuild-at true n m x zs t (some MirType.U32) xs ys is e r = Rebuilds.bare r
+rebuild-at false n m x zs t (some MirType.U32) xs ys is e r = elim e [ ]
 rebuild-at true n m x zs t (some (MirType.Tuple ts)) xs ys is e r = Rebuilds.anew (Rebuild.tuple _) r
 rebuild-at false n m x zs t (some (MirType.Tuple ts)) xs ys is e r = Rebuilds.anew (Rebuild.tuple _) r
 rebuild-at true n m x zs t (some (MirType.Struct f fs)) xs ys is e r = Rebuilds.anew (Rebuild.struct _ _) r
@@ -41,10 +45,15 @@ rebuild-at false n m x zs t (some (MirType.Struct f fs)) xs ys is e r = Rebuilds
 rebuild-at true n m x zs t (some (MirType.FixedArray u k)) xs ys is e r = Rebuilds.anew (Rebuild.array _ _) r
 rebuild-at false n m x zs t (some (MirType.FixedArray u k)) xs ys is e r = Rebuilds.anew (Rebuild.array _ _) r
 rebuild-at true n m x zs t (some (MirType.Pointer u)) xs ys is e r = Rebuilds.bare r
+rebuild-at false n m x zs t (some (MirType.Pointer u)) xs ys is e r = elim e [ ]
 rebuild-at true n m x zs t (some (MirType.Function ps u)) xs ys is e r = Rebuilds.bare r
+rebuild-at false n m x zs t (some (MirType.Function ps u)) xs ys is e r = elim e [ ]
 rebuild-at true n m x zs t (some MirType.Unit) xs ys is e r = Rebuilds.bare r
+rebuild-at false n m x zs t (some MirType.Unit) xs ys is e r = elim e [ ]
 rebuild-at true n m x zs t (some MirType.Error) xs ys is e r = Rebuilds.bare r
+rebuild-at false n m x zs t (some MirType.Error) xs ys is e r = elim e [ ]
 rebuild-at true n m x zs t (some MirType.Unknown) xs ys is e r = Rebuilds.bare r
+rebuild-at false n m x zs t (some MirType.Unknown) xs ys is e r = elim e [ ]
 
 -- a type at which a value may be rebuilt: an aggregate, or any for a Return
 abbrev Allowed : Types → Bool → Option TypeId → Type 0

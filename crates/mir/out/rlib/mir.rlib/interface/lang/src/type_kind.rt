@@ -1,0 +1,11 @@
+# [ read_as = "9762a0e2444b6ae5d74c35a7d9c65df5ff981cfd6b34bdeff23ef5edd9aa236e" ] pub const FELT : u8 = 0 ;
+# [ read_as = "f8c39a8b872420702abd9f4fe68b44d0d7a77cbd366f544c8fa09b2c3160e09e" ] pub const BOOL : u8 = 1 ;
+# [ read_as = "ec4bcadc514de11f99f2f8fa5703eb259cc4823b38da3d11d685d2de992a9036" ] pub const U32 : u8 = 2 ;
+# [ read_as = "de86d2def4a45afabf69734aea26377c969bb86a69aa561155588e31f78076ba" ] pub const TUPLE : u8 = 3 ;
+# [ read_as = "176bc6cbb027f0c60fb0c202d72effe66438fda1987b60fc17dc551a521c5f0e" ] pub const STRUCT : u8 = 4 ;
+# [ read_as = "50c9c5e2e0194c904690133c5d54d073882e45810ee384284a0a30f22f379bea" ] pub const FIXED_ARRAY : u8 = 5 ;
+# [ read_as = "3f67cc3893522d8e59946d4c8afeea9c7a7446ffc8922818b0c31f48b5819d8e" ] pub const POINTER : u8 = 6 ;
+# [ read_as = "b2b847b3b857205372ba03b73dd922af8b6fc80ebdda677d06b0d7b67c55fa40" ] pub const FUNCTION : u8 = 7 ;
+# [ read_as = "b6597130e36459c89657128e5b2c26cedb50ec81ade7a917d8f059ff09103e47" ] pub const UNIT : u8 = 8 ;
+# [ read_as = "de149428cded3bb92907ff5370b978e2795fe4803c106d35c538c0c6c7a1ff0d" ] pub const ERROR : u8 = 9 ;
+# [ read_as = "0177f3a69779c5af715923eef6b18222349908b3bc19350e34db80ebe9c2fc50" ] pub const UNKNOWN : u8 = 10 ;

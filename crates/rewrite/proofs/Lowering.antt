@@ -53,7 +53,9 @@ lowers-piece S n i p k (Made.as-stored a q u ts h r) is t w l = rw (append_assoc
 pub lowers-walk : (σ : Settings) (τ : Types) (folds : ValueId → Bool) (S : AggStates) (n : ℕ) (is : List Instruction) (t : Terminator) → let w = walk σ τ folds S n is t in Lowers n is t w.out w.terminator w.dropped (n + length w.fresh)
 unfolding walk
 lowers-walk σ τ folds S n [] t = lowers-end τ S n t
-lowers-walk σ τ folds S n (i ∷ is) t = lowers-piece S n i _ _ (made σ τ folds S n i) is t _ (lowers-walk σ τ folds _ _ is t)
+lowers-walk σ τ folds S n (i ∷ is) t =
+    let p = step σ τ folds S n i in
+    lowers-piece S n i _ _ (made σ τ folds S n i) is t _ (lowers-walk σ τ folds p.states (n + length p.fresh) is t)
 
 module _ (σ : Settings) (τ : Types) (c : Choice) where
   lowers-block : (n : ℕ) (k : Block) (ks : List Block) (rest : ℕ → Rewritten) (b : Bool) → ((m : ℕ) → LowersAll m ks (rest m).blocks (rest m).dropped (m + length (rest m).fresh)) → let w = one_block σ τ c n k rest b in LowersAll n (k ∷ ks) w.blocks w.dropped (n + length w.fresh)

@@ -43,6 +43,7 @@ at m k = record { meta = m; kind = k }
 pub counts→eq : (o : Option ℕ) (k : ℕ) → T (counts o k) → o ≡ some k
 unfolding counts
 counts→eq (some n) k t = ap {B = Option ℕ} some (eqb→eq n k t)
+counts→eq none k t = elim t [ ]
 
 -- values that fit, one by one
 fit-each : (τ : Types) (ts : ℕ → Option TypeId) (xs : List Value) → T (all_fit τ ts xs) → (k : ℕ) (x : Value) → get_elem? xs k ≡ some x → T (fits τ x (ts k))
@@ -137,11 +138,33 @@ sim-MakeFixedArray κ φ m d xs u c is t S n sim =
 struct-count : (row : Option MirType) → T (isStruct row) → part_count row ≡ some (length (structFieldsOf row))
 unfolding isStruct shape part_count structFieldsOf
 struct-count (some (Y.Struct n fs)) t = refl
+struct-count none t = elim t [ ]
+struct-count (some Y.Felt) t = elim t [ ]
+struct-count (some Y.Bool) t = elim t [ ]
+struct-count (some Y.U32) t = elim t [ ]
+struct-count (some (Y.Tuple _)) t = elim t [ ]
+struct-count (some (Y.FixedArray _ _)) t = elim t [ ]
+struct-count (some (Y.Pointer _)) t = elim t [ ]
+struct-count (some (Y.Function _ _)) t = elim t [ ]
+struct-count (some Y.Unit) t = elim t [ ]
+struct-count (some Y.Error) t = elim t [ ]
+struct-count (some Y.Unknown) t = elim t [ ]
 
 -- and have their types
 struct-part : (row : Option MirType) → T (isStruct row) → (k : ℕ) → part_type row k ≡ fieldType (get_elem? (structFieldsOf row) k)
 unfolding isStruct shape part_type structFieldsOf
 struct-part (some (Y.Struct n fs)) t k = refl
+struct-part none t k = elim t [ ]
+struct-part (some Y.Felt) t k = elim t [ ]
+struct-part (some Y.Bool) t k = elim t [ ]
+struct-part (some Y.U32) t k = elim t [ ]
+struct-part (some (Y.Tuple _)) t k = elim t [ ]
+struct-part (some (Y.FixedArray _ _)) t k = elim t [ ]
+struct-part (some (Y.Pointer _)) t k = elim t [ ]
+struct-part (some (Y.Function _ _)) t k = elim t [ ]
+struct-part (some Y.Unit) t k = elim t [ ]
+struct-part (some Y.Error) t k = elim t [ ]
+struct-part (some Y.Unknown) t k = elim t [ ]
 
 -- as many parts as fields
 fields-length : (fs : List FieldInit) (ss : List StructField) (xs : List Value) → fromStructFields fs ss ≡ some xs → length ss ≡ length xs

@@ -2,7 +2,7 @@
 use mathlib.Core.Path.{◌≡◌, refl, sym, ap, ◌∙◌}
 use Prim.Native.Nat.{ℕ, ◌+◌, ◌≤◌}
 use mathlib.Core.Bool.{Bool, true, false, cond, not}
-use mathlib.Core.Option.{Option, some}
+use mathlib.Core.Option.{Option, none, some}
 use mathlib.Core.List.{List, [], ◌∷◌}
 use native.Mathlib.Nat.{add-zero}
 use lib.Dec.{T, eqb, eqb→eq, ltb}
@@ -227,6 +227,8 @@ see κ S E is tk Value.Error xs h = absurd (none-some h)
 pub sameType→eq : (a b : Option TypeId) → T (sameType a b) → a ≡ b
 unfolding sameType
 sameType→eq (some a) (some b) t = ap (λ (k : ℕ). some (record { 0 = k })) (eqb→eq a.0 b.0 t)
+sameType→eq none b t = elim t [ ]
+sameType→eq (some a) none t = elim t [ ]
 
 -- an operand that fits a type has it
 pub fits-type : (τ : Types) (v : ValueId) (t : Option TypeId) → T (fits τ (Value.Operand v) t) → recordedType τ v ≡ t

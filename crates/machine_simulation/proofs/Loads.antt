@@ -48,6 +48,17 @@ pub data Steps {A : Type 0} (κ : Ctx A) (E : Env A) (row : Option MirType) (p :
 pub array-part : (row : Option MirType) → T (isArray row) → (j k : ℕ) → part_type row j ≡ part_type row k
 unfolding isArray shape part_type
 array-part (some (Y.FixedArray t size)) a j k = refl
+array-part none a j k = elim a [ ]
+array-part (some Y.Felt) a j k = elim a [ ]
+array-part (some Y.Bool) a j k = elim a [ ]
+array-part (some Y.U32) a j k = elim a [ ]
+array-part (some (Y.Tuple _)) a j k = elim a [ ]
+array-part (some (Y.Struct _ _)) a j k = elim a [ ]
+array-part (some (Y.Pointer _)) a j k = elim a [ ]
+array-part (some (Y.Function _ _)) a j k = elim a [ ]
+array-part (some Y.Unit) a j k = elim a [ ]
+array-part (some Y.Error) a j k = elim a [ ]
+array-part (some Y.Unknown) a j k = elim a [ ]
 
 -- a test that found something has passed
 pub cond-true : {B : Type 0} (b : Bool) (o : Option B) (x : B) → cond b o none ≡ some x → T b

@@ -1,5 +1,5 @@
-/* The entries of the proved archive, for C: link libpoelvigu.a (`rt staticlib poelvigu` in the repository's root writes it to
- * target/staticlib). A slice is a pointer and then a length. Any lengths and any bytes may be given; the slices lent to one call
+/* The entries of the proved archive, for C: link libpoelvigu.a (`rt lib` in crates/poelvigu writes it to
+ * crates/poelvigu/out). A slice is a pointer and then a length. Any lengths and any bytes may be given; the slices lent to one call
  * are apart from one another, and no pointer is kept. */
 #ifndef POELVIGU_H
 #define POELVIGU_H

@@ -9,8 +9,8 @@ const NAME: &str = "poelvigu";
 /// Names the folder that holds the archive, where it is not the usual one.
 const OVERRIDE: &str = "POELVIGU_LIB_DIR";
 
-/// The usual folder, from this crate: the repository's own target folder.
-const USUAL: &str = "../../target/staticlib";
+/// The usual folder, from this crate: where the archive's crate is built.
+const USUAL: &str = "../../crates/poelvigu/out";
 
 fn main() {
     println!("cargo:rerun-if-env-changed={OVERRIDE}");
@@ -22,7 +22,7 @@ fn main() {
     let archive = folder.join(format!("lib{NAME}.a"));
     assert!(
         archive.is_file(),
-        "{} is missing: make it with `rt staticlib {NAME}` in the repository's root, or set \
+        "{} is missing: make it with `rt lib` in crates/{NAME}, or set \
          {OVERRIDE} to the folder that holds it",
         archive.display()
     );

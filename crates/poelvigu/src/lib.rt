@@ -1,4 +1,4 @@
-// The entries for a host in C or Rust: the archive that `rt staticlib poelvigu` makes has these and no others. Each hands on to
+// The entries for a host in C or Rust: the archive that `rt lib` makes here has these and no others. Each hands on to
 // the function that keeps its promise.
 ghost use Rattle.std.specs.Prelude.{◌≡◌};
 ghost use Rattle.bytes_sections.specs.Decode.{mosts, whole_of};

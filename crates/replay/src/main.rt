@@ -4,9 +4,14 @@
 // A row: enable_tuples, enable_structs, max_aggregate_size (u8 each), the lent length (u32), the input's length (u32) and bytes;
 // then ten u32 (refusal number and offset, result, five counts, shelf reason, the output's length) and the output's bytes.
 
+#![tactic(auto)]
+
 mod compared;
 
 ghost use Rattle.std.specs.Prelude.{◌≤◌, ◌<◌, length};
+
+use std::io;
+use std::io::Write;
 
 // Where a row has the lent length and the input's length, and where its input begins.
 const LENT: usize = 3;
@@ -56,14 +61,13 @@ fn otherwise(row: &[u8], n: usize, size: usize) -> u64
     1
 }
 
-// Prints how many rows there are and how many were answered otherwise.
-fn tell(rows: u64, others: u64) {
-    let mut text = [0u8; text_lines::LONGEST_REPLAYED];
-    let size = text_lines::replayed_line(&mut text, rows, others);
-    io::write_all(1, &text[..size]);
+// How many rows there are, and how many were answered otherwise.
+struct Replayed {
+    rows: u64,
+    others: u64,
 }
 
-fn replay(s: &[u8])
+fn replay(s: &[u8]) -> Replayed
     requires { length s.now < 1048576 }
 {
     let mut rows: u64 = 0;
@@ -77,11 +81,19 @@ fn replay(s: &[u8])
         rows = rows + 1;
         at = at + (INPUT + n + TOLD + size);
     }
-    tell(rows, others);
+    Replayed {
+        rows: rows,
+        others: others,
+    }
 }
 
-fn main() {
-    let mut buffer = [0u8; 262144];
-    let n = io::read_full(0, &mut buffer);
-    replay(&buffer[..n]);
+// How many bytes of standard input are kept.
+const KEPT: u64 = 262144;
+
+fn main(rt: HostRuntime) -> io::Result<()> {
+    let input = text_input::first_bytes(rt.stdin(), KEPT, rt.alloc())?;
+    let told = replay(&input);
+    let mut text = [0u8; text_lines::LONGEST_REPLAYED];
+    let size = text_lines::replayed_line(&mut text, told.rows, told.others);
+    rt.stdout().write_all(&text[..size])
 }

@@ -12,7 +12,7 @@ use bytes_field::{Bounds, Part, Scan};
 use bytes_wire::{Cause, Read16};
 
 // How many of each a routine may have; document 01's numbers are MOSTS of bytes_sections.
-#[derive(Drop)]
+#[derive(Clone, Copy)]
 pub struct Mosts {
     pub types: u16,
     pub next: u16,
@@ -24,14 +24,14 @@ pub struct Mosts {
 }
 
 // An instruction's bit map and kind.
-#[derive(Drop)]
+#[derive(Clone, Copy)]
 pub enum Head {
     Kind { bits: u8, kind: u8 },
     Refused(Cause, usize),
 }
 
 // The bytes of a block, and how many instructions it has.
-#[derive(Drop)]
+#[derive(Clone, Copy)]
 pub enum BlockRead {
     Used { end: usize, count: u16 },
     Refused(Cause, usize),

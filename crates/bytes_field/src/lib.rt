@@ -11,7 +11,7 @@ use bytes_wire::{Cause, ReadValue};
 use mir::{Value, ValueId};
 
 // What the numbers of an instruction stay below, and the mosts of its lists and projections.
-#[derive(Drop)]
+#[derive(Clone, Copy)]
 pub struct Bounds {
     pub types: u16,
     pub next: u16,
@@ -22,14 +22,14 @@ pub struct Bounds {
 
 // How many bytes a walk took, how many reads it noted, and whether another kind than Phi was met; or its refusal: the cause,
 // and the offset of the field.
-#[derive(Drop)]
+#[derive(Clone, Copy)]
 pub enum Scan {
     Used(usize, usize, bool),
     Refused(Cause, usize),
 }
 
 // What a list may count: at most `most`; where `exact` stands, `many` and no other.
-#[derive(Drop)]
+#[derive(Clone, Copy)]
 pub struct Lists {
     pub most: u8,
     pub exact: bool,
@@ -37,7 +37,7 @@ pub struct Lists {
 }
 
 // How many bytes something took; or its refusal.
-#[derive(Drop)]
+#[derive(Clone, Copy)]
 pub enum Part {
     Used(usize),
     Refused(Cause, usize),

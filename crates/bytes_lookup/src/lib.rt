@@ -13,7 +13,7 @@ ghost use Rattle.bytes_lookup.specs.Found.{asType};
 use mir::{BlockId, TypeId, ValueId};
 
 // A type that a lookup finds, or none there.
-#[derive(Drop)]
+#[derive(Clone, Copy)]
 pub enum TypeFound {
     Type(TypeId),
     Nothing,

@@ -17,7 +17,7 @@ use mir::{NameId, Value, kind};
 
 // A kind's operand fields, lists and places aside: how many, how far the first stands behind the kind's first field,
 // and how far the second stands behind the first. (A Store's one stands behind its place.)
-#[derive(Drop)]
+#[derive(Clone, Copy)]
 pub struct Operands(pub u8, pub u8, pub u8);
 
 pub const OPERANDS: [Operands; 19] = [
@@ -48,14 +48,14 @@ const LOAD: u8 = kind::LOAD as u8;
 const STORE: u8 = kind::STORE as u8;
 
 // A value that a lookup finds, or none there.
-#[derive(Drop)]
+#[derive(Clone, Copy)]
 pub enum Found {
     Value(Value),
     Nothing,
 }
 
 // A projection that a lookup finds, or none there.
-#[derive(Drop)]
+#[derive(Clone, Copy)]
 pub enum Step {
     Index(Value),
     Field(NameId),

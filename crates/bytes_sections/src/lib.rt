@@ -7,7 +7,7 @@ use bytes_wire::Cause;
 use mir::BlockId;
 
 // The next value, the number of blocks and the entry block; or the refusal.
-#[derive(Drop)]
+#[derive(Clone, Copy)]
 pub enum SizesRead {
     Got {
         next: u16,
@@ -18,7 +18,7 @@ pub enum SizesRead {
 }
 
 // What an accepted routine's numbers stay below, or the refusal.
-#[derive(Drop)]
+#[derive(Clone, Copy)]
 pub enum Checked {
     Accepted(Bounds),
     Refused(Cause, usize),

@@ -5,7 +5,7 @@ use bytes_types::layout;
 use mir::{NameId, TypeId, type_kind};
 
 // What is found of a field, or that no field has the name.
-#[derive(Drop)]
+#[derive(Clone, Copy)]
 pub enum FieldLookup {
     Found {
         position: u32,

@@ -7,7 +7,7 @@ ghost use Rattle.bytes_wire.specs.Value.{value_of, asValue};
 use mir::{Literal, Value, ValueId};
 
 // Why a byte string is refused: rows 1 to 9 of document 01's table.
-#[derive(Drop)]
+#[derive(Clone, Copy)]
 pub enum Cause {
     Truncated,
     TooMany,
@@ -49,25 +49,25 @@ pub const OPERAND: u8 = 3;
 pub const ERROR: u8 = 4;
 
 // What a reader answers: what it read and how many bytes that took; or the cause of a refusal and the offset of its field.
-#[derive(Drop)]
+#[derive(Clone, Copy)]
 pub enum Read8 {
     Got(u8, usize),
     Refused(Cause, usize),
 }
 
-#[derive(Drop)]
+#[derive(Clone, Copy)]
 pub enum Read16 {
     Got(u16, usize),
     Refused(Cause, usize),
 }
 
-#[derive(Drop)]
+#[derive(Clone, Copy)]
 pub enum Read32 {
     Got(u32, usize),
     Refused(Cause, usize),
 }
 
-#[derive(Drop)]
+#[derive(Clone, Copy)]
 pub enum ReadValue {
     Got(Value, usize),
     Refused(Cause, usize),

@@ -1,7 +1,7 @@
 // Which builds the pass takes apart: the settings; the definitions are in specs/.
 
 // sroa.rs, `Config`: enable_tuples, enable_structs, max_aggregate_size.
-#[derive(Drop)]
+#[derive(Clone, Copy)]
 pub struct Settings {
     pub tuples: bool,
     pub structs: bool,

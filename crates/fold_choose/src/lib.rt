@@ -11,7 +11,7 @@ use mir::{BlockId, ValueId, kind, most};
 use rewrite_progress::SKIPS;
 
 // The slots of a block's instructions.
-#[derive(Drop)]
+#[derive(Clone, Copy)]
 pub struct Slots {
     pub first: u16,
     pub count: u16,

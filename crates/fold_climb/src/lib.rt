@@ -27,7 +27,7 @@ pub const MOST: u16 = 2048;
 pub const SIZE: usize = 6657;
 
 // What a climb answers: whether the value can be taken apart, and the values visited.
-#[derive(Drop)]
+#[derive(Clone, Copy)]
 pub struct Climbed {
     pub ok: bool,
     pub visited: [bool; 256],

@@ -13,7 +13,7 @@ use bytes_wire::ReadValue;
 use mir::{Literal, TypeId, Value, ValueId, kind, shape};
 
 // What makes `dest` a member where `source` is one, for a root of the shape asked for; or nothing.
-#[derive(Drop)]
+#[derive(Clone, Copy)]
 pub enum CopyRead {
     Copy {
         source: ValueId,

@@ -18,7 +18,7 @@ use mir::{BlockId, ValueId, kind, most};
 const VALUES: u16 = most::VALUES as u16;
 
 // The dest of a build of an eligible type, or no such build.
-#[derive(Drop)]
+#[derive(Clone, Copy)]
 pub enum BuildRead {
     Dest(ValueId),
     Nothing,

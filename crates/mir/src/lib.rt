@@ -6,30 +6,30 @@ pub mod shape;
 pub mod terminator;
 pub mod type_kind;
 
-#[derive(Drop)]
+#[derive(Clone, Copy)]
 pub struct ValueId(pub u16);
 
-#[derive(Drop)]
+#[derive(Clone, Copy)]
 pub struct BlockId(pub u16);
 
-#[derive(Drop)]
+#[derive(Clone, Copy)]
 pub struct TypeId(pub u16);
 
-#[derive(Drop)]
+#[derive(Clone, Copy)]
 pub struct NameId(pub u16);
 
 // A recorded type or none: one more than the type's number, or 0.
-#[derive(Drop)]
+#[derive(Clone, Copy)]
 pub struct Recorded(pub u16);
 
-#[derive(Drop)]
+#[derive(Clone, Copy)]
 pub enum Literal {
     Integer(u32),
     Boolean(bool),
     Unit,
 }
 
-#[derive(Drop)]
+#[derive(Clone, Copy)]
 pub enum Value {
     Literal(Literal),
     Operand(ValueId),

@@ -26,7 +26,7 @@ pub fn lower(
 }
 
 // An answer, and the totals with its counts.
-#[derive(Drop)]
+#[derive(Clone, Copy)]
 pub struct Ran {
     pub answer: Answer,
     pub totals: Totals,

@@ -18,7 +18,7 @@ const NO_ROOM: u8 = 11;
 const TOO_LARGE: u8 = 12;
 
 // What a call answers.
-#[derive(Drop)]
+#[derive(Clone, Copy)]
 pub enum Answer {
     // Rows 1 to 9 of document 01's table: the input is no routine; with the offset.
     Malformed(Cause, usize),

@@ -38,7 +38,7 @@ const REASON: usize = 8;
 const SIZE: usize = 9;
 
 // A refusal's number and offset, the result, the five counts, the shelf reason, and how many bytes the rewritten routine has.
-#[derive(Drop)]
+#[derive(Clone, Copy)]
 pub struct Numbers {
     pub number: u64,
     pub offset: u64,
@@ -54,7 +54,7 @@ pub struct Numbers {
 
 // What all runs of one caller counted (sroa.rs, `Stats`, which `run(&mut self)` adds to); a total stays at the largest
 // number once it is there.
-#[derive(Drop)]
+#[derive(Clone, Copy)]
 pub struct Totals {
     pub builds: u64,
     pub extracts: u64,

@@ -1,7 +1,7 @@
 // The rewriting: what it counts; the definitions are in specs/.
 
 // sroa.rs, `Stats`: builds and extracts scalarized, inserts and assigns forwarded, materializations.
-#[derive(Drop)]
+#[derive(Clone, Copy)]
 pub struct Counts {
     pub builds: u32,
     pub extracts: u32,

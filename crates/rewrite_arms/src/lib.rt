@@ -30,7 +30,7 @@ pub const PARTS: usize = 3;
 const TYPE_BYTES: usize = 2;
 
 // What an instruction that is left out counts as.
-#[derive(Drop)]
+#[derive(Clone, Copy)]
 pub enum Counted {
     Build,
     Extract,
@@ -40,7 +40,7 @@ pub enum Counted {
 
 // The instruction stays; or it is left out and its dest is tracked: the dest, and what it counts as; or an Assign stands
 // for it: the dest, the place of the input where the assigned value stands, and the type.
-#[derive(Drop)]
+#[derive(Clone, Copy)]
 pub enum Action {
     Keep,
     Track {
@@ -55,7 +55,7 @@ pub enum Action {
 }
 
 // What to do, and how much of the rows is used then.
-#[derive(Drop)]
+#[derive(Clone, Copy)]
 pub struct Decision {
     pub action: Action,
     pub used: usize,
@@ -68,7 +68,7 @@ pub struct Decision {
 // Replace: it gets a tracked value's parts with one replaced; that value, the part's number, the place of the new part.
 // Values: it gets the values of the instruction's list.
 // Fields: it gets the values of the instruction's inits, in the order of a struct type; that type.
-#[derive(Drop)]
+#[derive(Clone, Copy)]
 pub enum Plan {
     Keep,
     Share {
@@ -89,14 +89,14 @@ pub enum Plan {
 }
 
 // A value that is tracked, or any other.
-#[derive(Drop)]
+#[derive(Clone, Copy)]
 pub enum Source {
     Tracked(ValueId),
     Untracked,
 }
 
 // An instruction: where its own fields begin, where it ends, what its first field defines.
-#[derive(Drop)]
+#[derive(Clone, Copy)]
 pub struct Spot {
     pub off: usize,
     pub end: usize,

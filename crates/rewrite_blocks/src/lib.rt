@@ -22,7 +22,7 @@ const MOST_SLOTS: u16 = most::SLOTS as u16;
 const COUNT_BYTES: usize = 2;
 
 // The slots of a block's instructions: the first, and how many there are. Its terminator's slot is the one behind them.
-#[derive(Drop)]
+#[derive(Clone, Copy)]
 pub struct Slots {
     pub first: u16,
     pub count: u16,

@@ -24,7 +24,7 @@ const MAKE_FIXED_ARRAY: u8 = kind::MAKE_FIXED_ARRAY as u8;
 const HEAD_BYTES: usize = 5;
 
 // The place behind a rebuild, and whether it met an array of another count.
-#[derive(Drop)]
+#[derive(Clone, Copy)]
 pub struct Rebuilt {
     pub to: usize,
     pub clash: bool,

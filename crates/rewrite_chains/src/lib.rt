@@ -22,21 +22,21 @@ const STORE_STEPS: usize = 2;
 const STORE_FIRST_STEP: usize = 3;
 
 // The number of a part, or none.
-#[derive(Drop)]
+#[derive(Clone, Copy)]
 pub enum Position {
     At(u32),
     Nothing,
 }
 
 // The operand that a walk comes to, or none.
-#[derive(Drop)]
+#[derive(Clone, Copy)]
 pub enum Walked {
     Operand(ValueId),
     Nothing,
 }
 
 // Whether a Store went into the states, and how much of the rows is used then.
-#[derive(Drop)]
+#[derive(Clone, Copy)]
 pub struct Forwarded {
     pub forwarded: bool,
     pub used: usize,

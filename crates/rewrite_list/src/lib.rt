@@ -22,7 +22,7 @@ const NUMBERS: u32 = 65536;
 const MOST_COPIED: usize = 1024;
 
 // A list of values: where the first stands, how many there are, and the types asked of them.
-#[derive(Drop)]
+#[derive(Clone, Copy)]
 pub struct ValueList {
     pub first: usize,
     pub many: u8,
@@ -30,7 +30,7 @@ pub struct ValueList {
 }
 
 // Where a writer of values is: the place behind them, and the fresh numbers put in.
-#[derive(Drop)]
+#[derive(Clone, Copy)]
 pub struct Written {
     pub to: usize,
     pub fresh: u32,

@@ -6,7 +6,7 @@ ghost use Rattle.rewrite_opening.specs.Opens.{Opens, Opening};
 use bytes_field::Bounds;
 
 // There is no room, and nothing is written; or the head is, up to the place that is told.
-#[derive(Drop)]
+#[derive(Clone, Copy)]
 pub enum Opened {
     NoRoom,
     Head(usize),

@@ -24,14 +24,14 @@ pub const ROWS: usize = 2432;
 const MOST_PARTS: u16 = 16;
 
 // Whether a name is given in a struct build, and the place of its value.
-#[derive(Drop)]
+#[derive(Clone, Copy)]
 pub struct Init {
     pub given: bool,
     pub place: usize,
 }
 
 // Whether all names of a type are given, and how much of the table is used then.
-#[derive(Drop)]
+#[derive(Clone, Copy)]
 pub struct Named {
     pub given: bool,
     pub used: usize,

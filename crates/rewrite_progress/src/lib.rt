@@ -11,7 +11,7 @@ pub const SKIPS: usize = most::SLOTS;
 pub const FLAGS: usize = SKIPS + most::BLOCKS;
 
 // The place behind what is written, the instructions put out in the present block, the fresh numbers taken, the counts.
-#[derive(Drop)]
+#[derive(Clone, Copy)]
 pub struct Progress {
     pub to: usize,
     pub lines: u32,
@@ -20,14 +20,14 @@ pub struct Progress {
 }
 
 // What a writer answers. Clash: an array rebuild met another count. Went: how far the output is written then.
-#[derive(Drop)]
+#[derive(Clone, Copy)]
 pub enum Put {
     Clash,
     Went(Progress),
 }
 
 // What the numbers of a routine stay below, and the settings of the pass.
-#[derive(Drop)]
+#[derive(Clone, Copy)]
 pub struct Setup {
     pub bounds: Bounds,
     pub settings: Settings,

@@ -14,7 +14,7 @@ use rewrite_progress::{Progress, Put, Setup};
 // Does: what is decided of it.
 // Forwarded: a Store that goes into the parts of a tracked value.
 // Call, Store: a Call, or any other Store, whose tracked values are rebuilt before it.
-#[derive(Drop)]
+#[derive(Clone, Copy)]
 pub enum Rewrite {
     Does(Action),
     Forwarded,
@@ -23,21 +23,21 @@ pub enum Rewrite {
 }
 
 // What is settled of an instruction, and how much of the rows is used then.
-#[derive(Drop)]
+#[derive(Clone, Copy)]
 pub struct Settled {
     pub rewrite: Rewrite,
     pub used: usize,
 }
 
 // How far the output is written, and how much of the rows is used.
-#[derive(Drop)]
+#[derive(Clone, Copy)]
 pub struct Reached {
     pub progress: Progress,
     pub used: usize,
 }
 
 // What a step answers. Clash: an array rebuild met another count. Went: how far all went.
-#[derive(Drop)]
+#[derive(Clone, Copy)]
 pub enum Stepped {
     Clash,
     Went(Reached),

@@ -11,14 +11,14 @@ const TYPE_BYTES: usize = 2;
 
 // The types asked for. Types: those that stand in the input from a place on, and how many there are, where they are
 // aggregates. Recorded: the recorded ones.
-#[derive(Drop)]
+#[derive(Clone, Copy)]
 pub enum Asks {
     Types { first: usize, many: u8 },
     Recorded,
 }
 
 // What is wanted of a value. Nothing: it stays. Build: the value is rebuilt, and at which type.
-#[derive(Drop)]
+#[derive(Clone, Copy)]
 pub enum Wants {
     Nothing,
     Build { value: ValueId, named: TypeId },

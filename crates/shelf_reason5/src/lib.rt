@@ -17,7 +17,7 @@ use bytes_field::{Bounds, Scan};
 const READS: usize = 32;
 
 // The place behind what was walked, or that it reads a dropped value.
-#[derive(Drop)]
+#[derive(Clone, Copy)]
 pub enum Walked {
     Behind(usize),
     Reads,

@@ -10,7 +10,7 @@ ghost use Rattle.shelf_test.specs.Shelved.{Input, inputReason, Shelved};
 use bytes_field::Bounds;
 
 // What the shelf test says: document 01's reasons 0 to 5, in their order.
-#[derive(Drop)]
+#[derive(Clone, Copy)]
 pub enum ShelfReason {
     Passed,
     TypesDisagree,

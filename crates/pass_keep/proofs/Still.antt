@@ -68,7 +68,9 @@ module _ (σ : Settings) (τ : Types) (folds : ValueId → Bool) where
   kept-walk : (S : AggStates) (n : ℕ) (is : List Instruction) (t : Terminator) → Each (Kept folds) is → walk σ τ folds S n is t ≡ walk σ τ never S n is t
   unfolding walk
   kept-walk S n [] t h = refl
-  kept-walk S n (i ∷ is) t h = rw (kept_step S n i h.0) (ap (λ w. glue (step σ τ never S n i) w) (kept-walk _ _ is t h.1))
+  kept-walk S n (i ∷ is) t h =
+      let p = step σ τ never S n i in
+      rw (kept_step S n i h.0) (ap (λ w. glue p w) (kept-walk p.states (n + length p.fresh) is t h.1))
 
 -- behind the phis
 kept-behind : (P : Instruction → Type 0) (is : List Instruction) → Each P is → Each P (behindPhis is)

@@ -166,5 +166,5 @@ pub room-behind : {σ : Settings} {s facts : List ℕ} {b : Bounds} {flags : Lis
     → Headed σ s facts b flags dropped body p out to
     → to + p.to ≤ length out
 room-behind {σ} h =
-    let x = h.decreases.chosen.accepted.routine in
+    let x = h.measured.chosen.accepted.routine in
     omega (arith, h.room, h.written.0, ap length h.written.1, length-sets h.before 0 (head_of x (rewrittenBlocks σ x)))

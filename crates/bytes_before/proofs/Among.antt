@@ -1,6 +1,6 @@
 -- Bytes that are one of several parts.
 use Prim.Native.Nat.{ℕ, suc, ◌+◌, ◌-◌, ◌≤◌, ◌<◌, zero-le}
-use mathlib.Core.Path.{◌≡◌, refl, ap, ◌∙◌, sym}
+use mathlib.Core.Path.{◌≡◌, ◌∙◌, sym}
 use mathlib.Core.List.{List}
 use mathlib.Core.Bool.{true, false, ◌||◌}
 use native.Mathlib.Nat.{sub-zero}

@@ -1,4 +1,6 @@
 // Whether a name or a type's bytes stand before: what makes a field name or a type a repeated one.
+#![tactic(auto)]
+
 ghost use Rattle.std.specs.Prelude.{◌≡◌, ◌+◌, ◌*◌, ◌≤◌, length};
 ghost use Rattle.bytes_before.specs.Before.{hasName, names_at, sameBytes, part, amongParts};
 

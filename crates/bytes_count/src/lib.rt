@@ -1,4 +1,6 @@
 // Counts, held to their mosts: a count that passes its most is refused at its own offset.
+#![tactic(auto)]
+
 ghost use Rattle.std.specs.Prelude.{◌≡◌};
 ghost use Rattle.bytes_wire.specs.Number.{u8Of, u16Of, as8, as16, counted};
 ghost use Rattle.bytes_count.specs.Count.{countedTwice};

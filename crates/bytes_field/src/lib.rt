@@ -1,5 +1,7 @@
 // The readers of the fields of an instruction. Each is given the bytes from its field on, checks the field, notes what it
 // reads or marks what it defines, and answers how many bytes it took.
+#![tactic(auto)]
+
 ghost use Rattle.std.specs.Prelude.{◌≡◌, List, Bool, cond, ℕ, ◌+◌, ◌-◌, ◌<◌, length, set, take, drop, ltb};
 ghost use Rattle.bytes_wire.specs.Parse.{mapParse, later};
 ghost use Rattle.bytes_wire.specs.Number.{number_of, below};

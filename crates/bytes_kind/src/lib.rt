@@ -1,4 +1,6 @@
 // The kinds of instructions and terminators: the row of fields of each, and when a Phi is late.
+#![tactic(auto)]
+
 ghost use Rattle.std.specs.Prelude.{◌≡◌, List, Bool, ℕ, ◌<◌, get_or};
 ghost use Rattle.bytes_wire.specs.Parse.{mapParse};
 ghost use Rattle.bytes_field.specs.Walk.{rows, terminatorRows, asScan};

@@ -1,4 +1,6 @@
 // Numbers, numbers of things, and values, as the byte form has them.
+#![tactic(auto)]
+
 ghost use Rattle.std.specs.Prelude.{◌≡◌, ◌+◌, ◌*◌, get_or};
 ghost use Rattle.bytes_wire.specs.Parse.{numberOfCause};
 ghost use Rattle.bytes_wire.specs.Number.{u8Of, u16Of, u32Of, as8, as16, as32, at16, at32};

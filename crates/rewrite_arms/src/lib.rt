@@ -1,4 +1,6 @@
 // What can be decided of an instruction: what is found of its source, and what is to be done with its dest.
+#![tactic(auto)]
+
 ghost use Rattle.std.specs.Prelude.{◌≡◌, List, cond, ℕ, ◌+◌, ◌-◌, ◌≤◌, ◌<◌, length};
 ghost use Rattle.std.proofs.Math.Option.{some, none};
 ghost use Rattle.std.proofs.Math.ListN.{get_elem?};

@@ -1,4 +1,6 @@
 // Chains of projections: which part of a tracked value a Load takes, and which one a Store changes.
+#![tactic(auto)]
+
 mod path;
 
 ghost use Rattle.std.specs.Prelude.{◌+◌, ◌≤◌, ◌<◌};

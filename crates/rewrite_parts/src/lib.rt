@@ -1,6 +1,8 @@
 // The parts of tracked values: rows of places of the input, in tables that the caller lends. `tracked` has a mark for
 // each value that is tracked; `rows` says at its number where its row begins, behind these: the number of its parts, then
 // the place of each. No row changes: a changed value gets a new one.
+#![tactic(auto)]
+
 ghost use Rattle.std.specs.Prelude.{◌≡◌, List, ℕ, ◌+◌, ◌≤◌, ◌<◌, length, get_or};
 ghost use Rattle.std.proofs.Math.Option.{some};
 ghost use Rattle.mir.specs.declared.Value.{Value};

@@ -1,5 +1,7 @@
 // Reads and stores of tables that ask for no room: past the end a read gives 0 or false, and a store does nothing.
 // (The reader of bytes stands in bytes_wire: byte_at.)
+#![tactic(auto)]
+
 ghost use Rattle.std.specs.Prelude.{◌≡◌, false, ◌%◌, get_or, set};
 ghost use Rattle.table.specs.Flags.{anyStands};
 ghost use Rattle.table.specs.Number.{numbersBelow};

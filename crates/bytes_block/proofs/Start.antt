@@ -2,9 +2,9 @@
 use Prim.Native.Nat.{ℕ, ◌≤◌, ◌<◌}
 use mathlib.Core.Path.{◌≡◌, refl, ap, ◌∙◌}
 use mathlib.Core.List.{List}
-use mathlib.Core.Bool.{Bool, true, false, not, ◌&&◌, ◌||◌}
+use mathlib.Core.Bool.{Bool, true, false, not, ◌&&◌}
 use native.Mathlib.Omega.{arith}
-use borrow.Author.Tests.{lt-ltb, le-ltb, eq-eqb, ne_eqb, ltb-true}
+use borrow.Author.Tests.{lt-ltb, le-ltb, ltb-true}
 use lib.ListN.{length, get_or, drop, length-drop}
 use lib.Dec.{ltb, eqb}
 use Rattle.bytes_wire.specs.Parse.{Parse, ok, bad, mapParse, checked}
@@ -13,7 +13,7 @@ use Rattle.bytes_wire.specs.declared.Cause.{Cause}
 use Rattle.bytes_wire.proofs.Laws.{number_short, number-some, from-8}
 use Rattle.bytes_wire.proofs.Inv.{no_ok, both, image, and-inv, map-inv, checked-inv}
 use Rattle.bytes_field.specs.Decode.{definedBits, bits_of, kind_of}
-use Rattle.bytes_field.specs.Walk.{Walk, walk_of, asScan, standsAt}
+use Rattle.bytes_field.specs.Walk.{Walk, asScan, standsAt}
 use Rattle.bytes_field.specs.declared.Scan.{Scan}
 use Rattle.bytes_block.specs.Decode.{KindRead, head_of}
 

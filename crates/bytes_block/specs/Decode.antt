@@ -1,5 +1,5 @@
 -- "The blocks: u16 instruction count, instructions, terminator."
-use Rattle.std.specs.Prelude.{ℕ, zero, suc, ◌+◌, List, [], ◌∷◌, Bool, false, cond, not, ◌||◌, length}
+use Rattle.std.specs.Prelude.{ℕ, zero, suc, List, [], ◌∷◌, Bool, false, cond, not, ◌||◌, length}
 use Rattle.bytes_wire.specs.Parse.{Parse, ok, bad, and_then, mapParse}
 use Rattle.bytes_wire.specs.Number.{number_of, u16Of}
 use Rattle.mir.specs.declared.ValueId.{ValueId}

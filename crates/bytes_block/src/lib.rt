@@ -1,4 +1,6 @@
 // Instructions, terminators and blocks.
+#![tactic(auto)]
+
 ghost use Rattle.std.specs.Prelude.{◌≡◌, List, Bool, true, false, ℕ, ◌+◌, ◌-◌, ◌*◌, ◌≤◌, ◌<◌, length, get_or};
 ghost use Rattle.bytes_wire.specs.Parse.{and_then, mapParse};
 ghost use Rattle.bytes_field.specs.Decode.{bit as bit_of, definedBits, metaOf, instructionOf, terminatorOf};

@@ -1,4 +1,6 @@
 // The entry that tells whether bytes are a routine.
+#![tactic(auto)]
+
 ghost use Rattle.std.specs.Prelude.{◌≡◌};
 ghost use Rattle.bytes_sections.specs.Decode.{mosts, whole_of};
 ghost use Rattle.bytes_sections.specs.Index.{answered, verdict};

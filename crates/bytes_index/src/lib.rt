@@ -1,4 +1,6 @@
 // The table of facts that the reader leaves of a routine (specs/Table.antt says what stands where), and lookups in it.
+#![tactic(auto)]
+
 ghost use Rattle.std.specs.Prelude.{◌≡◌, List, ℕ, ◌+◌, ◌*◌, ◌<◌, length, get_or, drop};
 ghost use Rattle.mir.specs.Syntax.{Block};
 ghost use Rattle.bytes_field.specs.declared.Bounds.{Bounds};

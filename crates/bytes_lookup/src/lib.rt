@@ -1,4 +1,6 @@
 // Lookups on an accepted routine, by the table of facts: a block's bytes, a type's place, a value's recorded type.
+#![tactic(auto)]
+
 ghost use Rattle.std.specs.Prelude.{◌≡◌, List, ◌<◌, length, get_or};
 ghost use Rattle.bytes_wire.specs.WellFormed.{Bytes};
 ghost use Rattle.mir.specs.Syntax.{Block};

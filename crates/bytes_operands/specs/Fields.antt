@@ -1,5 +1,5 @@
 -- The fields of an instruction that lookups find: operand fields, elements of lists, projections.
-use Rattle.std.specs.Prelude.{ℕ, zero, suc, ◌+◌, ◌*◌, eqb, ◌≡◌, List, [], ◌∷◌, Bool, true, false, cond, ◌||◌, get_or, drop}
+use Rattle.std.specs.Prelude.{ℕ, zero, suc, ◌+◌, ◌*◌, eqb, ◌≡◌, List, [], ◌∷◌, Bool, true, false, cond, get_or, drop}
 use Rattle.std.proofs.Math.Option.{Option, none, some}
 use Rattle.bytes_wire.specs.Parse.{ok}
 use Rattle.bytes_wire.specs.Value.{value_of}

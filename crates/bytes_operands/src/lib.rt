@@ -1,4 +1,6 @@
 // Lookups on an accepted instruction: where its fields stand, its operand fields, its projections.
+#![tactic(auto)]
+
 ghost use Rattle.std.specs.Prelude.{◌≡◌, List, Bool, false, cond, ℕ, ◌+◌, ◌*◌, ◌/◌, ◌%◌, ◌≤◌, ◌<◌, drop, eqb};
 ghost use Rattle.std.proofs.Math.Option.{some};
 ghost use Rattle.std.proofs.Math.ListN.{get_elem?};

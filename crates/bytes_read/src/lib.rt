@@ -1,4 +1,6 @@
 // The whole reader.
+#![tactic(auto)]
+
 ghost use Rattle.std.specs.Prelude.{◌≡◌, false, ◌≤◌, length, replicate};
 ghost use Rattle.bytes_sections.specs.Facts.{BodyRead, RoutineRead};
 ghost use Rattle.bytes_index.specs.Table.{factsSize};

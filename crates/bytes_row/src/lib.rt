@@ -1,5 +1,7 @@
 // The readers of lists, places and rows of fields. One table of field classes drives the check, the skip and the scan of
 // what is read. Each is given the bytes from its field on, and answers how many bytes it took.
+#![tactic(auto)]
+
 ghost use Rattle.std.specs.Prelude.{◌≡◌, List, Bool, not, ◌≤◌, ◌<◌, length};
 ghost use Rattle.bytes_wire.specs.Parse.{and_then, mapParse};
 ghost use Rattle.bytes_wire.specs.Value.{value_of};

@@ -1,6 +1,6 @@
 -- What the reader of a routine answers, and where it finds the parts again.
-use Rattle.std.specs.Prelude.{ℕ, zero, suc, ◌+◌, ◌-◌, ◌≤◌, ◌<◌, ◌≡◌, List, Bool, length, get_or, drop, set}
-use Rattle.std.proofs.Math.Option.{Option, none, some}
+use Rattle.std.specs.Prelude.{ℕ, ◌+◌, ◌<◌, ◌≡◌, List, Bool, length, get_or, drop, set}
+use Rattle.std.proofs.Math.Option.{Option, none}
 use Rattle.bytes_wire.specs.Parse.{Parse, ok, bad, mapParse, later, numberOfCause}
 use Rattle.mir.specs.declared.TypeId.{TypeId}
 use Rattle.mir.specs.declared.ValueId.{ValueId}
@@ -9,8 +9,7 @@ use Rattle.bytes_field.specs.Walk.{unit}
 use Rattle.mir.specs.Syntax.{Block}
 use Rattle.bytes_sections.specs.Decode.{mosts, Sizes, hasRecorded, recordedTypeOf, recordedOf, blocksOf}
 use Rattle.bytes_field.specs.declared.Bounds.{Bounds}
-use Rattle.bytes_block.specs.Decode.{marks, block_of}
-use Rattle.bytes_block.specs.declared.Mosts.{Mosts}
+use Rattle.bytes_block.specs.Decode.{marks}
 use Rattle.bytes_sections.specs.declared.SizesRead.{SizesRead}
 use Rattle.bytes_sections.specs.declared.Checked.{Checked}
 use Rattle.bytes_index.specs.Table.{recordedIn, blocksIn}

@@ -1,4 +1,6 @@
 // A whole routine: the readers of its sections.
+#![tactic(auto)]
+
 pub mod sections;
 
 use bytes_block::Mosts;

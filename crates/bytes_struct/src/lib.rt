@@ -1,4 +1,6 @@
 // A field of a struct type by its name: its position, its type and the number of fields, or that the name is absent.
+#![tactic(auto)]
+
 ghost use Rattle.bytes_struct.specs.Found.{FoundAmong, FoundInRow, FoundIn};
 
 use bytes_types::layout;

@@ -1,4 +1,6 @@
 // What the checker prints of bytes.
+#![tactic(auto)]
+
 ghost use Rattle.std.specs.Prelude.{◌≤◌};
 ghost use Rattle.bytes_sections.specs.Decode.{mosts, whole_of};
 ghost use Rattle.text.specs.Written.{Written};

@@ -1,4 +1,6 @@
 // The type table of a routine.
+#![tactic(auto)]
+
 pub mod layout;
 
 ghost use Rattle.std.specs.Prelude.{◌≡◌, List, [], Bool, ℕ, ◌+◌, ◌*◌, ◌≤◌, ◌<◌, length, drop};

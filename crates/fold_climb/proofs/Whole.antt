@@ -15,7 +15,7 @@ use Rattle.mir.specs.Lookup.{Types, valueRow, shape, isArray, is_some}
 use Rattle.fold.specs.Family.{Marks}
 use Rattle.fold.specs.Tables.{ShapesAt}
 use Rattle.fold.specs.Climb.{buildOf, buildableOf, climb, canScalarize}
-use Rattle.fold_climb.specs.Edges.{edgesOf, blockedIn, Sight, arrayIn, allowedIn, parents, climbIn, unmarked, climbOf}
+use Rattle.fold_climb.specs.Edges.{edgesOf, blockedIn, Sight, arrayIn, allowedIn, climbIn, unmarked, climbOf}
 use Rattle.fold_climb.specs.Scanned.{Each, Scanned, sight_of, fresh}
 use Rattle.fold_climb.proofs.Passing.{over-edges}
 use Rattle.fold_climb.proofs.Depth.{On, through, through-id, parents-through, climb-keeps, climb-same}

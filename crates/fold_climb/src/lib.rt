@@ -1,4 +1,6 @@
 // Which builds of a block are taken apart: a climb over the builds that take a value as a part.
+#![tactic(auto)]
+
 ghost use Rattle.std.specs.Prelude.{◌≡◌, not, ◌&&◌, ◌<◌};
 ghost use Rattle.mir.specs.Most.{mostValues};
 ghost use Rattle.fold_climb.specs.Edges.{climbOf, asClimbed};

@@ -28,7 +28,6 @@ use Rattle.mir.specs.Reads.{kindNumber}
 use Rattle.bytes_field.specs.Decode.{definedOf, typeIdOf, nameIdOf, list_of, projectionOf, instructionOf, assignOf, load_of, store_of, insertFieldOf, insertTupleOf}
 use Rattle.bytes_field.specs.Decode as decode
 use Rattle.bytes_field.specs.declared.Bounds.{Bounds}
-use Rattle.mir.specs.MirType.{MirType}
 use Rattle.bytes_types.specs.Index.{TypesAt}
 use Rattle.bytes_operands.specs.Fields.{fieldsPlace, placeSteps}
 use Rattle.bytes_operands.proofs.Instruction.{chosen, instruction-fields, fields_read}

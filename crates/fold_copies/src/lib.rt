@@ -1,5 +1,7 @@
 // The copies of a block, which make one value a member of a family where another is, and the values that it looks into by an
 // index that is not known.
+#![tactic(auto)]
+
 ghost use Rattle.std.specs.Prelude.{◌≡◌, cond, ◌+◌, ◌≤◌, ◌<◌, eqb};
 ghost use Rattle.bytes_operands.specs.Fields.{asStep};
 ghost use Rattle.mir.specs.Lookup.{isInteger};
@@ -171,8 +173,22 @@ pub fn scan_copies(
     while k < count {
         let kind = table::number(facts, row + bytes_index::KIND);
         let t = bytes_field::tail(s, table::place(facts, row));
-        n = note_copy(copy_at(s, b, facts, t, kind), n, copies);
-        note_dynamic(t, b, kind, dynamic);
+        let own = Bounds {
+            types: b.types,
+            next: b.next,
+            blocks: b.blocks,
+            list: b.list,
+            projections: b.projections,
+        };
+        n = note_copy(copy_at(s, own, facts, t, kind), n, copies);
+        let same = Bounds {
+            types: b.types,
+            next: b.next,
+            blocks: b.blocks,
+            list: b.list,
+            projections: b.projections,
+        };
+        note_dynamic(t, same, kind, dynamic);
         row = row + bytes_index::WIDTH;
         k = k + 1;
     }

@@ -1,5 +1,7 @@
 // The values derived from a build, found by the block's copies, and whether one of them is looked into by an index that is
 // not known.
+#![tactic(auto)]
+
 ghost use Rattle.std.specs.Prelude.{◌≡◌, List, true, false, ◌&&◌, ◌||◌, length, get_or, replicate, eqb};
 ghost use Rattle.mir.specs.Syntax.{Instruction};
 ghost use Rattle.mir.specs.Lookup.{Types};

@@ -1,4 +1,6 @@
 // The phis of a block: whether it is skipped because of one, and how many stand in front.
+#![tactic(auto)]
+
 ghost use Rattle.std.specs.Prelude.{◌+◌, ◌≤◌};
 ghost use Rattle.mir.specs.Most.{mostSlots};
 ghost use Rattle.fold_phis.specs.Skipped.{TellsPhi, Skips, PhisIn};

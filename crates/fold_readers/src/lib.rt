@@ -1,4 +1,6 @@
 // Which block reads each value: one table of readers stands for all blocks.
+#![tactic(auto)]
+
 ghost use Rattle.std.specs.Prelude.{◌≡◌, List, false, ◌&&◌, ℕ, ◌<◌, length, get_or};
 ghost use Rattle.mir.specs.declared.ValueId.{ValueId as DeclaredValueId};
 ghost use Rattle.mir.specs.Syntax.{Instruction, Block};

@@ -1,7 +1,7 @@
 -- One more instruction in front: what the graph holds of the instructions behind it, and what its scan noted.
 use Prim.Native.Nat.{ℕ, ◌+◌, ◌*◌, ◌≤◌, ◌<◌}
 use mathlib.Core.Path.{◌≡◌, refl, ap, ◌∙◌, sym}
-use mathlib.Core.List.{List, [], ◌∷◌}
+use mathlib.Core.List.{List, ◌∷◌}
 use mathlib.Core.Bool.{Bool, true, false, cond, ◌&&◌, ◌||◌}
 use mathlib.Core.Option.{none, some}
 use native.Mathlib.Nat.{le_refl}
@@ -18,11 +18,11 @@ use Rattle.mir.specs.Lookup.{Types, any}
 use Rattle.fold.specs.Family.{Marks, buildDest}
 use Rattle.fold.specs.Climb.{buildable, isBuildOf, buildOf, buildableOf}
 use Rattle.fold_climb.specs.Edges.{partEdges, buildEdges, edgesOf, tupleEdgesOf, variesFirst, blocks, blockedIn}
-use Rattle.fold_climb.specs.Scanned.{manyIn, builtIn, barredIn, edgesDown, tuplesDown, Scanned}
+use Rattle.fold_climb.specs.Scanned.{manyIn, barredIn, edgesDown, tuplesDown, Scanned}
 use Rattle.fold_climb.proofs.Depth.{both-arms}
 use Rattle.fold_scan.specs.Noted.{barring, notedReads}
 use Rattle.fold_scan.proofs.Sorts.{Idle, Calls, Walks, builds}
-use Rattle.fold_scan.proofs.Graph.{built-at, edges-same, tuples-same, bar-other, bar-marked, call-other, call-marked, build-other, Holds, parts-hold, parts-each}
+use Rattle.fold_scan.proofs.Graph.{built-at, edges-same, tuples-same, bar-other, bar-marked, call-other, call-marked, build-other, parts-hold, parts-each}
 
 module _ (σ : Settings) (τ : Types) (cross : Marks) (is : List Instruction) (i : Instruction) (g : List ℕ) (h : Scanned σ τ cross is g) (few : length τ.recorded ≤ 256) where
   -- no build: only the values that are wanted whole may change

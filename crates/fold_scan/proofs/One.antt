@@ -16,7 +16,6 @@ use Rattle.mir.specs.Reads.{kindNumber, reads}
 use Rattle.bytes_field.specs.Decode.{instructionOf}
 use Rattle.bytes_field.specs.declared.Bounds.{Bounds}
 use Rattle.bytes_index.specs.Table.{place_in, kindIn, readIn, ReadsIn}
-use Rattle.bytes_index.specs.Code.{InstructionIn}
 use Rattle.bytes_operands.specs.Fields.{fieldsPlace}
 use Rattle.fold.specs.declared.Settings.{Settings}
 use Rattle.mir.specs.Lookup.{Types, isTuple, isArray}
@@ -25,7 +24,7 @@ use Rattle.fold.specs.Tables.{ShapesAt}
 use Rattle.fold.specs.Climb.{buildable}
 use Rattle.fold_climb.proofs.Found.{dest, DestAt, tuple-place, struct-place, array-place}
 use Rattle.fold_scan.specs.Noted.{destIn, notedReads, passesBy, PlaceNoted, BuildNoted, OneScanned}
-use Rattle.fold_scan.proofs.Sorts.{Walks, idle, calls, walks}
+use Rattle.fold_scan.proofs.Sorts.{idle, calls, walks}
 use Rattle.fold_scan.proofs.Extend.{idle-step, call_step, walk_step, build-step}
 
 -- the conditions of a tuple, and of an array, by the tables

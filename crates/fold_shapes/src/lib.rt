@@ -1,4 +1,6 @@
 // The shapes of types and values, as tables, and which types are eligible under the settings.
+#![tactic(auto)]
+
 ghost use Rattle.std.specs.Prelude.{◌≡◌, cond, ◌&&◌, length, get_or, leb, ltb};
 ghost use Rattle.mir.specs.Lookup.{shape};
 ghost use Rattle.fold.specs.Scalarizable.{isScalarizable};
@@ -122,11 +124,20 @@ pub fn value_shapes(
     let mut v: u16 = 0;
     while v < next {
         let row = Recorded(table::number(recorded, v as usize));
-        table::set_byte(shapes, v as usize, recorded_shape(s, types, many, row));
+        table::set_byte(
+            shapes,
+            v as usize,
+            recorded_shape(s, types, many, Recorded(row.0)),
+        );
+        let same = Settings {
+            tuples: settings.tuples,
+            structs: settings.structs,
+            most: settings.most,
+        };
         table::set_flag(
             eligible,
             v as usize,
-            recorded_eligible(s, types, many, row, settings),
+            recorded_eligible(s, types, many, row, same),
         );
         v = v + 1;
     }

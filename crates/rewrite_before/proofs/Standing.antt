@@ -21,7 +21,7 @@ use Rattle.bytes_field.specs.Decode.{bit, call_of, store_of, instructionOf}
 use Rattle.bytes_field.specs.Encode.{eachBytes, listBytes, valueIdBytes, typeIdBytes, placeBytes, fieldBytes, metaBytes, bitMap, instructionBytes}
 use Rattle.bytes_field.specs.declared.Bounds.{Bounds}
 use Rattle.bytes_operands.specs.Fields.{fieldsPlace, valueSize, valueEnd, after}
-use Rattle.bytes_operands.proofs.Places.{Listed, ◌&◌, empty}
+use Rattle.bytes_operands.proofs.Places.{Listed}
 use Rattle.bytes_operands.proofs.Instruction.{KindAt, instruction-fields}
 use Rattle.bytes_laws.proofs.Exact.{whole}
 use Rattle.bytes_laws.proofs.EachKind.{fieldsMost, fields}

@@ -1,5 +1,7 @@
 // Rebuilds before what needs them: a Call's tracked arguments, a Store's tracked value, the tracked values of a Return.
 // The builds are written first, then the instruction or terminator with the fresh numbers put in.
+#![tactic(auto)]
+
 ghost use Rattle.std.specs.Prelude.{◌≡◌, ℕ, ◌+◌, ◌-◌, ◌≤◌, ◌<◌};
 ghost use Rattle.rewrite_parts.specs.Rows.{rowsIn};
 ghost use Rattle.rewrite_list.specs.Lists.{mostCopied};

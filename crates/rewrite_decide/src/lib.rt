@@ -1,5 +1,7 @@
 // What becomes of one instruction, all kinds but Call and Store: sroa.rs 805 to 1304. The parts of what it defines, if
 // they are tracked then, go into the rows.
+#![tactic(auto)]
+
 ghost use Rattle.std.specs.Prelude.{◌≡◌, List, ℕ, ◌+◌, ◌≤◌, ◌<◌};
 ghost use Rattle.rewrite_parts.specs.Rows.{rowMost, usedBelow};
 ghost use Rattle.rewrite_arms.specs.Decided.{acts, SpotAt};

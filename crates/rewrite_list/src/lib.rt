@@ -1,4 +1,6 @@
 // A list of values some of which are rebuilt: the builds, then the values with the fresh numbers put in.
+#![tactic(auto)]
+
 ghost use Rattle.std.specs.Prelude.{◌≡◌, ◌+◌, ◌≤◌, ◌<◌, length, take};
 ghost use Rattle.rewrite_parts.specs.Rows.{rowsIn};
 ghost use Rattle.bytes_emit.specs.Written.{Writes, valueRoom, instructionRoom, buildRoom, rebuiltRoom};

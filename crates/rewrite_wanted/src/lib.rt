@@ -1,5 +1,7 @@
 // Which values of a list are rebuilt: a Call's arguments and a Store's value at types that stand in the input, the values
 // of a Return at their recorded types; of these the tracked ones.
+#![tactic(auto)]
+
 ghost use Rattle.rewrite_wanted.specs.Asked.{WantedAt, TypeAsked};
 
 use bytes_field::Bounds;

@@ -1,4 +1,6 @@
 // What the row of a recorded type says, read off the type table.
+#![tactic(auto)]
+
 ghost use Rattle.std.specs.Prelude.{◌≡◌};
 ghost use Rattle.mir.specs.Lookup.{shape};
 ghost use Rattle.mir.specs.Parts.{part_type, part_count, counts};

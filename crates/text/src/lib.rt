@@ -1,4 +1,6 @@
 // Numbers and bytes as text. As the writers of bytes_emit, none asks for room: what is past the end is counted and not stored.
+#![tactic(auto)]
+
 ghost use Rattle.std.specs.Prelude.{◌≡◌, [], ◌∷◌, ◌+◌, ◌<◌, ◌≤◌, length};
 ghost use Rattle.std.proofs.lemmas.List.Edits.{sets};
 ghost use Rattle.text.specs.Digits.{digitOf, decimal, hexadecimal};

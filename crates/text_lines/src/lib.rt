@@ -1,4 +1,6 @@
 // The lines that the programs print, put together from numbers and bytes. Each stands at the head of the text.
+#![tactic(auto)]
+
 ghost use Rattle.std.specs.Prelude.{◌≡◌, ◌+◌, ◌*◌, ◌<◌, ◌≤◌, min, length};
 ghost use Rattle.text.specs.Written.{Written};
 ghost use Rattle.text_lines.specs.Lines.{refusedLine, checkedLine, behind, numbersLine, loweredLines, answerLines, replayedLine};

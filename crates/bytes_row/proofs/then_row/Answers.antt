@@ -1,0 +1,16 @@
+use Rattle.std.proofs.Common.{arith}
+use Rattle.bytes_field.proofs.Sizes.{size-row}
+use Rattle.bytes_field.proofs.Laws.{bytes-within}
+use Rattle.bytes_field.specs.Walk.{walk_of, rowWalk}
+use Rattle.bytes_row.proofs.then_row.Goals as goal
+
+pub further-requires : goal.further-requires
+further-requires c =
+    let a = c.args in
+    let g = c.in-Used in
+    let w = walk_of a.seen.now a.buffer.now g.n g.late in
+    omega (
+      arith,
+      bytes-within a.s.now g.at c.read_row.result c.read_row.new.seen c.read_row.new.buffer (λ t. rowWalk a.b a.many 5 a.row w t)
+          c.tail-t.ensures c.read_row.ensures (λ u. size-row a.b a.many 5 a.row w u),
+    )

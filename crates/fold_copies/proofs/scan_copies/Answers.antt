@@ -1,0 +1,18 @@
+use Rattle.fold_copies.specs.Found.{asCopy}
+use Rattle.fold_copies.proofs.Scan.{scan-again, scan-done}
+use Rattle.fold_copies.proofs.scan_copies.Goals as goal
+
+pub loop-k-preserved : goal.loop-k-preserved
+loop-k-preserved c =
+    let a = c.args in
+    let l = c.loop-k in
+    scan-again a.s.now a.b a.facts.now a.first a.count _ _ l.copies l.dynamic l.n l.k l.row _ _ _ _ _ _
+    (asCopy c.copy_at.result) l.invariant c.loop-k-test.true c.number-kind.ensures c.place.ensures c.tail-t.ensures
+    c.copy_at.ensures c.note_copy-n.ensures.0 c.note_copy-n.ensures.1 c.note_dynamic.ensures c.note_copy-n.auto.copies
+    c.note_dynamic.auto.dynamic
+
+pub returns : goal.returns
+returns c =
+    let a = c.args in
+    let l = c.loop-k in
+    scan-done a.s.now a.b a.facts.now a.first a.count _ _ l.copies l.dynamic l.n l.k l.row l.invariant c.loop-k-test.false c.set_number.ensures

@@ -173,22 +173,8 @@ pub fn scan_copies(
     while k < count {
         let kind = table::number(facts, row + bytes_index::KIND);
         let t = bytes_field::tail(s, table::place(facts, row));
-        let own = Bounds {
-            types: b.types,
-            next: b.next,
-            blocks: b.blocks,
-            list: b.list,
-            projections: b.projections,
-        };
-        n = note_copy(copy_at(s, own, facts, t, kind), n, copies);
-        let same = Bounds {
-            types: b.types,
-            next: b.next,
-            blocks: b.blocks,
-            list: b.list,
-            projections: b.projections,
-        };
-        note_dynamic(t, same, kind, dynamic);
+        n = note_copy(copy_at(s, b, facts, t, kind), n, copies);
+        note_dynamic(t, b, kind, dynamic);
         row = row + bytes_index::WIDTH;
         k = k + 1;
     }

@@ -61,7 +61,7 @@ fn note_reads(graph: &mut [u16], facts: &[u16], slot: u16, kind: u16, d: ValueId
     while 0 < k {
         k = k - 1;
         let w = bytes_index::read(facts, slot, k);
-        note_read(graph, kind, ValueId(d.0), w);
+        note_read(graph, kind, d, w);
     }
 }
 
@@ -139,7 +139,7 @@ fn scan_one(
         kind::STORE => note_place(s, b, facts, slot, graph),
         kind::MAKE_TUPLE => {
             let d = dest(s, facts, slot);
-            let good = passes(ValueId(d.0), shape::TUPLE, shapes, eligible, cross);
+            let good = passes(d, shape::TUPLE, shapes, eligible, cross);
             note_build(graph, facts, slot, kind::MAKE_TUPLE, d, good);
         }
         kind::MAKE_STRUCT => {
@@ -148,7 +148,7 @@ fn scan_one(
         }
         kind::MAKE_FIXED_ARRAY => {
             let d = dest(s, facts, slot);
-            let good = passes(ValueId(d.0), shape::FIXED_ARRAY, shapes, eligible, cross);
+            let good = passes(d, shape::FIXED_ARRAY, shapes, eligible, cross);
             note_build(graph, facts, slot, kind::MAKE_FIXED_ARRAY, d, good);
         }
         _ => {}
@@ -189,16 +189,6 @@ pub fn scan_block(
     while 0 < k {
         k = k - 1;
         let pass = table::flag(structs, k as usize);
-        scan_one(
-            s,
-            Bounds { ..b },
-            facts,
-            first + k,
-            shapes,
-            eligible,
-            cross,
-            pass,
-            graph,
-        );
+        scan_one(s, b, facts, first + k, shapes, eligible, cross, pass, graph);
     }
 }

@@ -124,20 +124,11 @@ pub fn value_shapes(
     let mut v: u16 = 0;
     while v < next {
         let row = Recorded(table::number(recorded, v as usize));
-        table::set_byte(
-            shapes,
-            v as usize,
-            recorded_shape(s, types, many, Recorded(row.0)),
-        );
-        let same = Settings {
-            tuples: settings.tuples,
-            structs: settings.structs,
-            most: settings.most,
-        };
+        table::set_byte(shapes, v as usize, recorded_shape(s, types, many, row));
         table::set_flag(
             eligible,
             v as usize,
-            recorded_eligible(s, types, many, row, same),
+            recorded_eligible(s, types, many, row, settings),
         );
         v = v + 1;
     }

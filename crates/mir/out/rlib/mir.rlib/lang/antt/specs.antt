@@ -1,9 +1,0 @@
-pub mod MirType
-pub mod Syntax
-pub mod Routine
-pub mod Reads
-pub mod Lookup
-pub mod Parts
-pub mod Phis
-pub mod Most
-pub mod Lists

@@ -1,1 +1,3 @@
 // nothing but definitions and laws
+
+#![tactic(auto)]

@@ -1,1 +1,3 @@
 // nothing but laws
+
+#![tactic(auto)]

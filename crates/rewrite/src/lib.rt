@@ -1,5 +1,7 @@
 // The rewriting: what it counts; the definitions are in specs/.
 
+#![tactic(auto)]
+
 // sroa.rs, `Stats`: builds and extracts scalarized, inserts and assigns forwarded, materializations.
 #[derive(Clone, Copy)]
 pub struct Counts {

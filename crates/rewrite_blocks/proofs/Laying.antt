@@ -35,7 +35,7 @@ use Rattle.rewrite_perform.proofs.Counting.{puts-went, puts-clash}
 use Rattle.rewrite_perform.specs.Performed.{blockEffect, CountPut}
 use Rattle.rewrite_blocks.specs.declared.Slots.{Slots}
 use Rattle.mir.specs.Most.{mostSlots, mostInstructions}
-use Rattle.rewrite_blocks.specs.Blocks.{SlotsOf, EndPut, walk_of, Left, Begun, InstructionsPut, rewritten, OnePut}
+use Rattle.rewrite_blocks.specs.Blocks.{SlotsOf, EndPut, walk_of, Begun, InstructionsPut, rewritten, OnePut}
 use Rattle.rewrite_blocks.proofs.Whole.{skip-effect, walk-effect}
 
 transfer : {A : Type 0} (P : A → Type 0) (x y : A) → x ≡ y → P x → P y

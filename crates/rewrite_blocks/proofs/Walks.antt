@@ -23,7 +23,7 @@ use Rattle.rewrite_step.specs.declared.Stepped.{Stepped}
 use Rattle.rewrite_step.specs.Stepping.{Lent, outputIn, freshFrom, Enough, SteppedLow, Gone, Steps, StepsOn}
 use Rattle.rewrite_perform.proofs.Lows.{low-mono}
 use Rattle.rewrite_blocks.specs.declared.Slots.{Slots}
-use Rattle.rewrite_blocks.specs.Blocks.{walkFrom, walk_of, Left, Begun, Ready, Through, InstructionsPut}
+use Rattle.rewrite_blocks.specs.Blocks.{walkFrom, walk_of, Left, Begun, Ready, InstructionsPut}
 
 module _ (setup : Setup) (τ : Types) (folds : ValueId → Bool) (s : List ℕ) (t : Terminator) (o : Output) (whole : Walked) (i : Instruction) (rest : List Instruction) (l : Lent) (w : Reached) (left : Left setup τ folds s t o whole (i ∷ rest) l w) where
   abbrev at : ℕ

@@ -18,7 +18,7 @@ use Rattle.mir.specs.Phis.{behindPhis, phisOf}
 use Rattle.rewrite.specs.State.{AggStates, noStates}
 use Rattle.rewrite.specs.Step.{kept, step, stepKind, noCounts}
 use Rattle.rewrite.specs.Run.{Walked, Rewritten, Choice, glue, walk, blockThen, skipThen, one_block, allBlocks}
-use Rattle.rewrite_progress.specs.Effect.{behind, thenEffect, rewrittenEffect}
+use Rattle.rewrite_progress.specs.Effect.{thenEffect, rewrittenEffect}
 use Rattle.rewrite_perform.specs.Performed.{blockEffect}
 
 -- the phis in front of a walk

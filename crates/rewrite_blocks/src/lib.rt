@@ -1,4 +1,6 @@
 // Blocks rewritten one after another: what is decided of each instruction is put out.
+#![tactic(auto)]
+
 ghost use Rattle.std.specs.Prelude.{◌≡◌, false, ℕ, ◌+◌, ◌*◌, ◌≤◌, ◌<◌, get_or};
 ghost use Rattle.rewrite_parts.specs.Rows.{rowMost};
 ghost use Rattle.rewrite_progress.specs.Chosen.{skipsFrom};

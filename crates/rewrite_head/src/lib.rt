@@ -1,5 +1,7 @@
 // Writes everything before the blocks of a rewritten routine: types, sizes and parameters as they stand in the input
 // but for the next value, then the recorded types of the values there were and of the fresh ones.
+#![tactic(auto)]
+
 ghost use Rattle.std.specs.Prelude.{◌≡◌, ◌+◌, ◌*◌, ◌/◌, ◌%◌, ◌≤◌, ◌<◌, length, get_or, drop};
 ghost use Rattle.std.proofs.Math.Option.{none};
 ghost use Rattle.std.proofs.lemmas.List.Edits.{sets};

@@ -1,4 +1,6 @@
 // The head of the output, where there is room for all of the output.
+#![tactic(auto)]
+
 ghost use Rattle.std.specs.Prelude.{◌≡◌};
 ghost use Rattle.rewrite_head.specs.Head.{headBytes, widened};
 ghost use Rattle.rewrite_opening.specs.Opens.{Opens, Opening};

@@ -1,4 +1,6 @@
 // What is decided of an instruction is put out: it stays as it stands, it is left out, or an Assign stands for it.
+#![tactic(auto)]
+
 ghost use Rattle.std.specs.Prelude.{◌≡◌, ℕ, ◌+◌, ◌≤◌};
 ghost use Rattle.rewrite.specs.Run.{addCounts};
 ghost use Rattle.rewrite_progress.specs.Effect.{outputOf, lowEnough, Low, PutLow, mostLines};

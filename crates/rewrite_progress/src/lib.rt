@@ -1,5 +1,6 @@
 // How far the output of a run is written.
 #![tactic(auto)]
+
 use bytes_field::Bounds;
 use fold::Settings;
 use mir::most;

@@ -1,4 +1,6 @@
 // One instruction: what becomes of it is settled in the tables of tracked values, then put out.
+#![tactic(auto)]
+
 ghost use Rattle.std.specs.Prelude.{◌≡◌, ℕ, ◌+◌, ◌≤◌, ◌<◌, length};
 ghost use Rattle.rewrite_parts.specs.Rows.{rowMost, rowsSize, usedBelow, rowsIn};
 ghost use Rattle.rewrite_progress.specs.Effect.{lowEnough, Low, PutLow};

@@ -1,4 +1,6 @@
 // Aggregates that are used across blocks: a build's family is, with all its members, where another block reads one.
+#![tactic(auto)]
+
 ghost use Rattle.std.specs.Prelude.{◌≡◌, List, true, false, cond, ℕ, ◌<◌, length, get_or, set, replicate};
 ghost use Rattle.mir.specs.Syntax.{Instruction, Block};
 ghost use Rattle.bytes_field.specs.declared.Bounds.{Bounds as DeclaredBounds};

@@ -1,4 +1,6 @@
 // What a call of the pass answers, and the numbers and totals that follow from it.
+#![tactic(auto)]
+
 ghost use Rattle.std.specs.Prelude.{◌≡◌, not, eqb};
 ghost use Rattle.bytes_wire.specs.Value.{bool_byte};
 ghost use Rattle.shelf_test.specs.Number.{numberOfReason};

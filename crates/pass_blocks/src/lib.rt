@@ -1,5 +1,7 @@
 // The blocks of the output. A run over them tells how long they are and which fresh numbers they take; behind the head they are
 // copied from where it wrote them, or run over again.
+#![tactic(auto)]
+
 ghost use Rattle.std.specs.Prelude.{◌≡◌, ◌+◌, ◌≤◌, length};
 ghost use Rattle.std.proofs.lemmas.List.Edits.{sets};
 ghost use Rattle.rewrite.specs.Run.{rewrittenBlocks};

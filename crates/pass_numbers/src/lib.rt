@@ -1,4 +1,6 @@
 // The numbers that the entries of the pass take and give: the settings, the ten numbers of an answer, the totals.
+#![tactic(auto)]
+
 ghost use Rattle.std.specs.Prelude.{◌≡◌, List, ℕ, ◌≤◌, ◌<◌, set};
 ghost use Rattle.std.proofs.lemmas.List.Edits.{sets};
 ghost use Rattle.rewrite.specs.Outcome.{settingsOf};

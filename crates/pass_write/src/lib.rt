@@ -1,5 +1,7 @@
 // The output of a routine whose builds are chosen. The blocks are run over first, into a buffer of their own, which tells how
 // long they are and which fresh numbers they take; then the head is written, and the blocks behind it.
+#![tactic(auto)]
+
 ghost use Rattle.std.specs.Prelude.{length};
 ghost use Rattle.shelf.specs.Answer.{answer as given};
 ghost use Rattle.pass_answers.specs.Numbers.{Answers};

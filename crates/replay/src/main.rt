@@ -62,12 +62,13 @@ fn otherwise(row: &[u8], n: usize, size: usize) -> u64
 }
 
 // How many rows there are, and how many were answered otherwise.
-struct Replayed {
+#[derive(Clone, Copy)]
+struct Tally {
     rows: u64,
     others: u64,
 }
 
-fn replay(s: &[u8]) -> Replayed
+fn replay(s: &[u8]) -> Tally
     requires { length s.now < 1048576 }
 {
     let mut rows: u64 = 0;
@@ -81,7 +82,7 @@ fn replay(s: &[u8]) -> Replayed
         rows = rows + 1;
         at = at + (INPUT + n + TOLD + size);
     }
-    Replayed {
+    Tally {
         rows: rows,
         others: others,
     }

@@ -1,4 +1,6 @@
 // The builds of aggregates; `t` are the own fields of an instruction.
+#![tactic(auto)]
+
 ghost use Rattle.std.specs.Prelude.{Bool};
 ghost use Rattle.bytes_field.specs.Decode.{makeTupleOf, makeArrayOf, makeStructOf};
 ghost use Rattle.shelf_field.specs.Asked.{Judged};

@@ -1,4 +1,6 @@
 // Call, Phi and Debug; `t` are the own fields of an instruction.
+#![tactic(auto)]
+
 ghost use Rattle.std.specs.Prelude.{List, ℕ};
 ghost use Rattle.bytes_field.specs.Decode.{call_of, phi_of, debugOf};
 ghost use Rattle.shelf_field.specs.Asked.{Judged};

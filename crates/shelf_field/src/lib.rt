@@ -1,4 +1,6 @@
 // Single fields of an instruction: what is read at a place, and tests on it.
+#![tactic(auto)]
+
 ghost use Rattle.std.specs.Prelude.{◌≡◌, ◌&&◌, List, ℕ};
 ghost use Rattle.std.proofs.Math.Option.{some};
 ghost use Rattle.bytes_wire.specs.WellFormed.{FitValue};

@@ -1,4 +1,6 @@
 // Lists of an instruction: a build's parts, a Phi's sources, a Call's arguments and dests, a struct build's fields, a Debug's values.
+#![tactic(auto)]
+
 ghost use Rattle.std.specs.Prelude.{◌≡◌, List, ℕ};
 ghost use Rattle.mir.specs.Lookup.{is_some, row_of, recordedType};
 ghost use Rattle.mir.specs.Parts.{part_type};

@@ -1,4 +1,6 @@
 // Load and Store; `t` are the own fields of an instruction.
+#![tactic(auto)]
+
 ghost use Rattle.bytes_field.specs.Decode.{load_of, store_of};
 ghost use Rattle.shelf_field.specs.Asked.{Judged};
 

@@ -1,4 +1,6 @@
 // The kinds that take a part out of an aggregate or put one in; `t` are the own fields of an instruction.
+#![tactic(auto)]
+
 ghost use Rattle.bytes_field.specs.Decode.{extractTupleOf, extractFieldOf, insertFieldOf, insertTupleOf};
 ghost use Rattle.shelf_field.specs.Asked.{Judged};
 

@@ -1,4 +1,6 @@
 // The place of a Load or a Store: the types along its projections.
+#![tactic(auto)]
+
 ghost use Rattle.shelf.specs.Fits.{placeType};
 ghost use Rattle.shelf.specs.Agrees.{pointed};
 ghost use Rattle.shelf_field.specs.Fields.{Front, Near, Inner};

@@ -1,4 +1,6 @@
 // Operations, copies and assertions; `t` are the own fields of an instruction.
+#![tactic(auto)]
+
 ghost use Rattle.bytes_field.specs.Decode.{assignOf, unaryOf, binaryOf, castOf, heapAllocOf, assertEqOf};
 ghost use Rattle.shelf_field.specs.Asked.{Judged};
 

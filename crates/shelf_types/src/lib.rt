@@ -1,4 +1,6 @@
 // The recorded types of values, the types of fields and steps, and which values fit which types.
+#![tactic(auto)]
+
 ghost use Rattle.std.specs.Prelude.{◌≡◌, length};
 ghost use Rattle.bytes_wire.specs.WellFormed.{FitValue};
 ghost use Rattle.mir.specs.declared.Value.{Value as AnyValue};

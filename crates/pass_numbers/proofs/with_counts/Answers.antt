@@ -1,0 +1,14 @@
+-- Each total by its own sum.
+use Rattle.pass_numbers.specs.Totals.{withCounts}
+use Rattle.pass_numbers.proofs.with_counts.Goals as goal
+
+pub returns : goal.returns
+unfolding withCounts
+returns c =
+    simp (
+      c.add-builds.ensures,
+      c.add-extracts.ensures,
+      c.add-inserts.ensures,
+      c.add-assigns.ensures,
+      c.add-materializations.ensures,
+    )

@@ -6,7 +6,7 @@ use std::io;
 use std::io::Write;
 
 // How many bytes of standard input are kept.
-const KEPT: u64 = 65536;
+const KEPT: usize = 65536;
 
 fn main(rt: HostRuntime) -> io::Result<()> {
     let input = text_input::first_bytes(rt.stdin(), KEPT, rt.alloc())?;

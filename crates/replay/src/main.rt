@@ -89,7 +89,7 @@ fn replay(s: &[u8]) -> Tally
 }
 
 // How many bytes of standard input are kept.
-const KEPT: u64 = 262144;
+const KEPT: usize = 262144;
 
 fn main(rt: HostRuntime) -> io::Result<()> {
     let input = text_input::first_bytes(rt.stdin(), KEPT, rt.alloc())?;

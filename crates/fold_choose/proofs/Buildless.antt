@@ -1,20 +1,17 @@
 -- Slots without builds: the loop that looks for one, and what it says of blocks.
 use Prim.Native.Nat.{ℕ, zero, suc, ◌+◌, ◌≤◌, ◌<◌}
-use mathlib.Core.Path.{◌≡◌, refl, ◌∙◌, sym}
+use mathlib.Core.Path.{◌≡◌, refl, sym}
 use mathlib.Core.List.{List}
 use mathlib.Core.Bool.{Bool, true, false}
-use mathlib.Core.Option.{some}
 use native.Mathlib.Nat.{le_refl, le_trans}
 use native.Mathlib.Omega.{arith}
 use borrow.Author.Tests.{eqb-true, eqb-false}
 use lib.ListN.{length, get_or}
 use lib.Dec.{eqb}
-use Rattle.mir.specs.declared.ValueId.{ValueId}
 use Rattle.mir.specs.Syntax.{Instruction, Block}
 use Rattle.bytes_field.specs.declared.Bounds.{Bounds}
 use Rattle.bytes_index.specs.Table.{startsIn, kindIn}
 use Rattle.bytes_index.specs.Code.{noInstruction, no_block, InstructionsIn, CodeIn}
-use Rattle.fold_choose.specs.declared.Slots.{Slots}
 use Rattle.fold_choose.specs.Chosen.{SlotsOf, buildKind, NoneBuilds, Buildless, AllBuildless}
 use Rattle.fold_choose.proofs.Folding.{no-build}
 

@@ -22,7 +22,6 @@ use Rattle.fold.specs.Tables.{ShapesAt, Coded}
 use Rattle.fold.specs.Fold.{skipped}
 use Rattle.fold_climb.specs.Edges.{edgesOf}
 use Rattle.fold_scan.proofs.Blocks.{edges_few}
-use Rattle.rewrite_progress.specs.Chosen.{Follows}
 use Rattle.fold_phis.specs.Skipped.{Skips}
 use Rattle.fold_choose.specs.declared.Slots.{Slots}
 use Rattle.fold_choose.specs.Chosen.{chosenBy, Fits, SlotsOf, Flagged, BlockChosen, Standing, DecidesBlock, ChoosesBlock, Chooses}

@@ -6,7 +6,7 @@ use mathlib.Core.Bool.{Bool, true, false}
 use mathlib.Core.Option.{some}
 use native.Mathlib.Omega.{arith}
 use borrow.Author.Tests.{eqb-true, eqb-false}
-use lib.ListN.{length, get_or, set, drop, replicate, length-set, length-drop}
+use lib.ListN.{length, get_or, set, replicate, length-set, length-drop}
 use lib.Seq.{get_or-set_same, get_or-set_other}
 use lib.Dec.{eqb}
 use Rattle.mir.specs.declared.ValueId.{ValueId}
@@ -24,7 +24,7 @@ use Rattle.fold_copies.specs.Found as copies
 use Rattle.fold_climb.specs.Scanned.{Scanned}
 use Rattle.fold_phis.specs.Skipped.{PhisIn}
 use Rattle.fold_choose.specs.declared.Slots.{Slots}
-use Rattle.fold_choose.specs.Chosen.{Seen, Answers, Standing, FoldedAt, Flagged, DecidesAll}
+use Rattle.fold_choose.specs.Chosen.{Seen, Answers, Standing, Flagged, DecidesAll}
 use Rattle.fold_choose.proofs.Folding.{copies-behind, dynamics-behind}
 
 -- one flag is set, from `first` on

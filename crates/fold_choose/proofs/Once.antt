@@ -107,8 +107,7 @@ lists-fit b seen late (i ∷ is) f (suc k) h = lists-fit b (marks seen (dests i.
 taken : (b : Bounds) (seen : List Bool) (late : Bool) (is : List Instruction) → FitInstructions b seen late is → (v : ValueId) → get_or seen v.0 false ≡ true → (j : ℕ) → j < length is → buildDest (get_or is j noInstruction).kind ≡ some v → ⊥
 taken b seen late [] f v m j h e = absurd (omega arith)
 taken b seen late (i ∷ is) f v m zero h e = true-false (sym m ∙ (build-new b seen i.kind v f.0.1 e).1)
-taken b seen late (i ∷ is) f v m (suc j) h e =
-    taken b (marks seen (dests i.kind)) (late || not (isPhi i.kind)) is f.1 v (marks_stay seen (dests i.kind) v.0 m) j (omega arith) e
+taken b seen late (i ∷ is) f v m (suc j) h e = taken b (marks seen (dests i.kind)) (late || not (isPhi i.kind)) is f.1 v (marks_stay seen (dests i.kind) v.0 m) j (omega arith) e
 
 module _ (σ : Settings) (τ : Types) (cross : Marks) where
   pub built-once : (b : Bounds) (seen : List Bool) (late : Bool) (is : List Instruction) → FitInstructions b seen late is → b.next ≤ length seen → (j : ℕ) (v : ValueId) → j < length is → buildDest (get_or is j noInstruction).kind ≡ some v → buildOf σ τ cross v is ≡ some (get_or is j noInstruction).kind

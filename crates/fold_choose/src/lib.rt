@@ -1,4 +1,6 @@
 // Which builds are folded, and which blocks are skipped: flags by slot, and behind them by block.
+#![tactic(auto)]
+
 ghost use Rattle.std.specs.Prelude.{◌≡◌, false, ◌+◌, ◌≤◌, length};
 ghost use Rattle.mir.specs.Most.{mostSlots};
 ghost use Rattle.fold.specs.Numbers.{arrayKind};

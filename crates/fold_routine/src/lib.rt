@@ -1,4 +1,6 @@
 // The choice: which builds are folded and which blocks are skipped.
+#![tactic(auto)]
+
 ghost use Rattle.std.specs.Prelude.{◌≡◌, false, ◌≤◌, replicate};
 ghost use Rattle.mir.specs.Routine.{Routine};
 ghost use Rattle.mir.specs.Most.{mostValues};

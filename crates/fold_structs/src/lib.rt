@@ -1,5 +1,7 @@
 // Which MakeStructs of a block pass their conditions: the named type is eligible, the dest is not used in another block,
 // and each field of the struct's row is given.
+#![tactic(auto)]
+
 ghost use Rattle.std.specs.Prelude.{◌≡◌, ◌+◌, ◌≤◌, ◌<◌};
 ghost use Rattle.mir.specs.Most.{mostSlots};
 ghost use Rattle.fold_structs.specs.Told.{farPlace, goesBy, AllGiven, TellsRow, Passes, StructTold, StructsTold};

@@ -1,4 +1,6 @@
 // The entries of the pass: for any caller, and for one that lends the totals of all its runs.
+#![tactic(auto)]
+
 ghost use Rattle.rewrite.specs.Outcome.{settingsOf};
 ghost use Rattle.pass.specs.Promise.{Lowers, Counted};
 

@@ -1,4 +1,6 @@
 // The whole pass, bytes to bytes: reads a routine, chooses, and has the output written.
+#![tactic(auto)]
+
 ghost use Rattle.std.specs.Prelude.{◌≤◌, length};
 ghost use Rattle.shelf.specs.Answer.{answer as given};
 ghost use Rattle.pass_answers.specs.Numbers.{Answers};

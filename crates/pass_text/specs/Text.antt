@@ -2,7 +2,6 @@
 -- lower-case hexadecimal. For a refusal, one line: refused, number, offset."
 use Rattle.std.specs.Prelude.{ℕ, List, [], ◌∷◌}
 use Rattle.bytes_wire.specs.Value.{bool_byte}
-use Rattle.rewrite.specs.declared.Counts.{Counts}
 use Rattle.shelf.specs.Answer.{Answer, refused, lowered}
 use Rattle.text_lines.specs.Lines.{refusedLine, loweredLines}
 

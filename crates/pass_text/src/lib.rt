@@ -1,4 +1,6 @@
 // What the program `lower` prints of bytes.
+#![tactic(auto)]
+
 ghost use Rattle.std.specs.Prelude.{◌≤◌};
 ghost use Rattle.shelf.specs.Answer.{answer};
 ghost use Rattle.text.specs.Written.{Written};

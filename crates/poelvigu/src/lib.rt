@@ -1,5 +1,7 @@
 // The entries for a host in C or Rust: the archive that `rt lib` makes here has these and no others. Each hands on to
 // the function that keeps its promise.
+#![tactic(auto)]
+
 ghost use Rattle.std.specs.Prelude.{◌≡◌};
 ghost use Rattle.bytes_sections.specs.Decode.{mosts, whole_of};
 ghost use Rattle.bytes_sections.specs.Index.{answered, verdict};

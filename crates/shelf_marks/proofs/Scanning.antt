@@ -1,5 +1,5 @@
 -- The loops over the reads of a slot, the slots of a block, and the blocks: what is left to look at.
-use Prim.Native.Nat.{ℕ, suc, ◌+◌, ◌-◌, ◌≤◌, ◌<◌}
+use Prim.Native.Nat.{ℕ, ◌+◌, ◌-◌, ◌≤◌, ◌<◌}
 use mathlib.Core.Path.{◌≡◌, refl, ap, ◌∙◌, sym}
 use mathlib.Core.List.{List, [], ◌∷◌}
 use mathlib.Core.Bool.{Bool, true, false, cond, not, ◌&&◌}
@@ -14,7 +14,6 @@ use Rattle.mir.specs.Reads.{isPhi}
 use Rattle.bytes_field.specs.declared.Bounds.{Bounds}
 use Rattle.bytes_index.specs.Table.{startsIn, readCount, readIn, ReadsIn}
 use Rattle.bytes_index.specs.Code.{noInstruction, no_block, InstructionIn, LastSlot}
-use Rattle.bytes_index.proofs.Laws.{in-section}
 use Rattle.mir.specs.Lookup.{Types}
 use Rattle.mir.specs.Phis.{behindPhis}
 use Rattle.rewrite_progress.specs.Ground.{Coded}

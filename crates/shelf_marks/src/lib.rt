@@ -1,4 +1,6 @@
 // Shelf reasons 2, 3 and 4 as the code tests them, over marks: definitions, laws, and what the tests share.
+#![tactic(auto)]
+
 ghost use Rattle.std.specs.Prelude.{◌≡◌, List};
 ghost use Rattle.mir.specs.declared.ValueId.{ValueId};
 ghost use Rattle.bytes_index.specs.Table.{ReadsIn};

@@ -1,4 +1,6 @@
 // Shelf reason 1, "Types disagree": whether the recorded types fit what each instruction, terminator and parameter says.
+#![tactic(auto)]
+
 ghost use Rattle.std.specs.Prelude.{◌≡◌, false, List, ℕ, ◌+◌, get_or, drop, replicate};
 ghost use Rattle.bytes_wire.specs.Parse.{ok};
 ghost use Rattle.mir.specs.Syntax.{Terminator};

@@ -1,4 +1,6 @@
 // Shelf reason 2: the order of reads and definitions.
+#![tactic(auto)]
+
 ghost use Rattle.std.specs.Prelude.{◌≡◌, false, ◌<◌};
 ghost use Rattle.bytes_block.specs.Decode.{marks as marksOf};
 ghost use Rattle.bytes_field.specs.declared.Bounds.{Bounds as AnyBounds};

@@ -1,4 +1,6 @@
 // Shelf reason 3: Stores' bases that are taken as parts.
+#![tactic(auto)]
+
 ghost use Rattle.std.specs.Prelude.{◌≡◌};
 ghost use Rattle.mir.specs.Reads.{storeBase};
 ghost use Rattle.bytes_block.specs.Decode.{marks as marksOf};

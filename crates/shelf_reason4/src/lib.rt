@@ -1,4 +1,6 @@
 // Shelf reason 4: deep Stores on dropped bases.
+#![tactic(auto)]
+
 ghost use Rattle.std.specs.Prelude.{◌≡◌, List, false, ℕ, get_or};
 ghost use Rattle.mir.specs.declared.ValueId.{ValueId as AnyId};
 ghost use Rattle.shelf.specs.Lists.{among};

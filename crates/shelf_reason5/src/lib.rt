@@ -1,4 +1,6 @@
 // Whether the written output reads a dropped value: shelf reason 5.
+#![tactic(auto)]
+
 ghost use Rattle.std.specs.Prelude.{◌≡◌, List, [], ◌++◌, false, ℕ, ◌+◌, ◌≤◌, length, get_or, drop};
 ghost use Rattle.bytes_wire.specs.Parse.{ok};
 ghost use Rattle.mir.specs.declared.ValueId.{ValueId};

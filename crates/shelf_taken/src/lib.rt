@@ -1,4 +1,6 @@
 // Which marked values an instruction takes as parts: what shelf reason 3 asks of one instruction.
+#![tactic(auto)]
+
 ghost use Rattle.std.specs.Prelude.{◌≡◌};
 ghost use Rattle.bytes_operands.specs.Fields.{asFound};
 ghost use Rattle.shelf.specs.Lists.{clear};

@@ -1,6 +1,6 @@
 -- Which reason it is, by the first test that fails.
 use Prim.Native.Nat.{ℕ}
-use mathlib.Core.Path.{◌≡◌, refl, ap, ◌∙◌, sym}
+use mathlib.Core.Path.{◌≡◌, refl, sym}
 use mathlib.Core.Bool.{Bool, true, false, cond, not, and-false}
 use native.Mathlib.Omega.{arith}
 use Rattle.mir.specs.Syntax.{Instruction, InstructionKind, Terminator, Block}
@@ -20,11 +20,6 @@ use Rattle.shelf_marks.specs.Tests.{allOrdered, allApart, allShallow}
 use Rattle.shelf_reason5.specs.Unread.{Written}
 use Rattle.shelf_test.specs.Shelved.{outputBounds, inputReason, Shelved}
 use Rattle.shelf.specs.Reason.{typesAgree, inOrder, keptApart, noDeepStore, readsNoDropped, shelfReason}
-
--- an answer whose opposite is known
-pub told : (r q b : Bool) → r ≡ q → not r ≡ b → not b ≡ q
-told true q b e f = ap not (sym f) ∙ e
-told false q b e f = ap not (sym f) ∙ e
 
 -- what the scans answer, as the tests have it
 pub of-order : (x : Routine) (r : Bool) → r ≡ allOrdered x.blocks → r ≡ inOrder withDebug x

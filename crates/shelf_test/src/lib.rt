@@ -1,4 +1,6 @@
 // The shelf test: the reason of a rewritten routine.
+#![tactic(auto)]
+
 ghost use Rattle.std.specs.Prelude.{◌≡◌};
 ghost use Rattle.mir.specs.Routine.{Routine};
 ghost use Rattle.rewrite.specs.Run.{Rewritten};

@@ -1,0 +1,9 @@
+use Rattle.shelf_marks.proofs.Scanning.{Clearing}
+use Rattle.std.proofs.Common.{◌-◌}
+use Rattle.shelf_marks.proofs.reads_clear.Given as goal
+
+abbrev pub invariant-loop-k : goal.invariant-loop-k
+invariant-loop-k l = Clearing l.facts l.slot l.marks l.k
+
+abbrev pub decreases-loop-k : goal.decreases-loop-k
+decreases-loop-k l = l.n - l.k

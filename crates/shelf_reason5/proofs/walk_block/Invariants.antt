@@ -1,0 +1,9 @@
+use Rattle.shelf_reason5.proofs.Walk.{Walking}
+use Rattle.std.proofs.Common.{◌-◌}
+use Rattle.shelf_reason5.proofs.walk_block.Given as goal
+
+abbrev pub invariant-loop-k : goal.invariant-loop-k
+invariant-loop-k l = Walking l.b l.s l.at l.dropped l.count l.k l.here
+
+abbrev pub decreases-loop-k : goal.decreases-loop-k
+decreases-loop-k l = l.count - l.k

@@ -18,7 +18,7 @@ pub returns-then-q-p : goal.returns-then-q-p
 returns-then-q-p c =
     let f = few-put _ _ _ _ c.put_builds.ensures.put_few c.in-Went.is in record {
       by_index = λ k l. low-on k _ _ _ _ _ _ c.put_further.ensures l f
-            (omega (arith, c.copy_instruction-kept.ensures.upper_bound)) (omega arith) (omega arith);
+          (omega (arith, c.copy_instruction-kept.ensures.upper_bound)) (omega arith) (omega arith);
       work_unchanged = c.put_builds.ensures.work_unchanged;
       call_put = call-stayed _ _ _ _ _ _ c.args.work.now _ _ _ _ _ _ c.place-at.ensures.0 c.tail-t.ensures
           c.fields_place-place.ensures c.tail-f.ensures c.call_list-list.ensures.0 _ _ c.put_builds.new.work
@@ -30,7 +30,7 @@ pub returns : goal.returns
 returns c =
     let f = few-put _ _ _ _ c.put_builds.ensures.put_few c.in-Went.is in record {
       by_index = λ k l. low-on k _ _ _ _ _ _ c.put_further-2.ensures l f
-            (omega (arith, c.put_call_anew-to.ensures.upper_bound)) (omega arith) (made-few _ _ f);
+          (omega (arith, c.put_call_anew-to.ensures.upper_bound)) (omega arith) (made-few _ _ f);
       work_unchanged = c.put_builds.ensures.work_unchanged;
       call_put = call-built _ _ _ _ _ _ c.args.work.now _ _ _ _ _ _ c.place-at.ensures.0 c.tail-t.ensures
           c.fields_place-place.ensures c.tail-f.ensures c.call_list-list.ensures.0 _ _ c.put_builds.new.work

@@ -31,10 +31,11 @@ fn stands_for(name: &str, own: &str) -> bool {
     name.strip_suffix('*').map_or(name == own, |start| own.starts_with(start))
 }
 
-/// The crates of crates.txt, each with what it uses.
+/// The crates of crates.txt, each with what it uses. (Behind a name may stand what is made of it.)
 fn listed(crates: &str) -> Vec<(&str, Vec<&str>)> {
     let lines = crates.lines().filter_map(|line| line.split('#').next()?.split_once(':'));
-    lines.map(|(name, uses)| (name.trim(), uses.split_whitespace().collect())).collect()
+    let own = |words| str::split_whitespace(words).next().unwrap_or_default();
+    lines.map(|(name, uses)| (own(name), uses.split_whitespace().collect())).collect()
 }
 
 /// The picture has each crate, above or beside all that it uses, and no name for nothing.

@@ -115,7 +115,7 @@ rounds-still root zero m cs e = refl
 rounds-still root (suc k) m cs e = ap (λ n. rounds root k n cs) e ∙ rounds-still root k m cs e
 
 -- joining keeps the number of marks
-joining-length : (root : ℕ) (m : Marks) (c : Copy) → length (joining root m c) ≡ length m
+pub joining-length : (root : ℕ) (m : Marks) (c : Copy) → length (joining root m c) ≡ length m
 unfolding joining
 joining-length root m c = go (eqb c.asked 0 || eqb c.asked root) (get_or m c.source false)
   where
@@ -124,12 +124,12 @@ joining-length root m c = go (eqb c.asked 0 || eqb c.asked root) (get_or m c.sou
     go true false = refl
     go false b = refl
 
-join-length : (root : ℕ) (m : Marks) (cs : List Copy) → length (joinAll root m cs) ≡ length m
+pub join-length : (root : ℕ) (m : Marks) (cs : List Copy) → length (joinAll root m cs) ≡ length m
 unfolding joinAll
 join-length root m [] = refl
 join-length root m (c ∷ cs) = join-length root (joining root m c) cs ∙ joining-length root m c
 
-rounds-length : (root k : ℕ) (m : Marks) (cs : List Copy) → length (rounds root k m cs) ≡ length m
+pub rounds-length : (root k : ℕ) (m : Marks) (cs : List Copy) → length (rounds root k m cs) ≡ length m
 unfolding rounds
 rounds-length root zero m cs = refl
 rounds-length root (suc k) m cs = rounds-length root k (joinAll root m cs) cs ∙ join-length root m cs

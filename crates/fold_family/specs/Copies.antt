@@ -70,6 +70,11 @@ copyIn copies k = record { source = get_or copies (1 + 3 * k) 0; dest = get_or c
 abbrev pub noCopy : Copy
 noCopy = record { source = 0; dest = 0; asked = 0 }
 
+-- the row (one more than the index) of the last copy of v among the first e; 0 where there is none
+unfoldable pub last : List Copy → ℕ → ℕ → ℕ
+last cs v zero = 0
+last cs v (suc j) = cond (eqb (get_or cs j noCopy).source v) (suc j) (last cs v j)
+
 -- these copies are the first n of the table
 pub record CopiesAt (copies : List ℕ) (n : ℕ) (cs : List Copy) : Type 0 where
   pub many : n ≡ length cs

@@ -1,5 +1,5 @@
 -- Which builds are folded and which blocks are skipped: the choice that the code makes, and what it finds it by.
-use Rattle.std.specs.Prelude.{ℕ, ◌+◌, ◌≤◌, ◌<◌, ◌≡◌, List, Bool, false, ◌||◌, length, get_or, replicate, eqb}
+use Rattle.std.specs.Prelude.{ℕ, ◌+◌, ◌≤◌, ◌<◌, ◌≡◌, List, Bool, false, ◌||◌, length, get_or, eqb}
 use Rattle.std.proofs.Math.Option.{some}
 use Rattle.mir.specs.declared.ValueId.{ValueId}
 use Rattle.mir.specs.Syntax.{Instruction, Block}
@@ -10,7 +10,8 @@ use Rattle.bytes_index.specs.Table.{startsIn, recordedIn, kindIn}
 use Rattle.bytes_index.specs.Code.{noInstruction, no_block, InstructionIn, InstructionsIn, CodeIn}
 use Rattle.bytes_operands.specs.Fields.{listValues}
 use Rattle.fold.specs.declared.Settings.{Settings}
-use Rattle.mir.specs.Lookup.{Types, valueRow, shape}
+use Rattle.mir.specs.Reads.{kindNumber}
+use Rattle.mir.specs.Lookup.{Types}
 use Rattle.mir.specs.Most.{mostValues, mostSlots, mostBlocks, mostInstructions}
 use Rattle.fold.specs.Numbers.{tupleKind, structKind, arrayKind}
 use Rattle.fold.specs.Family.{Marks, buildDest, hasDynamicIndex}
@@ -18,7 +19,7 @@ use Rattle.fold.specs.Climb.{buildOf}
 use Rattle.mir.specs.Phis.{behindPhis}
 use Rattle.fold.specs.Fold.{skipped}
 use Rattle.fold.specs.Tables.{ShapesAt, Ground, Coded}
-use Rattle.fold_family.specs.Copies.{copies, CopiesIn, dynamics}
+use Rattle.fold_looked.specs.Looked.{ArraysLooked}
 use Rattle.fold_climb.specs.Scanned.{graphSize, Scanned}
 use Rattle.rewrite.specs.Run.{Choice, foldsIn, foldsBuild}
 use Rattle.rewrite_progress.specs.Chosen.{Follows}
@@ -69,48 +70,23 @@ AllBuildless facts many =
     → length ks ≡ many
     → (k : ℕ) → k < length ks → Buildless (get_or ks k no_block).instructions
 
--- whether the family of v is looked into by an index that is not known, by the block's copies and clear marks
-abbrev pub FamilyMeets : List ℕ → ℕ → ℕ → ValueId → List Bool → List Bool → Bool → Type 0
-FamilyMeets copied instructions shp v dynamic marks answer =
-    (τ : Types) (is : List Instruction)
-    → CopiesIn copied (copies τ is)
-    → length is ≡ instructions
-    → shp ≡ shape (valueRow τ v)
-    → marks ≡ replicate (length τ.recorded) false
-    → dynamic ≡ dynamics (replicate (length τ.recorded) false) is
-    → answer ≡ hasDynamicIndex τ v is
-
--- whether the family of v is looked into so, with marks of its own
-abbrev pub LooksInto : ℕ → List ℕ → ℕ → ℕ → ValueId → List Bool → Bool → Type 0
-LooksInto next copied instructions shp v dynamic answer =
-    (τ : Types) (is : List Instruction)
-    → length τ.recorded ≡ next
-    → next ≤ mostValues
-    → CopiesIn copied (copies τ is)
-    → length is ≡ instructions
-    → shp ≡ shape (valueRow τ v)
-    → dynamic ≡ dynamics (replicate (length τ.recorded) false) is
-    → answer ≡ hasDynamicIndex τ v is
-
 -- what the tables of a block hold of its instructions behind the phis
-pub record Seen (σ : Settings) (τ : Types) (cross : Marks) (is : List Instruction) (shapes graph copied : List ℕ) (dynamic : List Bool) : Type 0 where
+pub record Seen (σ : Settings) (τ : Types) (cross : Marks) (is : List Instruction) (shapes graph : List ℕ) : Type 0 where
   pub eligible : List Bool
   pub facts : ShapesAt σ τ shapes eligible
   pub scanned : Scanned σ τ cross is graph
-  pub copied_all : CopiesIn copied (copies τ is)
-  pub looked : dynamic ≡ dynamics (replicate (length τ.recorded) false) is
 
--- whether the build in a slot is folded, by those tables
-abbrev pub Answers : Settings → List ℕ → List ℕ → List ℕ → ℕ → List Bool → List ℕ → Bounds → List ℕ → ℕ → Bool → Type 0
-Answers σ shapes graph copied instructions dynamic s b facts slot answer =
+-- whether the build in a slot is folded, by those tables, where `looked` is right of an array
+abbrev pub Answers : Settings → List ℕ → List ℕ → Bool → List ℕ → Bounds → List ℕ → ℕ → Bool → Type 0
+Answers σ shapes graph looked s b facts slot answer =
     (τ : Types) (cross : Marks) (is : List Instruction) (i : Instruction) (d : ValueId)
-    → Seen σ τ cross is shapes graph copied dynamic
-    → length is ≡ instructions
+    → Seen σ τ cross is shapes graph
     → length τ.recorded ≡ b.next
     → b.next ≤ mostValues
     → InstructionIn b s facts slot i
     → buildDest i.kind ≡ some d
     → buildOf σ τ cross d is ≡ some i.kind
+    → (kindNumber i.kind ≡ arrayKind → looked ≡ hasDynamicIndex τ d is)
     → answer ≡ foldsBuild σ τ cross is (some i.kind)
 
 -- a block's instructions: where they stand, few enough for the tables, and each build is the one of its dest
@@ -140,25 +116,14 @@ pub record Flagged (first : ℕ) (before behind : List Bool) : Type 0 where
   pub old : (j : ℕ) → (first ≤ j → j < mostSlots → ⊥) → get_or behind j false ≡ get_or before j false
 
 -- what is decided of a block whose tables stand
-abbrev pub DecidesAll : Settings → List ℕ → List ℕ → List ℕ → List Bool → List ℕ → Bounds → List ℕ → Slots → List Bool → List Bool → Type 0
-DecidesAll σ shapes graph copied dynamic s b facts at before behind =
+abbrev pub DecidesAll : Settings → List ℕ → List ℕ → List Bool → List ℕ → Bounds → List ℕ → Slots → List Bool → List Bool → Type 0
+DecidesAll σ shapes graph looked s b facts at before behind =
     (τ : Types) (cross : Marks) (all : List Instruction)
     → Standing σ τ cross b s facts at.first at.count all
-    → Seen σ τ cross (behindPhis all) shapes graph copied dynamic
+    → Seen σ τ cross (behindPhis all) shapes graph
+    → ArraysLooked τ all looked
     → length τ.recorded ≡ b.next
     → b.next ≤ mostValues
-    → mostSlots ≤ length before
-    → FoldedAt σ τ cross at.first all behind
-
--- what is decided of a block whose graph stands: `dynamic` is clear, one for each value
-abbrev pub DecidesCopies : Settings → List ℕ → List ℕ → List Bool → List ℕ → Bounds → List ℕ → Slots → List Bool → List Bool → Type 0
-DecidesCopies σ shapes graph dynamic s b facts at before behind =
-    (τ : Types) (cross : Marks) (eligible : List Bool) (all : List Instruction)
-    → Ground b s facts (recordedIn facts) τ
-    → ShapesAt σ τ shapes eligible
-    → Standing σ τ cross b s facts at.first at.count all
-    → Scanned σ τ cross (behindPhis all) graph
-    → dynamic ≡ replicate (length τ.recorded) false
     → mostSlots ≤ length before
     → FoldedAt σ τ cross at.first all behind
 

@@ -3,13 +3,12 @@
 
 ghost use Rattle.std.specs.Prelude.{◌≡◌, false, ◌+◌, ◌≤◌, length};
 ghost use Rattle.mir.specs.Most.{mostSlots};
-ghost use Rattle.fold.specs.Numbers.{arrayKind};
-ghost use Rattle.fold_choose.specs.Chosen.{SlotsOf, buildKind, NoneBuilds, AllBuildless, FamilyMeets, LooksInto, Answers, Flagged};
-ghost use Rattle.fold_choose.specs.Chosen.{DecidesAll, DecidesCopies, FillsGraph, DecidesBlock, ChoosesBlock, Chooses};
+ghost use Rattle.fold_choose.specs.Chosen.{SlotsOf, buildKind, NoneBuilds, AllBuildless, Answers, Flagged};
+ghost use Rattle.fold_choose.specs.Chosen.{DecidesAll, FillsGraph, DecidesBlock, ChoosesBlock, Chooses};
 
 use bytes_field::Bounds;
 use fold::Settings;
-use mir::{BlockId, ValueId, kind, most};
+use mir::{BlockId, kind, most};
 use rewrite_progress::SKIPS;
 
 // The slots of a block's instructions.
@@ -66,45 +65,7 @@ pub fn any_builds(facts: &[u16], many: u16) -> bool
     any_build(facts, 0, bytes_index::first_slot(facts, BlockId(many)))
 }
 
-// Whether the family of `v` is looked into by an index that is not known; `marks` are clear, one for each value.
-fn family_meets(
-    copies: &[u16],
-    instructions: u16,
-    shape: u8,
-    v: ValueId,
-    dynamic: &[bool],
-    marks: &mut [bool],
-) -> bool
-    ensures { FamilyMeets copies.now instructions shape v dynamic.now marks.old result }
-{
-    fold_family::family(copies, instructions, shape, v, marks);
-    fold_family::dynamic_index(marks, dynamic)
-}
-
-// Whether the family of an array's build is looked into so, with marks of its own for the `next` values.
-fn looked_into(
-    kind: u16,
-    next: u16,
-    copies: &[u16],
-    instructions: u16,
-    shape: u8,
-    v: ValueId,
-    dynamic: &[bool],
-) -> bool
-    ensures { kind ≡ arrayKind → LooksInto next copies.now instructions shape v dynamic.now result }
-{
-    if kind != kind::MAKE_FIXED_ARRAY {
-        return false;
-    }
-    let n = next as usize;
-    if most::VALUES < n {
-        return false;
-    }
-    let mut marks: [bool; most::VALUES] = [false; most::VALUES];
-    family_meets(copies, instructions, shape, v, dynamic, &mut marks[..n])
-}
-
-// Whether the build in a slot is folded; `instructions`: how many the block has behind its phis.
+// Whether the build in a slot is folded, where `looked` says of an array whether it is looked into by an index that is not known.
 fn decide_one(
     s: &[u8],
     b: Bounds,
@@ -113,20 +74,15 @@ fn decide_one(
     slot: u16,
     shapes: &[u8],
     graph: &[u16],
-    copies: &[u16],
-    instructions: u16,
-    dynamic: &[bool],
+    looked: bool,
 ) -> bool
-    ensures { Answers settings shapes.now graph.now copies.now instructions dynamic.now
-        s.now b facts.now slot result }
+    ensures { Answers settings shapes.now graph.now looked s.now b facts.now slot result }
 {
     let kind = bytes_index::kind(facts, slot);
     if !is_build(kind) {
         return false;
     }
     let v = fold_scan::dest(s, facts, slot);
-    let shape = bytes_wire::byte_at(shapes, v.0 as usize);
-    let looked = looked_into(kind, b.next, copies, instructions, shape, v, dynamic);
     fold_climb::folds(v, kind, looked, settings, graph, shapes)
 }
 
@@ -139,18 +95,16 @@ fn decide_all(
     at: Slots,
     shapes: &[u8],
     graph: &[u16],
-    copies: &[u16],
-    dynamic: &[bool],
+    looked: &[bool],
     choice: &mut [bool],
 )
     requires { at.first + at.count ≤ mostSlots }
     ensures flagged { Flagged at.first choice.old choice.new }
-    ensures decides_all { DecidesAll settings shapes.now graph.now copies.now dynamic.now
+    ensures decides_all { DecidesAll settings shapes.now graph.now looked.now
         s.now b facts.now at choice.old choice.new }
 {
     let first = at.first;
     let count = at.count;
-    let instructions = count - fold_phis::phi_count(facts, first, count);
     let mut j: u16 = 0;
     while j < count {
         let slot = first + j;
@@ -162,37 +116,11 @@ fn decide_all(
             slot,
             shapes,
             graph,
-            copies,
-            instructions,
-            dynamic,
+            table::flag(looked, j as usize),
         );
         table::set_flag(choice, slot as usize, yes);
         j = j + 1;
     }
-}
-
-// Decides the builds of a block whose graph stands: notes its copies first. `dynamic` is clear, one for each value.
-fn choose_copies(
-    s: &[u8],
-    b: Bounds,
-    settings: Settings,
-    facts: &[u16],
-    at: Slots,
-    shapes: &[u8],
-    graph: &[u16],
-    dynamic: &mut [bool],
-    choice: &mut [bool],
-)
-    requires { at.first + at.count ≤ mostSlots }
-    ensures flagged { Flagged at.first choice.old choice.new }
-    ensures decides_copies { DecidesCopies settings shapes.now graph.now dynamic.old
-        s.now b facts.now at choice.old choice.new }
-{
-    let mut copies: [u16; fold_family::SIZE] = [0; fold_family::SIZE];
-    fold_copies::scan_copies(s, b, facts, at.first, at.count, &mut copies, dynamic);
-    decide_all(
-        s, b, settings, facts, at, shapes, graph, &copies, dynamic, choice,
-    );
 }
 
 // Fills the graph of a block: finds first which of its MakeStructs pass their conditions.
@@ -238,26 +166,13 @@ fn choose_block(
     ensures decides_block { DecidesBlock settings shapes.now eligible.now cross.now (length graph.old)
         s.now b facts.now at choice.old choice.new }
 {
-    let n = b.next as usize;
-    if most::VALUES < n {
-        return;
-    }
     if !any_build(facts, at.first, at.first + at.count) {
         return;
     }
     fill_graph(s, b, settings, facts, at, shapes, eligible, cross, graph);
-    let mut dynamic: [bool; most::VALUES] = [false; most::VALUES];
-    choose_copies(
-        s,
-        b,
-        settings,
-        facts,
-        at,
-        shapes,
-        graph,
-        &mut dynamic[..n],
-        choice,
-    );
+    let mut looked: [bool; most::INSTRUCTIONS] = [false; most::INSTRUCTIONS];
+    fold_looked::fill_looked(s, b, facts, at.first, at.count, shapes, &mut looked);
+    decide_all(s, b, settings, facts, at, shapes, graph, &looked, choice);
 }
 
 // Block `k`: whether it is skipped, and where it is not, which of its builds are folded.

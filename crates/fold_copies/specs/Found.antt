@@ -1,5 +1,5 @@
 -- What the code finds of a block's copies and dynamic bases.
-use Rattle.std.specs.Prelude.{ℕ, ◌+◌, ◌*◌, ◌≤◌, ◌<◌, ◌≡◌, List, [], ◌++◌, false, length, drop}
+use Rattle.std.specs.Prelude.{ℕ, ◌≤◌, ◌≡◌, List, [], ◌++◌, false, length, drop, replicate}
 use Rattle.std.proofs.Math.Option.{Option, none, some}
 use Rattle.bytes_wire.specs.Parse.{ok}
 use Rattle.bytes_wire.specs.Number.{at16}
@@ -14,8 +14,9 @@ use Rattle.bytes_field.specs.declared.Bounds.{Bounds}
 use Rattle.bytes_index.specs.Code.{InstructionsIn}
 use Rattle.bytes_types.specs.Index.{TypesAt}
 use Rattle.mir.specs.Lookup.{Types, row_of, shape}
+use Rattle.mir.specs.Most.{mostInstructions}
 use Rattle.fold.specs.Family.{Marks, accessed}
-use Rattle.fold_family.specs.Copies.{Copy, copied, assigned, copy_of, before, copies, copiesSize, CopiesAt, CopiesIn, dynamicPlace, dynamics}
+use Rattle.fold_family.specs.Copies.{Copy, copied, assigned, copy_of, before, copies, tableSize, RowsAt, dynamicPlace, dynamics}
 use Rattle.fold_copies.specs.declared.CopyRead.{CopyRead}
 
 -- what the code's answer says
@@ -31,7 +32,7 @@ pub record Headed (b : Bounds) (t : List ℕ) (kind : ℕ) (i : Instruction) : T
 
 -- what a scan of a block finds: its copies in the table, and its dynamic bases
 pub record Scanned (table : List ℕ) (before after : Marks) (τ : Types) (is : List Instruction) : Type 0 where
-  pub copied_all : CopiesIn table (copies τ is)
+  pub copied_all : RowsAt table (copies τ is)
   pub dynamic-all : after ≡ dynamics before is
 
 -- the promises: of the copy of a value that was read as x,
@@ -56,19 +57,20 @@ CopyFound s b types t kind o =
     → Headed b t kind i
     → o ≡ copy_of τ i.kind
 
--- of noting a copy, if there is one, behind n others, where the table has room for it: r stand there then,
+-- of noting a copy, if there is one, behind n others: r stand in the table then,
 abbrev pub CopyNoted : Option Copy → ℕ → ℕ → List ℕ → List ℕ → Type 0
 CopyNoted o n r before-it after =
     (cs : List Copy)
-    → CopiesAt before-it n cs
-    → 3 + 3 * n < length before-it
-    → CopiesAt after r (cs ++ before o [])
+    → RowsAt before-it cs
+    → length cs ≡ n
+    → length before-it ≡ tableSize
+    → RowsAt after (cs ++ before o []) × (length (cs ++ before o []) ≡ r)
 
 -- of the mark of the instruction's dynamic base,
 abbrev pub DynamicNoted : List ℕ → Bounds → ℕ → Marks → Marks → Type 0
 DynamicNoted t b kind before after = (i : Instruction) → Headed b t kind i → after ≡ dynamicPlace before (accessed i.kind)
 
--- and of the scan
+-- and of the scan of a block, the table being clear before
 abbrev pub ScanCopies : List ℕ → Bounds → List ℕ → ℕ → ℕ → List ℕ → List ℕ → Marks → Marks → Type 0
 ScanCopies s b facts first count room table before after =
     (most : ℕ) (τ : Types) (is : List Instruction)
@@ -76,5 +78,6 @@ ScanCopies s b facts first count room table before after =
     → length τ.rows ≡ b.types
     → InstructionsIn b s facts first is
     → length is ≡ count
-    → copiesSize count ≤ length room
+    → count ≤ mostInstructions
+    → room ≡ replicate tableSize 0
     → Scanned table before after τ is

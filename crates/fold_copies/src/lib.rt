@@ -2,17 +2,17 @@
 // index that is not known.
 #![tactic(auto)]
 
-ghost use Rattle.std.specs.Prelude.{◌≡◌, cond, ◌+◌, ◌≤◌, ◌<◌, eqb};
+ghost use Rattle.std.specs.Prelude.{◌≡◌, cond, ◌<◌, eqb};
 ghost use Rattle.bytes_operands.specs.Fields.{asStep};
 ghost use Rattle.mir.specs.Lookup.{isInteger};
+ghost use Rattle.mir.specs.Most.{mostInstructions};
 ghost use Rattle.fold_family.specs.Copies.{dynamicStep};
 ghost use Rattle.fold_copies.specs.Found.{asCopy, ValueCopy, AssignCopy, CopyFound, CopyNoted, DynamicNoted, ScanCopies};
-ghost use Rattle.table.specs.Number.{numbersBelow};
 
 use bytes_field::Bounds;
 use bytes_operands::Step;
 use bytes_wire::ReadValue;
-use mir::{Literal, TypeId, Value, ValueId, kind, shape};
+use mir::{Literal, TypeId, Value, ValueId, kind, most, shape};
 
 // What makes `dest` a member where `source` is one, for a root of the shape asked for; or nothing.
 #[derive(Clone, Copy)]
@@ -78,10 +78,10 @@ fn copy_at(s: &[u8], b: Bounds, types: &[u16], t: &[u8], kind: u16) -> CopyRead
     }
 }
 
-// Notes a copy behind `n` others.
+// Notes a copy behind `n` others: its row goes in front of the last one of the same source. How many copies there are then.
 fn note_copy(c: CopyRead, n: u16, copies: &mut [u16]) -> u16
-    requires { n + 1 < numbersBelow }
-    ensures { (result ≤ n + 1) × CopyNoted (asCopy c) n result copies.old copies.new }
+    requires { n < mostInstructions }
+    ensures { CopyNoted (asCopy c) n result copies.old copies.new }
 {
     match c {
         CopyRead::Nothing => n,
@@ -91,9 +91,11 @@ fn note_copy(c: CopyRead, n: u16, copies: &mut [u16]) -> u16
             asked,
         } => {
             let at = fold_family::WIDTH * n as usize;
-            table::set_number(copies, fold_family::SOURCE + at, source.0);
-            table::set_number(copies, fold_family::DEST + at, dest.0);
-            table::set_number(copies, fold_family::ASKED + at, asked as u16);
+            let head = fold_family::FIRSTS + source.0 as usize;
+            table::set_number(copies, at + fold_family::DEST, dest.0);
+            table::set_number(copies, at + fold_family::ASKED, asked as u16);
+            table::set_number(copies, at + fold_family::NEXT, table::number(copies, head));
+            table::set_number(copies, head, n + 1);
             n + 1
         }
     }
@@ -152,9 +154,9 @@ fn note_dynamic(t: &[u8], b: Bounds, kind: u16, dynamic: &mut [bool])
     }
 }
 
-// Scans a block once, its `count` instructions standing in the slots from `first` on: notes its copies in `copies`, in
-// order, which has room for as many, and marks in `dynamic` each value that a Load or Store looks into by an index that is
-// no Integer literal.
+// Scans a block once, its `count` instructions standing in the slots from `first` on: notes its copies in `copies`, which is
+// clear, chained by their source, and marks in `dynamic` each value that a Load or Store looks into by an index that is no
+// Integer literal.
 pub fn scan_copies(
     s: &[u8],
     b: Bounds,
@@ -167,6 +169,9 @@ pub fn scan_copies(
     ensures { ScanCopies s.now b facts.now first count
         copies.old copies.new dynamic.old dynamic.new }
 {
+    if most::INSTRUCTIONS < count as usize {
+        return;
+    }
     let mut n: u16 = 0;
     let mut k: u16 = 0;
     let mut row = bytes_index::row_place(first, 0);
@@ -178,5 +183,4 @@ pub fn scan_copies(
         row = row + bytes_index::WIDTH;
         k = k + 1;
     }
-    table::set_number(copies, 0, n);
 }

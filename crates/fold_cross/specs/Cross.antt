@@ -1,16 +1,17 @@
 -- What the code keeps while it looks for aggregates that are used across blocks.
-use Rattle.std.specs.Prelude.{ℕ, ◌<◌, ◌≤◌, ◌≡◌, List, Bool, true, false, length, get_or, replicate}
+use Rattle.std.specs.Prelude.{ℕ, ◌<◌, ◌≤◌, ◌≡◌, List, Bool, true, false, cond, length, get_or, replicate}
 use Rattle.std.proofs.Math.Option.{some}
 use Rattle.mir.specs.declared.ValueId.{ValueId}
 use Rattle.mir.specs.Syntax.{InstructionKind, Instruction, Block}
 use Rattle.bytes_field.specs.declared.Bounds.{Bounds}
 use Rattle.bytes_index.specs.Code.{noInstruction, no_block}
-use Rattle.mir.specs.Lookup.{Types, valueRow, shape}
-use Rattle.mir.specs.Most.{mostValues}
+use Rattle.mir.specs.Lookup.{Types}
+use Rattle.mir.specs.Most.{mostValues, mostInstructions}
 use Rattle.fold.specs.Tables.{ShapesAt, Coded}
-use Rattle.fold.specs.Family.{Marks, buildDest, crossFamily, crossBuild, crossBuilds, crossBlockAggregates}
+use Rattle.fold.specs.Family.{Marks, family, union, buildDest, readElsewhere, crossBuilds, crossBlockAggregates}
 use Rattle.fold.specs.declared.Settings.{Settings}
-use Rattle.fold_family.specs.Copies.{copies, CopiesIn}
+use Rattle.fold_family.specs.Copies.{copies, RowsAt}
+use Rattle.fold_family.specs.Search.{Members}
 use Rattle.fold_readers.specs.Readers.{readBlocks}
 use Rattle.fold_cross.specs.declared.BuildRead.{BuildRead}
 
@@ -20,14 +21,6 @@ pub record Ready (b : Bounds) (s facts : List ℕ) (σ : Settings) (τ : Types) 
   pub coded : Coded b s facts τ ks
   pub given : ShapesAt σ τ shapes eligible
   pub readers : reader ≡ readBlocks 0 (replicate b.next 0) ks
-
--- of block x among ks: its copies, how many instructions it has, and the block that reads each of the `next` values
-pub record Kept (τ : Types) (ks : List Block) (x : Block) (table : List ℕ) (count : ℕ) (reader : List ℕ) (next : ℕ) : Type 0 where
-  pub copied : CopiesIn table (copies τ x.instructions)
-  pub many : length x.instructions ≡ count
-  pub values : length τ.recorded ≡ next
-  pub few : next ≤ mostValues
-  pub readers : reader ≡ readBlocks 0 (replicate next 0) ks
 
 -- a build of v, whether its type is eligible
 pub record Root (eligible : List Bool) (next v : ℕ) (on : Bool) (i : InstructionKind) : Type 0 where
@@ -51,25 +44,37 @@ pub record Built (eligible : List Bool) (next : ℕ) (r : BuildRead) (i : Instru
 abbrev pub crossBlock : Settings → Types → List Block → ℕ → Marks → Marks
 crossBlock σ τ ks k m = crossBuilds σ τ ks k (get_or ks k no_block) (get_or ks k no_block).instructions m
 
--- the promises: the family of v in block x, which is number `own`,
-abbrev pub FamilyCrossed : ℕ → List ℕ → ℕ → ℕ → ValueId → List ℕ → ℕ → Marks → Marks → Type 0
-FamilyCrossed own table count root v reader next before after =
-    (τ : Types) (ks : List Block) (x : Block)
-    → Kept τ ks x table count reader next
-    → root ≡ shape (valueRow τ v)
-    → v.0 < next
-    → length before ≡ next
-    → after ≡ crossFamily τ ks own x v before
+-- the family of what was read of an instruction: none where no build was read
+abbrev pub familyRead : Types → List Instruction → BuildRead → Marks
+familyRead τ is (BuildRead.Dest v) = family τ v is
+familyRead τ is BuildRead.Nothing = replicate (length τ.recorded) false
 
--- what was read of an instruction of that block,
-abbrev pub BuildCrossed : ℕ → BuildRead → List ℕ → ℕ → ℕ → List ℕ → List ℕ → Marks → Marks → Type 0
-BuildCrossed own d table count next shapes reader before after =
-    (σ : Settings) (τ : Types) (ks : List Block) (x : Block) (i : InstructionKind) (eligible : List Bool)
-    → Kept τ ks x table count reader next
+-- the promises: the n members of a family are marked,
+abbrev pub Unites : List ℕ → ℕ → Marks → Marks → Type 0
+Unites members n before after = (m : Marks) → Members members n m → length m ≡ length before → after ≡ union m before
+
+-- where another block than `own` reads one,
+abbrev pub MembersCrossed : ℕ → List ℕ → ℕ → List ℕ → Marks → Marks → Type 0
+MembersCrossed own members n reader before after =
+    (m : Marks) (ks : List Block)
+    → Members members n m
+    → length m ≡ length before
+    → reader ≡ readBlocks 0 (replicate (length m) 0) ks
+    → after ≡ cond (readElsewhere m own 0 ks) (union m before) before
+
+-- the family of what was read of an instruction of a block is found,
+abbrev pub FamilyRead : BuildRead → List ℕ → List ℕ → Marks → Marks → List ℕ → List ℕ → ℕ → Type 0
+FamilyRead d table shapes clear m room members n =
+    (σ : Settings) (τ : Types) (is : List Instruction) (i : InstructionKind) (eligible : List Bool) (next : ℕ)
+    → RowsAt table (copies τ is)
+    → length is ≤ mostInstructions
     → ShapesAt σ τ shapes eligible
     → Built eligible next d i
-    → length before ≡ next
-    → after ≡ crossBuild σ τ ks own x (buildDest i) before
+    → next ≡ length τ.recorded
+    → next ≤ mostValues
+    → mostValues ≤ length room
+    → clear ≡ replicate next false
+    → (m ≡ familyRead τ is d) × Members members n m
 
 -- what f says of a routine's code,
 abbrev pub Crossed : Types → List Block → (Settings → Marks → Marks) → List ℕ → Bounds → List ℕ → List ℕ → List Bool → List ℕ → Marks → Marks → Type 0

@@ -1,17 +1,18 @@
 // Aggregates that are used across blocks: a build's family is, with all its members, where another block reads one.
 #![tactic(auto)]
 
-ghost use Rattle.std.specs.Prelude.{◌≡◌, List, true, false, cond, ℕ, ◌<◌, length, get_or, set, replicate};
+ghost use Rattle.std.specs.Prelude.{◌≡◌, List, false, ℕ, ◌<◌, ◌≤◌, length, get_or, replicate};
 ghost use Rattle.mir.specs.Syntax.{Instruction, Block};
 ghost use Rattle.bytes_field.specs.declared.Bounds.{Bounds as DeclaredBounds};
 ghost use Rattle.bytes_index.specs.Code.{no_block, InstructionIn, InstructionsIn};
 ghost use Rattle.mir.specs.Lookup.{Types};
+ghost use Rattle.mir.specs.Most.{mostValues};
 ghost use Rattle.bytes_index.specs.Table.{row_at};
 ghost use Rattle.fold.specs.Numbers.{mostPlace};
-ghost use Rattle.fold.specs.Family.{union, crossBlocks};
-ghost use Rattle.fold_family.specs.Copies.{copies as copiesOf, CopiesIn};
+ghost use Rattle.fold.specs.Family.{crossBlocks};
+ghost use Rattle.fold_family.specs.Copies.{copies as copiesOf, RowsAt};
 ghost use Rattle.fold_readers.specs.Readers.{blockLimit};
-ghost use Rattle.fold_cross.specs.Cross.{Built, IdleAll, crossBlock, FamilyCrossed, BuildCrossed, Crossed, CrossMarks};
+ghost use Rattle.fold_cross.specs.Cross.{Built, IdleAll, crossBlock, Unites, MembersCrossed, FamilyRead, Crossed, CrossMarks};
 
 use bytes_field::Bounds;
 use mir::{BlockId, ValueId, kind, most};
@@ -67,116 +68,44 @@ fn has_build(s: &[u8], facts: &[u16], first: u16, count: u16, eligible: &[bool])
     false
 }
 
-// Marks value `k` where it is a member.
-fn unite_one(members: &[bool], marks: &mut [bool], k: usize)
-    ensures { marks.new
-        ≡ cond (get_or members.now k false) (set marks.old k true) marks.old }
+// Marks the `n` members.
+fn unite(members: &[u16], n: u16, marks: &mut [bool])
+    ensures { Unites members.now n marks.old marks.new }
 {
-    if members.len() <= k {
-        return;
-    }
-    if members[k] {
-        table::set_flag(marks, k, true);
-    }
-}
-
-// Marks all members.
-fn unite(members: &[bool], marks: &mut [bool])
-    ensures { length members.now ≡ length marks.old
-        → marks.new ≡ union members.now marks.old }
-{
-    let mut k = 0;
-    while k < members.len() {
-        unite_one(members, marks, k);
+    let mut k: u16 = 0;
+    while k < n {
+        table::set_flag(marks, table::place(members, k as usize), true);
         k = k + 1;
     }
 }
 
-// Finds the family of `v` in `members`, which are clear, and marks it where another block than `own` reads a member.
-// The block has `count` instructions, and its copies stand in `copies`.
-fn cross_members(
-    own: u8,
-    copies: &[u16],
-    count: u16,
-    shape: u8,
-    v: ValueId,
-    readers: &[u8],
-    members: &mut [bool],
-    marks: &mut [bool],
-)
+// Marks the `n` members of a family of block `own` where another block reads one.
+fn unite_abroad(own: u8, members: &[u16], n: u16, readers: &[u8], marks: &mut [bool])
     requires { own < blockLimit }
-    ensures { (next : ℕ) → members.old ≡ replicate next false
-        → FamilyCrossed own copies.now count shape v readers.now next marks.old marks.new }
+    ensures { MembersCrossed own members.now n readers.now marks.old marks.new }
 {
-    fold_family::family(copies, count, shape, v, members);
-    if fold_readers::read_elsewhere(members, own, readers) {
-        unite(members, marks);
+    if fold_readers::member_abroad(members, n, own, readers) {
+        unite(members, n, marks);
     }
 }
 
-// Marks the family of `v` where another block than `own` reads a member: finds it in members of its own for the `next`
-// values, and without any where `v` is its whole family.
-fn cross_family(
-    own: u8,
-    copies: &[u16],
-    count: u16,
-    shape: u8,
-    v: ValueId,
-    next: u16,
-    readers: &[u8],
-    marks: &mut [bool],
-)
-    requires { own < blockLimit }
-    ensures { FamilyCrossed own copies.now count shape v readers.now next marks.old marks.new }
-{
-    if fold_family::is_alone(copies, v) {
-        if fold_readers::is_foreign(own, bytes_wire::byte_at(readers, v.0 as usize)) {
-            table::set_flag(marks, v.0 as usize, true);
-        }
-        return;
-    }
-    if VALUES < next {
-        return;
-    }
-    let n = next as usize;
-    let mut members: [bool; most::VALUES] = [false; most::VALUES];
-    cross_members(
-        own,
-        copies,
-        count,
-        shape,
-        v,
-        readers,
-        &mut members[0..n],
-        marks,
-    );
-}
-
-// Marks so the family of the build that was read of an instruction, if one was.
-fn cross_build(
-    own: u8,
-    d: BuildRead,
-    copies: &[u16],
-    count: u16,
-    next: u16,
-    shapes: &[u8],
-    readers: &[u8],
-    marks: &mut [bool],
-)
-    requires { own < blockLimit }
-    ensures { BuildCrossed own d copies.now count next
-        shapes.now readers.now marks.old marks.new }
+// Finds the family of the build that was read of an instruction, if one was, in `family`, whose marks are clear, and lists it in
+// `members`; how many members there are. The block's copies stand in `copies`.
+fn find_family(d: BuildRead, copies: &[u16], shapes: &[u8], family: &mut [bool], members: &mut [u16]) -> u16
+    ensures { FamilyRead d copies.now shapes.now family.old family.new members.old members.new result }
 {
     match d {
-        BuildRead::Nothing => {}
+        BuildRead::Nothing => 0,
         BuildRead::Dest(v) => {
             let shape = bytes_wire::byte_at(shapes, v.0 as usize);
-            cross_family(own, copies, count, shape, v, next, readers, marks);
+            let found = fold_family::family(copies, shape, v, family, members);
+            found.members
         }
     }
 }
 
-// Marks the families of the builds of block `k` that another block reads; the block's copies stand in `copies`.
+// Marks the families of the builds of block `k` that another block reads; the block's copies stand in `copies`, and the marks
+// of `family` are clear.
 fn cross_builds(
     k: BlockId,
     s: &[u8],
@@ -186,10 +115,12 @@ fn cross_builds(
     shapes: &[u8],
     eligible: &[bool],
     readers: &[u8],
+    family: &mut [bool],
     marks: &mut [bool],
 )
     ensures { (τ : Types) (ks : List Block) → k.0 < length ks
-        → CopiesIn copies.now (copiesOf τ (get_or ks k.0 no_block).instructions)
+        → RowsAt copies.now (copiesOf τ (get_or ks k.0 no_block).instructions)
+        → family.old ≡ replicate b.next false
         → Crossed τ ks (λ σ m. crossBlock σ τ ks k.0 m) s.now b
         facts.now shapes.now eligible.now readers.now marks.old marks.new }
 {
@@ -197,10 +128,13 @@ fn cross_builds(
     let own = fold_readers::block_number(k);
     let count = bytes_index::instruction_count(facts, k);
     let rows = bytes_index::row_place(bytes_index::first_slot(facts, k), 0);
+    let mut members: [u16; most::VALUES] = [0; most::VALUES];
     let mut j: u16 = 0;
     while j < count {
         let d = eligible_build(s, facts, rows + bytes_index::WIDTH * j as usize, eligible);
-        cross_build(own, d, copies, count, b.next, shapes, readers, marks);
+        let n = find_family(d, copies, shapes, family, &mut members);
+        unite_abroad(own, &members, n, readers, marks);
+        fold_family::unmark(&members, n, family);
         j = j + 1;
     }
 }
@@ -217,6 +151,7 @@ fn cross_block(
     readers: &[u8],
     marks: &mut [bool],
 )
+    requires { b.next ≤ mostValues }
     ensures { (τ : Types) (ks : List Block) → k.0 < length ks → Crossed τ ks (λ σ m. crossBlock σ τ ks k.0 m) s.now b
         facts.now shapes.now eligible.now readers.now marks.old marks.new }
 {
@@ -228,7 +163,19 @@ fn cross_block(
     let mut copies: [u16; fold_family::SIZE] = [0; fold_family::SIZE];
     let mut none: [bool; 0] = [false; 0];
     fold_copies::scan_copies(s, b, facts, first, count, &mut copies, &mut none);
-    cross_builds(k, s, b, facts, &copies, shapes, eligible, readers, marks);
+    let mut family: [bool; most::VALUES] = [false; most::VALUES];
+    cross_builds(
+        k,
+        s,
+        b,
+        facts,
+        &copies,
+        shapes,
+        eligible,
+        readers,
+        &mut family[0..b.next as usize],
+        marks,
+    );
 }
 
 // Marks the families of all builds that another block reads, block by block.
@@ -241,6 +188,7 @@ fn cross_read(
     readers: &[u8],
     marks: &mut [bool],
 )
+    requires { b.next ≤ mostValues }
     ensures { (τ : Types) (ks : List Block) → Crossed τ ks (λ σ m. crossBlocks σ τ ks 0 ks m) s.now b
         facts.now shapes.now eligible.now readers.now marks.old marks.new }
 {
@@ -262,6 +210,7 @@ fn cross_blocks(
     readers: &mut [u8],
     marks: &mut [bool],
 )
+    requires { b.next ≤ mostValues }
     ensures { readers.old ≡ replicate b.next 0 → CrossMarks s.now b facts.now
         shapes.now eligible.now marks.old marks.new }
 {

@@ -16,7 +16,12 @@ use Rattle.mir.specs.Lookup.{Types, valueRow, shape}
 use Rattle.fold.specs.Family.{Marks, mark, family}
 use Rattle.fold_family.specs.Copies.{Copy, copy_of, before, copies, joining, joinAll, rounds}
 use Rattle.fold_family.proofs.Sweeps.{family-copies, rounds-still}
-use Rattle.fold_family.proofs.Members.{set-still}
+
+-- a mark that stands already
+pub set-still : (m : Marks) (v : ℕ) → get_or m v false ≡ true → set m v true ≡ m
+set-still [] v h = refl
+set-still (a ∷ m) zero h = ap (λ x. x ∷ m) (sym h)
+set-still (a ∷ m) (suc v) h = ap (λ x. a ∷ x) (set-still m v h)
 
 -- marks only come
 pub record Below (m n : Marks) : Type 0 where

@@ -1,7 +1,8 @@
 pub mod Sweeps
-pub mod Members
-pub mod Dynamic
 pub mod Closed
 pub mod Rows
 pub mod Shut
-pub mod Search
+pub mod Searching
+pub mod Dynamic
+pub mod Listed
+pub mod Finding

@@ -6,8 +6,9 @@ use Rattle.mir.specs.declared.ValueId.{ValueId}
 use Rattle.mir.specs.Syntax.{Projection, Index, Field, Tuple, Place, Instruction, InstructionKind}
 use Rattle.mir.specs.Syntax.{Assign, UnaryOp, BinaryOp, Call, Cast, Load, Store, Debug, Nop, Phi}
 use Rattle.mir.specs.Syntax.{MakeTuple, ExtractTupleElement, MakeStruct, ExtractStructField, InsertField, InsertTuple, MakeFixedArray, AssertEq, HeapAllocCells}
-use Rattle.mir.specs.Lookup.{Types, row_of, valueRow, shape, isInteger}
-use Rattle.fold.specs.Family.{Marks, family, accessed, dynamicFirst, hasDynamicIndex}
+use Rattle.mir.specs.Lookup.{Types, row_of, shape, isInteger}
+use Rattle.mir.specs.Most.{mostValues, mostInstructions}
+use Rattle.fold.specs.Family.{Marks, accessed, dynamicFirst}
 
 -- no shape is asked for: a root of any shape will do
 abbrev pub anyShape : ℕ
@@ -59,14 +60,6 @@ unfoldable pub copies : Types → List Instruction → List Copy
 copies τ [] = []
 copies τ (i ∷ is) = before (copy_of τ i.kind) (copies τ is)
 
--- how many numbers n copies take in the table: three for each, behind the number of copies (src/lib.rt has the same)
-abbrev pub copiesSize : ℕ → ℕ
-copiesSize n = 1 + 3 * n
-
--- copy k as the table has it
-abbrev pub copyIn : List ℕ → ℕ → Copy
-copyIn copies k = record { source = get_or copies (1 + 3 * k) 0; dest = get_or copies (2 + 3 * k) 0; asked = get_or copies (3 + 3 * k) 0 }
-
 abbrev pub noCopy : Copy
 noCopy = record { source = 0; dest = 0; asked = 0 }
 
@@ -75,14 +68,23 @@ unfoldable pub last : List Copy → ℕ → ℕ → ℕ
 last cs v zero = 0
 last cs v (suc j) = cond (eqb (get_or cs j noCopy).source v) (suc j) (last cs v j)
 
--- these copies are the first n of the table
-pub record CopiesAt (copies : List ℕ) (n : ℕ) (cs : List Copy) : Type 0 where
-  pub many : n ≡ length cs
-  pub each : (k : ℕ) → k < n → copyIn copies k ≡ get_or cs k noCopy
+-- where the table of a block's copies has what (src/lib.rt has the same): copy k has three numbers from 3k on, its dest, the shape asked for, and the row
+-- before it of the same source; behind the rows of as many copies as a block has instructions stands for each value its last row
+abbrev pub rowAt : ℕ → ℕ
+rowAt k = 3 * k
 
--- and all of it
-abbrev pub CopiesIn : List ℕ → List Copy → Type 0
-CopiesIn copies cs = CopiesAt copies (get_or copies 0 0) cs
+abbrev pub firstsAt : ℕ
+firstsAt = rowAt mostInstructions
+
+abbrev pub tableSize : ℕ
+tableSize = firstsAt + mostValues
+
+-- these copies stand in the table, chained by their source
+pub record RowsAt (table : List ℕ) (cs : List Copy) : Type 0 where
+  pub dest : (k : ℕ) → k < length cs → get_or table (rowAt k) 0 ≡ (get_or cs k noCopy).dest
+  pub asked : (k : ℕ) → k < length cs → get_or table (rowAt k + 1) 0 ≡ (get_or cs k noCopy).asked
+  pub next : (k v : ℕ) → k < length cs → (get_or cs k noCopy).source ≡ v → v < mostValues → get_or table (rowAt k + 2) 0 ≡ last cs v k
+  pub first : (v : ℕ) → v < mostValues → get_or table (firstsAt + v) 0 ≡ last cs v (length cs)
 
 -- a copy joins where its source is a member and the root has the shape asked for
 unfoldable pub joining : ℕ → Marks → Copy → Marks
@@ -119,21 +121,3 @@ dynamicPlace d (some p) = cond (dynamicFirst p.projections) (set d p.base.0 true
 unfoldable pub dynamics : Marks → List Instruction → Marks
 dynamics d [] = d
 dynamics d (i ∷ is) = dynamics (dynamicPlace d (accessed i.kind)) is
-
--- the promises: of the marks of a family,
-abbrev pub FamilyMarks : List ℕ → ℕ → ℕ → ValueId → Marks → Marks → Type 0
-FamilyMarks table count root v clear m =
-    (τ : Types) (is : List Instruction)
-    → CopiesIn table (copies τ is)
-    → length is ≡ count
-    → root ≡ shape (valueRow τ v)
-    → clear ≡ replicate (length τ.recorded) false
-    → m ≡ family τ v is
-
--- and of the answer that a family is looked into so
-abbrev pub DynamicIndex : Marks → Marks → Bool → Type 0
-DynamicIndex m d r =
-    (τ : Types) (v : ValueId) (is : List Instruction)
-    → m ≡ family τ v is
-    → d ≡ dynamics (replicate (length τ.recorded) false) is
-    → r ≡ hasDynamicIndex τ v is

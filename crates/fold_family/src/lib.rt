@@ -2,34 +2,52 @@
 // not known.
 #![tactic(auto)]
 
-ghost use Rattle.std.specs.Prelude.{◌≡◌, List, true, false, ◌&&◌, ◌||◌, length, get_or, replicate, eqb};
-ghost use Rattle.mir.specs.Syntax.{Instruction};
-ghost use Rattle.mir.specs.Lookup.{Types};
-ghost use Rattle.fold.specs.Family.{mark, family as familyOf};
-ghost use Rattle.fold_family.specs.Copies.{Copy, copies as copiesOf, copyIn, CopiesIn, joining, joinAll, meets};
-ghost use Rattle.fold_family.specs.Copies.{FamilyMarks, DynamicIndex};
+ghost use Rattle.std.specs.Prelude.{◌≡◌, ◌+◌, ◌≤◌, ◌<◌, ◌||◌, ℕ, suc, eqb};
+ghost use Rattle.fold_family.specs.Copies.{anyShape, rowAt, firstsAt};
+ghost use Rattle.fold_family.specs.Search.{mostTurns, joinsAt, Join, Turn, isOpen, FindsFamily, ClearsMembers, DynamicIndex};
 
-use mir::ValueId;
+use mir::{ValueId, most};
 
-// The table of copies has their number first (specs/Copies.antt): how many numbers a copy takes, and where in them stand its
-// source, its dest and the shape asked for, counted from the number that is in front.
+// Where in the table of a block's copies what stands (specs/Copies.antt): a copy takes three numbers, its dest, the shape asked
+// for, and the row before it of the same source. A row is one more than the copy's number, 0 for none.
 pub const WIDTH: usize = 3;
 
-pub const SOURCE: usize = 1;
+pub const DEST: usize = 0;
 
-pub const DEST: usize = 2;
+pub const ASKED: usize = 1;
 
-pub const ASKED: usize = 3;
+pub const NEXT: usize = 2;
 
-// How long the table of a block's copies is: a block has at most 128 instructions.
-pub const SIZE: usize = 385;
+// Behind them stands for each value its last row.
+pub const FIRSTS: usize = WIDTH * most::INSTRUCTIONS;
+
+pub const SIZE: usize = FIRSTS + most::VALUES;
 
 // A root of any shape is asked for.
 pub const ANY: u8 = 0;
 
+// The most turns that a search takes: one for each value, and one for each copy of a block.
+const TURNS: u16 = 384;
+
+// Where a search stands: how many members are found, and how many of them are taken; and the row of the copy that is to be
+// looked at next, 0 where a member is to be taken.
+#[derive(Clone, Copy)]
+pub struct Search {
+    pub found: u16,
+    pub taken: u16,
+    pub row: u16,
+}
+
+// What a search found: how many members, and the turns that it took.
+#[derive(Clone, Copy)]
+pub struct Found {
+    pub members: u16,
+    pub turns: u16,
+}
+
 // The shape asked for is the root's, or none is asked for.
 fn asks(wanted: u16, shape: u8) -> bool
-    ensures { result ≡ (eqb wanted 0 || eqb wanted shape) }
+    ensures { result ≡ (eqb wanted anyShape || eqb wanted shape) }
 {
     if wanted == ANY as u16 {
         true
@@ -38,102 +56,115 @@ fn asks(wanted: u16, shape: u8) -> bool
     }
 }
 
-// Copy `k` joins where its source is a member; whether it is a new one. Only the answer that it is not says something: the
-// other is left free, as one too many costs a sweep that changes nothing.
-fn join(copies: &[u16], k: u16, shape: u8, marks: &mut [bool]) -> bool
-    ensures { (marks.new ≡ joining shape marks.old (copyIn copies.now k))
-        × (result ≡ false → marks.new ≡ marks.old) }
+// Copy `k` joins where it asks for the root's shape, and its dest is a value that is not marked yet.
+fn joins(copies: &[u16], k: u16, shape: u8, marks: &[bool]) -> bool
+    ensures { result ≡ joinsAt copies.now k shape marks.now }
 {
     let at = WIDTH * k as usize;
-    if !asks(table::number(copies, ASKED + at), shape) {
+    if !asks(table::number(copies, at + ASKED), shape) {
         return false;
     }
-    if !table::flag(marks, table::place(copies, SOURCE + at)) {
+    let dest = table::place(copies, at + DEST);
+    if marks.len() <= dest {
         return false;
     }
-    let dest = table::place(copies, DEST + at);
-    if table::flag(marks, dest) {
-        return false;
-    }
-    table::set_flag(marks, dest, true);
-    true
+    !marks[dest]
 }
 
-fn either(a: bool, b: bool) -> bool
-    ensures { result ≡ (a || b) }
+// Looks at copy `k`, `found` members being found; how many are found then.
+fn join(copies: &[u16], k: u16, shape: u8, found: u16, marks: &mut [bool], members: &mut [u16]) -> u16
+    requires { found ≤ mostTurns + 1 }
+    ensures { Join copies.now k shape found marks.old marks.new members.old members.new result }
 {
-    if a { true } else { b }
-}
-
-// One sweep over the copies; whether it found a new member, which is left free likewise: sweeps are at most as many as the
-// instructions.
-fn sweep(copies: &[u16], shape: u8, marks: &mut [bool]) -> bool
-    ensures { ((cs : List Copy) → CopiesIn copies.now cs → marks.new ≡ joinAll shape marks.old cs)
-        × (result ≡ false → marks.new ≡ marks.old) }
-{
-    let count = table::number(copies, 0);
-    let mut changed = false;
-    let mut k: u16 = 0;
-    while k < count {
-        changed = either(changed, join(copies, k, shape, marks));
-        k = k + 1;
+    if !joins(copies, k, shape, marks) {
+        return found;
     }
-    changed
+    let dest = table::number(copies, WIDTH * k as usize + DEST);
+    table::set_flag(marks, dest as usize, true);
+    table::set_number(members, found as usize, dest);
+    found + 1
 }
 
-// Marks the family of `v`, whose recorded type has the shape `shape`, in `marks`, which are clear, one for each value.
-// The block has `instructions` instructions, and its copies stand in `copies`.
-pub fn family(copies: &[u16], instructions: u16, shape: u8, v: ValueId, marks: &mut [bool])
-    ensures { FamilyMarks copies.now instructions shape v marks.old marks.new }
+// One turn of a search: takes a member, or looks at a copy of the member taken last.
+fn turn(q: Search, copies: &[u16], shape: u8, marks: &mut [bool], members: &mut [u16]) -> Search
+    requires { (q.found ≤ mostTurns + 1) × (q.taken ≤ mostTurns) }
+    ensures { Turn copies.now shape q result marks.old marks.new members.old members.new }
+{
+    if q.row == 0 {
+        let v = table::number(members, q.taken as usize);
+        return Search {
+            found: q.found,
+            taken: q.taken + 1,
+            row: table::number(copies, FIRSTS + v as usize),
+        };
+    }
+    let k = q.row - 1;
+    let found = join(copies, k, shape, q.found, marks, members);
+    Search {
+        found: found,
+        taken: q.taken,
+        row: table::number(copies, WIDTH * k as usize + NEXT),
+    }
+}
+
+// A copy is to be looked at, or a member to be taken.
+fn is_open(q: Search) -> bool
+    ensures { result ≡ isOpen q }
+{
+    if q.row != 0 {
+        return true;
+    }
+    q.taken < q.found
+}
+
+// Marks the family of `v`, whose recorded type has the shape `shape`, in `marks`, which are clear, one for each value, and
+// lists its members in `members`. The block's copies stand in `copies`.
+pub fn family(copies: &[u16], shape: u8, v: ValueId, marks: &mut [bool], members: &mut [u16]) -> Found
+    ensures { FindsFamily copies.now shape v marks.old marks.new members.old members.new result }
 {
     table::set_flag(marks, v.0 as usize, true);
-    let mut k: u16 = 0;
-    while k < instructions {
-        if !sweep(copies, shape, marks) {
-            return;
+    table::set_number(members, 0, v.0);
+    let mut q = Search {
+        found: 1,
+        taken: 0,
+        row: 0,
+    };
+    let mut turns: u16 = 0;
+    while turns <= TURNS {
+        if !is_open(q) {
+            return Found {
+                members: q.found,
+                turns: turns,
+            };
         }
+        q = turn(q, copies, shape, marks, members);
+        turns = turns + 1;
+    }
+    Found {
+        members: q.found,
+        turns: turns,
+    }
+}
+
+// Clears the marks of the `n` members.
+pub fn unmark(members: &[u16], n: u16, marks: &mut [bool])
+    ensures { ClearsMembers members.now n marks.old marks.new }
+{
+    let mut k: u16 = 0;
+    while k < n {
+        table::set_flag(marks, table::place(members, k as usize), false);
         k = k + 1;
     }
 }
 
-// Whether no copy has `v` as its source: it is its whole family then. The other answer is left free: it costs time alone.
-pub fn is_alone(copies: &[u16], v: ValueId) -> bool
-    ensures { result ≡ true → (τ : Types) (is : List Instruction) → CopiesIn copies.now (copiesOf τ is)
-        → familyOf τ v is ≡ mark (replicate (length τ.recorded) false) v }
+// Whether one of the `n` members of a family is looked into by an index that is not known, where `dynamic` are the marks that
+// the scan of the block has set.
+pub fn dynamic_index(members: &[u16], n: u16, dynamic: &[bool]) -> bool
+    ensures { DynamicIndex members.now n dynamic.now result }
 {
-    let count = table::number(copies, 0);
-    let root = v.0;
     let mut k: u16 = 0;
-    while k < count {
-        if table::number(copies, SOURCE + WIDTH * k as usize) == root {
-            return false;
-        }
-        k = k + 1;
-    }
-    true
-}
-
-// Whether a value has both marks.
-fn both_at(a: &[bool], b: &[bool], k: usize) -> bool
-    ensures { result ≡ (get_or a.now k false && get_or b.now k false) }
-{
-    if a.len() <= k {
-        return false;
-    }
-    if b.len() <= k {
-        return false;
-    }
-    if a[k] { b[k] } else { false }
-}
-
-// Whether a member of the family that `marks` has is looked into by an index that is not known, where `dynamic` are
-// the marks that the scan of the block has set.
-pub fn dynamic_index(marks: &[bool], dynamic: &[bool]) -> bool
-    ensures { (result ≡ meets marks.now dynamic.now) × DynamicIndex marks.now dynamic.now result }
-{
-    let mut k = 0;
-    while k < marks.len() {
-        if both_at(marks, dynamic, k) {
+    while k < n {
+        if table::flag(dynamic, table::place(members, k as usize)) {
             return true;
         }
         k = k + 1;

@@ -4,6 +4,7 @@ use Rattle.mir.specs.declared.ValueId.{ValueId}
 use Rattle.mir.specs.Syntax.{InstructionKind, Instruction, Block}
 use Rattle.mir.specs.Reads.{reads, counted, terminatorReads}
 use Rattle.fold.specs.Family.{Marks, readElsewhere}
+use Rattle.fold_family.specs.Search.{Members}
 
 -- the number of a value that several blocks read; blocks below the limit have one of their own
 abbrev pub several : ℕ
@@ -49,10 +50,10 @@ foreign own x = not (eqb x 0) && not (eqb x (own + 1))
 abbrev pub foreigners : ℕ → List ℕ → Marks
 foreigners own r = map (λ x. foreign own x) r
 
--- the promise of the answer that another block than own reads a member
-abbrev pub ReadElsewhere : Marks → ℕ → List ℕ → Bool → Type 0
-ReadElsewhere m own reader r =
-    (n : ℕ) (ks : List Block)
-    → reader ≡ readBlocks 0 (replicate n 0) ks
-    → length m ≡ n
+-- the promise of the answer that another block than own reads one of the n members, `reader` being the table of all blocks
+abbrev pub ReadElsewhere : List ℕ → ℕ → ℕ → List ℕ → Bool → Type 0
+ReadElsewhere members n own reader r =
+    (m : Marks) (ks : List Block)
+    → Members members n m
+    → reader ≡ readBlocks 0 (replicate (length m) 0) ks
     → r ≡ readElsewhere m own 0 ks

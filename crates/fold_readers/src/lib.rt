@@ -1,16 +1,15 @@
 // Which block reads each value: one table of readers stands for all blocks.
 #![tactic(auto)]
 
-ghost use Rattle.std.specs.Prelude.{◌≡◌, List, false, ◌&&◌, ℕ, ◌<◌, length, get_or};
+ghost use Rattle.std.specs.Prelude.{◌≡◌, List, ℕ, ◌<◌, length};
 ghost use Rattle.mir.specs.declared.ValueId.{ValueId as DeclaredValueId};
 ghost use Rattle.mir.specs.Syntax.{Instruction, Block};
 ghost use Rattle.bytes_field.specs.declared.Bounds.{Bounds};
 ghost use Rattle.bytes_index.specs.Table.{ReadsIn, row_at};
 ghost use Rattle.bytes_index.specs.Code.{InstructionIn, BlockIn, CodeIn};
-ghost use Rattle.fold_family.specs.Copies.{meets};
 ghost use Rattle.fold.specs.Numbers.{mostPlace};
 ghost use Rattle.fold_readers.specs.Readers.{blockLimit, seenBy, noteReader, readVia, readInstruction};
-ghost use Rattle.fold_readers.specs.Readers.{readBlock, readBlocks, foreign, foreigners, ReadElsewhere};
+ghost use Rattle.fold_readers.specs.Readers.{readBlock, readBlocks, foreign, ReadElsewhere};
 
 use mir::{BlockId, ValueId, kind};
 
@@ -122,7 +121,7 @@ pub fn note_readers(facts: &[u16], many: u16, readers: &mut [u8])
 }
 
 // The number says that another block than `own` reads the value.
-pub fn is_foreign(own: u8, x: u8) -> bool
+fn is_foreign(own: u8, x: u8) -> bool
     requires { own < blockLimit }
     ensures { result ≡ foreign own x }
 {
@@ -132,29 +131,14 @@ pub fn is_foreign(own: u8, x: u8) -> bool
     x != own + 1
 }
 
-// Value `k` is marked, and another block than `own` reads it.
-fn read_abroad(marks: &[bool], own: u8, readers: &[u8], k: usize) -> bool
+// Whether some block other than `own` reads one of the `n` members of a family.
+pub fn member_abroad(members: &[u16], n: u16, own: u8, readers: &[u8]) -> bool
     requires { own < blockLimit }
-    ensures { result ≡ (get_or marks.now k false && foreign own (get_or readers.now k 0)) }
+    ensures { ReadElsewhere members.now n own readers.now result }
 {
-    if marks.len() <= k {
-        return false;
-    }
-    if marks[k] {
-        return is_foreign(own, bytes_wire::byte_at(readers, k));
-    }
-    false
-}
-
-// Whether some block other than `own` reads one of the marked values.
-pub fn read_elsewhere(marks: &[bool], own: u8, readers: &[u8]) -> bool
-    requires { own < blockLimit }
-    ensures { (result ≡ meets marks.now (foreigners own readers.now))
-        × ReadElsewhere marks.now own readers.now result }
-{
-    let mut k = 0;
-    while k < marks.len() {
-        if read_abroad(marks, own, readers, k) {
+    let mut k: u16 = 0;
+    while k < n {
+        if is_foreign(own, bytes_wire::byte_at(readers, table::place(members, k as usize))) {
             return true;
         }
         k = k + 1;

@@ -12,15 +12,11 @@ use lib.Dec.{eqb, ltb}
 use Rattle.fold.specs.Family.{Marks}
 use Rattle.fold_family.specs.Copies.{Copy, rounds, last}
 use Rattle.fold_family.specs.Turns.{one, size, copiedFrom}
+use Rattle.fold_family.specs.Search.{Listed, listed-at}
 use Rattle.fold_family.proofs.Sweeps.{rounds-length}
-use Rattle.fold_family.proofs.Members.{set-still}
-use Rattle.fold_family.proofs.Closed.{Below, below-trans, below-set, closed}
+use Rattle.fold_family.proofs.Closed.{set-still, Below, below-trans, below-set, closed}
 use Rattle.fold_family.proofs.Rows.{copyAt, newest, many, many-last, last-le, none-behind, last-own, size-set, copied-set, no-copies, same-copies}
 use Rattle.fold_family.proofs.Shut.{asks, Idle, Shut, rounds-within, between, rounds-below, still-shut}
-
--- x is among the first n of a table
-pub data Listed (q : List ℕ) (n x : ℕ) : Type 0 where
-  listed-at : (i : ℕ) → i < n → get_or q i 0 ≡ x → Listed q n x
 
 -- a search: m the marks, q the members, of which `found` are found and `taken` are taken; `row` is the next copy of the one taken last
 pub record Searching (root : ℕ) (cs : List Copy) (v : ℕ) (m : Marks) (q : List ℕ) (found taken row turns : ℕ) : Type 0 where
@@ -279,7 +275,7 @@ search-start root cs v clear m q none z lt em eq = rw em (record {
     inside x y F h false e = absurd (true≢false (sym y ∙ get_or-set_other clear v x true false (eqb-false x v e) ∙ none x))
 
 -- the search is over: the marks are those of the rounds, and the turns are one for each member and one for each copy of a member
-pub record Found (root : ℕ) (cs : List Copy) (start m : Marks) (found turns : ℕ) : Type 0 where
+pub record Finished (root : ℕ) (cs : List Copy) (start m : Marks) (found turns : ℕ) : Type 0 where
   pub same : (k : ℕ) → length cs ≤ k → m ≡ rounds root k start cs
   pub members : found ≡ size m
   pub exact : turns ≡ size m + copiedFrom m cs (length cs)
@@ -287,7 +283,7 @@ pub record Found (root : ℕ) (cs : List Copy) (start m : Marks) (found turns : 
 pub search-done : (root : ℕ) (cs : List Copy) (v : ℕ) (start m : Marks) (q : List ℕ) (found taken turns : ℕ)
     → Searching root cs v m q found taken 0 turns → found ≤ taken
     → length start ≡ length m → get_or start v false ≡ true → ((x : ℕ) → get_or start x false ≡ true → x ≡ v) → get_or m v false ≡ true
-    → Found root cs start m found turns
+    → Finished root cs start m found turns
 unfolding many
 search-done root cs v start m q found taken turns s h l b only has =
     record {

@@ -1,0 +1,143 @@
+-- The code's search for a family is the search by rows, and ends with the family.
+use Prim.Native.Nat.{ℕ, zero, suc, ◌+◌, ◌≤◌, ◌<◌}
+use mathlib.Core.Path.{◌≡◌, refl, ap, ◌∙◌, sym, subst}
+use mathlib.Core.List.{List, [], ◌∷◌}
+use mathlib.Core.Bool.{Bool, true, false, not, ◌&&◌, ◌||◌, true≢false}
+use native.Mathlib.Omega.{arith}
+use borrow.Author.Tests.{ltb-true, ltb-false, eqb-true, eqb-false, eq-eqb}
+use lib.ListN.{length, get_or, set, replicate, length-set, length-replicate}
+use lib.Seq.{get_or-set_same, get_or-set_other, set_out}
+use lib.Dec.{eqb, ltb}
+use Rattle.table.proofs.Elements.{clear_at}
+use Rattle.mir.specs.declared.ValueId.{ValueId}
+use Rattle.mir.specs.Syntax.{Instruction}
+use Rattle.mir.specs.Lookup.{Types, valueRow, shape}
+use Rattle.mir.specs.Most.{mostValues, mostInstructions}
+use Rattle.fold.specs.Family.{Marks, mark, family}
+use Rattle.fold_family.specs.Copies.{Copy, copies, rounds, last, rowAt, firstsAt, RowsAt}
+use Rattle.fold_family.specs.Turns.{one, size, copiedFrom, turnsOf}
+use Rattle.fold_family.specs.Search.{mostTurns, joinsAt, Join, Turn, isOpen, Members, FamilyFound, FindsFamily}
+use Rattle.fold_family.specs.declared.Search.{Search}
+use Rattle.fold_family.specs.declared.Found.{Found}
+use Rattle.fold_family.proofs.Sweeps.{family-copies}
+use Rattle.fold_family.proofs.Closed.{set-still, below-set, copies-few}
+use Rattle.fold_family.proofs.Rows.{copyAt}
+use Rattle.fold_family.proofs.Shut.{asks, Idle}
+use Rattle.fold_family.proofs.Searching.{Searching, search-start, search-take, search-pass, search-join, Finished, search-done}
+
+-- no more are marked than there are values, and no more copies are of marked values than there are copies
+one-le : (b : Bool) → one b ≤ 1
+one-le true = omega arith
+one-le false = omega arith
+
+size-le : (m : Marks) → size m ≤ length m
+size-le [] = omega arith
+size-le (b ∷ m) = omega (arith, one-le b, size-le m)
+
+copied-le : (m : Marks) (cs : List Copy) (e : ℕ) → copiedFrom m cs e ≤ e
+unfolding copiedFrom
+copied-le m cs zero = omega arith
+copied-le m cs (suc j) = omega (arith, one-le (get_or m (copyAt cs j).source false), copied-le m cs j)
+
+-- nothing is marked of a clear table
+size-clear : (n : ℕ) → size (replicate n false) ≡ 0
+size-clear zero = refl
+size-clear (suc n) = size-clear n
+
+-- a marked value is one of the table
+marked-low : (m : Marks) (x : ℕ) → get_or m x false ≡ true → x < length m
+marked-low [] x h = absurd (true≢false (sym h))
+marked-low (a ∷ m) zero h = omega arith
+marked-low (a ∷ m) (suc x) h = omega (arith, marked-low m x h)
+
+-- where a search is open, and where it is over
+both : (a b : Bool) → (a || b) ≡ false → (a ≡ false) × (b ≡ false)
+both true b h = absurd (true≢false h)
+both false b h = (refl, h)
+
+pub open-takes : (q : Search) → q.row ≡ 0 → isOpen q ≡ true → q.taken < q.found
+open-takes q z h = ltb-true q.taken q.found (sym (ap (λ b. not b || ltb q.taken q.found) (eq-eqb q.row 0 z)) ∙ h)
+
+pub over-row : (q : Search) → isOpen q ≡ false → q.row ≡ 0
+over-row q h = go (eqb q.row 0) refl (both (not (eqb q.row 0)) (ltb q.taken q.found) h).0
+  where
+    go : (b : Bool) → eqb q.row 0 ≡ b → not (eqb q.row 0) ≡ false → q.row ≡ 0
+    go true e f = eqb-true q.row 0 e
+    go false e f = absurd (true≢false (sym (ap not e) ∙ f))
+
+pub over-taken : (q : Search) → isOpen q ≡ false → q.found ≤ q.taken
+over-taken q h = omega (arith, ltb-false q.taken q.found (both (not (eqb q.row 0)) (ltb q.taken q.found) h).1)
+
+-- a copy that does not join adds nothing
+idle-passed : (root : ℕ) (m : Marks) (c : Copy) → (asks root c && (ltb c.dest (length m) && not (get_or m c.dest false))) ≡ false → asks root c ≡ true → Idle m c
+idle-passed root m c h a = go (ltb c.dest (length m)) refl (get_or m c.dest false) refl (sym (ap (λ b. b && (ltb c.dest (length m) && not (get_or m c.dest false))) a) ∙ h)
+  where
+    go : (b : Bool) → ltb c.dest (length m) ≡ b → (g : Bool) → get_or m c.dest false ≡ g → (ltb c.dest (length m) && not (get_or m c.dest false)) ≡ false → Idle m c
+    go false e g f k = set_out m c.dest true (ltb-false _ _ e)
+    go true e true f k = set-still m c.dest f
+    go true e false f k = absurd (true≢false (sym (rw (e, f) refl) ∙ k))
+
+-- one that joins
+record Joining (root : ℕ) (m : Marks) (c : Copy) : Type 0 where
+  asked : asks root c ≡ true
+  low : c.dest < length m
+  new : get_or m c.dest false ≡ false
+
+joining-at : (root : ℕ) (m : Marks) (c : Copy) → (asks root c && (ltb c.dest (length m) && not (get_or m c.dest false))) ≡ true → Joining root m c
+joining-at root m c h = go (asks root c) refl (ltb c.dest (length m)) refl (get_or m c.dest false) refl h
+  where
+    go : (a : Bool) → asks root c ≡ a → (b : Bool) → ltb c.dest (length m) ≡ b → (g : Bool) → get_or m c.dest false ≡ g → (a && (b && not g)) ≡ true → Joining root m c
+    go true ea true eb false eg k = record { asked = ea; low = ltb-true _ _ eb; new = eg }
+    go true ea true eb true eg k = absurd (true≢false (sym k))
+    go true ea false eb g eg k = absurd (true≢false (sym k))
+    go false ea b eb g eg k = absurd (true≢false (sym k))
+
+-- a search under way, `clear` the marks and `room` the members before it
+pub record Going (table : List ℕ) (root v : ℕ) (clear : Marks) (room : List ℕ) (q : Search) (m : Marks) (members : List ℕ) (turns : ℕ) : Type 0 where
+  pub under : turns ≤ mostTurns + 1
+  pub found-few : q.found ≤ turns + 1
+  pub taken-few : q.taken ≤ turns
+  pub long : length m ≡ length clear
+  pub wide : length members ≡ length room
+  pub searching :
+      (cs : List Copy) (n : ℕ)
+      → RowsAt table cs → v < n → n ≤ mostValues → mostValues ≤ length room → clear ≡ replicate n false
+      → Searching root cs v m members q.found q.taken q.row turns
+  pub has : (n : ℕ) → v < n → clear ≡ replicate n false → get_or m v false ≡ true
+
+module _ (table : List ℕ) (root v : ℕ) (clear : Marks) (room : List ℕ) where
+  pub going-start : {m : Marks} {members : List ℕ} → m ≡ set clear v true → members ≡ set room 0 v
+      → Going table root v clear room (record { found = 1; taken = 0; row = 0 }) m members 0
+  going-start {m} {members} em el =
+      record {
+        under = omega arith;
+        found-few = omega arith;
+        taken-few = omega arith;
+        long = ap length em ∙ length-set clear v true;
+        wide = ap length el ∙ length-set room 0 v;
+        searching = λ cs n r lt few w ec.
+            search-start root cs v clear m members (λ x. ap (λ c. get_or c x false) ec ∙ clear_at n x) (ap size ec ∙ size-clear n)
+            (rw (ec, length-replicate n false) lt) em (ap (λ l. get_or l 0 0) el ∙ get_or-set_same room 0 v 0 (omega arith));
+        has = λ n lt ec. ap (λ c. get_or c v false) em ∙ get_or-set_same clear v true false (rw (ec, length-replicate n false) lt);
+      }
+
+  module _ (q : Search) (m : Marks) (members : List ℕ) (turns : ℕ) (u : Going table root v clear room q m members turns) (few : turns ≤ mostTurns) where
+    -- the next member is taken
+    taken-on : {r : Search} {m' : Marks} {members' : List ℕ} → isOpen q ≡ true → q.row ≡ 0
+        → r ≡ record { found = q.found; taken = q.taken + 1; row = get_or table (firstsAt + get_or members q.taken 0) 0 } → m' ≡ m → members' ≡ members
+        → Going table root v clear room r m' members' (turns + 1)
+    taken-on o z er em el =
+        rw (er, em, el) record {
+          under = omega arith;
+          found-few = omega (arith, u.found-few);
+          taken-few = omega (arith, u.taken-few);
+          long = u.long;
+          wide = u.wide;
+          searching = λ cs n r lt most w ec.
+              let s = u.searching cs n r lt most w ec in
+              let x = get_or members q.taken 0 in
+              let low : x < mostValues = omega (arith, s.low q.taken (open-takes q z o), u.long, ap length ec, length-replicate n false) in
+              let t = search-take root cs v m members q.found q.taken turns (rw z at s) (open-takes q z o) in
+              rw (r.first x low) t;
+          has = u.has;
+        }

@@ -4,6 +4,7 @@ use mathlib.Core.Path.{◌≡◌, refl, ap, ◌∙◌, sym, subst}
 use mathlib.Core.List.{List, [], ◌∷◌}
 use mathlib.Core.Bool.{Bool, true, false, not, ◌&&◌, ◌||◌, true≢false}
 use native.Mathlib.Omega.{arith}
+use native.Mathlib.Numerals.{add-one}
 use borrow.Author.Tests.{ltb-true, ltb-false, eqb-true, eqb-false, eq-eqb}
 use lib.ListN.{length, get_or, set, replicate, length-set, length-replicate}
 use lib.Seq.{get_or-set_same, get_or-set_other, set_out}
@@ -21,7 +22,7 @@ use Rattle.fold_family.specs.declared.Search.{Search}
 use Rattle.fold_family.specs.declared.Found.{Found}
 use Rattle.fold_family.proofs.Sweeps.{family-copies}
 use Rattle.fold_family.proofs.Closed.{set-still, below-set, copies-few}
-use Rattle.fold_family.proofs.Rows.{copyAt}
+use Rattle.fold_family.proofs.Rows.{copyAt, size-set}
 use Rattle.fold_family.proofs.Shut.{asks, Idle}
 use Rattle.fold_family.proofs.Searching.{Searching, search-start, search-take, search-pass, search-join, Finished, search-done}
 
@@ -42,7 +43,7 @@ copied-le m cs (suc j) = omega (arith, one-le (get_or m (copyAt cs j).source fal
 -- nothing is marked of a clear table
 size-clear : (n : ℕ) → size (replicate n false) ≡ 0
 size-clear zero = refl
-size-clear (suc n) = size-clear n
+size-clear (suc n) = omega (arith, size-clear n)
 
 -- a marked value is one of the table
 marked-low : (m : Marks) (x : ℕ) → get_or m x false ≡ true → x < length m
@@ -138,6 +139,98 @@ module _ (table : List ℕ) (root v : ℕ) (clear : Marks) (room : List ℕ) whe
               let x = get_or members q.taken 0 in
               let low : x < mostValues = omega (arith, s.low q.taken (open-takes q z o), u.long, ap length ec, length-replicate n false) in
               let t = search-take root cs v m members q.found q.taken turns (rw z at s) (open-takes q z o) in
-              rw (r.first x low) t;
+              rw (r.first x low, add-one q.taken, add-one turns) t;
           has = u.has;
         }
+
+    -- copy k is looked at
+    module _ (k : ℕ) (ek : q.row ≡ suc k) where
+      -- the search at that copy, the row of the copy before it of the same source, and that the row is one of its own
+      behind : (cs : List Copy) (n : ℕ) → RowsAt table cs → n ≤ mostValues → clear ≡ replicate n false
+          → (s : Searching root cs v m members q.found q.taken (suc k) turns) → last cs s.u k ≡ get_or table (rowAt k + 2) 0
+      behind cs n r most ec s =
+          let low : s.u < mostValues = omega (arith, marked-low s.t s.u (s.mine k refl), s.long, u.long, ap length ec, length-replicate n false) in
+          sym (r.next k s.u s.inside (s.own k refl) low)
+
+      -- what the table says of a copy
+      said : (cs : List Copy) → RowsAt table cs → k < length cs
+          → joinsAt table k root m ≡ (asks root (copyAt cs k) && (ltb (copyAt cs k).dest (length m) && not (get_or m (copyAt cs k).dest false)))
+      said cs r h = rw (r.dest k h, r.asked k h) refl
+
+      looked-on : {r : Search} {m' : Marks} {members' : List ℕ} → r.taken ≡ q.taken → r.row ≡ get_or table (rowAt k + 2) 0
+          → Join table k root q.found m m' members members' r.found → Going table root v clear room r m' members' (turns + 1)
+      looked-on {r} et er (Join.passes j em el ef) =
+          rw (em, el) record {
+            under = omega arith;
+            found-few = omega (arith, u.found-few);
+            taken-few = omega (arith, u.taken-few);
+            long = u.long;
+            wide = u.wide;
+            searching = λ cs n rows lt most w ec.
+                let s = rw ek at (u.searching cs n rows lt most w ec) in
+                rw (ef, et, er, ← (behind cs n rows most ec s), add-one turns)
+                (search-pass root cs v m members q.found q.taken turns k s (idle-passed root m (copyAt cs k) (sym (said cs rows s.inside) ∙ j)));
+            has = u.has;
+          }
+      looked-on {r} et er (Join.joins j em el ef) =
+          rw (em, el) record {
+            under = omega arith;
+            found-few = omega (arith, u.found-few);
+            taken-few = omega (arith, u.taken-few);
+            long = length-set m (get_or table (rowAt k) 0) true ∙ u.long;
+            wide = length-set members q.found (get_or table (rowAt k) 0) ∙ u.wide;
+            searching = λ cs n rows lt most w ec.
+                let s = rw ek at (u.searching cs n rows lt most w ec) in
+                let c = copyAt cs k in
+                let a = joining-at root m c (sym (said cs rows s.inside) ∙ j) in
+                let h : q.found < length members =
+                      omega (arith, s.counted, size-set m c.dest a.low a.new, size-le (set m c.dest true), length-set m c.dest true, u.long, u.wide, ap length ec, length-replicate n false) in
+                rw (ef, et, er, ← (behind cs n rows most ec s), rows.dest k s.inside, add-one turns, add-one q.found)
+                (search-join root cs v m members q.found q.taken turns k s a.asked a.new a.low h);
+            has = λ n lt ec. (below-set m (get_or table (rowAt k) 0)).each v (u.has n lt ec);
+          }
+
+    pub going-on : {r : Search} {m' : Marks} {members' : List ℕ} → isOpen q ≡ true → Turn table root q r m m' members members'
+        → Going table root v clear room r m' members' (turns + 1)
+    going-on o (Turn.takes z er em el) = taken-on o z er em el
+    going-on o (Turn.looks k ek et er j) = looked-on k ek et er j
+
+  -- a search that is over
+  module _ (w : ValueId) (ev : v ≡ w.0) (q : Search) (m : Marks) (members : List ℕ) (turns : ℕ) (u : Going table root v clear room q m members turns) where
+    pub found-all : isOpen q ≡ false → FindsFamily table root w clear m room members (record { members = q.found; turns = turns })
+    unfolding turnsOf
+    found-all o τ is rows few er low most wide ec =
+        let n = length τ.recorded in
+        let cs = copies τ is in
+        let low' : v < n = rw ev low in
+        let s = rw (over-row q o) at (u.searching cs n rows low' most wide ec) in
+        let start : Marks = set clear v true in
+        let b : get_or start v false ≡ true = get_or-set_same clear v true false (rw (ec, length-replicate n false) low') in
+        let d = search-done root cs v start m members q.found q.taken turns s (over-taken q o)
+              (length-set clear v true ∙ sym u.long) b (only-one n ec) (u.has n low' ec) in
+        let same : m ≡ family τ w is =
+              d.same (length is) (copies-few τ is)
+              ∙ ap (λ x. rounds root (length is) (set x v true) cs) ec
+              ∙ ap (λ x. rounds root (length is) (set (replicate n false) x true) cs) ev
+              ∙ ap (λ x. rounds x (length is) (mark (replicate n false) w) cs) er
+              ∙ sym (family-copies τ w is) in
+        record {
+          same = same;
+          turned = d.exact ∙ ap (λ x. size x + copiedFrom x cs (length cs)) same;
+          listed = record { many = d.members; marked = s.listed; only = s.only };
+        }
+      where
+        only-one : (n : ℕ) → clear ≡ replicate n false → (x : ℕ) → get_or (set clear v true) x false ≡ true → x ≡ v
+        only-one n e x h = go (eqb x v) refl
+          where
+            go : (b : Bool) → eqb x v ≡ b → x ≡ v
+            go true z = eqb-true x v z
+            go false z = absurd (true≢false (sym h ∙ get_or-set_other clear v x true false (eqb-false x v z) ∙ ap (λ c. get_or c x false) e ∙ clear_at n x))
+
+    -- no search takes as many turns
+    pub never-late : mostTurns < turns → FindsFamily table root w clear m room members (record { members = q.found; turns = turns })
+    never-late h τ is rows few er low most wide ec =
+        let n = length τ.recorded in
+        let cs = copies τ is in
+        let s = u.searching cs n rows (rw ev low) most wide ec in
+        absurd (omega (arith, s.turned, s.order, s.counted, size-le m, copied-le s.t cs (length cs), u.long, ap length ec, length-replicate n false))

@@ -1,12 +1,12 @@
 -- The flags of a block's builds: the loop over its instructions.
-use Prim.Native.Nat.{ℕ, ◌+◌, ◌-◌, ◌≤◌, ◌<◌}
+use Prim.Native.Nat.{ℕ, ◌+◌, ◌≤◌, ◌<◌}
 use mathlib.Core.Path.{◌≡◌, refl, ap, ◌∙◌, sym}
 use mathlib.Core.List.{List}
 use mathlib.Core.Bool.{Bool, true, false}
 use mathlib.Core.Option.{some}
 use native.Mathlib.Omega.{arith}
 use borrow.Author.Tests.{eqb-true, eqb-false}
-use lib.ListN.{length, get_or, set, replicate, length-set, length-drop}
+use lib.ListN.{length, get_or, set, length-set}
 use lib.Seq.{get_or-set_same, get_or-set_other}
 use lib.Dec.{eqb}
 use Rattle.mir.specs.declared.ValueId.{ValueId}
@@ -18,14 +18,10 @@ use Rattle.mir.specs.Lookup.{Types}
 use Rattle.fold.specs.Family.{Marks, buildDest}
 use Rattle.fold.specs.Climb.{buildOf}
 use Rattle.mir.specs.Phis.{behindPhis}
-use Rattle.fold.specs.Tables.{ShapesAt}
 use Rattle.rewrite.specs.Run.{foldsBuild, foldsIn}
-use Rattle.fold_copies.specs.Found as copies
-use Rattle.fold_climb.specs.Scanned.{Scanned}
-use Rattle.fold_phis.specs.Skipped.{PhisIn}
+use Rattle.fold_looked.specs.Looked.{ArraysLooked}
 use Rattle.fold_choose.specs.declared.Slots.{Slots}
 use Rattle.fold_choose.specs.Chosen.{Seen, Answers, Standing, Flagged, DecidesAll}
-use Rattle.fold_choose.proofs.Folding.{copies-behind, dynamics-behind}
 
 -- one flag is set, from `first` on
 flag-set : (first j : ℕ) (x : Bool) (before here behind : List Bool) → Flagged first before here → first + j < 288 → behind ≡ set here (first + j) x → Flagged first before behind
@@ -38,12 +34,12 @@ flag-set first j x before here behind f l e =
 pub flag-none : (first : ℕ) (l : List Bool) → Flagged first l l
 flag-none first l = record { size = refl; old = λ j h. refl }
 
-module _ (σ : Settings) (shapes graph copied : List ℕ) (instructions : ℕ) (dynamic : List Bool) (s : List ℕ) (b : Bounds) (facts : List ℕ) (at : Slots) (choice₀ : List Bool) where
+module _ (σ : Settings) (shapes graph : List ℕ) (looked : List Bool) (s : List ℕ) (b : Bounds) (facts : List ℕ) (at : Slots) (choice₀ : List Bool) where
   -- what is known of the block
   pub record Known (τ : Types) (cross : Marks) (all : List Instruction) : Type 0 where
     pub standing : Standing σ τ cross b s facts at.first at.count all
-    pub seen : Seen σ τ cross (behindPhis all) shapes graph copied dynamic
-    pub many : length (behindPhis all) ≡ instructions
+    pub seen : Seen σ τ cross (behindPhis all) shapes graph
+    pub arrays : ArraysLooked τ all looked
     pub next : length τ.recorded ≡ b.next
     pub few : b.next ≤ 256
     pub room : 288 ≤ length choice₀
@@ -59,9 +55,9 @@ module _ (σ : Settings) (shapes graph copied : List ℕ) (instructions : ℕ) (
   deciding h = record { low = omega arith; small = h; flagged = flag-none at.first choice₀; done = λ τ cross all w k d h. absurd (omega arith) }
 
   module _ (j : ℕ) (choice : List Bool) (inv : Deciding j choice) where
-    pub deciding-on : j < at.count → (flag : Bool) → Answers σ shapes graph copied instructions dynamic s b facts (at.first + j) flag → (choice' : List Bool) → choice' ≡ set choice (at.first + j) flag → Deciding (j + 1) choice'
+    pub deciding-on : j < at.count → (flag yes : Bool) → yes ≡ get_or looked j false → Answers σ shapes graph yes s b facts (at.first + j) flag → (choice' : List Bool) → choice' ≡ set choice (at.first + j) flag → Deciding (j + 1) choice'
     unfolding foldsIn
-    deciding-on h flag answers choice' e =
+    deciding-on h flag yes ey answers choice' e =
         record {
           low = omega arith;
           small = inv.small;
@@ -75,27 +71,13 @@ module _ (σ : Settings) (shapes graph copied : List ℕ) (instructions : ℕ) (
             let m : j < length all = omega (arith, w.standing.counted) in
             let r : at.first + j < length choice = omega (arith, w.room, inv.flagged.size, inv.small) in
             let o' : buildDest (get_or all j noInstruction).kind ≡ some d = rw z at o in
-            let x = answers τ cross (behindPhis all) (get_or all j noInstruction) d w.seen w.many w.next w.few (w.standing.code j m) o' (w.standing.once j d m o') in
+            let x = answers τ cross (behindPhis all) (get_or all j noInstruction) d w.seen w.next w.few (w.standing.code j m) o' (w.standing.once j d m o') (λ k. ey ∙ w.arrays.each j d m k o') in
             rw (e, z, get_or-set_same choice (at.first + j) flag false r, w.standing.once j d m o') x
         go τ cross all w k d l o false q =
             let n : k ≡ j → ⊥ = λ z. eqb-false k j q z in
             let m : k < j = omega (arith, n) in
             rw (e, get_or-set_other choice (at.first + j) (at.first + k) flag false (λ z. n (omega arith))) (inv.done τ cross all w k d m o)
 
-    pub decided-all : at.count ≤ j → (phis : ℕ) → PhisIn facts at.first at.count phis → instructions ≡ at.count - phis → DecidesAll σ shapes graph copied dynamic s b facts at choice₀ choice
-    decided-all h phis front is τ cross all st seen next few room k d m e =
-        let n : length (behindPhis all) ≡ instructions = ap length (front b s all st.code st.counted) ∙ length-drop phis all ∙ ap (λ (n : ℕ). n - phis) st.counted ∙ sym is in
-        inv.done τ cross all (record { standing = st; seen = seen; many = n; next = next; few = few; room = room }) k d (omega (arith, st.counted)) e
-
--- what the copies of a block are found by
-pub seen-from : (σ : Settings) (τ : Types) (cross : Marks) (all : List Instruction) (shapes graph copied : List ℕ) (clear dynamic eligible : List Bool)
-    → ShapesAt σ τ shapes eligible → Scanned σ τ cross (behindPhis all) graph → copies.Scanned copied clear dynamic τ all → clear ≡ replicate (length τ.recorded) false
-    → Seen σ τ cross (behindPhis all) shapes graph copied dynamic
-seen-from σ τ cross all shapes graph copied clear dynamic eligible f sc cp cl =
-    record {
-      eligible = eligible;
-      facts = f;
-      scanned = sc;
-      copied_all = rw (copies-behind τ all) at cp.copied_all;
-      looked = cp.dynamic-all ∙ rw cl (dynamics-behind τ (replicate (length τ.recorded) false) all);
-    }
+    pub decided-all : at.count ≤ j → DecidesAll σ shapes graph looked s b facts at choice₀ choice
+    decided-all h τ cross all st seen arrays next few room k d m e =
+        inv.done τ cross all (record { standing = st; seen = seen; arrays = arrays; next = next; few = few; room = room }) k d (omega (arith, st.counted)) e

@@ -27,7 +27,8 @@ use Rattle.fold_family.specs.Copies.{copy_of, copies, dynamics}
 use Rattle.fold_climb.specs.Decided.{Decided, FoldsBy}
 use Rattle.fold_climb.proofs.Found.{DestAt, dest, tuple-place, struct-place, array-place}
 use Rattle.fold_scan.specs.Noted.{destIn}
-use Rattle.fold_choose.specs.Chosen.{buildKind, LooksInto, Answers}
+use Rattle.fold_looked.proofs.Placed.{build-kind, build-at, build-place}
+use Rattle.fold_choose.specs.Chosen.{buildKind, Answers}
 
 neither : (t u : Bool) → (t || u) ≡ false → (t ≡ false) × (u ≡ false)
 neither true u h = absurd (true-false h)
@@ -56,44 +57,6 @@ fold-any σ τ cross is (MakeFixedArray d xs t c) v kind looked r h e o w l = le
 fold-any σ τ cross is (AssertEq x y) v kind looked r h e o w l = absurd (none-ne-some _ e)
 fold-any σ τ cross is (HeapAllocCells d x) v kind looked r h e o w l = absurd (none-ne-some _ e)
 
--- a build is one of three kinds
-build-kind : {P : Type 0} (i : InstructionKind) (v : ValueId) → buildDest i ≡ some v → (kindNumber i ≡ 10 → P) → (kindNumber i ≡ 12 → P) → (kindNumber i ≡ 16 → P) → P
-unfolding buildDest
-build-kind (Assign d x t) v e h10 h12 h16 = absurd (none-ne-some _ e)
-build-kind (UnaryOp op d x) v e h10 h12 h16 = absurd (none-ne-some _ e)
-build-kind (BinaryOp op d x y) v e h10 h12 h16 = absurd (none-ne-some _ e)
-build-kind (Call ds f xs ps rs) v e h10 h12 h16 = absurd (none-ne-some _ e)
-build-kind (Cast d x t u) v e h10 h12 h16 = absurd (none-ne-some _ e)
-build-kind (Load d p t) v e h10 h12 h16 = absurd (none-ne-some _ e)
-build-kind (Store p x t) v e h10 h12 h16 = absurd (none-ne-some _ e)
-build-kind (Debug n xs) v e h10 h12 h16 = absurd (none-ne-some _ e)
-build-kind Nop v e h10 h12 h16 = absurd (none-ne-some _ e)
-build-kind (Phi d t ss) v e h10 h12 h16 = absurd (none-ne-some _ e)
-build-kind (MakeTuple d xs) v e h10 h12 h16 = h10 refl
-build-kind (ExtractTupleElement d x k t) v e h10 h12 h16 = absurd (none-ne-some _ e)
-build-kind (MakeStruct d fs t) v e h10 h12 h16 = h12 refl
-build-kind (ExtractStructField d x n t) v e h10 h12 h16 = absurd (none-ne-some _ e)
-build-kind (InsertField d x n y t) v e h10 h12 h16 = absurd (none-ne-some _ e)
-build-kind (InsertTuple d x k y t) v e h10 h12 h16 = absurd (none-ne-some _ e)
-build-kind (MakeFixedArray d xs t c) v e h10 h12 h16 = h16 refl
-build-kind (AssertEq x y) v e h10 h12 h16 = absurd (none-ne-some _ e)
-build-kind (HeapAllocCells d x) v e h10 h12 h16 = absurd (none-ne-some _ e)
-
--- its dest is its first field
-data BuildAt (b : Bounds) (s facts : List ℕ) (slot : ℕ) (v : ValueId) : Type 0 where
-  build-at : v.0 ≡ destIn s facts slot → v.0 < b.next → BuildAt b s facts slot v
-
-from_place : (b : Bounds) (s facts : List ℕ) (slot : ℕ) (i : InstructionKind) (v : ValueId) → buildDest i ≡ some v → DestAt b.next (drop (fieldsPlace (drop (place_in facts slot) s)) (drop (place_in facts slot) s)) i → BuildAt b s facts slot v
-from_place b s facts slot i v h (dest w g a low) = let z : w ≡ v = cc in build-at (rw z at a) (rw z at low)
-
-build-place : (b : Bounds) (s facts : List ℕ) (slot : ℕ) (i : Instruction) (v : ValueId) → InstructionIn b s facts slot i → buildDest i.kind ≡ some v → BuildAt b s facts slot v
-build-place b s facts slot i v at h =
-    let t = drop (place_in facts slot) s in
-    build-kind i.kind v h
-    (λ z. from_place b s facts slot i.kind v h (tuple-place b [] false t i _ at.read z))
-    (λ z. from_place b s facts slot i.kind v h (struct-place b [] false t i _ at.read z))
-    (λ z. from_place b s facts slot i.kind v h (array-place b [] false t i _ at.read z))
-
 -- an instruction of another kind is no build
 pub no-build : (i : InstructionKind) (v : ValueId) (kind : ℕ) → kind ≡ kindNumber i → buildKind kind ≡ false → buildDest i ≡ some v → ⊥
 no-build i v kind k f h =
@@ -101,59 +64,17 @@ no-build i v kind k f h =
     let u = neither (eqb kind 12) (eqb kind 16) w.1 in
     build-kind i v h (λ z. true-false (sym (eq-eqb kind 10 (k ∙ z)) ∙ w.0)) (λ z. true-false (sym (eq-eqb kind 12 (k ∙ z)) ∙ u.0)) (λ z. true-false (sym (eq-eqb kind 16 (k ∙ z)) ∙ u.1))
 
--- a phi copies nothing and looks into nothing
-phi-plain : (τ : Types) (i : InstructionKind) → isPhi i ≡ true → (copy_of τ i ≡ none) × (accessed i ≡ none)
-unfolding accessed
-phi-plain τ (Assign d x t) h = absurd (true-false (sym h))
-phi-plain τ (UnaryOp op d x) h = absurd (true-false (sym h))
-phi-plain τ (BinaryOp op d x y) h = absurd (true-false (sym h))
-phi-plain τ (Call ds f xs ps rs) h = absurd (true-false (sym h))
-phi-plain τ (Cast d x t u) h = absurd (true-false (sym h))
-phi-plain τ (Load d p t) h = absurd (true-false (sym h))
-phi-plain τ (Store p x t) h = absurd (true-false (sym h))
-phi-plain τ (Debug n xs) h = absurd (true-false (sym h))
-phi-plain τ Nop h = absurd (true-false (sym h))
-phi-plain τ (Phi d t ss) h = (refl, refl)
-phi-plain τ (MakeTuple d xs) h = absurd (true-false (sym h))
-phi-plain τ (ExtractTupleElement d x k t) h = absurd (true-false (sym h))
-phi-plain τ (MakeStruct d fs t) h = absurd (true-false (sym h))
-phi-plain τ (ExtractStructField d x n t) h = absurd (true-false (sym h))
-phi-plain τ (InsertField d x n y t) h = absurd (true-false (sym h))
-phi-plain τ (InsertTuple d x k y t) h = absurd (true-false (sym h))
-phi-plain τ (MakeFixedArray d xs t c) h = absurd (true-false (sym h))
-phi-plain τ (AssertEq x y) h = absurd (true-false (sym h))
-phi-plain τ (HeapAllocCells d x) h = absurd (true-false (sym h))
-
-pub copies-behind : (τ : Types) (is : List Instruction) → copies τ is ≡ copies τ (behindPhis is)
-unfolding copies behindPhis
-copies-behind τ [] = refl
-copies-behind τ (i ∷ is) = go (copies-behind τ is) (isPhi i.kind) refl
-  where
-    go : copies τ is ≡ copies τ (behindPhis is) → (b : Bool) → isPhi i.kind ≡ b → copies τ (i ∷ is) ≡ copies τ (cond b (behindPhis is) (i ∷ is))
-    go ih true e = rw (phi-plain τ i.kind e).0 ih
-    go ih false e = refl
-
-pub dynamics-behind : (τ : Types) (m : Marks) (is : List Instruction) → dynamics m is ≡ dynamics m (behindPhis is)
-unfolding dynamics behindPhis
-dynamics-behind τ m [] = refl
-dynamics-behind τ m (i ∷ is) = go (dynamics-behind τ m is) (isPhi i.kind) refl
-  where
-    go : dynamics m is ≡ dynamics m (behindPhis is) → (b : Bool) → isPhi i.kind ≡ b → dynamics m (i ∷ is) ≡ dynamics m (cond b (behindPhis is) (i ∷ is))
-    go ih true e = rw (phi-plain τ i.kind e).1 ih
-    go ih false e = refl
-
-module _ (σ : Settings) (shapes graph copied : List ℕ) (instructions : ℕ) (dynamic : List Bool) (s : List ℕ) (b : Bounds) (facts : List ℕ) (slot kind : ℕ) (ks : kind ≡ kindIn facts slot) where
-  pub decided : (d : ℕ) → d ≡ destIn s facts slot → (shp : ℕ) → shp ≡ get_or shapes d 0 → (looked : Bool) → (kind ≡ 16 → LooksInto b.next copied instructions shp (record { 0 = d }) dynamic looked) → (r : Bool) → FoldsBy σ shapes graph (record { 0 = d }) kind looked r → Answers σ shapes graph copied instructions dynamic s b facts slot r
-  decided d ds shp ss looked looks r folds τ cross is i v seen many l few at h o =
+module _ (σ : Settings) (shapes graph : List ℕ) (looked : Bool) (s : List ℕ) (b : Bounds) (facts : List ℕ) (slot kind : ℕ) (ks : kind ≡ kindIn facts slot) where
+  pub decided : (d : ℕ) → d ≡ destIn s facts slot → (r : Bool) → FoldsBy σ shapes graph (record { 0 = d }) kind looked r → Answers σ shapes graph looked s b facts slot r
+  decided d ds r folds τ cross is i v seen l few at h o looks =
       elim (build-place b s facts slot i v at h) [
         | build-at a low ↦
             let q : d ≡ v.0 = ds ∙ sym a in
             let z : record { 0 = d } ≡ v = ap (λ (x : ℕ). record { 0 = x }) q in
             let x : d < length τ.recorded = rw (q, l) low in
             let dec = rw z at (folds τ cross is seen.eligible seen.facts seen.scanned (rw l few) x) in
-            fold-any σ τ cross is i.kind v kind looked r (ks ∙ at.kind) h o dec
-            (λ k. rw z at (looks k τ is l few seen.copied_all many (ss ∙ seen.facts.shaped d x) seen.looked))
+            fold-any σ τ cross is i.kind v kind looked r (ks ∙ at.kind) h o dec (λ k. looks (sym at.kind ∙ sym ks ∙ k))
       ]
 
-  pub decided-none : (build : Bool) → build ≡ buildKind kind → build ≡ false → Answers σ shapes graph copied instructions dynamic s b facts slot false
-  decided-none build bs f τ cross is i v seen many l few at h o = absurd (no-build i.kind v kind (ks ∙ at.kind) (sym bs ∙ f) h)
+  pub decided-none : (build : Bool) → build ≡ buildKind kind → build ≡ false → Answers σ shapes graph looked s b facts slot false
+  decided-none build bs f τ cross is i v seen l few at h o looks = absurd (no-build i.kind v kind (ks ∙ at.kind) (sym bs ∙ f) h)

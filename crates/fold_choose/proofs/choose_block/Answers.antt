@@ -1,7 +1,6 @@
-use Rattle.std.proofs.Common.{ℕ, ◌+◌, false, arith}
-use mathlib.Core.Path.{ap, sym, ◌∙◌}
-use lib.ListN.{replicate}
-use Rattle.bytes_sections.proofs.Body.{take-clear}
+use Rattle.std.proofs.Common.{◌+◌, ◌≤◌, arith}
+use mathlib.Core.Bool.{false}
+use lib.ListN.{replicate, length-replicate}
 use Rattle.fold_choose.proofs.Buildless.{none-built}
 use Rattle.fold_choose.proofs.choose_block.Goals as goal
 
@@ -16,5 +15,7 @@ pub returns-clause-decides_block : goal.returns-clause-decides_block
 returns-clause-decides_block c =
     let a = c.args in
     λ τ all g f st room long.
-    c.choose_copies.ensures.decides_copies τ a.cross.now a.eligible.now all g f st (c.fill_graph.ensures τ all g f st room)
-    (take-clear a.b.next 256 c.if-n-gt-VALUES.false ∙ ap (λ (m : ℕ). replicate m false) (sym g.values)) long
+    c.decide_all.ensures.decides_all τ a.cross.now all st
+    (record { eligible = a.eligible.now; facts = f; scanned = c.fill_graph.ensures τ all g f st room })
+    (c.fill_looked.ensures a.settings τ all a.eligible.now g f st.code st.counted st.few (omega (arith, length-replicate 128 false)))
+    g.values g.few long

@@ -1,17 +1,15 @@
-use mathlib.Core.Path.{refl}
 use Rattle.fold_choose.proofs.Flags.{deciding-on, decided-all}
 use Rattle.fold_choose.proofs.decide_all.Goals as goal
 
 pub loop-j-preserved : goal.loop-j-preserved
 loop-j-preserved c =
     let a = c.args in
-    deciding-on a.settings a.shapes.now a.graph.now a.copies.now _ a.dynamic.now a.s.now a.b a.facts.now a.at
-    a.choice.now c.loop-j.j c.loop-j.choice c.loop-j.invariant c.loop-j-test.true c.decide_one-yes.result c.decide_one-yes.ensures
-    c.set_flag.new.l c.set_flag.ensures
+    deciding-on a.settings a.shapes.now a.graph.now a.looked.now a.s.now a.b a.facts.now a.at
+    a.choice.now c.loop-j.j c.loop-j.choice c.loop-j.invariant c.loop-j-test.true c.decide_one-yes.result c.flag.result c.flag.ensures
+    c.decide_one-yes.ensures c.set_flag.new.l c.set_flag.ensures
 
 pub returns-clause-decides_all : goal.returns-clause-decides_all
 returns-clause-decides_all c =
     let a = c.args in
-    decided-all a.settings a.shapes.now a.graph.now a.copies.now _ a.dynamic.now a.s.now a.b a.facts.now a.at
+    decided-all a.settings a.shapes.now a.graph.now a.looked.now a.s.now a.b a.facts.now a.at
     a.choice.now c.loop-j.j c.loop-j.choice c.loop-j.invariant c.loop-j-test.false
-    c.phi_count.result c.phi_count.ensures.1 refl

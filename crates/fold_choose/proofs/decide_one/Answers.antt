@@ -4,12 +4,11 @@ use Rattle.fold_choose.proofs.decide_one.Goals as goal
 pub returns-then-not-is_build : goal.returns-then-not-is_build
 returns-then-not-is_build c =
     let a = c.args in
-    decided-none a.settings a.shapes.now a.graph.now a.copies.now a.instructions a.dynamic.now a.s.now a.b
-    a.facts.now a.slot c.kind-kind.result c.kind-kind.ensures c.is_build.result c.is_build.ensures c.if-not-is_build.true
+    decided-none a.settings a.shapes.now a.graph.now a.looked a.s.now a.b a.facts.now a.slot c.kind-kind.result c.kind-kind.ensures
+    c.is_build.result c.is_build.ensures c.if-not-is_build.true
 
 pub returns : goal.returns
 returns c =
     let a = c.args in
-    decided a.settings a.shapes.now a.graph.now a.copies.now a.instructions a.dynamic.now a.s.now a.b
-    a.facts.now a.slot c.kind-kind.result c.kind-kind.ensures c.dest-v.result.0 c.dest-v.ensures c.byte_at-shape.result c.byte_at-shape.ensures
-    c.looked_into-looked.result c.looked_into-looked.ensures c.folds.result c.folds.ensures
+    decided a.settings a.shapes.now a.graph.now a.looked a.s.now a.b a.facts.now a.slot c.kind-kind.result c.kind-kind.ensures
+    c.dest-v.result.0 c.dest-v.ensures c.folds.result c.folds.ensures

@@ -1,87 +1,161 @@
 -- The scan of a block: its copies, noted one after another.
-use Prim.Native.Nat.{ℕ, ◌+◌, ◌*◌, ◌-◌, ◌≤◌, ◌<◌, zero-le}
-use mathlib.Core.Path.{◌≡◌, refl, ap, ◌∙◌, sym}
+use Prim.Native.Nat.{ℕ, zero, suc, ◌+◌, ◌*◌, ◌-◌, ◌≤◌, ◌<◌, zero-le}
+use mathlib.Core.Path.{◌≡◌, refl, ap, ◌∙◌, sym, subst}
 use mathlib.Core.List.{List, [], ◌∷◌, ◌++◌, append_assoc, append-nil}
 use mathlib.Core.Option.{Option, none, some}
-use mathlib.Core.Logic.{⊎_elim}
-use native.Mathlib.Nat.{eq-or-lt_of_le}
+use mathlib.Core.Bool.{Bool, true, false, cond}
+use mathlib.Core.Logic.{◌⊎◌, inl, inr, ⊎_elim}
+use native.Mathlib.Nat.{add-zero}
 use native.Mathlib.Numerals.{add-one}
 use native.Mathlib.Omega.{arith}
-use lib.ListN.{length, get_or, set, drop, length-append, length-set, get_or-append}
+use borrow.Author.Tests.{eqb-true, eqb-false}
+use lib.Dec.{eqb}
+use lib.ListN.{length, get_or, set, drop, replicate, length-append, length-set, length-replicate, get_or-append}
 use lib.Seq.{get_or-set_same, get_or-set_other, get_or_at, drop-cons, drop-length}
+use Rattle.std.proofs.lemmas.List.{get_or-replicate}
 use Rattle.mir.specs.Syntax.{Instruction}
 use Rattle.bytes_field.specs.declared.Bounds.{Bounds}
 use Rattle.bytes_index.specs.Table.{place_in, end_in, kindIn}
 use Rattle.bytes_index.specs.Code.{noInstruction, InstructionIn, InstructionsIn}
 use Rattle.bytes_types.specs.Index.{TypesAt}
 use Rattle.mir.specs.Lookup.{Types}
+use Rattle.mir.specs.Most.{mostValues, mostInstructions}
 use Rattle.fold.specs.Family.{Marks, accessed}
-use Rattle.fold_family.specs.Copies.{Copy, copy_of, before, copies, copyIn, noCopy, CopiesAt, CopiesIn, dynamicPlace, dynamics}
+use Rattle.fold_family.specs.Copies.{Copy, noCopy, copy_of, before, copies, last, rowAt, firstsAt, tableSize, RowsAt, dynamicPlace, dynamics}
+use Rattle.fold_family.proofs.Rows.{newest}
 use Rattle.fold_copies.specs.Found.{Headed, ScanCopies, CopyFound, CopyNoted, DynamicNoted}
 
--- copies are the same where their parts are
-same_copy : {a b d e j k : ℕ} → a ≡ b → d ≡ e → j ≡ k → ◌≡◌ {A = Copy} (record { source = a; dest = d; asked = j }) (record { source = b; dest = e; asked = k })
-same_copy p q r = rw (p, q, r)
+-- the last row of a value among some copies, with another behind them: those in front tell it, or it is the new one
+last-front : (cs : List Copy) (c : Copy) (v e : ℕ) → e ≤ length cs → last (cs ++ (c ∷ [])) v e ≡ last cs v e
+unfolding last
+last-front cs c v zero h = refl
+last-front cs c v (suc j) h =
+    rw (get_or-append cs (c ∷ []) noCopy j (omega arith), last-front cs c v j (omega arith)) refl
+
+last-new : (cs : List Copy) (c : Copy) (v : ℕ) → last (cs ++ (c ∷ [])) v (suc (length cs)) ≡ cond (eqb c.source v) (suc (length cs)) (last cs v (length cs))
+unfolding last
+last-new cs c v =
+    rw (get_or_at cs c [] noCopy (length cs) refl, last-front cs c v (length cs) (omega arith)) refl
 
 -- one more copy
-module _ (l : List ℕ) (n : ℕ) (cs : List Copy) (c : Copy) (a : CopiesAt l n cs) (room : 3 + 3 * n < length l) where
+module _ (l : List ℕ) (n : ℕ) (cs : List Copy) (c : Copy) (a : RowsAt l cs) (many : length cs ≡ n) (room : length l ≡ tableSize) (low : n < mostInstructions) where
   abbrev l₁ : List ℕ
-  l₁ = set l (1 + 3 * n) c.source
+  l₁ = set l (rowAt n) c.dest
 
   abbrev l₂ : List ℕ
-  l₂ = set l₁ (2 + 3 * n) c.dest
+  l₂ = set l₁ (rowAt n + 1) c.asked
 
-  kept : (j : ℕ) → j ≤ 3 * n → get_or (set l₂ (3 + 3 * n) c.asked) j 0 ≡ get_or l j 0
-  kept j h =
-      get_or-set_other l₂ (3 + 3 * n) j c.asked 0 (λ z. omega arith)
-      ∙ get_or-set_other l₁ (2 + 3 * n) j c.dest 0 (λ z. omega arith)
-      ∙ get_or-set_other l (1 + 3 * n) j c.source 0 (λ z. omega arith)
+  abbrev l₃ : List ℕ
+  l₃ = set l₂ (rowAt n + 2) (get_or l₂ (firstsAt + c.source) 0)
 
-  new : copyIn (set l₂ (3 + 3 * n) c.asked) n ≡ c
-  new =
-      let r₁ : 2 + 3 * n < length l₁ = omega (arith, length-set l (1 + 3 * n) c.source) in
-      let r₂ : 3 + 3 * n < length l₂ = omega (arith, length-set l (1 + 3 * n) c.source, length-set l₁ (2 + 3 * n) c.dest) in
-      same_copy
-      (get_or-set_other l₂ (3 + 3 * n) (1 + 3 * n) c.asked 0 (λ z. omega arith) ∙ get_or-set_other l₁ (2 + 3 * n) (1 + 3 * n) c.dest 0 (λ z. omega arith) ∙ get_or-set_same l (1 + 3 * n) c.source 0 (omega arith))
-      (get_or-set_other l₂ (3 + 3 * n) (2 + 3 * n) c.asked 0 (λ z. omega arith) ∙ get_or-set_same l₁ (2 + 3 * n) c.dest 0 r₁)
-      (get_or-set_same l₂ (3 + 3 * n) c.asked 0 r₂)
+  abbrev l₄ : List ℕ
+  l₄ = set l₃ (firstsAt + c.source) (n + 1)
 
-  pub copies-more : {a₁ a₂ a₃ : List ℕ} → a₁ ≡ l₁ → a₂ ≡ set a₁ (2 + 3 * n) c.dest → a₃ ≡ set a₂ (3 + 3 * n) c.asked → CopiesAt a₃ (n + 1) (cs ++ (c ∷ []))
-  copies-more e₁ e₂ e₃ =
-      rw (e₃, e₂, e₁) record {
-        many = omega (arith, length-append cs (c ∷ []), a.many);
-        each = λ k h.
-            let y : k ≤ n = omega arith in
-            ⊎_elim
-            (λ q. ap (λ x. copyIn (set l₂ (3 + 3 * n) c.asked) x) q ∙ new ∙ sym (ap (λ x. get_or (cs ++ (c ∷ [])) x noCopy) q ∙ get_or_at cs c [] noCopy n (sym a.many)))
-            (λ q.
-            let m : k < length cs = omega (arith, a.many) in
-            same_copy (kept (1 + 3 * k) (omega arith)) (kept (2 + 3 * k) (omega arith)) (kept (3 + 3 * k) (omega arith))
-            ∙ a.each k q
-            ∙ sym (get_or-append cs (c ∷ []) noCopy k m))
-            (eq-or-lt_of_le y);
+  -- the numbers that are not written
+  kept : (j : ℕ) → (j < rowAt n) ⊎ (firstsAt ≤ j) → (j ≡ firstsAt + c.source → ⊥) → get_or l₄ j 0 ≡ get_or l j 0
+  kept j h o =
+      get_or-set_other l₃ (firstsAt + c.source) j (n + 1) 0 o
+      ∙ get_or-set_other l₂ (rowAt n + 2) j (get_or l₂ (firstsAt + c.source) 0) 0 (λ z. ⊎_elim (λ y. omega arith) (λ y. omega arith) h)
+      ∙ get_or-set_other l₁ (rowAt n + 1) j c.asked 0 (λ z. ⊎_elim (λ y. omega arith) (λ y. omega arith) h)
+      ∙ get_or-set_other l (rowAt n) j c.dest 0 (λ z. ⊎_elim (λ y. omega arith) (λ y. omega arith) h)
+
+  -- the last row of the source so far
+  head : get_or l₂ (firstsAt + c.source) 0 ≡ get_or l (firstsAt + c.source) 0
+  head =
+      get_or-set_other l₁ (rowAt n + 1) (firstsAt + c.source) c.asked 0 (λ z. omega arith)
+      ∙ get_or-set_other l (rowAt n) (firstsAt + c.source) c.dest 0 (λ z. omega arith)
+
+  -- the new row
+  new-dest : get_or l₄ (rowAt n) 0 ≡ c.dest
+  new-dest =
+      get_or-set_other l₃ (firstsAt + c.source) (rowAt n) (n + 1) 0 (λ z. omega arith)
+      ∙ get_or-set_other l₂ (rowAt n + 2) (rowAt n) (get_or l₂ (firstsAt + c.source) 0) 0 (λ z. omega arith)
+      ∙ get_or-set_other l₁ (rowAt n + 1) (rowAt n) c.asked 0 (λ z. omega arith)
+      ∙ get_or-set_same l (rowAt n) c.dest 0 (omega (arith, room))
+
+  new-asked : get_or l₄ (rowAt n + 1) 0 ≡ c.asked
+  new-asked =
+      get_or-set_other l₃ (firstsAt + c.source) (rowAt n + 1) (n + 1) 0 (λ z. omega arith)
+      ∙ get_or-set_other l₂ (rowAt n + 2) (rowAt n + 1) (get_or l₂ (firstsAt + c.source) 0) 0 (λ z. omega arith)
+      ∙ get_or-set_same l₁ (rowAt n + 1) c.asked 0 (omega (arith, room, length-set l (rowAt n) c.dest))
+
+  new-next : get_or l₄ (rowAt n + 2) 0 ≡ get_or l (firstsAt + c.source) 0
+  new-next =
+      get_or-set_other l₃ (firstsAt + c.source) (rowAt n + 2) (n + 1) 0 (λ z. omega arith)
+      ∙ get_or-set_same l₂ (rowAt n + 2) (get_or l₂ (firstsAt + c.source) 0) 0 (omega (arith, room, length-set l (rowAt n) c.dest, length-set l₁ (rowAt n + 1) c.asked))
+      ∙ head
+
+  abbrev all : List Copy
+  all = cs ++ (c ∷ [])
+
+  counted : length all ≡ suc n
+  counted = omega (arith, length-append cs (c ∷ []), many)
+
+  -- what holds of each row
+  each : (P : ℕ → Copy → Type 0) → ((k : ℕ) → k < length cs → P k (get_or cs k noCopy)) → P n c → (k : ℕ) → k < length all → P k (get_or all k noCopy)
+  each P old new k h =
+      ⊎_elim
+      (λ q. subst (λ j. P j (get_or all j noCopy)) (sym q) (subst (P n) (sym (get_or_at cs c [] noCopy n many)) new))
+      (λ q. let m : k < length cs = omega (arith, many) in subst (P k) (sym (get_or-append cs (c ∷ []) noCopy k m)) (old k m))
+      (newest k n (omega (arith, counted)))
+
+  rows-first : (v : ℕ) → v < mostValues → (b : Bool) → eqb c.source v ≡ b → get_or l₄ (firstsAt + v) 0 ≡ last all v (length all)
+  rows-first v h true e =
+      let z : c.source ≡ v = eqb-true c.source v e in
+      ap (λ x. get_or l₄ (firstsAt + x) 0) (sym z)
+      ∙ get_or-set_same l₃ (firstsAt + c.source) (n + 1) 0
+        (omega (arith, room, length-set l (rowAt n) c.dest, length-set l₁ (rowAt n + 1) c.asked, length-set l₂ (rowAt n + 2) (get_or l₂ (firstsAt + c.source) 0)))
+      ∙ omega (arith, many)
+      ∙ sym (ap (λ b. cond b (suc (length cs)) (last cs v (length cs))) e)
+      ∙ sym (last-new cs c v)
+      ∙ ap (λ x. last all v x) (ap suc many ∙ sym counted)
+  rows-first v h false e =
+      kept (firstsAt + v) (inr (omega arith)) (λ z. eqb-false c.source v e (omega arith))
+      ∙ a.first v h
+      ∙ sym (ap (λ b. cond b (suc (length cs)) (last cs v (length cs))) e)
+      ∙ sym (last-new cs c v)
+      ∙ ap (λ x. last all v x) (ap suc many ∙ sym counted)
+
+  rows-next : (v : ℕ) (k : ℕ) → k < length all → (get_or all k noCopy).source ≡ v → v < mostValues → get_or l₄ (rowAt k + 2) 0 ≡ last all v k
+  rows-next v =
+      each (λ k x. x.source ≡ v → v < mostValues → get_or l₄ (rowAt k + 2) 0 ≡ last all v k)
+      (λ k h s w. kept (rowAt k + 2) (inl (omega (arith, many))) (λ z. omega (arith, many)) ∙ a.next k v h s w ∙ sym (last-front cs c v k (omega arith)))
+      (λ s w.
+      new-next ∙ ap (λ x. get_or l (firstsAt + x) 0) s ∙ a.first v w ∙ ap (λ x. last cs v x) many ∙ sym (last-front cs c v n (omega (arith, many))))
+
+  rows-all : RowsAt l₄ all
+  rows-all =
+      record {
+        dest = each (λ k x. get_or l₄ (rowAt k) 0 ≡ x.dest) (λ k h. kept (rowAt k) (inl (omega (arith, many))) (λ z. omega (arith, many)) ∙ a.dest k h) new-dest;
+        asked = each (λ k x. get_or l₄ (rowAt k + 1) 0 ≡ x.asked) (λ k h. kept (rowAt k + 1) (inl (omega (arith, many))) (λ z. omega (arith, many)) ∙ a.asked k h) new-asked;
+        next = λ k v h s w. rows-next v k h s w;
+        first = λ v h. rows-first v h (eqb c.source v) refl;
       }
 
--- none
-pub copies-same : (l : List ℕ) (n : ℕ) (cs : List Copy) → CopiesAt l n cs → CopiesAt l n (cs ++ [])
-copies-same l n cs a = rw append-nil a
+  pub rows-more : {a₁ a₂ a₃ a₄ : List ℕ} {x : ℕ} → a₁ ≡ set l (rowAt n + 0) c.dest → a₂ ≡ set a₁ (rowAt n + 1) c.asked → x ≡ get_or a₂ (firstsAt + c.source) 0 → a₃ ≡ set a₂ (rowAt n + 2) x
+      → a₄ ≡ set a₃ (firstsAt + c.source) (n + 1) → RowsAt a₄ all × (length all ≡ n + 1)
+  rows-more e₁ e₂ ex e₃ e₄ = (rw (e₄, e₃, ex, e₂, e₁, add-zero) rows-all, omega (arith, counted))
 
--- their number is noted
-copies-counted : (l : List ℕ) (n : ℕ) (cs : List Copy) → CopiesAt l n cs → 0 < length l → CopiesIn (set l 0 n) cs
-copies-counted l n cs a h =
-    let e : get_or (set l 0 n) 0 0 ≡ n = get_or-set_same l 0 n 0 h in
-    rw e record {
-      many = a.many;
-      each = λ k q. same_copy (other (1 + 3 * k) (λ z. omega arith)) (other (2 + 3 * k) (λ z. omega arith)) (other (3 + 3 * k) (λ z. omega arith)) ∙ a.each k q;
+-- none
+pub rows-same : (l : List ℕ) (n : ℕ) (cs : List Copy) → RowsAt l cs → length cs ≡ n → RowsAt l (cs ++ []) × (length (cs ++ []) ≡ n)
+rows-same l n cs a h = (rw append-nil a, rw append-nil h)
+
+-- a clear table has no rows
+rows-none : RowsAt (replicate tableSize 0) []
+unfolding last
+rows-none =
+    record {
+      dest = λ k h. absurd (omega arith);
+      asked = λ k h. absurd (omega arith);
+      next = λ k v h s w. absurd (omega arith);
+      first = λ v h. get_or-replicate {A = ℕ} tableSize (firstsAt + v) 0 0 (omega arith);
     }
-  where
-    other : (j : ℕ) → (j ≡ 0 → ⊥) → get_or (set l 0 n) j 0 ≡ get_or l j 0
-    other j q = get_or-set_other l 0 j n 0 q
 
 -- k instructions of a block are behind
 pub record Left (τ : Types) (is : List Instruction) (l : List ℕ) (n : ℕ) (dyn₀ dyn : Marks) (k : ℕ) : Type 0 where
   pub done : List Copy
-  pub noted : CopiesAt l n done
+  pub noted : RowsAt l done
+  pub many : length done ≡ n
   pub rest : copies τ is ≡ done ++ copies τ (drop k is)
   pub dynamic : dynamics dyn₀ is ≡ dynamics dyn (drop k is)
 
@@ -95,7 +169,7 @@ left-more : (τ : Types) (is : List Instruction) (l : List ℕ) (n : ℕ) (dyn�
     → k < length is
     → (o : Option Copy)
     → o ≡ copy_of τ (get_or is k noInstruction).kind
-    → ((cs : List Copy) → CopiesAt l n cs → CopiesAt l' n' (cs ++ before o []))
+    → ((cs : List Copy) → RowsAt l cs → length cs ≡ n → RowsAt l' (cs ++ before o []) × (length (cs ++ before o []) ≡ n'))
     → dyn' ≡ dynamicPlace dyn (accessed (get_or is k noInstruction).kind)
     → Left τ is l n dyn₀ dyn k
     → Left τ is l' n' dyn₀ dyn' (k + 1)
@@ -104,7 +178,8 @@ left-more τ is l n dyn₀ dyn k l' n' dyn' h o eo f ed u =
     let e : drop k is ≡ get_or is k noInstruction ∷ drop (k + 1) is = rw (add-one k) (drop-cons is k noInstruction h) in
     record {
       done = u.done ++ before o [];
-      noted = f u.done u.noted;
+      noted = (f u.done u.noted u.many).0;
+      many = (f u.done u.noted u.many).1;
       rest = u.rest ∙ ap (λ x. u.done ++ copies τ x) e ∙ ap (λ x. u.done ++ before x (copies τ (drop (k + 1) is))) (sym eo) ∙ grouped u.done o (copies τ (drop (k + 1) is));
       dynamic = u.dynamic ∙ ap (λ x. dynamics dyn x) e ∙ ap (λ x. dynamics x (drop (k + 1) is)) (sym ed);
     }
@@ -125,7 +200,7 @@ module _ (s : List ℕ) (b : Bounds) (facts : List ℕ) (first count : ℕ) (l�
     pub at : row ≡ 387 + 20 * (first + k)
     pub long : length l ≡ length l₀
     pub long-dyn : length dyn ≡ length dyn₀
-    pub left : (most : ℕ) (τ : Types) (is : List Instruction) → TypesAt most s facts τ.rows → length τ.rows ≡ b.types → InstructionsIn b s facts first is → length is ≡ count → 1 + 3 * count ≤ length l₀ → Left τ is l n dyn₀ dyn k
+    pub left : (most : ℕ) (τ : Types) (is : List Instruction) → TypesAt most s facts τ.rows → length τ.rows ≡ b.types → InstructionsIn b s facts first is → length is ≡ count → l₀ ≡ replicate tableSize 0 → Left τ is l n dyn₀ dyn k
 
   pub scan-start : (row : ℕ) → row ≡ 387 + 20 * first + 0 → Scanning l₀ dyn₀ 0 0 row
   scan-start row e =
@@ -135,7 +210,7 @@ module _ (s : List ℕ) (b : Bounds) (facts : List ℕ) (first count : ℕ) (l�
         at = omega arith;
         long = refl;
         long-dyn = refl;
-        left = λ most τ is a m p q r. record { done = []; noted = record { many = refl; each = λ k h. absurd (omega arith) }; rest = refl; dynamic = refl };
+        left = λ most τ is a m p q r. record { done = []; noted = rw r rows-none; many = refl; rest = refl; dynamic = refl };
       }
 
   pub scan-again : (l : List ℕ) (dyn : Marks) (n k row : ℕ) (l' : List ℕ) (dyn' : Marks) (n' kind at : ℕ) (t : List ℕ) (o : Option Copy)
@@ -161,18 +236,18 @@ module _ (s : List ℕ) (b : Bounds) (facts : List ℕ) (first count : ℕ) (l�
         left = λ most τ is a m p q r.
             let g : k < length is = omega arith in
             let i = headed b s facts (first + k) row (get_or is k noInstruction) kind at t u.at ek ea et (p k g) in
-            left-more τ is l n dyn₀ dyn k l' n' dyn' g o (ec most τ _ a m i) (λ cs z. ef cs z (omega (arith, u.few, u.long))) (ey _ i) (u.left most τ is a m p q r);
+            left-more τ is l n dyn₀ dyn k l' n' dyn' g o (ec most τ _ a m i) (λ cs z w. ef cs z w (u.long ∙ ap length r ∙ length-replicate {A = ℕ} tableSize 0)) (ey _ i) (u.left most τ is a m p q r);
       }
 
   -- all are behind
-  pub scan-done : (l : List ℕ) (dyn : Marks) (n k row : ℕ) {l' : List ℕ} → Scanning l dyn n k row → count ≤ k → l' ≡ set l 0 n → ScanCopies s b facts first count l₀ l' dyn₀ dyn
+  pub scan-done : (l : List ℕ) (dyn : Marks) (n k row : ℕ) → Scanning l dyn n k row → count ≤ k → ScanCopies s b facts first count l₀ l dyn₀ dyn
   unfolding copies dynamics
-  scan-done l dyn n k row u h el most τ is a m p q r =
+  scan-done l dyn n k row u h most τ is a m p q w r =
       let f = u.left most τ is a m p q r in
       let z : k ≡ length is = omega (arith, u.under) in
       let e : drop k is ≡ [] = rw z (drop-length is) in
       let g : copies τ is ≡ f.done = f.rest ∙ ap (λ y. f.done ++ copies τ y) e ∙ append-nil f.done in
       record {
-        copied_all = rw (el, g) (copies-counted l n f.done f.noted (omega (arith, u.long)));
+        copied_all = rw g f.noted;
         dynamic-all = sym (f.dynamic ∙ ap (λ y. dynamics dyn y) e);
       }

@@ -2,7 +2,7 @@
 // index that is not known.
 #![tactic(auto)]
 
-ghost use Rattle.std.specs.Prelude.{◌≡◌, cond, ◌<◌, eqb};
+ghost use Rattle.std.specs.Prelude.{◌≡◌, cond, ◌+◌, ◌≤◌, ◌<◌, eqb};
 ghost use Rattle.bytes_operands.specs.Fields.{asStep};
 ghost use Rattle.mir.specs.Lookup.{isInteger};
 ghost use Rattle.mir.specs.Most.{mostInstructions};
@@ -81,7 +81,8 @@ fn copy_at(s: &[u8], b: Bounds, types: &[u16], t: &[u8], kind: u16) -> CopyRead
 // Notes a copy behind `n` others: its row goes in front of the last one of the same source. How many copies there are then.
 fn note_copy(c: CopyRead, n: u16, copies: &mut [u16]) -> u16
     requires { n < mostInstructions }
-    ensures { CopyNoted (asCopy c) n result copies.old copies.new }
+    ensures few { result ≤ n + 1 }
+    ensures noted { CopyNoted (asCopy c) n result copies.old copies.new }
 {
     match c {
         CopyRead::Nothing => n,

@@ -2,11 +2,12 @@
 use Prim.Native.Nat.{ℕ, ◌<◌}
 use mathlib.Core.Path.{◌≡◌, refl, ap, ◌∙◌, sym}
 use mathlib.Core.List.{List, []}
-use mathlib.Core.Bool.{Bool, true, false, not}
+use mathlib.Core.Bool.{Bool, true, false, cond, not, true≢false}
 use mathlib.Core.Logic.{◌⊎◌, inl, inr, ⊎_elim}
 use mathlib.Core.Option.{Option, none, some}
 use native.Mathlib.Omega.{arith}
-use lib.ListN.{length, get_or, set, drop, replicate, length-set, length-replicate}
+use lib.ListN.{length, get_or, drop, replicate, length-replicate}
+use Rattle.table.proofs.Elements.{clear_at}
 use Rattle.bytes_wire.specs.Parse.{ok, and_then, mapParse}
 use Rattle.bytes_wire.specs.Number.{below, at16}
 use Rattle.bytes_wire.specs.Value.{value_of, valueIdOf}
@@ -23,17 +24,19 @@ use Rattle.bytes_operands.specs.Fields.{fieldsPlace}
 use Rattle.mir.specs.Lookup.{Types, valueRow, shape}
 use Rattle.fold.specs.Scalarizable.{isScalarizable}
 use Rattle.fold.specs.Tables.{ShapesAt}
-use Rattle.fold.specs.Family.{Marks, mark, family, buildDest, union, readElsewhere, crossFamily, crossBuild}
+use Rattle.fold.specs.Family.{Marks, family, buildDest, union, readElsewhere, crossFamily, crossBuild}
 use Rattle.fold.specs.declared.Settings.{Settings}
 use Rattle.fold_family.proofs.Sweeps.{family-length}
-use Rattle.fold_family.specs.Copies.{copies, CopiesIn, meets, FamilyMarks}
+use Rattle.fold_family.specs.Search.{FindsFamily}
+use Rattle.fold_family.specs.declared.Found.{Found}
+use Rattle.fold_family.proofs.Closed.{copies-few}
+use Rattle.fold_family.proofs.Finding.{size-clear}
 use Rattle.fold_copies.specs.Found.{Headed}
 use Rattle.fold_copies.proofs.Fields.{dest-at, fields-of}
 use Rattle.fold_cross.specs.declared.BuildRead.{BuildRead}
-use Rattle.fold_readers.specs.Readers.{foreign, foreigners, ReadElsewhere}
-use Rattle.fold_readers.proofs.Elsewhere.{elsewhere, foreign-of}
-use Rattle.fold_cross.specs.Cross.{Kept, Root, Idle, Built}
-use Rattle.fold_cross.proofs.Uniting.{union-one, one-meets}
+use Rattle.fold_readers.specs.Readers.{ReadElsewhere}
+use Rattle.fold_cross.specs.Cross.{Root, Idle, Built, familyRead, Unites, MembersCrossed, FamilyRead}
+use Rattle.fold_cross.proofs.Uniting.{union-clear}
 
 -- a dest that is defined is one of the values
 dest-below : (next : ℕ) (seen : List Bool) (u : List ℕ) {d : ValueId} {m : ℕ} → definedOf next seen u ≡ ok d m → d.0 < next
@@ -148,53 +151,7 @@ module _ (b : Bounds) (t u : List ℕ) (fp kind : ℕ) (dest : ValueId) (eligibl
             };
       }
 
--- a family that is found, and whether it is read elsewhere
-module _ (own : ℕ) (v : ValueId) (table : List ℕ) (count root : ℕ) (clear m c : Marks) (reader : List ℕ) (r : Bool) (em : FamilyMarks table count root v clear m) (er : ReadElsewhere m own reader r) (τ : Types) (ks : List Block) (x : Block) (next : ℕ) (a : Kept τ ks x table count reader next) (s : root ≡ shape (valueRow τ v)) (e : clear ≡ replicate next false) where
-  members : m ≡ family τ v x.instructions
-  members = em τ x.instructions a.copied a.many s (e ∙ ap (λ y. replicate y false) (sym a.values))
-
-  long : length m ≡ next
-  long = ap (λ q. length q) members ∙ family-length τ v x.instructions ∙ a.values
-
-  read-there : readElsewhere (family τ v x.instructions) own 0 ks ≡ r
-  read-there = sym (er next ks a.readers long ∙ ap (λ q. readElsewhere q own 0 ks) members)
-
-  pub family-apart : r ≡ false → c ≡ crossFamily τ ks own x v c
-  unfolding crossFamily
-  family-apart h = rw (read-there ∙ h)
-
-  pub family-crosses : r ≡ true → (c' : Marks) → (length m ≡ length c → c' ≡ union m c) → length c ≡ next → c' ≡ crossFamily τ ks own x v c
-  unfolding crossFamily
-  family-crosses h c' g k = rw (read-there ∙ h) (g (long ∙ sym k) ∙ ap (λ q. union q c) members)
-
--- a root that is its whole family
-module _ (own next : ℕ) (v : ValueId) (table : List ℕ) (count : ℕ) (c : Marks) (reader : List ℕ) (low : own < 254)
-    (τ : Types) (ks : List Block) (x : Block) (a : Kept τ ks x table count reader next)
-    (alone : (τ : Types) (is : List Instruction) → CopiesIn table (copies τ is) → family τ v is ≡ mark (replicate (length τ.recorded) false) v)
-    (h : v.0 < next) {r : Bool} {y : ℕ} (er : r ≡ foreign own y) (ey : y ≡ get_or reader v.0 0) where
-  abbrev one : Marks
-  one = set (replicate next false) v.0 true
-
-  whole : family τ v x.instructions ≡ one
-  whole = alone τ x.instructions a.copied ∙ ap (λ n. set (replicate n false) v.0 true) a.values
-
-  read-alone : readElsewhere one own 0 ks ≡ r
-  read-alone =
-      sym (elsewhere one own next ks low (length-set (replicate next false) v.0 true ∙ length-replicate next false))
-      ∙ ap (λ q. meets one (foreigners own q)) (sym a.readers)
-      ∙ one-meets next v.0 (foreigners own reader) h
-      ∙ foreign-of own reader v.0
-      ∙ sym (er ∙ ap (λ q. foreign own q) ey)
-
-  pub alone-apart : r ≡ false → c ≡ crossFamily τ ks own x v c
-  unfolding crossFamily
-  alone-apart e = rw (whole, read-alone ∙ e)
-
-  pub alone-crosses : r ≡ true → {c' : Marks} → c' ≡ set c v.0 true → length c ≡ next → c' ≡ crossFamily τ ks own x v c
-  unfolding crossFamily
-  alone-crosses e g l = rw (whole, read-alone ∙ e) (g ∙ sym (union-one next v.0 c l))
-
--- what was read of an instruction: no root, or one
+-- what was read of an instruction: no root, or one, whose family is held to the readers
 module _ (σ : Settings) (τ : Types) (shapes : List ℕ) (eligible : List Bool) (next : ℕ) (a : ShapesAt σ τ shapes eligible) (m : length τ.recorded ≡ next) (ks : List Block) (own : ℕ) (x : Block) (c : Marks) where
   pub idle-build : (i : InstructionKind) → Idle eligible next i → crossBuild σ τ ks own x (buildDest i) c ≡ c
   unfolding crossBuild
@@ -204,13 +161,55 @@ module _ (σ : Settings) (τ : Types) (shapes : List ℕ) (eligible : List Bool)
       go none f = refl
       go (some v) f = rw (f v refl)
 
-  module _ (i : InstructionKind) (v : ℕ) (r : Root eligible next v true i) where
-    pub build-crossed : (c' : Marks) → c' ≡ crossFamily τ ks own x (record { 0 = v }) c → c' ≡ crossBuild σ τ ks own x (buildDest i) c
-    unfolding crossBuild
-    build-crossed c' f =
-        let e : isScalarizable σ (valueRow τ (record { 0 = v })) ≡ true = sym (a.fits v (omega (arith, r.low))) ∙ r.fits in
-        let z : crossBuild σ τ ks own x (some (record { 0 = v })) c ≡ crossFamily τ ks own x (record { 0 = v }) c = rw e in
-        f ∙ sym (ap (λ q. crossBuild σ τ ks own x q c) r.dest ∙ z)
+  -- what the family adds, where another block reads it
+  abbrev added : Marks → Marks
+  added f = cond (readElsewhere f own 0 ks) (union f c) c
 
-    pub build-shape : {q : ℕ} → q ≡ get_or shapes v 0 → q ≡ shape (valueRow τ (record { 0 = v }))
-    build-shape f = f ∙ a.shaped v (omega (arith, r.low))
+  root-crossed : (i : InstructionKind) (v : ValueId) → Root eligible next v.0 true i → added (family τ v x.instructions) ≡ crossBuild σ τ ks own x (buildDest i) c
+  unfolding crossBuild crossFamily
+  root-crossed i v r =
+      let e : isScalarizable σ (valueRow τ v) ≡ true = sym (a.fits v.0 (omega (arith, r.low))) ∙ r.fits in
+      let z : crossBuild σ τ ks own x (some v) c ≡ crossFamily τ ks own x v c = rw e in
+      sym (ap (λ q. crossBuild σ τ ks own x q c) r.dest ∙ z)
+
+  pub read-crossed : (i : InstructionKind) (d : BuildRead) → Built eligible next d i → length c ≡ next → added (familyRead τ x.instructions d) ≡ crossBuild σ τ ks own x (buildDest i) c
+  read-crossed i (BuildRead.Dest v) b l = root-crossed i v (b.dest v refl)
+  read-crossed i BuildRead.Nothing b l = go (readElsewhere none-marked own 0 ks) ∙ sym (idle-build i (b.idle refl))
+    where
+      none-marked : Marks
+      none-marked = replicate (length τ.recorded) false
+
+      go : (b : Bool) → cond b (union none-marked c) c ≡ c
+      go true = union-clear (length τ.recorded) c (l ∙ sym m)
+      go false = refl
+
+-- a mark for each value
+pub read-length : (τ : Types) (is : List Instruction) (d : BuildRead) → length (familyRead τ is d) ≡ length τ.recorded
+read-length τ is (BuildRead.Dest v) = family-length τ v is
+read-length τ is BuildRead.Nothing = length-replicate (length τ.recorded) false
+
+-- the family that is found: of no build,
+pub found-nothing : (d : BuildRead) (copies shapes : List ℕ) (clear : Marks) (members : List ℕ) → d ≡ BuildRead.Nothing → FamilyRead d copies shapes clear clear members members 0
+found-nothing d copies shapes clear members e σ τ is i eligible next rows few a b n most wide ec =
+    let z : clear ≡ replicate (length τ.recorded) false = ec ∙ ap (λ y. replicate y false) n in
+    (z ∙ sym (ap (λ y. familyRead τ is y) e), rw z record {
+      many = sym (size-clear (length τ.recorded));
+      marked = λ j h. absurd (omega arith);
+      only = λ x h. absurd (true≢false (sym h ∙ clear_at (length τ.recorded) x));
+    })
+
+-- and of a root
+pub found-dest : (d : BuildRead) (v : ValueId) (copies shapes : List ℕ) (clear m : Marks) (room members : List ℕ) {q : ℕ} (r : Found) → d ≡ BuildRead.Dest v → q ≡ get_or shapes v.0 0
+    → FindsFamily copies q v clear m room members r → FamilyRead d copies shapes clear m room members r.members
+found-dest d v copies shapes clear m room members r e eq f σ τ is i eligible next rows few a b n most wide ec =
+    let low : v.0 < length τ.recorded = omega (arith, (b.dest v e).low) in
+    let z = f τ is rows (omega (arith, copies-few τ is)) (eq ∙ a.shaped v.0 low) low (omega arith) wide (ec ∙ ap (λ y. replicate y false) n) in
+    (z.same ∙ sym (ap (λ y. familyRead τ is y) e), z.listed)
+
+-- and whether another block reads it
+module _ (own : ℕ) (members : List ℕ) (n : ℕ) (reader : List ℕ) (before : Marks) {r : Bool} (f : ReadElsewhere members n own reader r) where
+  pub crossed-abroad : (after : Marks) → r ≡ true → Unites members n before after → MembersCrossed own members n reader before after
+  crossed-abroad after e g m ks a l er = rw (sym (f m ks a er) ∙ e) (g m a l)
+
+  pub crossed-home : r ≡ false → MembersCrossed own members n reader before before
+  crossed-home e m ks a l er = rw (sym (f m ks a er) ∙ e) refl

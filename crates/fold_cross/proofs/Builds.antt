@@ -21,7 +21,7 @@ use Rattle.mir.specs.Reads.{kindNumber}
 use Rattle.bytes_field.specs.Decode.{definedOf, typeIdOf, list_of, fieldInitOf, makeTupleOf, makeStructOf, makeArrayOf, bit}
 use Rattle.bytes_field.specs.declared.Bounds.{Bounds}
 use Rattle.bytes_operands.specs.Fields.{fieldsPlace}
-use Rattle.mir.specs.Lookup.{Types, valueRow, shape}
+use Rattle.mir.specs.Lookup.{Types, valueRow}
 use Rattle.fold.specs.Scalarizable.{isScalarizable}
 use Rattle.fold.specs.Tables.{ShapesAt}
 use Rattle.fold.specs.Family.{Marks, family, buildDest, union, readElsewhere, crossFamily, crossBuild}
@@ -34,8 +34,7 @@ use Rattle.fold_family.proofs.Finding.{size-clear}
 use Rattle.fold_copies.specs.Found.{Headed}
 use Rattle.fold_copies.proofs.Fields.{dest-at, fields-of}
 use Rattle.fold_cross.specs.declared.BuildRead.{BuildRead}
-use Rattle.fold_readers.specs.Readers.{ReadElsewhere}
-use Rattle.fold_cross.specs.Cross.{Root, Idle, Built, familyRead, Unites, MembersCrossed, FamilyRead}
+use Rattle.fold_cross.specs.Cross.{Root, Idle, Built, familyRead, FamilyRead}
 use Rattle.fold_cross.proofs.Uniting.{union-clear}
 
 -- a dest that is defined is one of the values
@@ -63,7 +62,8 @@ tuple_at b u e =
 struct_at : (b : Bounds) (u : List ℕ) {k : InstructionKind} {n : ℕ} → makeStructOf b [] u ≡ ok k n → BuildAt b.next u k
 unfolding makeStructOf buildDest
 struct_at b u e =
-    elim (and-inv u (definedOf b.next [] u) (λ d s. and_then s (list_of b.list (fieldInitOf b) s) (λ fs s. mapParse (λ t. MakeStruct d fs t) (typeIdOf b.types s))) e) [
+    elim (and-inv u (definedOf b.next [] u)
+    (λ d s. and_then s (list_of b.list (fieldInitOf b) s) (λ fs s. mapParse (λ t. MakeStruct d fs t) (typeIdOf b.types s))) e) [
       | both d m j p q r ↦
           elim (and-inv (drop m u) (list_of b.list (fieldInitOf b) (drop m u)) (λ fs s. mapParse (λ t. MakeStruct d fs t) (typeIdOf b.types s)) q) [
             | both fs m2 j2 p2 q2 r2 ↦
@@ -76,7 +76,8 @@ struct_at b u e =
 array_at : (b : Bounds) (c : Bool) (u : List ℕ) {k : InstructionKind} {n : ℕ} → makeArrayOf b [] c u ≡ ok k n → BuildAt b.next u k
 unfolding makeArrayOf buildDest
 array_at b c u e =
-    elim (and-inv u (definedOf b.next [] u) (λ d s. and_then s (list_of b.list (value_of b.next) s) (λ xs s. mapParse (λ t. MakeFixedArray d xs t c) (typeIdOf b.types s))) e) [
+    elim (and-inv u (definedOf b.next [] u)
+    (λ d s. and_then s (list_of b.list (value_of b.next) s) (λ xs s. mapParse (λ t. MakeFixedArray d xs t c) (typeIdOf b.types s))) e) [
       | both d m j p q r ↦
           elim (and-inv (drop m u) (list_of b.list (value_of b.next) (drop m u)) (λ xs s. mapParse (λ t. MakeFixedArray d xs t c) (typeIdOf b.types s)) q) [
             | both xs m2 j2 p2 q2 r2 ↦
@@ -113,15 +114,21 @@ other-build (AssertEq v w) f = refl
 other-build (HeapAllocCells e v) f = refl
 
 -- what eligible_build finds: another kind,
-pub found_none : (b : Bounds) (t : List ℕ) (kind : ℕ) (eligible : List Bool) → (BuildKind kind → ⊥) → (i : Instruction) → Headed b t kind i → Built eligible b.next BuildRead.Nothing i.kind
+pub found_none : (b : Bounds) (t : List ℕ) (kind : ℕ) (eligible : List Bool) → (BuildKind kind → ⊥) → (i : Instruction) → Headed b t kind i
+    → Built eligible b.next BuildRead.Nothing i.kind
 found_none b t kind eligible f i a =
     record {
       dest = λ v e. absurd (let z : ◌≡◌ {A = ℕ} 0 1 = cc in omega arith);
-      idle = λ e. record { each = λ v g. absurd (let y : none ≡ some v = sym (other-build i.kind (λ k. f (rw a.numbered k))) ∙ g in let z : ◌≡◌ {A = ℕ} 0 1 = cc in omega arith) };
+      idle = λ e. record {
+        each = λ v g.
+            let y : none ≡ some v = sym (other-build i.kind (λ k. f (rw a.numbered k))) ∙ g in
+            absurd (let z : ◌≡◌ {A = ℕ} 0 1 = cc in omega arith);
+      };
     }
 
 -- or a build, whose fields are u
-module _ (b : Bounds) (t u : List ℕ) (fp kind : ℕ) (dest : ValueId) (eligible : List Bool) (on : Bool) (ef : fp ≡ fieldsPlace t) (eu : u ≡ drop fp t) (ed : dest.0 ≡ at16 u 0) (eo : on ≡ get_or eligible dest.0 false) (k : BuildKind kind) (i : Instruction) (a : Headed b t kind i) where
+module _ (b : Bounds) (t u : List ℕ) (fp kind : ℕ) (dest : ValueId) (eligible : List Bool) (on : Bool) (ef : fp ≡ fieldsPlace t) (eu : u ≡ drop fp t)
+    (ed : dest.0 ≡ at16 u 0) (eo : on ≡ get_or eligible dest.0 false) (k : BuildKind kind) (i : Instruction) (a : Headed b t kind i) where
   build-at : BuildAt b.next u i.kind
   build-at =
       ⊎_elim (λ h. tuple_at b u (fields-of b t 10 ef eu i a h).read)
@@ -152,7 +159,8 @@ module _ (b : Bounds) (t u : List ℕ) (fp kind : ℕ) (dest : ValueId) (eligibl
       }
 
 -- what was read of an instruction: no root, or one, whose family is held to the readers
-module _ (σ : Settings) (τ : Types) (shapes : List ℕ) (eligible : List Bool) (next : ℕ) (a : ShapesAt σ τ shapes eligible) (m : length τ.recorded ≡ next) (ks : List Block) (own : ℕ) (x : Block) (c : Marks) where
+module _ (σ : Settings) (τ : Types) (shapes : List ℕ) (eligible : List Bool) (next : ℕ) (a : ShapesAt σ τ shapes eligible)
+    (m : length τ.recorded ≡ next) (ks : List Block) (own : ℕ) (x : Block) (c : Marks) where
   pub idle-build : (i : InstructionKind) → Idle eligible next i → crossBuild σ τ ks own x (buildDest i) c ≡ c
   unfolding crossBuild
   idle-build i h = go (buildDest i) (λ v e. let r = h.each v e in sym (a.fits v.0 (omega (arith, r.low))) ∙ r.fits)
@@ -165,14 +173,16 @@ module _ (σ : Settings) (τ : Types) (shapes : List ℕ) (eligible : List Bool)
   abbrev added : Marks → Marks
   added f = cond (readElsewhere f own 0 ks) (union f c) c
 
-  root-crossed : (i : InstructionKind) (v : ValueId) → Root eligible next v.0 true i → added (family τ v x.instructions) ≡ crossBuild σ τ ks own x (buildDest i) c
+  root-crossed : (i : InstructionKind) (v : ValueId) → Root eligible next v.0 true i
+      → added (family τ v x.instructions) ≡ crossBuild σ τ ks own x (buildDest i) c
   unfolding crossBuild crossFamily
   root-crossed i v r =
       let e : isScalarizable σ (valueRow τ v) ≡ true = sym (a.fits v.0 (omega (arith, r.low))) ∙ r.fits in
       let z : crossBuild σ τ ks own x (some v) c ≡ crossFamily τ ks own x v c = rw e in
       sym (ap (λ q. crossBuild σ τ ks own x q c) r.dest ∙ z)
 
-  pub read-crossed : (i : InstructionKind) (d : BuildRead) → Built eligible next d i → length c ≡ next → added (familyRead τ x.instructions d) ≡ crossBuild σ τ ks own x (buildDest i) c
+  pub read-crossed : (i : InstructionKind) (d : BuildRead) → Built eligible next d i → length c ≡ next
+      → added (familyRead τ x.instructions d) ≡ crossBuild σ τ ks own x (buildDest i) c
   read-crossed i (BuildRead.Dest v) b l = root-crossed i v (b.dest v refl)
   read-crossed i BuildRead.Nothing b l = go (readElsewhere none-marked own 0 ks) ∙ sym (idle-build i (b.idle refl))
     where
@@ -189,27 +199,25 @@ read-length τ is (BuildRead.Dest v) = family-length τ v is
 read-length τ is BuildRead.Nothing = length-replicate (length τ.recorded) false
 
 -- the family that is found: of no build,
-pub found-nothing : (d : BuildRead) (copies shapes : List ℕ) (clear : Marks) (members : List ℕ) → d ≡ BuildRead.Nothing → FamilyRead d copies shapes clear clear members members 0
+pub found-nothing : (d : BuildRead) (copies shapes : List ℕ) (clear : Marks) (members : List ℕ) → d ≡ BuildRead.Nothing
+    → FamilyRead d copies shapes clear clear members members 0
 found-nothing d copies shapes clear members e σ τ is i eligible next rows few a b n most wide ec =
-    let z : clear ≡ replicate (length τ.recorded) false = ec ∙ ap (λ y. replicate y false) n in
-    (z ∙ sym (ap (λ y. familyRead τ is y) e), rw z record {
-      many = sym (size-clear (length τ.recorded));
-      marked = λ j h. absurd (omega arith);
-      only = λ x h. absurd (true≢false (sym h ∙ clear_at (length τ.recorded) x));
-    })
+    let z : clear ≡ replicate (length τ.recorded) false = ec ∙ ap (λ y. replicate y false) n in (
+      z ∙ sym (ap (λ y. familyRead τ is y) e),
+      rw z record {
+        many = sym (size-clear (length τ.recorded));
+        marked = λ j h. absurd (omega arith);
+        only = λ x h. absurd (true≢false (sym h ∙ clear_at (length τ.recorded) x));
+      },
+    )
 
 -- and of a root
-pub found-dest : (d : BuildRead) (v : ValueId) (copies shapes : List ℕ) (clear m : Marks) (room members : List ℕ) {q : ℕ} (r : Found) → d ≡ BuildRead.Dest v → q ≡ get_or shapes v.0 0
-    → FindsFamily copies q v clear m room members r → FamilyRead d copies shapes clear m room members r.members
+pub found-dest : (d : BuildRead) (v : ValueId) (copies shapes : List ℕ) (clear m : Marks) (room members : List ℕ) {q : ℕ} (r : Found)
+    → d ≡ BuildRead.Dest v
+    → q ≡ get_or shapes v.0 0
+    → FindsFamily copies q v clear m room members r
+    → FamilyRead d copies shapes clear m room members r.members
 found-dest d v copies shapes clear m room members r e eq f σ τ is i eligible next rows few a b n most wide ec =
     let low : v.0 < length τ.recorded = omega (arith, (b.dest v e).low) in
     let z = f τ is rows (omega (arith, copies-few τ is)) (eq ∙ a.shaped v.0 low) low (omega arith) wide (ec ∙ ap (λ y. replicate y false) n) in
     (z.same ∙ sym (ap (λ y. familyRead τ is y) e), z.listed)
-
--- and whether another block reads it
-module _ (own : ℕ) (members : List ℕ) (n : ℕ) (reader : List ℕ) (before : Marks) {r : Bool} (f : ReadElsewhere members n own reader r) where
-  pub crossed-abroad : (after : Marks) → r ≡ true → Unites members n before after → MembersCrossed own members n reader before after
-  crossed-abroad after e g m ks a l er = rw (sym (f m ks a er) ∙ e) (g m a l)
-
-  pub crossed-home : r ≡ false → MembersCrossed own members n reader before before
-  crossed-home e m ks a l er = rw (sym (f m ks a er) ∙ e) refl

@@ -1,6 +1,6 @@
 -- The builds of a block, one after another, and those of the blocks.
-use Prim.Native.Nat.{ℕ, suc, ◌+◌, ◌*◌, ◌≤◌, ◌<◌, zero-le}
-use mathlib.Core.Path.{◌≡◌, refl, ap, ◌∙◌, sym}
+use Prim.Native.Nat.{ℕ, suc, ◌+◌, ◌*◌, ◌≤◌, ◌<◌}
+use mathlib.Core.Path.{◌≡◌, ap, ◌∙◌, sym}
 use mathlib.Core.List.{List, ◌∷◌}
 use mathlib.Core.Bool.{Bool, false, cond}
 use native.Mathlib.Numerals.{add-one}
@@ -25,22 +25,33 @@ use Rattle.fold_cross.proofs.Builds.{read-crossed, read-length}
 use Rattle.fold_cross.proofs.Idle.{idle-builds}
 
 module _ (b : Bounds) (s facts shapes : List ℕ) (eligible : List Bool) (reader : List ℕ) where
+  -- the number of block k's instructions, in whatever code the table of facts tells of
+  abbrev Counts : (k count : ℕ) → Type 0
+  Counts k count = (b : Bounds) (s : List ℕ) (ks : List Block) → CodeIn b s facts ks → k < length ks → count ≡ length (get_or ks k no_block).instructions
+
   -- block k: where its instructions stand, and how many there are
-  module _ (k first count : ℕ) (ef : first ≡ get_or (startsIn facts) k 0) (ec : (b : Bounds) (s : List ℕ) (ks : List Block) → CodeIn b s facts ks → k < length ks → count ≡ length (get_or ks k no_block).instructions) where
-    pub standing : (σ : Settings) (τ : Types) (ks : List Block) → Ready b s facts σ τ ks shapes eligible reader → k < length ks → InstructionsIn b s facts first (get_or ks k no_block).instructions
+  module _ (k first count : ℕ) (ef : first ≡ get_or (startsIn facts) k 0) (ec : Counts k count) where
+    standing : (σ : Settings) (τ : Types) (ks : List Block) → Ready b s facts σ τ ks shapes eligible reader → k < length ks
+        → InstructionsIn b s facts first (get_or ks k no_block).instructions
     standing σ τ ks a h = rw ef (a.coded.code.each k h).instructions
 
     -- it has no root
-    pub block-idle : (c : Marks) → ((b : Bounds) (is : List Instruction) → InstructionsIn b s facts first is → length is ≡ count → IdleAll eligible b.next is) → (σ : Settings) (τ : Types) (ks : List Block) → Ready b s facts σ τ ks shapes eligible reader → k < length ks → c ≡ crossBlock σ τ ks k c
+    pub block-idle : (c : Marks)
+        → ((b : Bounds) (is : List Instruction) → InstructionsIn b s facts first is → length is ≡ count → IdleAll eligible b.next is)
+        → (σ : Settings) (τ : Types) (ks : List Block) → Ready b s facts σ τ ks shapes eligible reader → k < length ks → c ≡ crossBlock σ τ ks k c
     block-idle c f σ τ ks a h =
         let x = get_or ks k no_block in
-        sym (idle-builds σ τ shapes eligible b.next a.given a.coded.ground.values ks k x c x.instructions (f b x.instructions (standing σ τ ks a h) (sym (ec b s ks a.coded.code h))))
+        sym (idle-builds σ τ shapes eligible b.next a.given a.coded.ground.values ks k x c x.instructions
+        (f b x.instructions (standing σ τ ks a h) (sym (ec b s ks a.coded.code h))))
 
     -- its copies
-    pub block-copies : (room table : List ℕ) (before after : Marks) → ScanCopies s b facts first count room table before after → room ≡ replicate tableSize 0 → (σ : Settings) (τ : Types) (ks : List Block) → Ready b s facts σ τ ks shapes eligible reader → k < length ks → RowsAt table (copies τ (get_or ks k no_block).instructions)
+    pub block-copies : (room table : List ℕ) (before after : Marks) → ScanCopies s b facts first count room table before after → room ≡ replicate tableSize 0
+        → (σ : Settings) (τ : Types) (ks : List Block) → Ready b s facts σ τ ks shapes eligible reader → k < length ks
+        → RowsAt table (copies τ (get_or ks k no_block).instructions)
     block-copies room table before after f clear σ τ ks a h =
         let e = ec b s ks a.coded.code h in
-        (f b.list τ (get_or ks k no_block).instructions a.coded.ground.known.rows a.coded.ground.rows (standing σ τ ks a h) (sym e) (omega (arith, a.coded.small k h)) clear).copied_all
+        let g = a.coded.ground in
+        (f b.list τ (get_or ks k no_block).instructions g.known.rows g.rows (standing σ τ ks a h) (sym e) (omega (arith, a.coded.small k h)) clear).copied_all
 
   module _ (table : List ℕ) (k count : ℕ) where
     -- what is given of block k: a routine that stands so, its copies in the table, clear marks for a family, and a mark for each value
@@ -56,13 +67,14 @@ module _ (b : Bounds) (s facts shapes : List ℕ) (eligible : List Bool) (reader
       pub under : j ≤ count
       pub long : length c ≡ length c₀
       pub wide : mostValues ≤ length members
-      pub left : (σ : Settings) (τ : Types) (ks : List Block) → Given f₀ c₀ σ τ ks → crossBlock σ τ ks k c₀ ≡ crossBuilds σ τ ks k (get_or ks k no_block) (drop j (get_or ks k no_block).instructions) c
+      pub left :
+          (σ : Settings) (τ : Types) (ks : List Block)
+          → Given f₀ c₀ σ τ ks
+          → crossBlock σ τ ks k c₀ ≡ crossBuilds σ τ ks k (get_or ks k no_block) (drop j (get_or ks k no_block).instructions) c
       pub clear : (σ : Settings) (τ : Types) (ks : List Block) → Given f₀ c₀ σ τ ks → f ≡ replicate b.next false
 
-    pub building-start : (f c : Marks) (members : List ℕ) → mostValues ≤ length members → Building f f c c members 0
-    building-start f c members w = record { under = zero-le; long = refl; wide = w; left = λ σ τ ks a. refl; clear = λ σ τ ks a. a.clear }
-
-    module _ (own first rows : ℕ) (eo : k < 254 → own ≡ k) (ef : first ≡ get_or (startsIn facts) k 0) (er : rows ≡ 387 + 20 * first + 0) (ec : (b : Bounds) (s : List ℕ) (ks : List Block) → CodeIn b s facts ks → k < length ks → count ≡ length (get_or ks k no_block).instructions) (f₀ c₀ : Marks) where
+    module _ (own first rows : ℕ) (eo : k < 254 → own ≡ k) (ef : first ≡ get_or (startsIn facts) k 0) (er : rows ≡ 387 + 20 * first + 0)
+        (ec : Counts k count) (f₀ c₀ : Marks) where
       -- one more: its build d, the family f' of that, and its n members
       module _ (f c : Marks) (members : List ℕ) (j : ℕ) (u : Building f₀ f c₀ c members j) (h : j < count) (d : BuildRead)
           (eb : (b : Bounds) (slot : ℕ) (i : Instruction) → rows + 20 * j ≡ 387 + 20 * slot → InstructionIn b s facts slot i → Built eligible b.next d i.kind)
@@ -86,8 +98,8 @@ module _ (b : Bounds) (s facts shapes : List ℕ) (eligible : List Bool) (reader
 
           found : (f' ≡ familyRead τ x.instructions d) × Members members' n f'
           found =
-              em σ τ x.instructions i.kind eligible b.next a.rows (a.ready.coded.small k a.inside) a.ready.given built (sym values) a.ready.coded.ground.few u.wide
-              (u.clear σ τ ks a)
+              em σ τ x.instructions i.kind eligible b.next a.rows (a.ready.coded.small k a.inside) a.ready.given built (sym values)
+              a.ready.coded.ground.few u.wide (u.clear σ τ ks a)
 
           sized : length f' ≡ b.next
           sized = ap (λ y. length y) found.0 ∙ read-length τ x.instructions d ∙ values
@@ -101,8 +113,8 @@ module _ (b : Bounds) (s facts shapes : List ℕ) (eligible : List Bool) (reader
               ∙ read-crossed σ τ shapes eligible b.next a.ready.given values ks own x c i.kind d built l
               ∙ ap (λ y. crossBuild σ τ ks y x (buildDest i.kind) c) o
 
-        pub building-again : (c' f'' : Marks) → MembersCrossed own members' n reader c c' → length c' ≡ length c → ClearsMembers members' n f' f'' → length members' ≡ length members
-            → Building f₀ f'' c₀ c' members' (j + 1)
+        pub building-again : (c' f'' : Marks) → MembersCrossed own members' n reader c c' → length c' ≡ length c → ClearsMembers members' n f' f''
+            → length members' ≡ length members → Building f₀ f'' c₀ c' members' (j + 1)
         unfolding crossBuilds
         building-again c' f'' g lc w lm =
             record {
@@ -118,7 +130,8 @@ module _ (b : Bounds) (s facts shapes : List ℕ) (eligible : List Bool) (reader
               clear = λ σ τ ks a. w (found σ τ ks a).1 ∙ ap (λ y. replicate y false) (sized σ τ ks a);
             }
 
-      pub building-done : (f c : Marks) (members : List ℕ) (j : ℕ) → Building f₀ f c₀ c members j → count ≤ j → (σ : Settings) (τ : Types) (ks : List Block) → Given f₀ c₀ σ τ ks → c ≡ crossBlock σ τ ks k c₀
+      pub building-done : (f c : Marks) (members : List ℕ) (j : ℕ) → Building f₀ f c₀ c members j → count ≤ j
+          → (σ : Settings) (τ : Types) (ks : List Block) → Given f₀ c₀ σ τ ks → c ≡ crossBlock σ τ ks k c₀
       unfolding crossBuilds
       building-done f c members j u h σ τ ks a =
           let x = get_or ks k no_block in
@@ -130,12 +143,19 @@ module _ (b : Bounds) (s facts shapes : List ℕ) (eligible : List Bool) (reader
   pub record Crossing (c₀ c : Marks) (k : ℕ) : Type 0 where
     pub under : k ≤ b.blocks
     pub long : length c ≡ length c₀
-    pub left : (σ : Settings) (τ : Types) (ks : List Block) → Ready b s facts σ τ ks shapes eligible reader → length c₀ ≡ b.next → crossBlocks σ τ ks 0 ks c₀ ≡ crossBlocks σ τ ks k (drop k ks) c
+    pub left :
+        (σ : Settings) (τ : Types) (ks : List Block)
+        → Ready b s facts σ τ ks shapes eligible reader
+        → length c₀ ≡ b.next
+        → crossBlocks σ τ ks 0 ks c₀ ≡ crossBlocks σ τ ks k (drop k ks) c
 
-  pub crossing-start : (c : Marks) → Crossing c c 0
-  crossing-start c = record { under = zero-le; long = refl; left = λ σ τ ks a l. refl }
-
-  pub crossing-again : (c₀ c c' : Marks) (k : ℕ) → Crossing c₀ c k → k < b.blocks → ((σ : Settings) (τ : Types) (ks : List Block) → Ready b s facts σ τ ks shapes eligible reader → k < length ks → length c ≡ b.next → c' ≡ crossBlock σ τ ks k c) → length c' ≡ length c → Crossing c₀ c' (k + 1)
+  pub crossing-again : (c₀ c c' : Marks) (k : ℕ)
+      → Crossing c₀ c k
+      → k < b.blocks
+      → ((σ : Settings) (τ : Types) (ks : List Block) → Ready b s facts σ τ ks shapes eligible reader → k < length ks → length c ≡ b.next
+      → c' ≡ crossBlock σ τ ks k c)
+      → length c' ≡ length c
+      → Crossing c₀ c' (k + 1)
   unfolding crossBlocks
   crossing-again c₀ c c' k u h f lc =
       record {
@@ -145,10 +165,14 @@ module _ (b : Bounds) (s facts shapes : List ℕ) (eligible : List Bool) (reader
             let x = get_or ks k no_block in
             let p : k < length ks = omega (arith, a.coded.many) in
             let q : drop k ks ≡ x ∷ drop (k + 1) ks = rw (add-one k) (drop-cons ks k no_block p) in
-            u.left σ τ ks a l ∙ ap (λ y. crossBlocks σ τ ks k y c) q ∙ ap (λ y. crossBlocks σ τ ks (suc k) (drop (k + 1) ks) y) (sym (f σ τ ks a p (u.long ∙ l))) ∙ ap (λ y. crossBlocks σ τ ks y (drop (k + 1) ks) c') (sym (add-one k));
+            u.left σ τ ks a l
+            ∙ ap (λ y. crossBlocks σ τ ks k y c) q
+            ∙ ap (λ y. crossBlocks σ τ ks (suc k) (drop (k + 1) ks) y) (sym (f σ τ ks a p (u.long ∙ l)))
+            ∙ ap (λ y. crossBlocks σ τ ks y (drop (k + 1) ks) c') (sym (add-one k));
       }
 
-  pub crossing-done : (c₀ c : Marks) (k : ℕ) → Crossing c₀ c k → b.blocks ≤ k → (σ : Settings) (τ : Types) (ks : List Block) → Ready b s facts σ τ ks shapes eligible reader → length c₀ ≡ b.next → c ≡ crossBlocks σ τ ks 0 ks c₀
+  pub crossing-done : (c₀ c : Marks) (k : ℕ) → Crossing c₀ c k → b.blocks ≤ k
+      → (σ : Settings) (τ : Types) (ks : List Block) → Ready b s facts σ τ ks shapes eligible reader → length c₀ ≡ b.next → c ≡ crossBlocks σ τ ks 0 ks c₀
   unfolding crossBlocks
   crossing-done c₀ c k u h σ τ ks a l =
       let q : k ≡ length ks = omega (arith, u.under, a.coded.many) in

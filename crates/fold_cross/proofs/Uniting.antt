@@ -11,8 +11,8 @@ use lib.ListN.{length, get_or, set, replicate, take, length-set}
 use lib.Seq.{get_or-set_same, get_or-set_other, ext_get_or}
 use lib.Dec.{eqb}
 use Rattle.fold.specs.Family.{Marks, union}
-use Rattle.fold_family.specs.Search.{Listed, listed-at, Members}
-use Rattle.fold_family.proofs.Closed.{Below, below-refl, below-trans, below-set}
+use Rattle.fold_family.specs.Search.{Listed, listed-at}
+use Rattle.fold_family.proofs.Closed.{Below, below-trans, below-set}
 use Rattle.fold_family.proofs.Rows.{newest}
 use Rattle.fold_cross.specs.Cross.{Unites}
 
@@ -30,7 +30,7 @@ union-at (a ∷ m) [] j h = absurd (omega arith)
 union-at (a ∷ m) (b ∷ c) zero h = refl
 union-at (a ∷ m) (b ∷ c) (suc j) h = union-at m c j (omega arith)
 
--- and of none
+-- no marks add none
 pub union-clear : (n : ℕ) (c : Marks) → length c ≡ n → union (replicate n false) c ≡ c
 unfolding union
 union-clear zero c h = refl
@@ -46,7 +46,8 @@ pub record Uniting (members : List ℕ) (n : ℕ) (c₀ c : Marks) (k : ℕ) : T
   pub only : (x : ℕ) → get_or c x false ≡ true → get_or c₀ x false ≡ false → Listed members k x
 
 module _ (members : List ℕ) (n : ℕ) (c₀ : Marks) where
-  pub unite-again : (c c' : Marks) (k d : ℕ) → Uniting members n c₀ c k → k < n → d ≡ get_or members k 0 → c' ≡ set c d true → Uniting members n c₀ c' (k + 1)
+  pub unite-again : (c c' : Marks) (k d : ℕ) → Uniting members n c₀ c k → k < n → d ≡ get_or members k 0 → c' ≡ set c d true
+      → Uniting members n c₀ c' (k + 1)
   unite-again c c' k d u h ed ec =
       rw ec record {
         under = omega arith;
@@ -54,7 +55,7 @@ module _ (members : List ℕ) (n : ℕ) (c₀ : Marks) where
         old = below-trans u.old (below-set c d);
         new = λ i q l. ⊎_elim
             (λ z. let e : get_or members i 0 ≡ d = ap (λ y. get_or members y 0) z ∙ sym ed in
-                ap (λ y. get_or (set c d true) y false) e ∙ get_or-set_same c d true false (omega (arith, u.long)))
+            ap (λ y. get_or (set c d true) y false) e ∙ get_or-set_same c d true false (omega (arith, u.long)))
             (λ z. (below-set c d).each (get_or members i 0) (u.new i z l))
             (newest i k (omega arith));
         only = λ x f g. go x f g (eqb x d) refl;
@@ -72,8 +73,8 @@ module _ (members : List ℕ) (n : ℕ) (c₀ : Marks) where
       ext_get_or false c (union m c₀) (u.long ∙ sym (union-length m c₀ l))
       (λ x q. go x (omega (arith, u.long)) (get_or m x false) refl (get_or c₀ x false) refl (get_or c x false) refl ∙ sym (union-at m c₀ x l))
     where
-      go : (x : ℕ) → x < length c₀ → (p : Bool) → get_or m x false ≡ p → (o : Bool) → get_or c₀ x false ≡ o → (b : Bool) → get_or c x false ≡ b
-          → get_or c x false ≡ (get_or m x false || get_or c₀ x false)
+      go : (x : ℕ) → x < length c₀ → (p : Bool) → get_or m x false ≡ p → (o : Bool) → get_or c₀ x false ≡ o
+          → (b : Bool) → get_or c x false ≡ b → get_or c x false ≡ (get_or m x false || get_or c₀ x false)
       go x q true ep o eo b eb = put (a.only x ep)
         where
           put : Listed members n x → get_or c x false ≡ (get_or m x false || get_or c₀ x false)

@@ -160,7 +160,7 @@ foreign-none own zero = refl
 foreign-none own (suc n) = ap (λ y. false ∷ y) (foreign-none own n)
 
 -- the table of all blocks says where a family is read
-pub elsewhere : (m : Marks) (own n : ℕ) (ks : List Block) → own < 254 → length m ≡ n → meets m (foreigners own (readBlocks 0 (replicate n 0) ks)) ≡ readElsewhere m own 0 ks
+elsewhere : (m : Marks) (own n : ℕ) (ks : List Block) → own < 254 → length m ≡ n → meets m (foreigners own (readBlocks 0 (replicate n 0) ks)) ≡ readElsewhere m own 0 ks
 elsewhere m own n ks l h =
     blocks-read m own l 0 (replicate n 0) ks (length-replicate n 0 ∙ sym h)
     ∙ ap (λ d. meets m d || readElsewhere m own 0 ks) (foreign-none own n)

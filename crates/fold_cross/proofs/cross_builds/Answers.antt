@@ -1,13 +1,5 @@
-use Prim.Native.Nat.{ℕ, ◌≤◌}
-use native.Mathlib.Omega.{arith}
-use lib.ListN.{length-replicate}
-use Rattle.fold_cross.proofs.Crossing.{building-start, building-again, building-done}
+use Rattle.fold_cross.proofs.Crossing.{building-again, building-done}
 use Rattle.fold_cross.proofs.cross_builds.Goals as goal
-
-pub loop-j-init : goal.loop-j-init
-loop-j-init c =
-    let a = c.args in
-    building-start a.b a.s.now a.facts.now a.shapes.now a.eligible.now a.readers.now a.copies.now a.k.0 _ a.family.now a.marks.now _ (omega (arith, length-replicate {A = ℕ} 256 0))
 
 pub loop-j-preserved : goal.loop-j-preserved
 loop-j-preserved c =

@@ -2,11 +2,12 @@
 use Prim.Native.Nat.{ℕ, ◌<◌}
 use mathlib.Core.Path.{◌≡◌, refl, ap, ◌∙◌, sym}
 use mathlib.Core.List.{List, []}
-use mathlib.Core.Bool.{Bool, true, false, not}
+use mathlib.Core.Bool.{Bool, true, false, cond, not, true≢false}
 use mathlib.Core.Logic.{◌⊎◌, inl, inr, ⊎_elim}
 use mathlib.Core.Option.{Option, none, some}
 use native.Mathlib.Omega.{arith}
-use lib.ListN.{length, get_or, set, drop, replicate, length-set, length-replicate}
+use lib.ListN.{length, get_or, drop, replicate, length-replicate}
+use Rattle.table.proofs.Elements.{clear_at}
 use Rattle.bytes_wire.specs.Parse.{ok, and_then, mapParse}
 use Rattle.bytes_wire.specs.Number.{below, at16}
 use Rattle.bytes_wire.specs.Value.{value_of, valueIdOf}
@@ -20,20 +21,21 @@ use Rattle.mir.specs.Reads.{kindNumber}
 use Rattle.bytes_field.specs.Decode.{definedOf, typeIdOf, list_of, fieldInitOf, makeTupleOf, makeStructOf, makeArrayOf, bit}
 use Rattle.bytes_field.specs.declared.Bounds.{Bounds}
 use Rattle.bytes_operands.specs.Fields.{fieldsPlace}
-use Rattle.mir.specs.Lookup.{Types, valueRow, shape}
+use Rattle.mir.specs.Lookup.{Types, valueRow}
 use Rattle.fold.specs.Scalarizable.{isScalarizable}
 use Rattle.fold.specs.Tables.{ShapesAt}
-use Rattle.fold.specs.Family.{Marks, mark, family, buildDest, union, readElsewhere, crossFamily, crossBuild}
+use Rattle.fold.specs.Family.{Marks, family, buildDest, union, readElsewhere, crossFamily, crossBuild}
 use Rattle.fold.specs.declared.Settings.{Settings}
 use Rattle.fold_family.proofs.Sweeps.{family-length}
-use Rattle.fold_family.specs.Copies.{copies, CopiesIn, meets, FamilyMarks}
+use Rattle.fold_family.specs.Search.{FindsFamily}
+use Rattle.fold_family.specs.declared.Found.{Found}
+use Rattle.fold_family.proofs.Closed.{copies-few}
+use Rattle.fold_family.proofs.Finding.{size-clear}
 use Rattle.fold_copies.specs.Found.{Headed}
 use Rattle.fold_copies.proofs.Fields.{dest-at, fields-of}
 use Rattle.fold_cross.specs.declared.BuildRead.{BuildRead}
-use Rattle.fold_readers.specs.Readers.{foreign, foreigners, ReadElsewhere}
-use Rattle.fold_readers.proofs.Elsewhere.{elsewhere, foreign-of}
-use Rattle.fold_cross.specs.Cross.{Kept, Root, Idle, Built}
-use Rattle.fold_cross.proofs.Uniting.{union-one, one-meets}
+use Rattle.fold_cross.specs.Cross.{Root, Idle, Built, familyRead, FamilyRead}
+use Rattle.fold_cross.proofs.Uniting.{union-clear}
 
 -- a dest that is defined is one of the values
 dest-below : (next : ℕ) (seen : List Bool) (u : List ℕ) {d : ValueId} {m : ℕ} → definedOf next seen u ≡ ok d m → d.0 < next
@@ -60,7 +62,8 @@ tuple_at b u e =
 struct_at : (b : Bounds) (u : List ℕ) {k : InstructionKind} {n : ℕ} → makeStructOf b [] u ≡ ok k n → BuildAt b.next u k
 unfolding makeStructOf buildDest
 struct_at b u e =
-    elim (and-inv u (definedOf b.next [] u) (λ d s. and_then s (list_of b.list (fieldInitOf b) s) (λ fs s. mapParse (λ t. MakeStruct d fs t) (typeIdOf b.types s))) e) [
+    elim (and-inv u (definedOf b.next [] u)
+    (λ d s. and_then s (list_of b.list (fieldInitOf b) s) (λ fs s. mapParse (λ t. MakeStruct d fs t) (typeIdOf b.types s))) e) [
       | both d m j p q r ↦
           elim (and-inv (drop m u) (list_of b.list (fieldInitOf b) (drop m u)) (λ fs s. mapParse (λ t. MakeStruct d fs t) (typeIdOf b.types s)) q) [
             | both fs m2 j2 p2 q2 r2 ↦
@@ -73,7 +76,8 @@ struct_at b u e =
 array_at : (b : Bounds) (c : Bool) (u : List ℕ) {k : InstructionKind} {n : ℕ} → makeArrayOf b [] c u ≡ ok k n → BuildAt b.next u k
 unfolding makeArrayOf buildDest
 array_at b c u e =
-    elim (and-inv u (definedOf b.next [] u) (λ d s. and_then s (list_of b.list (value_of b.next) s) (λ xs s. mapParse (λ t. MakeFixedArray d xs t c) (typeIdOf b.types s))) e) [
+    elim (and-inv u (definedOf b.next [] u)
+    (λ d s. and_then s (list_of b.list (value_of b.next) s) (λ xs s. mapParse (λ t. MakeFixedArray d xs t c) (typeIdOf b.types s))) e) [
       | both d m j p q r ↦
           elim (and-inv (drop m u) (list_of b.list (value_of b.next) (drop m u)) (λ xs s. mapParse (λ t. MakeFixedArray d xs t c) (typeIdOf b.types s)) q) [
             | both xs m2 j2 p2 q2 r2 ↦
@@ -110,15 +114,21 @@ other-build (AssertEq v w) f = refl
 other-build (HeapAllocCells e v) f = refl
 
 -- what eligible_build finds: another kind,
-pub found_none : (b : Bounds) (t : List ℕ) (kind : ℕ) (eligible : List Bool) → (BuildKind kind → ⊥) → (i : Instruction) → Headed b t kind i → Built eligible b.next BuildRead.Nothing i.kind
+pub found_none : (b : Bounds) (t : List ℕ) (kind : ℕ) (eligible : List Bool) → (BuildKind kind → ⊥) → (i : Instruction) → Headed b t kind i
+    → Built eligible b.next BuildRead.Nothing i.kind
 found_none b t kind eligible f i a =
     record {
       dest = λ v e. absurd (let z : ◌≡◌ {A = ℕ} 0 1 = cc in omega arith);
-      idle = λ e. record { each = λ v g. absurd (let y : none ≡ some v = sym (other-build i.kind (λ k. f (rw a.numbered k))) ∙ g in let z : ◌≡◌ {A = ℕ} 0 1 = cc in omega arith) };
+      idle = λ e. record {
+        each = λ v g.
+            let y : none ≡ some v = sym (other-build i.kind (λ k. f (rw a.numbered k))) ∙ g in
+            absurd (let z : ◌≡◌ {A = ℕ} 0 1 = cc in omega arith);
+      };
     }
 
 -- or a build, whose fields are u
-module _ (b : Bounds) (t u : List ℕ) (fp kind : ℕ) (dest : ValueId) (eligible : List Bool) (on : Bool) (ef : fp ≡ fieldsPlace t) (eu : u ≡ drop fp t) (ed : dest.0 ≡ at16 u 0) (eo : on ≡ get_or eligible dest.0 false) (k : BuildKind kind) (i : Instruction) (a : Headed b t kind i) where
+module _ (b : Bounds) (t u : List ℕ) (fp kind : ℕ) (dest : ValueId) (eligible : List Bool) (on : Bool) (ef : fp ≡ fieldsPlace t) (eu : u ≡ drop fp t)
+    (ed : dest.0 ≡ at16 u 0) (eo : on ≡ get_or eligible dest.0 false) (k : BuildKind kind) (i : Instruction) (a : Headed b t kind i) where
   build-at : BuildAt b.next u i.kind
   build-at =
       ⊎_elim (λ h. tuple_at b u (fields-of b t 10 ef eu i a h).read)
@@ -148,54 +158,9 @@ module _ (b : Bounds) (t u : List ℕ) (fp kind : ℕ) (dest : ValueId) (eligibl
             };
       }
 
--- a family that is found, and whether it is read elsewhere
-module _ (own : ℕ) (v : ValueId) (table : List ℕ) (count root : ℕ) (clear m c : Marks) (reader : List ℕ) (r : Bool) (em : FamilyMarks table count root v clear m) (er : ReadElsewhere m own reader r) (τ : Types) (ks : List Block) (x : Block) (next : ℕ) (a : Kept τ ks x table count reader next) (s : root ≡ shape (valueRow τ v)) (e : clear ≡ replicate next false) where
-  members : m ≡ family τ v x.instructions
-  members = em τ x.instructions a.copied a.many s (e ∙ ap (λ y. replicate y false) (sym a.values))
-
-  long : length m ≡ next
-  long = ap (λ q. length q) members ∙ family-length τ v x.instructions ∙ a.values
-
-  read-there : readElsewhere (family τ v x.instructions) own 0 ks ≡ r
-  read-there = sym (er next ks a.readers long ∙ ap (λ q. readElsewhere q own 0 ks) members)
-
-  pub family-apart : r ≡ false → c ≡ crossFamily τ ks own x v c
-  unfolding crossFamily
-  family-apart h = rw (read-there ∙ h)
-
-  pub family-crosses : r ≡ true → (c' : Marks) → (length m ≡ length c → c' ≡ union m c) → length c ≡ next → c' ≡ crossFamily τ ks own x v c
-  unfolding crossFamily
-  family-crosses h c' g k = rw (read-there ∙ h) (g (long ∙ sym k) ∙ ap (λ q. union q c) members)
-
--- a root that is its whole family
-module _ (own next : ℕ) (v : ValueId) (table : List ℕ) (count : ℕ) (c : Marks) (reader : List ℕ) (low : own < 254)
-    (τ : Types) (ks : List Block) (x : Block) (a : Kept τ ks x table count reader next)
-    (alone : (τ : Types) (is : List Instruction) → CopiesIn table (copies τ is) → family τ v is ≡ mark (replicate (length τ.recorded) false) v)
-    (h : v.0 < next) {r : Bool} {y : ℕ} (er : r ≡ foreign own y) (ey : y ≡ get_or reader v.0 0) where
-  abbrev one : Marks
-  one = set (replicate next false) v.0 true
-
-  whole : family τ v x.instructions ≡ one
-  whole = alone τ x.instructions a.copied ∙ ap (λ n. set (replicate n false) v.0 true) a.values
-
-  read-alone : readElsewhere one own 0 ks ≡ r
-  read-alone =
-      sym (elsewhere one own next ks low (length-set (replicate next false) v.0 true ∙ length-replicate next false))
-      ∙ ap (λ q. meets one (foreigners own q)) (sym a.readers)
-      ∙ one-meets next v.0 (foreigners own reader) h
-      ∙ foreign-of own reader v.0
-      ∙ sym (er ∙ ap (λ q. foreign own q) ey)
-
-  pub alone-apart : r ≡ false → c ≡ crossFamily τ ks own x v c
-  unfolding crossFamily
-  alone-apart e = rw (whole, read-alone ∙ e)
-
-  pub alone-crosses : r ≡ true → {c' : Marks} → c' ≡ set c v.0 true → length c ≡ next → c' ≡ crossFamily τ ks own x v c
-  unfolding crossFamily
-  alone-crosses e g l = rw (whole, read-alone ∙ e) (g ∙ sym (union-one next v.0 c l))
-
--- what was read of an instruction: no root, or one
-module _ (σ : Settings) (τ : Types) (shapes : List ℕ) (eligible : List Bool) (next : ℕ) (a : ShapesAt σ τ shapes eligible) (m : length τ.recorded ≡ next) (ks : List Block) (own : ℕ) (x : Block) (c : Marks) where
+-- what was read of an instruction: no root, or one, whose family is held to the readers
+module _ (σ : Settings) (τ : Types) (shapes : List ℕ) (eligible : List Bool) (next : ℕ) (a : ShapesAt σ τ shapes eligible)
+    (m : length τ.recorded ≡ next) (ks : List Block) (own : ℕ) (x : Block) (c : Marks) where
   pub idle-build : (i : InstructionKind) → Idle eligible next i → crossBuild σ τ ks own x (buildDest i) c ≡ c
   unfolding crossBuild
   idle-build i h = go (buildDest i) (λ v e. let r = h.each v e in sym (a.fits v.0 (omega (arith, r.low))) ∙ r.fits)
@@ -204,13 +169,55 @@ module _ (σ : Settings) (τ : Types) (shapes : List ℕ) (eligible : List Bool)
       go none f = refl
       go (some v) f = rw (f v refl)
 
-  module _ (i : InstructionKind) (v : ℕ) (r : Root eligible next v true i) where
-    pub build-crossed : (c' : Marks) → c' ≡ crossFamily τ ks own x (record { 0 = v }) c → c' ≡ crossBuild σ τ ks own x (buildDest i) c
-    unfolding crossBuild
-    build-crossed c' f =
-        let e : isScalarizable σ (valueRow τ (record { 0 = v })) ≡ true = sym (a.fits v (omega (arith, r.low))) ∙ r.fits in
-        let z : crossBuild σ τ ks own x (some (record { 0 = v })) c ≡ crossFamily τ ks own x (record { 0 = v }) c = rw e in
-        f ∙ sym (ap (λ q. crossBuild σ τ ks own x q c) r.dest ∙ z)
+  -- what the family adds, where another block reads it
+  abbrev added : Marks → Marks
+  added f = cond (readElsewhere f own 0 ks) (union f c) c
 
-    pub build-shape : {q : ℕ} → q ≡ get_or shapes v 0 → q ≡ shape (valueRow τ (record { 0 = v }))
-    build-shape f = f ∙ a.shaped v (omega (arith, r.low))
+  root-crossed : (i : InstructionKind) (v : ValueId) → Root eligible next v.0 true i
+      → added (family τ v x.instructions) ≡ crossBuild σ τ ks own x (buildDest i) c
+  unfolding crossBuild crossFamily
+  root-crossed i v r =
+      let e : isScalarizable σ (valueRow τ v) ≡ true = sym (a.fits v.0 (omega (arith, r.low))) ∙ r.fits in
+      let z : crossBuild σ τ ks own x (some v) c ≡ crossFamily τ ks own x v c = rw e in
+      sym (ap (λ q. crossBuild σ τ ks own x q c) r.dest ∙ z)
+
+  pub read-crossed : (i : InstructionKind) (d : BuildRead) → Built eligible next d i → length c ≡ next
+      → added (familyRead τ x.instructions d) ≡ crossBuild σ τ ks own x (buildDest i) c
+  read-crossed i (BuildRead.Dest v) b l = root-crossed i v (b.dest v refl)
+  read-crossed i BuildRead.Nothing b l = go (readElsewhere none-marked own 0 ks) ∙ sym (idle-build i (b.idle refl))
+    where
+      none-marked : Marks
+      none-marked = replicate (length τ.recorded) false
+
+      go : (b : Bool) → cond b (union none-marked c) c ≡ c
+      go true = union-clear (length τ.recorded) c (l ∙ sym m)
+      go false = refl
+
+-- a mark for each value
+pub read-length : (τ : Types) (is : List Instruction) (d : BuildRead) → length (familyRead τ is d) ≡ length τ.recorded
+read-length τ is (BuildRead.Dest v) = family-length τ v is
+read-length τ is BuildRead.Nothing = length-replicate (length τ.recorded) false
+
+-- the family that is found: of no build,
+pub found-nothing : (d : BuildRead) (copies shapes : List ℕ) (clear : Marks) (members : List ℕ) → d ≡ BuildRead.Nothing
+    → FamilyRead d copies shapes clear clear members members 0
+found-nothing d copies shapes clear members e σ τ is i eligible next rows few a b n most wide ec =
+    let z : clear ≡ replicate (length τ.recorded) false = ec ∙ ap (λ y. replicate y false) n in (
+      z ∙ sym (ap (λ y. familyRead τ is y) e),
+      rw z record {
+        many = sym (size-clear (length τ.recorded));
+        marked = λ j h. absurd (omega arith);
+        only = λ x h. absurd (true≢false (sym h ∙ clear_at (length τ.recorded) x));
+      },
+    )
+
+-- and of a root
+pub found-dest : (d : BuildRead) (v : ValueId) (copies shapes : List ℕ) (clear m : Marks) (room members : List ℕ) {q : ℕ} (r : Found)
+    → d ≡ BuildRead.Dest v
+    → q ≡ get_or shapes v.0 0
+    → FindsFamily copies q v clear m room members r
+    → FamilyRead d copies shapes clear m room members r.members
+found-dest d v copies shapes clear m room members r e eq f σ τ is i eligible next rows few a b n most wide ec =
+    let low : v.0 < length τ.recorded = omega (arith, (b.dest v e).low) in
+    let z = f τ is rows (omega (arith, copies-few τ is)) (eq ∙ a.shaped v.0 low) low (omega arith) wide (ec ∙ ap (λ y. replicate y false) n) in
+    (z.same ∙ sym (ap (λ y. familyRead τ is y) e), z.listed)

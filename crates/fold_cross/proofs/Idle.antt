@@ -1,5 +1,5 @@
 -- A block without a build of an eligible type has nothing that is used across blocks.
-use Prim.Native.Nat.{ℕ, suc, ◌+◌, ◌*◌, ◌≤◌, ◌<◌, zero-le}
+use Prim.Native.Nat.{ℕ, suc, ◌+◌, ◌*◌, ◌≤◌, ◌<◌}
 use mathlib.Core.Path.{◌≡◌, refl, ap, ◌∙◌}
 use mathlib.Core.List.{List, [], ◌∷◌}
 use mathlib.Core.Bool.{Bool}
@@ -22,26 +22,34 @@ module _ (s facts : List ℕ) (first count : ℕ) (eligible : List Bool) where
   -- k instructions are behind, and none of them is one
   pub record Idling (k : ℕ) : Type 0 where
     pub under : k ≤ count
-    pub each : (b : Bounds) (is : List Instruction) → InstructionsIn b s facts first is → length is ≡ count → (j : ℕ) → j < k → Idle eligible b.next (get_or is j noInstruction).kind
+    pub each :
+        (b : Bounds) (is : List Instruction)
+        → InstructionsIn b s facts first is
+        → length is ≡ count
+        → (j : ℕ)
+        → j < k
+        → Idle eligible b.next (get_or is j noInstruction).kind
 
-  pub idling-start : Idling 0
-  idling-start = record { under = zero-le; each = λ b is a l j q. absurd (omega arith) }
-
-  pub idling-again : (rows k : ℕ) (r : BuildRead) → rows ≡ 387 + 20 * first + 0 → Idling k → k < count → ((b : Bounds) (slot : ℕ) (i : Instruction) → rows + 20 * k ≡ 387 + 20 * slot → InstructionIn b s facts slot i → Built eligible b.next r i.kind) → r ≡ BuildRead.Nothing → Idling (k + 1)
+  pub idling-again : (rows k : ℕ) (r : BuildRead)
+      → rows ≡ 387 + 20 * first + 0
+      → Idling k
+      → k < count
+      → ((b : Bounds) (slot : ℕ) (i : Instruction) → rows + 20 * k ≡ 387 + 20 * slot → InstructionIn b s facts slot i → Built eligible b.next r i.kind)
+      → r ≡ BuildRead.Nothing
+      → Idling (k + 1)
   idling-again rows k r er u h f e =
       record {
         under = omega arith;
         each = λ b is a l j q.
             let y : j ≤ k = omega arith in
-            let here : Idle eligible b.next (get_or is k noInstruction).kind = (f b (first + k) (get_or is k noInstruction) (omega arith) (a k (omega arith))).idle e in
+            let i = get_or is k noInstruction in
+            let here : Idle eligible b.next i.kind = (f b (first + k) i (omega arith) (a k (omega arith))).idle e in
             ⊎_elim (λ z. rw z here) (λ z. u.each b is a l j z) (eq-or-lt_of_le y);
       }
 
-  pub idling-done : (k : ℕ) → Idling k → count ≤ k → (b : Bounds) (is : List Instruction) → InstructionsIn b s facts first is → length is ≡ count → IdleAll eligible b.next is
-  idling-done k u h b is a l = record { each = λ j q. u.each b is a l j (omega arith) }
-
 -- such instructions change nothing
-pub idle-builds : (σ : Settings) (τ : Types) (shapes : List ℕ) (eligible : List Bool) (next : ℕ) → ShapesAt σ τ shapes eligible → length τ.recorded ≡ next → (ks : List Block) (own : ℕ) (x : Block) (c : Marks) (is : List Instruction) → IdleAll eligible next is → crossBuilds σ τ ks own x is c ≡ c
+pub idle-builds : (σ : Settings) (τ : Types) (shapes : List ℕ) (eligible : List Bool) (next : ℕ) → ShapesAt σ τ shapes eligible → length τ.recorded ≡ next
+    → (ks : List Block) (own : ℕ) (x : Block) (c : Marks) (is : List Instruction) → IdleAll eligible next is → crossBuilds σ τ ks own x is c ≡ c
 unfolding crossBuilds
 idle-builds σ τ shapes eligible next a m ks own x c [] h = refl
 idle-builds σ τ shapes eligible next a m ks own x c (i ∷ is) h =

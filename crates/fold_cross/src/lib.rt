@@ -91,7 +91,13 @@ fn unite_abroad(own: u8, members: &[u16], n: u16, readers: &[u8], marks: &mut [b
 
 // Finds the family of the build that was read of an instruction, if one was, in `family`, whose marks are clear, and lists it in
 // `members`; how many members there are. The block's copies stand in `copies`.
-fn find_family(d: BuildRead, copies: &[u16], shapes: &[u8], family: &mut [bool], members: &mut [u16]) -> u16
+fn find_family(
+    d: BuildRead,
+    copies: &[u16],
+    shapes: &[u8],
+    family: &mut [bool],
+    members: &mut [u16],
+) -> u16
     ensures { FamilyRead d copies.now shapes.now family.old family.new members.old members.new result }
 {
     match d {

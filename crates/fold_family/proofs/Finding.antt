@@ -41,7 +41,7 @@ copied-le m cs zero = omega arith
 copied-le m cs (suc j) = omega (arith, one-le (get_or m (copyAt cs j).source false), copied-le m cs j)
 
 -- nothing is marked of a clear table
-size-clear : (n : ℕ) → size (replicate n false) ≡ 0
+pub size-clear : (n : ℕ) → size (replicate n false) ≡ 0
 size-clear zero = refl
 size-clear (suc n) = omega (arith, size-clear n)
 

@@ -1,6 +1,6 @@
 -- The loops over the instructions of a block and over the blocks.
-use Prim.Native.Nat.{ℕ, suc, ◌+◌, ◌*◌, ◌≤◌, ◌<◌, zero-le}
-use mathlib.Core.Path.{◌≡◌, refl, ap, ◌∙◌, sym}
+use Prim.Native.Nat.{ℕ, suc, ◌+◌, ◌*◌, ◌≤◌, ◌<◌}
+use mathlib.Core.Path.{◌≡◌, ap, ◌∙◌, sym}
 use mathlib.Core.List.{List, ◌∷◌}
 use native.Mathlib.Numerals.{add-one}
 use native.Mathlib.Omega.{arith}
@@ -20,9 +20,6 @@ module _ (own : ℕ) (facts : List ℕ) (first count : ℕ) where
     pub under : k ≤ count
     pub long : length r ≡ length r₀
     pub left : (b : Bounds) (s : List ℕ) (is : List Instruction) → InstructionsIn b s facts first is → length is ≡ count → readInstructions own r₀ is ≡ readInstructions own r (drop k is)
-
-  pub reading-start : (r : List ℕ) → Reading r r 0
-  reading-start r = record { under = zero-le; long = refl; left = λ b s is a l. refl }
 
   pub reading-again : (r₀ r r' : List ℕ) (rows k : ℕ) → rows ≡ 387 + 20 * first + 0 → Reading r₀ r k → k < count → ((b : Bounds) (s : List ℕ) (slot : ℕ) (i : Instruction) → rows + 20 * k ≡ 387 + 20 * slot → InstructionIn b s facts slot i → r' ≡ readInstruction own r i.kind) → length r' ≡ length r → Reading r₀ r' (k + 1)
   unfolding readInstructions
@@ -50,9 +47,6 @@ module _ (facts : List ℕ) (many : ℕ) where
     pub under : k ≤ many
     pub long : length r ≡ length r₀
     pub left : (b : Bounds) (s : List ℕ) (xs : List Block) → CodeIn b s facts xs → length xs ≡ many → many < 254 → readBlocks 0 r₀ xs ≡ readBlocks k r (drop k xs)
-
-  pub noting-start : (r : List ℕ) → Noting r r 0
-  noting-start r = record { under = zero-le; long = refl; left = λ b s xs a l g. refl }
 
   pub noting-again : (r₀ r r' : List ℕ) (k own first count : ℕ)
       → Noting r₀ r k

@@ -1,11 +1,11 @@
 -- A family is read elsewhere where some member's reader is another block, or several are.
-use Prim.Native.Nat.{ℕ, zero, suc, ◌+◌, ◌≤◌, ◌<◌}
+use Prim.Native.Nat.{ℕ, zero, suc, ◌+◌, ◌<◌}
 use mathlib.Core.Path.{◌≡◌, refl, ap, ◌∙◌, sym}
 use mathlib.Core.List.{List, [], ◌∷◌}
 use mathlib.Core.Bool.{Bool, true, false, cond, not, ◌&&◌, ◌||◌, or-false, or_assoc}
 use native.Mathlib.Omega.{arith}
 use borrow.Author.Tests.{eqb-true, eqb-false, eq-eqb, ne_eqb}
-use lib.ListN.{length, get_or, set, replicate, length-set, length-replicate, get_or-eq_default}
+use lib.ListN.{length, get_or, set, replicate, length-set, length-replicate}
 use lib.Dec.{eqb}
 use Rattle.mir.specs.declared.ValueId.{ValueId}
 use Rattle.mir.specs.Syntax.{InstructionKind, Instruction, Block}
@@ -13,6 +13,7 @@ use Rattle.mir.specs.Reads.{reads, counted, terminatorReads}
 use Rattle.mir.specs.Lookup.{any}
 use Rattle.fold.specs.Family.{Marks, marked, readsOne, readElsewhere}
 use Rattle.fold_family.specs.Copies.{meets}
+use Rattle.fold_family.specs.Search.{Members}
 use Rattle.fold_family.proofs.Dynamic.{meets-clear, meets-set}
 use Rattle.fold_readers.specs.Readers.{seenBy, noteReader, readVia, readInstruction, readInstructions, readBlock, readBlocks, foreign, foreigners, ReadElsewhere}
 
@@ -65,7 +66,7 @@ note-foreign own k (x ∷ r) (suc v) l = ap (λ y. foreign own x ∷ y) (note-fo
     go false = refl
 
 -- reads keep the table's length
-pub via-length : (own : ℕ) (r : List ℕ) (vs : List ValueId) → length (readVia own r vs) ≡ length r
+via-length : (own : ℕ) (r : List ℕ) (vs : List ValueId) → length (readVia own r vs) ≡ length r
 unfolding readVia
 via-length own r [] = refl
 via-length own r (v ∷ vs) = via-length own (noteReader own r v.0) vs ∙ length-set r v.0 (seenBy own (get_or r v.0 0))
@@ -159,39 +160,25 @@ foreign-none own zero = refl
 foreign-none own (suc n) = ap (λ y. false ∷ y) (foreign-none own n)
 
 -- the table of all blocks says where a family is read
-pub elsewhere : (m : Marks) (own n : ℕ) (ks : List Block) → own < 254 → length m ≡ n → meets m (foreigners own (readBlocks 0 (replicate n 0) ks)) ≡ readElsewhere m own 0 ks
+elsewhere : (m : Marks) (own n : ℕ) (ks : List Block) → own < 254 → length m ≡ n → meets m (foreigners own (readBlocks 0 (replicate n 0) ks)) ≡ readElsewhere m own 0 ks
 elsewhere m own n ks l h =
     blocks-read m own l 0 (replicate n 0) ks (length-replicate n 0 ∙ sym h)
     ∙ ap (λ d. meets m d || readElsewhere m own 0 ks) (foreign-none own n)
     ∙ ap (λ b. b || readElsewhere m own 0 ks) (meets-clear m n)
 
 -- a stand-in for what there is no number for
-pub foreign-of : (own : ℕ) (r : List ℕ) (k : ℕ) → get_or (foreigners own r) k false ≡ foreign own (get_or r k 0)
+foreign-of : (own : ℕ) (r : List ℕ) (k : ℕ) → get_or (foreigners own r) k false ≡ foreign own (get_or r k 0)
 foreign-of own [] k = refl
 foreign-of own (x ∷ r) zero = refl
 foreign-of own (x ∷ r) (suc k) = foreign-of own r k
 
+-- what the code looks up for member k: its number, and what it says
+pub foreign-at : (own : ℕ) (members reader : List ℕ) (k : ℕ) {p x : ℕ} {r : Bool}
+    → p ≡ get_or members k 0 → x ≡ get_or reader p 0 → r ≡ foreign own x → r ≡ get_or (foreigners own reader) (get_or members k 0) false
+foreign-at own members reader k ep ex er =
+    er ∙ ap (λ y. foreign own y) (ex ∙ ap (λ y. get_or reader y 0) ep) ∙ sym (foreign-of own reader (get_or members k 0))
+
 -- and so the code's answer is the definition's
-pub elsewhere-found : (m : Marks) (own : ℕ) (reader : List ℕ) {r : Bool} → own < 254 → r ≡ meets m (foreigners own reader) → (r ≡ meets m (foreigners own reader)) × ReadElsewhere m own reader r
-elsewhere-found m own reader l e = (e, λ n ks f h. e ∙ ap (λ q. meets m (foreigners own q)) f ∙ elsewhere m own n ks l h)
-
--- whether a number says that another block reads, by cases
-pub foreign-unread : (own x : ℕ) → x ≡ 0 → false ≡ foreign own x
-foreign-unread own x h = rw (eq-eqb x 0 h)
-
-pub foreign-read : (own x : ℕ) → (x ≡ 0 → ⊥) → not (eqb x (own + 1)) ≡ foreign own x
-foreign-read own x h = rw (ne_eqb x 0 h)
-
--- whether a value is marked and read abroad, by cases
-module _ (m : Marks) (own : ℕ) (reader : List ℕ) (k : ℕ) where
-  pub abroad-past : length m ≤ k → false ≡ (get_or m k false && foreign own (get_or reader k 0))
-  abroad-past h = rw (get_or-eq_default m false h)
-
-  pub abroad-unmarked : get_or m k false ≡ false → false ≡ (get_or m k false && foreign own (get_or reader k 0))
-  abroad-unmarked h = rw h
-
-  pub abroad-marked : {r : Bool} {x : ℕ} → get_or m k false ≡ true → r ≡ foreign own x → x ≡ get_or reader k 0 → r ≡ (get_or m k false && foreign own (get_or reader k 0))
-  abroad-marked h e f = rw h (e ∙ ap (λ y. foreign own y) f)
-
-  pub abroad-meets : {r : Bool} → r ≡ (get_or m k false && foreign own (get_or reader k 0)) → r ≡ (get_or m k false && get_or (foreigners own reader) k false)
-  abroad-meets e = e ∙ ap (λ y. get_or m k false && y) (sym (foreign-of own reader k))
+pub elsewhere-found : (members : List ℕ) (n own : ℕ) (reader : List ℕ) {r : Bool}
+    → own < 254 → ((m : Marks) → Members members n m → r ≡ meets m (foreigners own reader)) → ReadElsewhere members n own reader r
+elsewhere-found members n own reader l f m ks a e = f m a ∙ ap (λ q. meets m (foreigners own q)) e ∙ elsewhere m own (length m) ks l refl

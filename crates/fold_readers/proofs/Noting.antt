@@ -1,19 +1,14 @@
 -- The reads of a slot, noted one after another.
-use Prim.Native.Nat.{ℕ, ◌+◌, ◌*◌, ◌≤◌, ◌<◌, zero-le}
-use mathlib.Core.Path.{◌≡◌, refl, ap, ◌∙◌, sym}
+use Prim.Native.Nat.{ℕ, ◌+◌, ◌*◌, ◌≤◌, ◌<◌}
+use mathlib.Core.Path.{◌≡◌, ap, ◌∙◌, sym}
 use mathlib.Core.List.{List, ◌∷◌}
 use native.Mathlib.Numerals.{add-one}
 use native.Mathlib.Omega.{arith}
-use borrow.Author.Tests.{eq-eqb, ne_eqb}
 use lib.ListN.{length, get_or, drop}
 use lib.Seq.{drop-cons, drop-length}
 use Rattle.mir.specs.declared.ValueId.{ValueId}
-use Rattle.mir.specs.Syntax.{Instruction}
-use Rattle.mir.specs.Reads.{reads, kindNumber}
-use Rattle.bytes_field.specs.declared.Bounds.{Bounds}
 use Rattle.bytes_index.specs.Table.{ReadsIn}
-use Rattle.bytes_index.specs.Code.{InstructionIn}
-use Rattle.fold_readers.specs.Readers.{seenBy, noteReader, readVia, readInstruction}
+use Rattle.fold_readers.specs.Readers.{noteReader, readVia}
 
 abbrev noValue : ValueId
 noValue = record { 0 = 0 }
@@ -25,9 +20,6 @@ module _ (own : ℕ) (facts : List ℕ) (row n : ℕ) where
     pub count : n ≡ get_or facts (row + 3) 0
     pub long : length r ≡ length r₀
     pub left : (slot : ℕ) (vs : List ValueId) → row ≡ 387 + 20 * slot → ReadsIn facts slot vs → readVia own r₀ vs ≡ readVia own r (drop k vs)
-
-  pub via-start : (r : List ℕ) → n ≡ get_or facts (row + 3) 0 → Via r r 0
-  via-start r e = record { under = zero-le; count = e; long = refl; left = λ slot vs q a. refl }
 
   many : n ≡ get_or facts (row + 3) 0 → (slot : ℕ) (vs : List ValueId) → row ≡ 387 + 20 * slot → ReadsIn facts slot vs → n ≡ length vs
   many e slot vs q a = e ∙ ap (λ x. get_or facts (x + 3) 0) q ∙ a.many
@@ -52,24 +44,3 @@ module _ (own : ℕ) (facts : List ℕ) (row n : ℕ) where
   via-done r₀ r k u h slot vs q a =
       let z : k ≡ length vs = omega (arith, u.under, many u.count slot vs q a) in
       sym (u.left slot vs q a ∙ ap (λ y. readVia own r (drop y vs)) z ∙ ap (λ y. readVia own r y) (drop-length vs))
-
--- whether an instruction's reads count, by its kind
-module _ (own : ℕ) (facts : List ℕ) (row kind : ℕ) (before : List ℕ) (e : kind ≡ get_or facts (row + 2) 0) (b : Bounds) (s : List ℕ) (slot : ℕ) (i : Instruction) (q : row ≡ 387 + 20 * slot) (a : InstructionIn b s facts slot i) where
-  numbered : kind ≡ kindNumber i.kind
-  numbered = e ∙ ap (λ x. get_or facts (x + 2) 0) q ∙ a.kind
-
-  pub is-debug : kind ≡ 7 → before ≡ readInstruction own before i.kind
-  is-debug h = rw (eq-eqb (kindNumber i.kind) 7 (sym numbered ∙ h))
-
-  pub not-debug : (kind ≡ 7 → ⊥) → {after : List ℕ} → after ≡ readVia own before (reads i.kind) → after ≡ readInstruction own before i.kind
-  not-debug h f = rw (ne_eqb (kindNumber i.kind) 7 (λ z. h (numbered ∙ z))) f
-
--- a value's number behind a read, by cases
-pub seen_first : (own x : ℕ) → x ≡ 0 → own + 1 ≡ seenBy own x
-seen_first own x h = rw (eq-eqb x 0 h)
-
-pub seen_same : (own x : ℕ) → (x ≡ 0 → ⊥) → x ≡ own + 1 → x ≡ seenBy own x
-seen_same own x f h = rw (ne_eqb x 0 f, eq-eqb x (own + 1) h)
-
-pub seen-several : (own x : ℕ) → (x ≡ 0 → ⊥) → (x ≡ own + 1 → ⊥) → 255 ≡ seenBy own x
-seen-several own x f g = rw (ne_eqb x 0 f, ne_eqb x (own + 1) g)

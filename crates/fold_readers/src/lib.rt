@@ -138,7 +138,10 @@ pub fn member_abroad(members: &[u16], n: u16, own: u8, readers: &[u8]) -> bool
 {
     let mut k: u16 = 0;
     while k < n {
-        if is_foreign(own, bytes_wire::byte_at(readers, table::place(members, k as usize))) {
+        if is_foreign(
+            own,
+            bytes_wire::byte_at(readers, table::place(members, k as usize)),
+        ) {
             return true;
         }
         k = k + 1;

@@ -1,6 +1,6 @@
 -- The code's search for a family is the search by rows, and ends with the family.
 use Prim.Native.Nat.{ℕ, zero, suc, ◌+◌, ◌≤◌, ◌<◌}
-use mathlib.Core.Path.{◌≡◌, refl, ap, ◌∙◌, sym, subst}
+use mathlib.Core.Path.{◌≡◌, refl, ap, ◌∙◌, sym}
 use mathlib.Core.List.{List, [], ◌∷◌}
 use mathlib.Core.Bool.{Bool, true, false, not, ◌&&◌, ◌||◌, true≢false}
 use native.Mathlib.Omega.{arith}
@@ -11,20 +11,17 @@ use lib.Seq.{get_or-set_same, get_or-set_other, set_out}
 use lib.Dec.{eqb, ltb}
 use Rattle.table.proofs.Elements.{clear_at}
 use Rattle.mir.specs.declared.ValueId.{ValueId}
-use Rattle.mir.specs.Syntax.{Instruction}
-use Rattle.mir.specs.Lookup.{Types, valueRow, shape}
-use Rattle.mir.specs.Most.{mostValues, mostInstructions}
+use Rattle.mir.specs.Most.{mostValues}
 use Rattle.fold.specs.Family.{Marks, mark, family}
 use Rattle.fold_family.specs.Copies.{Copy, copies, rounds, last, rowAt, firstsAt, RowsAt}
 use Rattle.fold_family.specs.Turns.{one, size, copiedFrom, turnsOf}
-use Rattle.fold_family.specs.Search.{mostTurns, joinsAt, Join, Turn, isOpen, Members, FamilyFound, FindsFamily}
+use Rattle.fold_family.specs.Search.{mostTurns, joinsAt, Join, Turn, isOpen, FindsFamily}
 use Rattle.fold_family.specs.declared.Search.{Search}
-use Rattle.fold_family.specs.declared.Found.{Found}
 use Rattle.fold_family.proofs.Sweeps.{family-copies}
 use Rattle.fold_family.proofs.Closed.{set-still, below-set, copies-few}
 use Rattle.fold_family.proofs.Rows.{copyAt, size-set}
 use Rattle.fold_family.proofs.Shut.{asks, Idle}
-use Rattle.fold_family.proofs.Searching.{Searching, search-start, search-take, search-pass, search-join, Finished, search-done}
+use Rattle.fold_family.proofs.Searching.{Searching, search-start, search-take, search-pass, search-join, search-done}
 
 -- no more are marked than there are values, and no more copies are of marked values than there are copies
 one-le : (b : Bool) → one b ≤ 1
@@ -184,7 +181,7 @@ module _ (table : List ℕ) (root v : ℕ) (clear : Marks) (room : List ℕ) whe
                 let c = copyAt cs k in
                 let a = joining-at root m c (sym (said cs rows s.inside) ∙ j) in
                 let h : q.found < length members =
-                      omega (arith, s.counted, size-set m c.dest a.low a.new, size-le (set m c.dest true), length-set m c.dest true, u.long, u.wide, ap length ec, length-replicate n false) in
+                omega (arith, s.counted, size-set m c.dest a.low a.new, size-le (set m c.dest true), length-set m c.dest true, u.long, u.wide, ap length ec, length-replicate n false) in
                 rw (ef, et, er, ← (behind cs n rows most ec s), rows.dest k s.inside, add-one turns, add-one q.found)
                 (search-join root cs v m members q.found q.taken turns k s a.asked a.new a.low h);
             has = λ n lt ec. (below-set m (get_or table (rowAt k) 0)).each v (u.has n lt ec);
@@ -207,13 +204,13 @@ module _ (table : List ℕ) (root v : ℕ) (clear : Marks) (room : List ℕ) whe
         let start : Marks = set clear v true in
         let b : get_or start v false ≡ true = get_or-set_same clear v true false (rw (ec, length-replicate n false) low') in
         let d = search-done root cs v start m members q.found q.taken turns s (over-taken q o)
-              (length-set clear v true ∙ sym u.long) b (only-one n ec) (u.has n low' ec) in
+        (length-set clear v true ∙ sym u.long) b (only-one n ec) (u.has n low' ec) in
         let same : m ≡ family τ w is =
-              d.same (length is) (copies-few τ is)
-              ∙ ap (λ x. rounds root (length is) (set x v true) cs) ec
-              ∙ ap (λ x. rounds root (length is) (set (replicate n false) x true) cs) ev
-              ∙ ap (λ x. rounds x (length is) (mark (replicate n false) w) cs) er
-              ∙ sym (family-copies τ w is) in
+        d.same (length is) (copies-few τ is)
+        ∙ ap (λ x. rounds root (length is) (set x v true) cs) ec
+        ∙ ap (λ x. rounds root (length is) (set (replicate n false) x true) cs) ev
+        ∙ ap (λ x. rounds x (length is) (mark (replicate n false) w) cs) er
+        ∙ sym (family-copies τ w is) in
         record {
           same = same;
           turned = d.exact ∙ ap (λ x. size x + copiedFrom x cs (length cs)) same;

@@ -1,5 +1,5 @@
 -- A search for a family, as the code makes it: what it leaves, and what it promises.
-use Rattle.std.specs.Prelude.{ℕ, suc, ◌+◌, ◌≤◌, ◌<◌, ◌≡◌, List, Bool, true, false, cond, not, ◌&&◌, ◌||◌, length, get_or, set, replicate, eqb, ltb}
+use Rattle.std.specs.Prelude.{ℕ, suc, ◌+◌, ◌≤◌, ◌<◌, ◌≡◌, List, Bool, true, false, not, ◌&&◌, ◌||◌, length, get_or, set, replicate, eqb, ltb}
 use Rattle.mir.specs.declared.ValueId.{ValueId}
 use Rattle.mir.specs.Syntax.{Instruction}
 use Rattle.mir.specs.Lookup.{Types, valueRow, shape}

@@ -72,7 +72,14 @@ fn joins(copies: &[u16], k: u16, shape: u8, marks: &[bool]) -> bool
 }
 
 // Looks at copy `k`, `found` members being found; how many are found then.
-fn join(copies: &[u16], k: u16, shape: u8, found: u16, marks: &mut [bool], members: &mut [u16]) -> u16
+fn join(
+    copies: &[u16],
+    k: u16,
+    shape: u8,
+    found: u16,
+    marks: &mut [bool],
+    members: &mut [u16],
+) -> u16
     requires { found ≤ mostTurns + 1 }
     ensures { Join copies.now k shape found marks.old marks.new members.old members.new result }
 {
@@ -119,7 +126,13 @@ fn is_open(q: Search) -> bool
 
 // Marks the family of `v`, whose recorded type has the shape `shape`, in `marks`, which are clear, one for each value, and
 // lists its members in `members`. The block's copies stand in `copies`.
-pub fn family(copies: &[u16], shape: u8, v: ValueId, marks: &mut [bool], members: &mut [u16]) -> Found
+pub fn family(
+    copies: &[u16],
+    shape: u8,
+    v: ValueId,
+    marks: &mut [bool],
+    members: &mut [u16],
+) -> Found
     ensures { FindsFamily copies.now shape v marks.old marks.new members.old members.new result }
 {
     table::set_flag(marks, v.0 as usize, true);

@@ -1,5 +1,5 @@
 use mathlib.Core.Path.{refl, sym, ◌∙◌}
-use Rattle.std.proofs.Common.{◌<◌, ◌+◌, arith}
+use Rattle.std.proofs.Common.{arith}
 use Rattle.fold_family.proofs.Finding.{going-start, going-on, found-all, never-late}
 use Rattle.fold_family.proofs.family.Goals as goal
 

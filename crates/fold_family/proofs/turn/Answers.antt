@@ -1,5 +1,5 @@
 use mathlib.Core.Path.{refl}
-use Rattle.std.proofs.Common.{◌-◌, ◌≡◌, suc, arith}
+use Rattle.std.proofs.Common.{◌-◌, arith}
 use Rattle.fold_family.specs.Search.{Turn}
 use Rattle.fold_family.proofs.turn.Goals as goal
 

@@ -38,7 +38,9 @@ last-new cs c v =
     rw (get_or_at cs c [] noCopy (length cs) refl, last-front cs c v (length cs) (omega arith)) refl
 
 -- one more copy
-module _ (l : List ℕ) (n : ℕ) (cs : List Copy) (c : Copy) (a : RowsAt l cs) (many : length cs ≡ n) (room : length l ≡ tableSize) (low : n < mostInstructions) where
+module _ (l : List ℕ) (n : ℕ) (cs : List Copy) (c : Copy)
+    (a : RowsAt l cs) (many : length cs ≡ n) (room : length l ≡ tableSize) (low : n < mostInstructions)
+  where
   abbrev l₁ : List ℕ
   l₁ = set l (rowAt n) c.dest
 
@@ -82,7 +84,8 @@ module _ (l : List ℕ) (n : ℕ) (cs : List Copy) (c : Copy) (a : RowsAt l cs) 
   new-next : get_or l₄ (rowAt n + 2) 0 ≡ get_or l (firstsAt + c.source) 0
   new-next =
       get_or-set_other l₃ (firstsAt + c.source) (rowAt n + 2) (n + 1) 0 (λ z. omega arith)
-      ∙ get_or-set_same l₂ (rowAt n + 2) (get_or l₂ (firstsAt + c.source) 0) 0 (omega (arith, room, length-set l (rowAt n) c.dest, length-set l₁ (rowAt n + 1) c.asked))
+      ∙ get_or-set_same l₂ (rowAt n + 2) (get_or l₂ (firstsAt + c.source) 0) 0
+        (omega (arith, room, length-set l (rowAt n) c.dest, length-set l₁ (rowAt n + 1) c.asked))
       ∙ head
 
   abbrev all : List Copy
@@ -104,7 +107,8 @@ module _ (l : List ℕ) (n : ℕ) (cs : List Copy) (c : Copy) (a : RowsAt l cs) 
       let z : c.source ≡ v = eqb-true c.source v e in
       ap (λ x. get_or l₄ (firstsAt + x) 0) (sym z)
       ∙ get_or-set_same l₃ (firstsAt + c.source) (n + 1) 0
-        (omega (arith, room, length-set l (rowAt n) c.dest, length-set l₁ (rowAt n + 1) c.asked, length-set l₂ (rowAt n + 2) (get_or l₂ (firstsAt + c.source) 0)))
+        (omega (arith, room, length-set l (rowAt n) c.dest, length-set l₁ (rowAt n + 1) c.asked,
+        length-set l₂ (rowAt n + 2) (get_or l₂ (firstsAt + c.source) 0)))
       ∙ omega (arith, many)
       ∙ sym (ap (λ b. cond b (suc (length cs)) (last cs v (length cs))) e)
       ∙ sym (last-new cs c v)
@@ -119,20 +123,24 @@ module _ (l : List ℕ) (n : ℕ) (cs : List Copy) (c : Copy) (a : RowsAt l cs) 
   rows-next : (v : ℕ) (k : ℕ) → k < length all → (get_or all k noCopy).source ≡ v → v < mostValues → get_or l₄ (rowAt k + 2) 0 ≡ last all v k
   rows-next v =
       each (λ k x. x.source ≡ v → v < mostValues → get_or l₄ (rowAt k + 2) 0 ≡ last all v k)
-      (λ k h s w. kept (rowAt k + 2) (inl (omega (arith, many))) (λ z. omega (arith, many)) ∙ a.next k v h s w ∙ sym (last-front cs c v k (omega arith)))
+      (λ k h s w.
+      kept (rowAt k + 2) (inl (omega (arith, many))) (λ z. omega (arith, many)) ∙ a.next k v h s w ∙ sym (last-front cs c v k (omega arith)))
       (λ s w.
       new-next ∙ ap (λ x. get_or l (firstsAt + x) 0) s ∙ a.first v w ∙ ap (λ x. last cs v x) many ∙ sym (last-front cs c v n (omega (arith, many))))
 
   rows-all : RowsAt l₄ all
   rows-all =
       record {
-        dest = each (λ k x. get_or l₄ (rowAt k) 0 ≡ x.dest) (λ k h. kept (rowAt k) (inl (omega (arith, many))) (λ z. omega (arith, many)) ∙ a.dest k h) new-dest;
-        asked = each (λ k x. get_or l₄ (rowAt k + 1) 0 ≡ x.asked) (λ k h. kept (rowAt k + 1) (inl (omega (arith, many))) (λ z. omega (arith, many)) ∙ a.asked k h) new-asked;
+        dest = each (λ k x. get_or l₄ (rowAt k) 0 ≡ x.dest)
+            (λ k h. kept (rowAt k) (inl (omega (arith, many))) (λ z. omega (arith, many)) ∙ a.dest k h) new-dest;
+        asked = each (λ k x. get_or l₄ (rowAt k + 1) 0 ≡ x.asked)
+            (λ k h. kept (rowAt k + 1) (inl (omega (arith, many))) (λ z. omega (arith, many)) ∙ a.asked k h) new-asked;
         next = λ k v h s w. rows-next v k h s w;
         first = λ v h. rows-first v h (eqb c.source v) refl;
       }
 
-  pub rows-more : {a₁ a₂ a₃ a₄ : List ℕ} {x : ℕ} → a₁ ≡ set l (rowAt n + 0) c.dest → a₂ ≡ set a₁ (rowAt n + 1) c.asked → x ≡ get_or a₂ (firstsAt + c.source) 0 → a₃ ≡ set a₂ (rowAt n + 2) x
+  pub rows-more : {a₁ a₂ a₃ a₄ : List ℕ} {x : ℕ} → a₁ ≡ set l (rowAt n + 0) c.dest → a₂ ≡ set a₁ (rowAt n + 1) c.asked
+      → x ≡ get_or a₂ (firstsAt + c.source) 0 → a₃ ≡ set a₂ (rowAt n + 2) x
       → a₄ ≡ set a₃ (firstsAt + c.source) (n + 1) → RowsAt a₄ all × (length all ≡ n + 1)
   rows-more e₁ e₂ ex e₃ e₄ = (rw (e₄, e₃, ex, e₂, e₁, add-zero) rows-all, omega (arith, counted))
 

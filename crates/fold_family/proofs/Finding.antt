@@ -66,11 +66,19 @@ over-row q h = go (eqb q.row 0) refl (both (not (eqb q.row 0)) (ltb q.taken q.fo
 pub over-taken : (q : Search) → isOpen q ≡ false → q.found ≤ q.taken
 over-taken q h = omega (arith, ltb-false q.taken q.found (both (not (eqb q.row 0)) (ltb q.taken q.found) h).1)
 
--- a copy that does not join adds nothing
-idle-passed : (root : ℕ) (m : Marks) (c : Copy) → (asks root c && (ltb c.dest (length m) && not (get_or m c.dest false))) ≡ false → asks root c ≡ true → Idle m c
-idle-passed root m c h a = go (ltb c.dest (length m)) refl (get_or m c.dest false) refl (sym (ap (λ b. b && (ltb c.dest (length m) && not (get_or m c.dest false))) a) ∙ h)
+-- a copy joins where it asks for the root's shape, or for any, and its dest is a value that is not marked
+abbrev unmarked-dest : Marks → Copy → Bool
+unmarked-dest m c = ltb c.dest (length m) && not (get_or m c.dest false)
+
+abbrev entering : ℕ → Marks → Copy → Bool
+entering root m c = asks root c && unmarked-dest m c
+
+-- one that does not join adds nothing
+idle-passed : (root : ℕ) (m : Marks) (c : Copy) → entering root m c ≡ false → asks root c ≡ true → Idle m c
+idle-passed root m c h a =
+    go (ltb c.dest (length m)) refl (get_or m c.dest false) refl (sym (ap (λ b. b && unmarked-dest m c) a) ∙ h)
   where
-    go : (b : Bool) → ltb c.dest (length m) ≡ b → (g : Bool) → get_or m c.dest false ≡ g → (ltb c.dest (length m) && not (get_or m c.dest false)) ≡ false → Idle m c
+    go : (b : Bool) → ltb c.dest (length m) ≡ b → (g : Bool) → get_or m c.dest false ≡ g → unmarked-dest m c ≡ false → Idle m c
     go false e g f k = set_out m c.dest true (ltb-false _ _ e)
     go true e true f k = set-still m c.dest f
     go true e false f k = absurd (true≢false (sym (rw (e, f) refl) ∙ k))
@@ -81,10 +89,11 @@ record Joining (root : ℕ) (m : Marks) (c : Copy) : Type 0 where
   low : c.dest < length m
   new : get_or m c.dest false ≡ false
 
-joining-at : (root : ℕ) (m : Marks) (c : Copy) → (asks root c && (ltb c.dest (length m) && not (get_or m c.dest false))) ≡ true → Joining root m c
+joining-at : (root : ℕ) (m : Marks) (c : Copy) → entering root m c ≡ true → Joining root m c
 joining-at root m c h = go (asks root c) refl (ltb c.dest (length m)) refl (get_or m c.dest false) refl h
   where
-    go : (a : Bool) → asks root c ≡ a → (b : Bool) → ltb c.dest (length m) ≡ b → (g : Bool) → get_or m c.dest false ≡ g → (a && (b && not g)) ≡ true → Joining root m c
+    go : (a : Bool) → asks root c ≡ a → (b : Bool) → ltb c.dest (length m) ≡ b → (g : Bool) → get_or m c.dest false ≡ g → (a && (b && not g)) ≡ true
+        → Joining root m c
     go true ea true eb false eg k = record { asked = ea; low = ltb-true _ _ eb; new = eg }
     go true ea true eb true eg k = absurd (true≢false (sym k))
     go true ea false eb g eg k = absurd (true≢false (sym k))
@@ -150,8 +159,7 @@ module _ (table : List ℕ) (root v : ℕ) (clear : Marks) (room : List ℕ) whe
           sym (r.next k s.u s.inside (s.own k refl) low)
 
       -- what the table says of a copy
-      said : (cs : List Copy) → RowsAt table cs → k < length cs
-          → joinsAt table k root m ≡ (asks root (copyAt cs k) && (ltb (copyAt cs k).dest (length m) && not (get_or m (copyAt cs k).dest false)))
+      said : (cs : List Copy) → RowsAt table cs → k < length cs → joinsAt table k root m ≡ entering root m (copyAt cs k)
       said cs r h = rw (r.dest k h, r.asked k h) refl
 
       looked-on : {r : Search} {m' : Marks} {members' : List ℕ} → r.taken ≡ q.taken → r.row ≡ get_or table (rowAt k + 2) 0

@@ -35,7 +35,8 @@ meets-none (a ∷ m) (b ∷ d) f = go a refl (meets-none m d (λ x. f (suc x)))
 pub record NoneMet (members : List ℕ) (d : Marks) (k : ℕ) : Type 0 where
   pub each : (i : ℕ) → i < k → get_or d (get_or members i 0) false ≡ false
 
-pub met-at : (members : List ℕ) (n : ℕ) (m d : Marks) (k : ℕ) {r : Bool} → Members members n m → k < n → r ≡ get_or d (get_or members k 0) false → r ≡ true → true ≡ meets m d
+pub met-at : (members : List ℕ) (n : ℕ) (m d : Marks) (k : ℕ) {r : Bool}
+    → Members members n m → k < n → r ≡ get_or d (get_or members k 0) false → r ≡ true → true ≡ meets m d
 met-at members n m d k a h e f = sym (meets-at m d (get_or members k 0) (a.marked k h) (sym e ∙ f))
 
 pub none-met : (members : List ℕ) (n : ℕ) (m d : Marks) (k : ℕ) → Members members n m → n ≤ k → NoneMet members d k → false ≡ meets m d

@@ -8,7 +8,8 @@ pub returns-then-flag : goal.returns-then-flag
 returns-then-flag c =
     let a = c.args in
     dynamic-found a.members.now a.n a.dynamic.now
-    (λ m f. met-at a.members.now a.n m a.dynamic.now c.loop-k.k f c.loop-k-test.true (c.flag.ensures ∙ ap (λ i. get_or a.dynamic.now i false) c.place.ensures) c.if-flag.true)
+    (λ m f. met-at a.members.now a.n m a.dynamic.now c.loop-k.k f c.loop-k-test.true
+    (c.flag.ensures ∙ ap (λ i. get_or a.dynamic.now i false) c.place.ensures) c.if-flag.true)
 
 pub returns : goal.returns
 returns c =

@@ -23,9 +23,13 @@ const MODULES: [(&str, bool); 6] = [
     ("value", false),
 ];
 
-/// The test modules that `function.rs` and `sroa.rs` name and that are in no file we have.
-const ABSENT: [(&str, &str); 2] =
-    [("function_tests.rs", "function_tests.rs"), ("sroa_tests.rs", "passes/sroa_tests.rs")];
+/// The test modules that `function.rs` and `sroa.rs` name and that are in no file we have, and one
+/// that ours names.
+const ABSENT: [(&str, &str); 3] = [
+    ("function_tests.rs", "function_tests.rs"),
+    ("sroa_tests.rs", "passes/sroa_tests.rs"),
+    ("sroa_families.rs", "passes/sroa_families.rs"),
+];
 
 fn main() {
     let source = source_folder();

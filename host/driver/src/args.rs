@@ -1,20 +1,24 @@
-//! The words after a command: names with values.
+//! The words after a command: names with values, and some without.
 
 use std::collections::BTreeMap;
 
 use gen::{Sort, SORTS};
+
+/// Names that stand without a value.
+const ALONE: [&str; 1] = ["members"];
 
 pub struct Args {
     values: BTreeMap<String, String>,
 }
 
 impl Args {
-    /// Reads `--name value` pairs.
+    /// Reads `--name value` pairs, and names that stand alone.
     pub fn of(mut words: impl Iterator<Item = String>) -> Result<Self, String> {
         let mut values = BTreeMap::new();
         while let Some(word) = words.next() {
             let name = word.strip_prefix("--").ok_or(format!("`{word}` is no --name"))?;
-            let value = words.next().ok_or(format!("--{name} has no value"))?;
+            let alone = ALONE.contains(&name).then(String::new);
+            let value = alone.or_else(|| words.next()).ok_or(format!("--{name} has no value"))?;
             values.insert(name.to_string(), value);
         }
         Ok(Self { values })
@@ -30,6 +34,11 @@ impl Args {
 
     pub fn text(&self, name: &str) -> Option<&str> {
         self.values.get(name).map(String::as_str)
+    }
+
+    /// Whether a name that stands alone is there.
+    pub fn has(&self, name: &str) -> bool {
+        self.values.contains_key(name)
     }
 
     /// The sort of inputs that `--sort` asks for; none means a mix of all.
@@ -67,6 +76,14 @@ mod tests {
         assert!(of(&["count"]).is_err());
         assert!(of(&["--count"]).is_err());
         assert!(of(&["--count", "x"]).unwrap().number("count", 1).is_err());
+    }
+
+    #[test]
+    fn some_names_stand_alone() {
+        let args = of(&["--members", "--count", "5"]).unwrap();
+        assert!(args.has("members") && !args.has("hex"));
+        assert_eq!(args.number("count", 1), Ok(5));
+        assert!(!of(&[]).unwrap().has("members"));
     }
 
     #[test]

@@ -5,6 +5,7 @@ use oracle::form::*;
 use oracle::{read, run_oracle, Outcome, Settings, COUNT_NAMES, LENT};
 
 use crate::args::Args;
+use crate::families::{cases, CASES};
 use crate::tally::Tally;
 
 /// Runs the oracle over `--count` inputs; true where every case was met, or one sort asked for.
@@ -40,6 +41,7 @@ struct Histogram {
     kinds_out: Tally,
     counts: Tally,
     runs: Tally,
+    families: Tally,
 }
 
 const KIND_NAMES: [&str; 19] = [
@@ -109,6 +111,7 @@ impl Histogram {
             kinds_out: Tally::new("instructions of outputs", KIND_NAMES),
             counts: Tally::new("runs that raise a count", COUNT_NAMES),
             runs: Tally::new("runs", RUNS),
+            families: Tally::new("families", CASES),
         }
     }
 
@@ -139,6 +142,10 @@ impl Histogram {
                 self.instruction(instruction);
             }
             self.terminator(&block.terminator);
+        }
+        for family in families::families(routine) {
+            let cases = cases(&family).into_iter().enumerate();
+            cases.for_each(|(at, is)| self.families.add(at, u64::from(is)));
         }
     }
 
@@ -221,6 +228,7 @@ impl Histogram {
             &self.kinds_out,
             &self.counts,
             &self.runs,
+            &self.families,
         ];
         let mut missing = Vec::new();
         for tally in all {

@@ -6,6 +6,7 @@ mod bench_lower;
 mod check_diff;
 mod coverage;
 mod examples;
+mod families;
 mod histogram;
 mod judged;
 mod lower_diff;
@@ -37,7 +38,10 @@ const USAGE: &str = "usage: driver COMMAND [--NAME VALUE]...
   examples    --to FOLDER                        the routines of the folder examples/
   run         --hex HEX [--tuples N] [--structs N] [--max N] [--lent N]
                                                  what the Rust makes of one input
-sorts: typed, wild, near, damaged, bytes, debugs; without one, a mix of all";
+  families    --hex HEX [--members]              the families of one input's builds
+  families-diff --count N --seed S [--sort SORT] [--members] --program PATH
+                                                 the program `families` against them
+sorts: typed, wild, near, damaged, bytes, debugs, copies; without one, a mix of all";
 
 /// The archive's `check`.
 type Check = fn(&[u8]) -> (u8, u64);
@@ -89,6 +93,8 @@ fn dispatch(command: &str, args: &Args) -> Result<bool, String> {
         "store" => store::command(args),
         "examples" => examples::command(args),
         "run" => one::command(args),
+        "families" => families::command(args),
+        "families-diff" => families::diff::command(args),
         _ => Err(USAGE.to_string()),
     }
 }

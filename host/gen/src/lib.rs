@@ -1,6 +1,8 @@
-//! Routines from a seed: well typed, wild, near every most, damaged, full of Debugs, and plain bytes.
+//! Routines from a seed: well typed, wild, near every most, damaged, full of Debugs, dense in copies,
+//! and plain bytes.
 
 mod churn;
+mod copies;
 mod damage;
 mod damage_routine;
 mod debugs;
@@ -41,10 +43,12 @@ pub enum Sort {
     Bytes,
     /// A routine, typed as a rule, with Debugs put into it.
     Debugs,
+    /// A routine whose blocks are dense in copies, in any order.
+    Copies,
 }
 
-pub const SORTS: [Sort; 6] =
-    [Sort::Typed, Sort::Wild, Sort::Near, Sort::Damaged, Sort::Bytes, Sort::Debugs];
+pub const SORTS: [Sort; 7] =
+    [Sort::Typed, Sort::Wild, Sort::Near, Sort::Damaged, Sort::Bytes, Sort::Debugs, Sort::Copies];
 
 impl Sort {
     pub fn name(self) -> &'static str {
@@ -55,6 +59,7 @@ impl Sort {
             Sort::Damaged => "damaged",
             Sort::Bytes => "bytes",
             Sort::Debugs => "debugs",
+            Sort::Copies => "copies",
         }
     }
 }
@@ -66,7 +71,8 @@ pub fn input(seed: u64, number: u64, only: Option<Sort>) -> (Sort, Vec<u8>) {
         0..=24 => Sort::Typed,
         25..=44 => Sort::Wild,
         45..=46 => Sort::Near,
-        47..=91 => Sort::Damaged,
+        47..=87 => Sort::Damaged,
+        88..=91 => Sort::Copies,
         92..=96 => Sort::Bytes,
         _ => Sort::Debugs,
     };
@@ -89,6 +95,7 @@ pub fn of_sort(rng: &mut Rng, sort: Sort) -> Vec<u8> {
         }
         Sort::Bytes => bytes(rng),
         Sort::Debugs => with_debugs(rng),
+        Sort::Copies => oracle::write(&copies::routine(rng)),
     }
 }
 

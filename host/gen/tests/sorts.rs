@@ -19,11 +19,12 @@ fn one_seed_gives_one_input() {
     }
 }
 
-/// Typed, wild and near routines are read, and written as the bytes they came from; so is what
-/// becomes a `MirFunction` and a routine again.
+/// Typed, wild and near routines, and those dense in copies, are read, and written as the bytes they
+/// came from; so is what becomes a `MirFunction` and a routine again.
 #[test]
 fn valid_sorts_go_there_and_back() {
-    for (sort, count) in [(Sort::Typed, 2000), (Sort::Wild, 2000), (Sort::Near, 200)] {
+    let counts = [(Sort::Typed, 2000), (Sort::Wild, 2000), (Sort::Near, 200), (Sort::Copies, 1000)];
+    for (sort, count) in counts {
         for number in 0..count {
             let bytes = of_sort(&mut Rng::of(3, number), sort);
             let routine = read(&bytes).unwrap_or_else(|r| panic!("{} {number}: {r}", sort.name()));
@@ -39,7 +40,8 @@ fn valid_sorts_go_there_and_back() {
 #[test]
 fn outputs_are_read_back() {
     let mut passed = 0;
-    for (sort, count) in [(Sort::Typed, 500), (Sort::Wild, 500), (Sort::Near, 400)] {
+    let counts = [(Sort::Typed, 500), (Sort::Wild, 500), (Sort::Near, 400), (Sort::Copies, 500)];
+    for (sort, count) in counts {
         for routine in routines(sort, count) {
             if let Ok(lowered) = run_routine(routine, Settings::default()) {
                 let bytes = write(&lowered.routine);

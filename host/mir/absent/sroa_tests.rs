@@ -3,6 +3,9 @@
 use super::*;
 use crate::BasicBlockId;
 
+#[path = "sroa_families.rs"]
+mod sroa_families;
+
 /// One block that builds a tuple of `count` and extracts part 0 of it.
 fn tuple_of(count: usize) -> MirFunction {
     let mut function = MirFunction::new("f".to_string());

@@ -1,5 +1,6 @@
 //! The routines of the folder examples/: small ones, each made to show a thing.
 
+mod copies;
 mod draft;
 mod passed;
 mod reasons;
@@ -10,27 +11,36 @@ use std::path::Path;
 use oracle::{to_hex, write, Settings, LENT};
 
 use crate::args::Args;
+use crate::families;
 use crate::judged::Judged;
 use crate::one::printed;
 
-/// Writes the examples, and the lines that the program has to print of each, into the folder `--to`.
+/// Writes the examples, and the lines that the programs have to print of them, into the folder `--to`.
 pub fn command(args: &Args) -> Result<bool, String> {
     args.only(&["to"])?;
     let to = Path::new(args.text("to").ok_or("--to FOLDER is missing")?);
-    for (name, bytes) in all() {
-        for (file, text) in [(name.to_string(), digits(&bytes)), (stored(name), lines(&bytes))] {
-            let file = to.join(file);
-            std::fs::write(&file, text).map_err(|e| format!("{}: {e}", file.display()))?;
-            println!("{}", file.display());
-        }
+    for (file, text) in files() {
+        let file = to.join(file);
+        std::fs::write(&file, text).map_err(|e| format!("{}: {e}", file.display()))?;
+        println!("{}", file.display());
     }
     Ok(true)
 }
 
-/// The file of the lines that belong to an example.
-fn stored(name: &str) -> String {
-    name.replace(".hex", ".lines")
+/// Each file of the folder with its text.
+fn files() -> Vec<(String, String)> {
+    let of_one = |(name, bytes): (&str, Vec<u8>)| {
+        let own = |ending| name.replace(".hex", ending);
+        let families = (own(".families"), families_of(&bytes));
+        let always = [(own(".hex"), digits(&bytes)), (own(".lines"), lines(&bytes))];
+        always.into_iter().chain(FAMILIES.contains(&name).then_some(families))
+    };
+    all().into_iter().flat_map(of_one).collect()
 }
+
+/// The examples for which there are lines of the program `families` too.
+const FAMILIES: [&str; 5] =
+    ["backwards.hex", "backwards-chain.hex", "other-kind.hex", "scalars.hex", "refused-6.hex"];
 
 /// The text of an example's file.
 fn digits(bytes: &[u8]) -> String {
@@ -42,7 +52,12 @@ fn lines(bytes: &[u8]) -> String {
     printed(&Judged::of(bytes, Settings::default()), LENT)
 }
 
-/// Each file with its bytes.
+/// What the program `families` prints of them.
+fn families_of(bytes: &[u8]) -> String {
+    families::printed(&families::found(bytes), false)
+}
+
+/// Each example with its bytes.
 fn all() -> Vec<(&'static str, Vec<u8>)> {
     vec![
         ("pair.hex", write(&passed::pair())),
@@ -61,6 +76,10 @@ fn all() -> Vec<(&'static str, Vec<u8>)> {
         ("debug-1.hex", write(&reasons::debugged_error())),
         ("debug-2.hex", write(&reasons::debugged_ahead())),
         ("debug-5.hex", write(&reasons::debugged_dropped())),
+        ("backwards.hex", write(&copies::backwards())),
+        ("backwards-chain.hex", write(&copies::backwards_chain())),
+        ("other-kind.hex", write(&copies::other_kind())),
+        ("scalars.hex", write(&copies::scalars())),
         ("refused-1.hex", refused::cut_off()),
         ("refused-2.hex", refused::long_list()),
         ("refused-3.hex", refused::unknown_kind()),

@@ -33,17 +33,15 @@ fn row(line: &str) -> Option<[&str; 3]> {
 /// No file of the folder was made otherwise: the routines, and the lines that belong to them.
 #[test]
 fn the_files_are_what_is_made() {
-    for (name, bytes) in all() {
-        assert_eq!(text(name), digits(&bytes), "{name}");
-        assert_eq!(text(&stored(name)), lines(&bytes), "{name}");
+    for (name, made) in files() {
+        assert_eq!(text(&name), made, "{name}");
     }
     let names = std::fs::read_dir(folder()).expect("the folder is there").map(|file| {
         let name = file.expect("its files can be listed").file_name();
         name.into_string().expect("their names are plain")
     });
     let files: BTreeSet<String> = names.filter(|name| name != "README.md").collect();
-    let made = all().into_iter().flat_map(|(name, _)| [name.to_string(), stored(name)]);
-    assert_eq!(files, made.collect());
+    assert_eq!(files, super::files().into_iter().map(|(name, _)| name).collect());
 }
 
 /// One line is longer than any that a small buffer would hold.

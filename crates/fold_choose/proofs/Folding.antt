@@ -1,9 +1,9 @@
 -- What is decided of one build.
 use Prim.Native.Nat.{ℕ, ◌<◌}
 use mathlib.Core.Path.{◌≡◌, refl, ap, ◌∙◌, sym}
-use mathlib.Core.List.{List, [], ◌∷◌}
-use mathlib.Core.Bool.{Bool, true, false, cond, ◌||◌}
-use mathlib.Core.Option.{none, some, none-ne-some}
+use mathlib.Core.List.{List, []}
+use mathlib.Core.Bool.{Bool, true, false, ◌||◌}
+use mathlib.Core.Option.{some, none-ne-some}
 use borrow.Author.Tests.{eq-eqb}
 use lib.Dec.{eqb}
 use lib.ListN.{length, get_or, drop}
@@ -11,7 +11,7 @@ use Rattle.mir.specs.declared.ValueId.{ValueId}
 use Rattle.mir.specs.Syntax.{Instruction, InstructionKind}
 use Rattle.mir.specs.Syntax.{Assign, UnaryOp, BinaryOp, Call, Cast, Load, Store, Debug, Nop, Phi}
 use Rattle.mir.specs.Syntax.{MakeTuple, ExtractTupleElement, MakeStruct, ExtractStructField, InsertField, InsertTuple, MakeFixedArray, AssertEq, HeapAllocCells}
-use Rattle.mir.specs.Reads.{kindNumber, isPhi}
+use Rattle.mir.specs.Reads.{kindNumber}
 use Rattle.bytes_field.specs.declared.Bounds.{Bounds}
 use Rattle.bytes_laws.proofs.Bits.{true-false}
 use Rattle.bytes_operands.specs.Fields.{fieldsPlace}
@@ -19,11 +19,9 @@ use Rattle.bytes_index.specs.Table.{place_in, kindIn}
 use Rattle.bytes_index.specs.Code.{InstructionIn}
 use Rattle.fold.specs.declared.Settings.{Settings}
 use Rattle.mir.specs.Lookup.{Types}
-use Rattle.fold.specs.Family.{Marks, buildDest, accessed, hasDynamicIndex}
+use Rattle.fold.specs.Family.{Marks, buildDest, hasDynamicIndex}
 use Rattle.fold.specs.Climb.{buildOf}
-use Rattle.mir.specs.Phis.{behindPhis}
 use Rattle.rewrite.specs.Run.{foldsBuild}
-use Rattle.fold_family.specs.Copies.{copy_of, copies, dynamics}
 use Rattle.fold_climb.specs.Decided.{Decided, FoldsBy}
 use Rattle.fold_climb.proofs.Found.{DestAt, dest, tuple-place, struct-place, array-place}
 use Rattle.fold_scan.specs.Noted.{destIn}
@@ -100,47 +98,6 @@ no-build i v kind k f h =
     let w = neither (eqb kind 10) (eqb kind 12 || eqb kind 16) f in
     let u = neither (eqb kind 12) (eqb kind 16) w.1 in
     build-kind i v h (λ z. true-false (sym (eq-eqb kind 10 (k ∙ z)) ∙ w.0)) (λ z. true-false (sym (eq-eqb kind 12 (k ∙ z)) ∙ u.0)) (λ z. true-false (sym (eq-eqb kind 16 (k ∙ z)) ∙ u.1))
-
--- a phi copies nothing and looks into nothing
-phi-plain : (τ : Types) (i : InstructionKind) → isPhi i ≡ true → (copy_of τ i ≡ none) × (accessed i ≡ none)
-unfolding accessed
-phi-plain τ (Assign d x t) h = absurd (true-false (sym h))
-phi-plain τ (UnaryOp op d x) h = absurd (true-false (sym h))
-phi-plain τ (BinaryOp op d x y) h = absurd (true-false (sym h))
-phi-plain τ (Call ds f xs ps rs) h = absurd (true-false (sym h))
-phi-plain τ (Cast d x t u) h = absurd (true-false (sym h))
-phi-plain τ (Load d p t) h = absurd (true-false (sym h))
-phi-plain τ (Store p x t) h = absurd (true-false (sym h))
-phi-plain τ (Debug n xs) h = absurd (true-false (sym h))
-phi-plain τ Nop h = absurd (true-false (sym h))
-phi-plain τ (Phi d t ss) h = (refl, refl)
-phi-plain τ (MakeTuple d xs) h = absurd (true-false (sym h))
-phi-plain τ (ExtractTupleElement d x k t) h = absurd (true-false (sym h))
-phi-plain τ (MakeStruct d fs t) h = absurd (true-false (sym h))
-phi-plain τ (ExtractStructField d x n t) h = absurd (true-false (sym h))
-phi-plain τ (InsertField d x n y t) h = absurd (true-false (sym h))
-phi-plain τ (InsertTuple d x k y t) h = absurd (true-false (sym h))
-phi-plain τ (MakeFixedArray d xs t c) h = absurd (true-false (sym h))
-phi-plain τ (AssertEq x y) h = absurd (true-false (sym h))
-phi-plain τ (HeapAllocCells d x) h = absurd (true-false (sym h))
-
-pub copies-behind : (τ : Types) (is : List Instruction) → copies τ is ≡ copies τ (behindPhis is)
-unfolding copies behindPhis
-copies-behind τ [] = refl
-copies-behind τ (i ∷ is) = go (copies-behind τ is) (isPhi i.kind) refl
-  where
-    go : copies τ is ≡ copies τ (behindPhis is) → (b : Bool) → isPhi i.kind ≡ b → copies τ (i ∷ is) ≡ copies τ (cond b (behindPhis is) (i ∷ is))
-    go ih true e = rw (phi-plain τ i.kind e).0 ih
-    go ih false e = refl
-
-pub dynamics-behind : (τ : Types) (m : Marks) (is : List Instruction) → dynamics m is ≡ dynamics m (behindPhis is)
-unfolding dynamics behindPhis
-dynamics-behind τ m [] = refl
-dynamics-behind τ m (i ∷ is) = go (dynamics-behind τ m is) (isPhi i.kind) refl
-  where
-    go : dynamics m is ≡ dynamics m (behindPhis is) → (b : Bool) → isPhi i.kind ≡ b → dynamics m (i ∷ is) ≡ dynamics m (cond b (behindPhis is) (i ∷ is))
-    go ih true e = rw (phi-plain τ i.kind e).1 ih
-    go ih false e = refl
 
 module _ (σ : Settings) (shapes graph copied : List ℕ) (instructions : ℕ) (dynamic : List Bool) (s : List ℕ) (b : Bounds) (facts : List ℕ) (slot kind : ℕ) (ks : kind ≡ kindIn facts slot) where
   pub decided : (d : ℕ) → d ≡ destIn s facts slot → (shp : ℕ) → shp ≡ get_or shapes d 0 → (looked : Bool) → (kind ≡ 16 → LooksInto b.next copied instructions shp (record { 0 = d }) dynamic looked) → (r : Bool) → FoldsBy σ shapes graph (record { 0 = d }) kind looked r → Answers σ shapes graph copied instructions dynamic s b facts slot r

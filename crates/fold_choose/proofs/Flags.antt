@@ -55,9 +55,9 @@ module _ (σ : Settings) (shapes graph : List ℕ) (looked : List Bool) (s : Lis
   deciding h = record { low = omega arith; small = h; flagged = flag-none at.first choice₀; done = λ τ cross all w k d h. absurd (omega arith) }
 
   module _ (j : ℕ) (choice : List Bool) (inv : Deciding j choice) where
-    pub deciding-on : j < at.count → (flag yes : Bool) → yes ≡ get_or looked j false → Answers σ shapes graph yes s b facts (at.first + j) flag → (choice' : List Bool) → choice' ≡ set choice (at.first + j) flag → Deciding (j + 1) choice'
+    pub deciding-on : j < at.count → (flag given : Bool) → given ≡ get_or looked j false → Answers σ shapes graph given s b facts (at.first + j) flag → (choice' : List Bool) → choice' ≡ set choice (at.first + j) flag → Deciding (j + 1) choice'
     unfolding foldsIn
-    deciding-on h flag yes ey answers choice' e =
+    deciding-on h flag given ey answers choice' e =
         record {
           low = omega arith;
           small = inv.small;

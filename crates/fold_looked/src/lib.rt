@@ -81,7 +81,16 @@ fn look_all(
     let mut members: [u16; most::VALUES] = [0; most::VALUES];
     let mut j: u16 = 0;
     while j < count {
-        let yes = look(s, facts, first + j, shapes, copies, dynamic, family, &mut members);
+        let yes = look(
+            s,
+            facts,
+            first + j,
+            shapes,
+            copies,
+            dynamic,
+            family,
+            &mut members,
+        );
         table::set_flag(looked, j as usize, yes);
         j = j + 1;
     }

@@ -57,7 +57,7 @@ fn put_behind(text: &mut [u8], to: usize, more: usize) -> usize
 }
 
 // Numbers in decimal with single blanks.
-fn numbers_line(text: &mut [u8], numbers: &[u64]) -> usize
+pub fn numbers_line(text: &mut [u8], numbers: &[u64]) -> usize
     requires { length numbers.now < numbersRoom }
     ensures written { Written (numbersLine numbers.now) 0 text.old text.new result }
     ensures upper_bound { result ≤ numberWidth * length numbers.now }

@@ -1,0 +1,241 @@
+// What the program `families` prints of bytes: a line for each build of a routine, or the refusal.
+#![tactic(auto)]
+
+ghost use Rattle.std.specs.Prelude.{◌+◌, ◌*◌, ◌≤◌, length};
+ghost use Rattle.mir.specs.Most.{mostValues, mostSlots};
+ghost use Rattle.family_text.specs.Widths.{lineWidth, longestText};
+
+use bytes_field::Bounds;
+use bytes_sections::Checked;
+use fold::Settings;
+use mir::{BlockId, kind, most};
+
+// The numbers of a line: block, instruction, dest, how many members the family has, how many turns the search for them took, and 1
+// where a member is looked into by an index that is not known, else 0. The members can stand behind.
+const NUMBERS: usize = 6;
+
+const LINE: usize = NUMBERS + most::VALUES;
+
+// No text is longer: a line for each slot, with 21 characters for each number.
+pub const LONGEST: usize = 1584576;
+
+// Any settings: which types are eligible does not matter here.
+const ANY: Settings = Settings {
+    tuples: true,
+    structs: true,
+    most: 16,
+};
+
+// Where an instruction stands: its block, its number there, and its slot.
+#[derive(Clone, Copy)]
+struct Spot {
+    block: u16,
+    instruction: u16,
+    slot: u16,
+}
+
+// Lists the marked values at the head of a line, the least first; how many they are.
+fn list_members(family: &[bool], line: &mut [u64]) -> usize
+    ensures { result ≤ length line.old }
+{
+    let mut n = 0;
+    let mut v = 0;
+    while v < family.len() {
+        if family[v] {
+            if n < line.len() {
+                line[n] = v as u64;
+                n = n + 1;
+            }
+        }
+        v = v + 1;
+    }
+    n
+}
+
+// The line of a build, whose family is found by the block's copies; where `named`, with its members. Answers its length.
+fn put_build(
+    s: &[u8],
+    facts: &[u16],
+    at: Spot,
+    shapes: &[u8],
+    copies: &[u16],
+    dynamic: &[bool],
+    named: bool,
+    text: &mut [u8],
+) -> usize
+    requires { length dynamic.now ≤ mostValues }
+    ensures { result ≤ lineWidth }
+{
+    let v = fold_scan::dest(s, facts, at.slot);
+    let shape = bytes_wire::byte_at(shapes, v.0 as usize);
+    let mut family: [bool; most::VALUES] = [false; most::VALUES];
+    let mut members: [u16; most::VALUES] = [0; most::VALUES];
+    let marks = &mut family[..dynamic.len()];
+    let found = fold_family::family(copies, shape, v, marks, &mut members);
+    let looked = fold_family::dynamic_index(&members, found.members, dynamic);
+    let mut line: [u64; LINE] = [0; LINE];
+    line[0] = at.block as u64;
+    line[1] = at.instruction as u64;
+    line[2] = v.0 as u64;
+    line[3] = found.members as u64;
+    line[4] = found.turns as u64;
+    line[5] = looked as u64;
+    if !named {
+        return text_lines::numbers_line(text, &line[..NUMBERS]);
+    }
+    let many = list_members(&family, &mut line[NUMBERS..]);
+    text_lines::numbers_line(text, &line[..NUMBERS + many])
+}
+
+// The line of an instruction that is a build; nothing of any other.
+fn put_one(
+    s: &[u8],
+    facts: &[u16],
+    at: Spot,
+    shapes: &[u8],
+    copies: &[u16],
+    dynamic: &[bool],
+    named: bool,
+    text: &mut [u8],
+) -> usize
+    requires { length dynamic.now ≤ mostValues }
+    ensures { result ≤ lineWidth }
+{
+    match bytes_index::kind(facts, at.slot) {
+        kind::MAKE_TUPLE | kind::MAKE_STRUCT | kind::MAKE_FIXED_ARRAY => {
+            put_build(s, facts, at, shapes, copies, dynamic, named, text)
+        }
+        _ => 0,
+    }
+}
+
+// The lines of a block's `count` instructions, the first of which is at `from`.
+fn put_all(
+    s: &[u8],
+    facts: &[u16],
+    from: Spot,
+    count: u16,
+    shapes: &[u8],
+    copies: &[u16],
+    dynamic: &[bool],
+    named: bool,
+    text: &mut [u8],
+) -> usize
+    requires { (length dynamic.now ≤ mostValues) × (from.slot + count ≤ mostSlots) × (lineWidth * count ≤ length text.old) }
+    ensures { result ≤ lineWidth * count }
+{
+    let mut to = 0;
+    let mut j: u16 = 0;
+    while j < count {
+        let at = Spot {
+            block: from.block,
+            instruction: j,
+            slot: from.slot + j,
+        };
+        to = to
+            + put_one(
+                s,
+                facts,
+                at,
+                shapes,
+                copies,
+                dynamic,
+                named,
+                &mut text[to..],
+            );
+        j = j + 1;
+    }
+    to
+}
+
+// The lines of a block, which is scanned for its copies first.
+fn put_block(
+    s: &[u8],
+    b: Bounds,
+    facts: &[u16],
+    from: Spot,
+    count: u16,
+    shapes: &[u8],
+    named: bool,
+    text: &mut [u8],
+) -> usize
+    requires { (b.next ≤ mostValues) × (from.slot + count ≤ mostSlots) × (lineWidth * count ≤ length text.old) }
+    ensures { result ≤ lineWidth * count }
+{
+    let mut copies: [u16; fold_family::SIZE] = [0; fold_family::SIZE];
+    let mut marks: [bool; most::VALUES] = [false; most::VALUES];
+    let dynamic = &mut marks[..b.next as usize];
+    fold_copies::scan_copies(s, b, facts, from.slot, count, &mut copies, dynamic);
+    put_all(s, facts, from, count, shapes, &copies, dynamic, named, text)
+}
+
+// The lines of all blocks. These stand in the table one behind another, each with a slot more for its terminator; those of a routine
+// never pass its slots.
+fn put_blocks(
+    s: &[u8],
+    b: Bounds,
+    facts: &[u16],
+    shapes: &[u8],
+    named: bool,
+    text: &mut [u8],
+) -> usize
+    requires { (b.next ≤ mostValues) × (longestText ≤ length text.old) }
+    ensures { result ≤ longestText }
+{
+    let mut to = 0;
+    let mut slot: u16 = 0;
+    let mut k: u16 = 0;
+    while k < b.blocks {
+        let count = bytes_index::instruction_count(facts, BlockId(k));
+        if most::SLOTS < slot as usize + count as usize {
+            return to;
+        }
+        let from = Spot {
+            block: k,
+            instruction: 0,
+            slot: slot,
+        };
+        to = to + put_block(s, b, facts, from, count, shapes, named, &mut text[to..]);
+        slot = slot + count + 1;
+        k = k + 1;
+    }
+    to
+}
+
+// The lines of a routine, the shapes of whose values' recorded types are found first; no routine has more values than the tables
+// have room for.
+fn put_routine(s: &[u8], b: Bounds, facts: &[u16], named: bool, text: &mut [u8]) -> usize
+    requires { longestText ≤ length text.old }
+    ensures { result ≤ longestText }
+{
+    if most::VALUES < b.next as usize {
+        return 0;
+    }
+    let mut shapes: [u8; most::VALUES] = [0; most::VALUES];
+    let mut eligible: [bool; most::VALUES] = [false; most::VALUES];
+    fold_shapes::value_shapes(
+        s,
+        facts,
+        b.types,
+        bytes_index::recorded(facts),
+        b.next,
+        ANY,
+        &mut shapes,
+        &mut eligible,
+    );
+    put_blocks(s, b, facts, &shapes, named, text)
+}
+
+// Writes what is to be printed of some bytes, where `named` each line with the members of its family, and returns its length.
+pub fn families_text(s: &[u8], named: bool, text: &mut [u8]) -> usize
+    requires { longestText ≤ length text.old }
+    ensures { result ≤ longestText }
+{
+    let mut facts: [u16; bytes_index::SIZE] = [0; bytes_index::SIZE];
+    match bytes_read::read_routine(s, &mut facts) {
+        Checked::Refused(c, o) => {
+            text_lines::checked_line(text, bytes_wire::cause_number(c) as u64, o as u64)
+        }
+        Checked::Accepted(b) => put_routine(s, b, &facts, named, text),
+    }
+}

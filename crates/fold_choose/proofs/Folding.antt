@@ -1,17 +1,17 @@
 -- What is decided of one build.
 use Prim.Native.Nat.{ℕ, ◌<◌}
 use mathlib.Core.Path.{◌≡◌, refl, ap, ◌∙◌, sym}
-use mathlib.Core.List.{List, [], ◌∷◌}
-use mathlib.Core.Bool.{Bool, true, false, cond, ◌||◌}
-use mathlib.Core.Option.{none, some, none-ne-some}
+use mathlib.Core.List.{List, []}
+use mathlib.Core.Bool.{Bool, true, false, ◌||◌}
+use mathlib.Core.Option.{some, none-ne-some}
 use borrow.Author.Tests.{eq-eqb}
 use lib.Dec.{eqb}
-use lib.ListN.{length, get_or, drop}
+use lib.ListN.{length, drop}
 use Rattle.mir.specs.declared.ValueId.{ValueId}
 use Rattle.mir.specs.Syntax.{Instruction, InstructionKind}
 use Rattle.mir.specs.Syntax.{Assign, UnaryOp, BinaryOp, Call, Cast, Load, Store, Debug, Nop, Phi}
 use Rattle.mir.specs.Syntax.{MakeTuple, ExtractTupleElement, MakeStruct, ExtractStructField, InsertField, InsertTuple, MakeFixedArray, AssertEq, HeapAllocCells}
-use Rattle.mir.specs.Reads.{kindNumber, isPhi}
+use Rattle.mir.specs.Reads.{kindNumber}
 use Rattle.bytes_field.specs.declared.Bounds.{Bounds}
 use Rattle.bytes_laws.proofs.Bits.{true-false}
 use Rattle.bytes_operands.specs.Fields.{fieldsPlace}
@@ -19,9 +19,8 @@ use Rattle.bytes_index.specs.Table.{place_in, kindIn}
 use Rattle.bytes_index.specs.Code.{InstructionIn}
 use Rattle.fold.specs.declared.Settings.{Settings}
 use Rattle.mir.specs.Lookup.{Types}
-use Rattle.fold.specs.Family.{Marks, buildDest, accessed, hasDynamicIndex}
+use Rattle.fold.specs.Family.{Marks, buildDest, hasDynamicIndex}
 use Rattle.fold.specs.Climb.{buildOf}
-use Rattle.mir.specs.Phis.{behindPhis}
 use Rattle.rewrite.specs.Run.{foldsBuild}
 use Rattle.fold_climb.specs.Decided.{Decided, FoldsBy}
 use Rattle.fold_climb.proofs.Found.{DestAt, dest, tuple-place, struct-place, array-place}

@@ -41,108 +41,113 @@ last-new cs c v =
 module _ (l : List ℕ) (n : ℕ) (cs : List Copy) (c : Copy)
     (a : RowsAt l cs) (many : length cs ≡ n) (room : length l ≡ tableSize) (low : n < mostInstructions)
   where
-  abbrev l₁ : List ℕ
-  l₁ = set l (rowAt n) c.dest
+    abbrev l₁ : List ℕ
+    l₁ = set l (rowAt n) c.dest
 
-  abbrev l₂ : List ℕ
-  l₂ = set l₁ (rowAt n + 1) c.asked
+    abbrev l₂ : List ℕ
+    l₂ = set l₁ (rowAt n + 1) c.asked
 
-  abbrev l₃ : List ℕ
-  l₃ = set l₂ (rowAt n + 2) (get_or l₂ (firstsAt + c.source) 0)
+    abbrev l₃ : List ℕ
+    l₃ = set l₂ (rowAt n + 2) (get_or l₂ (firstsAt + c.source) 0)
 
-  abbrev l₄ : List ℕ
-  l₄ = set l₃ (firstsAt + c.source) (n + 1)
+    abbrev l₄ : List ℕ
+    l₄ = set l₃ (firstsAt + c.source) (n + 1)
 
-  -- the numbers that are not written
-  kept : (j : ℕ) → (j < rowAt n) ⊎ (firstsAt ≤ j) → (j ≡ firstsAt + c.source → ⊥) → get_or l₄ j 0 ≡ get_or l j 0
-  kept j h o =
-      get_or-set_other l₃ (firstsAt + c.source) j (n + 1) 0 o
-      ∙ get_or-set_other l₂ (rowAt n + 2) j (get_or l₂ (firstsAt + c.source) 0) 0 (λ z. ⊎_elim (λ y. omega arith) (λ y. omega arith) h)
-      ∙ get_or-set_other l₁ (rowAt n + 1) j c.asked 0 (λ z. ⊎_elim (λ y. omega arith) (λ y. omega arith) h)
-      ∙ get_or-set_other l (rowAt n) j c.dest 0 (λ z. ⊎_elim (λ y. omega arith) (λ y. omega arith) h)
+    -- the numbers that are not written
+    kept : (j : ℕ) → (j < rowAt n) ⊎ (firstsAt ≤ j) → (j ≡ firstsAt + c.source → ⊥) → get_or l₄ j 0 ≡ get_or l j 0
+    kept j h o =
+        get_or-set_other l₃ (firstsAt + c.source) j (n + 1) 0 o
+        ∙ get_or-set_other l₂ (rowAt n + 2) j (get_or l₂ (firstsAt + c.source) 0) 0 (λ z. ⊎_elim (λ y. omega arith) (λ y. omega arith) h)
+        ∙ get_or-set_other l₁ (rowAt n + 1) j c.asked 0 (λ z. ⊎_elim (λ y. omega arith) (λ y. omega arith) h)
+        ∙ get_or-set_other l (rowAt n) j c.dest 0 (λ z. ⊎_elim (λ y. omega arith) (λ y. omega arith) h)
 
-  -- the last row of the source so far
-  head : get_or l₂ (firstsAt + c.source) 0 ≡ get_or l (firstsAt + c.source) 0
-  head =
-      get_or-set_other l₁ (rowAt n + 1) (firstsAt + c.source) c.asked 0 (λ z. omega arith)
-      ∙ get_or-set_other l (rowAt n) (firstsAt + c.source) c.dest 0 (λ z. omega arith)
+    -- the last row of the source so far
+    head : get_or l₂ (firstsAt + c.source) 0 ≡ get_or l (firstsAt + c.source) 0
+    head =
+        get_or-set_other l₁ (rowAt n + 1) (firstsAt + c.source) c.asked 0 (λ z. omega arith)
+        ∙ get_or-set_other l (rowAt n) (firstsAt + c.source) c.dest 0 (λ z. omega arith)
 
-  -- the new row
-  new-dest : get_or l₄ (rowAt n) 0 ≡ c.dest
-  new-dest =
-      get_or-set_other l₃ (firstsAt + c.source) (rowAt n) (n + 1) 0 (λ z. omega arith)
-      ∙ get_or-set_other l₂ (rowAt n + 2) (rowAt n) (get_or l₂ (firstsAt + c.source) 0) 0 (λ z. omega arith)
-      ∙ get_or-set_other l₁ (rowAt n + 1) (rowAt n) c.asked 0 (λ z. omega arith)
-      ∙ get_or-set_same l (rowAt n) c.dest 0 (omega (arith, room))
+    -- the new row
+    new-dest : get_or l₄ (rowAt n) 0 ≡ c.dest
+    new-dest =
+        get_or-set_other l₃ (firstsAt + c.source) (rowAt n) (n + 1) 0 (λ z. omega arith)
+        ∙ get_or-set_other l₂ (rowAt n + 2) (rowAt n) (get_or l₂ (firstsAt + c.source) 0) 0 (λ z. omega arith)
+        ∙ get_or-set_other l₁ (rowAt n + 1) (rowAt n) c.asked 0 (λ z. omega arith)
+        ∙ get_or-set_same l (rowAt n) c.dest 0 (omega (arith, room))
 
-  new-asked : get_or l₄ (rowAt n + 1) 0 ≡ c.asked
-  new-asked =
-      get_or-set_other l₃ (firstsAt + c.source) (rowAt n + 1) (n + 1) 0 (λ z. omega arith)
-      ∙ get_or-set_other l₂ (rowAt n + 2) (rowAt n + 1) (get_or l₂ (firstsAt + c.source) 0) 0 (λ z. omega arith)
-      ∙ get_or-set_same l₁ (rowAt n + 1) c.asked 0 (omega (arith, room, length-set l (rowAt n) c.dest))
+    new-asked : get_or l₄ (rowAt n + 1) 0 ≡ c.asked
+    new-asked =
+        get_or-set_other l₃ (firstsAt + c.source) (rowAt n + 1) (n + 1) 0 (λ z. omega arith)
+        ∙ get_or-set_other l₂ (rowAt n + 2) (rowAt n + 1) (get_or l₂ (firstsAt + c.source) 0) 0 (λ z. omega arith)
+        ∙ get_or-set_same l₁ (rowAt n + 1) c.asked 0 (omega (arith, room, length-set l (rowAt n) c.dest))
 
-  new-next : get_or l₄ (rowAt n + 2) 0 ≡ get_or l (firstsAt + c.source) 0
-  new-next =
-      get_or-set_other l₃ (firstsAt + c.source) (rowAt n + 2) (n + 1) 0 (λ z. omega arith)
-      ∙ get_or-set_same l₂ (rowAt n + 2) (get_or l₂ (firstsAt + c.source) 0) 0
+    new-next : get_or l₄ (rowAt n + 2) 0 ≡ get_or l (firstsAt + c.source) 0
+    new-next =
+        get_or-set_other l₃ (firstsAt + c.source) (rowAt n + 2) (n + 1) 0 (λ z. omega arith)
+        ∙ get_or-set_same l₂ (rowAt n + 2) (get_or l₂ (firstsAt + c.source) 0) 0
         (omega (arith, room, length-set l (rowAt n) c.dest, length-set l₁ (rowAt n + 1) c.asked))
-      ∙ head
+        ∙ head
 
-  abbrev all : List Copy
-  all = cs ++ (c ∷ [])
+    abbrev all : List Copy
+    all = cs ++ (c ∷ [])
 
-  counted : length all ≡ suc n
-  counted = omega (arith, length-append cs (c ∷ []), many)
+    counted : length all ≡ suc n
+    counted = omega (arith, length-append cs (c ∷ []), many)
 
-  -- what holds of each row
-  each : (P : ℕ → Copy → Type 0) → ((k : ℕ) → k < length cs → P k (get_or cs k noCopy)) → P n c → (k : ℕ) → k < length all → P k (get_or all k noCopy)
-  each P old new k h =
-      ⊎_elim
-      (λ q. subst (λ j. P j (get_or all j noCopy)) (sym q) (subst (P n) (sym (get_or_at cs c [] noCopy n many)) new))
-      (λ q. let m : k < length cs = omega (arith, many) in subst (P k) (sym (get_or-append cs (c ∷ []) noCopy k m)) (old k m))
-      (newest k n (omega (arith, counted)))
+    -- what holds of each row
+    each : (P : ℕ → Copy → Type 0) → ((k : ℕ) → k < length cs → P k (get_or cs k noCopy)) → P n c → (k : ℕ) → k < length all → P k (get_or all k noCopy)
+    each P old new k h =
+        ⊎_elim
+        (λ q. subst (λ j. P j (get_or all j noCopy)) (sym q) (subst (P n) (sym (get_or_at cs c [] noCopy n many)) new))
+        (λ q. let m : k < length cs = omega (arith, many) in subst (P k) (sym (get_or-append cs (c ∷ []) noCopy k m)) (old k m))
+        (newest k n (omega (arith, counted)))
 
-  rows-first : (v : ℕ) → v < mostValues → (b : Bool) → eqb c.source v ≡ b → get_or l₄ (firstsAt + v) 0 ≡ last all v (length all)
-  rows-first v h true e =
-      let z : c.source ≡ v = eqb-true c.source v e in
-      ap (λ x. get_or l₄ (firstsAt + x) 0) (sym z)
-      ∙ get_or-set_same l₃ (firstsAt + c.source) (n + 1) 0
-        (omega (arith, room, length-set l (rowAt n) c.dest, length-set l₁ (rowAt n + 1) c.asked,
-        length-set l₂ (rowAt n + 2) (get_or l₂ (firstsAt + c.source) 0)))
-      ∙ omega (arith, many)
-      ∙ sym (ap (λ b. cond b (suc (length cs)) (last cs v (length cs))) e)
-      ∙ sym (last-new cs c v)
-      ∙ ap (λ x. last all v x) (ap suc many ∙ sym counted)
-  rows-first v h false e =
-      kept (firstsAt + v) (inr (omega arith)) (λ z. eqb-false c.source v e (omega arith))
-      ∙ a.first v h
-      ∙ sym (ap (λ b. cond b (suc (length cs)) (last cs v (length cs))) e)
-      ∙ sym (last-new cs c v)
-      ∙ ap (λ x. last all v x) (ap suc many ∙ sym counted)
+    rows-first : (v : ℕ) → v < mostValues → (b : Bool) → eqb c.source v ≡ b → get_or l₄ (firstsAt + v) 0 ≡ last all v (length all)
+    rows-first v h true e =
+        let z : c.source ≡ v = eqb-true c.source v e in
+        ap (λ x. get_or l₄ (firstsAt + x) 0) (sym z)
+        ∙ get_or-set_same l₃ (firstsAt + c.source) (n + 1) 0
+        (omega (
+          arith,
+          room,
+          length-set l (rowAt n) c.dest,
+          length-set l₁ (rowAt n + 1) c.asked,
+          length-set l₂ (rowAt n + 2) (get_or l₂ (firstsAt + c.source) 0),
+        ))
+        ∙ omega (arith, many)
+        ∙ sym (ap (λ b. cond b (suc (length cs)) (last cs v (length cs))) e)
+        ∙ sym (last-new cs c v)
+        ∙ ap (λ x. last all v x) (ap suc many ∙ sym counted)
+    rows-first v h false e =
+        kept (firstsAt + v) (inr (omega arith)) (λ z. eqb-false c.source v e (omega arith))
+        ∙ a.first v h
+        ∙ sym (ap (λ b. cond b (suc (length cs)) (last cs v (length cs))) e)
+        ∙ sym (last-new cs c v)
+        ∙ ap (λ x. last all v x) (ap suc many ∙ sym counted)
 
-  rows-next : (v : ℕ) (k : ℕ) → k < length all → (get_or all k noCopy).source ≡ v → v < mostValues → get_or l₄ (rowAt k + 2) 0 ≡ last all v k
-  rows-next v =
-      each (λ k x. x.source ≡ v → v < mostValues → get_or l₄ (rowAt k + 2) 0 ≡ last all v k)
-      (λ k h s w.
-      kept (rowAt k + 2) (inl (omega (arith, many))) (λ z. omega (arith, many)) ∙ a.next k v h s w ∙ sym (last-front cs c v k (omega arith)))
-      (λ s w.
-      new-next ∙ ap (λ x. get_or l (firstsAt + x) 0) s ∙ a.first v w ∙ ap (λ x. last cs v x) many ∙ sym (last-front cs c v n (omega (arith, many))))
+    rows-next : (v : ℕ) (k : ℕ) → k < length all → (get_or all k noCopy).source ≡ v → v < mostValues → get_or l₄ (rowAt k + 2) 0 ≡ last all v k
+    rows-next v =
+        each (λ k x. x.source ≡ v → v < mostValues → get_or l₄ (rowAt k + 2) 0 ≡ last all v k)
+        (λ k h s w.
+        kept (rowAt k + 2) (inl (omega (arith, many))) (λ z. omega (arith, many)) ∙ a.next k v h s w ∙ sym (last-front cs c v k (omega arith)))
+        (λ s w.
+        new-next ∙ ap (λ x. get_or l (firstsAt + x) 0) s ∙ a.first v w ∙ ap (λ x. last cs v x) many ∙ sym (last-front cs c v n (omega (arith, many))))
 
-  rows-all : RowsAt l₄ all
-  rows-all =
-      record {
-        dest = each (λ k x. get_or l₄ (rowAt k) 0 ≡ x.dest)
-            (λ k h. kept (rowAt k) (inl (omega (arith, many))) (λ z. omega (arith, many)) ∙ a.dest k h) new-dest;
-        asked = each (λ k x. get_or l₄ (rowAt k + 1) 0 ≡ x.asked)
-            (λ k h. kept (rowAt k + 1) (inl (omega (arith, many))) (λ z. omega (arith, many)) ∙ a.asked k h) new-asked;
-        next = λ k v h s w. rows-next v k h s w;
-        first = λ v h. rows-first v h (eqb c.source v) refl;
-      }
+    rows-all : RowsAt l₄ all
+    rows-all =
+        record {
+          dest = each (λ k x. get_or l₄ (rowAt k) 0 ≡ x.dest)
+              (λ k h. kept (rowAt k) (inl (omega (arith, many))) (λ z. omega (arith, many)) ∙ a.dest k h) new-dest;
+          asked = each (λ k x. get_or l₄ (rowAt k + 1) 0 ≡ x.asked)
+              (λ k h. kept (rowAt k + 1) (inl (omega (arith, many))) (λ z. omega (arith, many)) ∙ a.asked k h) new-asked;
+          next = λ k v h s w. rows-next v k h s w;
+          first = λ v h. rows-first v h (eqb c.source v) refl;
+        }
 
-  pub rows-more : {a₁ a₂ a₃ a₄ : List ℕ} {x : ℕ} → a₁ ≡ set l (rowAt n + 0) c.dest → a₂ ≡ set a₁ (rowAt n + 1) c.asked
-      → x ≡ get_or a₂ (firstsAt + c.source) 0 → a₃ ≡ set a₂ (rowAt n + 2) x
-      → a₄ ≡ set a₃ (firstsAt + c.source) (n + 1) → RowsAt a₄ all × (length all ≡ n + 1)
-  rows-more e₁ e₂ ex e₃ e₄ = (rw (e₄, e₃, ex, e₂, e₁, add-zero) rows-all, omega (arith, counted))
+    pub rows-more : {a₁ a₂ a₃ a₄ : List ℕ} {x : ℕ} → a₁ ≡ set l (rowAt n + 0) c.dest → a₂ ≡ set a₁ (rowAt n + 1) c.asked
+        → x ≡ get_or a₂ (firstsAt + c.source) 0 → a₃ ≡ set a₂ (rowAt n + 2) x
+        → a₄ ≡ set a₃ (firstsAt + c.source) (n + 1) → RowsAt a₄ all × (length all ≡ n + 1)
+    rows-more e₁ e₂ ex e₃ e₄ = (rw (e₄, e₃, ex, e₂, e₁, add-zero) rows-all, omega (arith, counted))
 
 -- none
 pub rows-same : (l : List ℕ) (n : ℕ) (cs : List Copy) → RowsAt l cs → length cs ≡ n → RowsAt l (cs ++ []) × (length (cs ++ []) ≡ n)

@@ -1,6 +1,6 @@
-use Rattle.std.proofs.Common.{◌+◌, ◌≤◌, arith}
+use Rattle.std.proofs.Common.{◌+◌, arith}
 use mathlib.Core.Bool.{false}
-use lib.ListN.{replicate, length-replicate}
+use lib.ListN.{length-replicate}
 use Rattle.fold_choose.proofs.Buildless.{none-built}
 use Rattle.fold_choose.proofs.choose_block.Goals as goal
 

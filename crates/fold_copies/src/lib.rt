@@ -135,10 +135,13 @@ fn base_place(kind: u16) -> usize
     if kind == kind::LOAD { 2 } else { 0 }
 }
 
-// Marks the base of a Load or Store at the head of `t` whose first projection is such an Index.
+// Marks the base of a Load or Store at the head of `t` whose first projection is such an Index; nothing where no marks are lent.
 fn note_dynamic(t: &[u8], b: Bounds, kind: u16, dynamic: &mut [bool])
     ensures { DynamicNoted t.now b kind dynamic.old dynamic.new }
 {
+    if dynamic.len() == 0 {
+        return;
+    }
     if kind < kind::LOAD {
         return;
     }
@@ -157,7 +160,7 @@ fn note_dynamic(t: &[u8], b: Bounds, kind: u16, dynamic: &mut [bool])
 
 // Scans a block once, its `count` instructions standing in the slots from `first` on: notes its copies in `copies`, which is
 // clear, chained by their source, and marks in `dynamic` each value that a Load or Store looks into by an index that is no
-// Integer literal.
+// Integer literal; a caller that does not ask for these lends no marks.
 pub fn scan_copies(
     s: &[u8],
     b: Bounds,

@@ -1,6 +1,3 @@
-use Rattle.std.proofs.Common.{ap}
-use mathlib.Core.Path.{◌∙◌, sym, subst}
-use Rattle.fold_copies.specs.Found.{asCopy, CopyNoted}
 use Rattle.fold_copies.proofs.Scan.{rows-more, rows-same}
 use Rattle.fold_copies.proofs.note_copy.Goals as goal
 

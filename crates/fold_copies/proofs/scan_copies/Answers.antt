@@ -1,4 +1,4 @@
-use Rattle.std.proofs.Common.{◌<◌, arith}
+use Rattle.std.proofs.Common.{arith}
 use Rattle.fold_copies.specs.Found.{asCopy}
 use Rattle.fold_copies.proofs.Scan.{scan-start, scan-again, scan-done}
 use Rattle.fold_copies.proofs.scan_copies.Goals as goal

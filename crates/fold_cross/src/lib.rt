@@ -224,7 +224,8 @@ fn cross_blocks(
     cross_read(s, b, facts, shapes, eligible, readers, marks);
 }
 
-// Marks in `marks`, which are clear, one for each value, the aggregates that are used across blocks.
+// Marks in `marks`, which are clear, one for each value, the aggregates that are used across blocks. Where there is one block,
+// no other reads a value.
 pub fn cross_marks(
     s: &[u8],
     b: Bounds,
@@ -236,6 +237,9 @@ pub fn cross_marks(
     ensures { CrossMarks s.now b facts.now
         shapes.now eligible.now marks.old marks.new }
 {
+    if b.blocks < 2 {
+        return;
+    }
     if VALUES < b.next {
         return;
     }

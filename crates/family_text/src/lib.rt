@@ -4,11 +4,12 @@
 ghost use Rattle.std.specs.Prelude.{◌+◌, ◌*◌, ◌≤◌, length};
 ghost use Rattle.mir.specs.Most.{mostValues, mostSlots};
 ghost use Rattle.family_text.specs.Widths.{lineWidth, longestText};
+ghost use Rattle.family_text.specs.Shown.{FindsBuild};
 
 use bytes_field::Bounds;
 use bytes_sections::Checked;
 use fold::Settings;
-use mir::{BlockId, kind, most};
+use mir::{BlockId, ValueId, kind, most};
 
 // The numbers of a line: block, instruction, dest, how many members the family has, how many turns the search for them took, and 1
 // where a member is looked into by an index that is not known, else 0. The members can stand behind.
@@ -32,6 +33,43 @@ struct Spot {
     block: u16,
     instruction: u16,
     slot: u16,
+}
+
+// What a line says of a build: its dest, how many members its family has, how many turns the search for them took, and whether a
+// member is looked into by an index that is not known.
+#[derive(Clone, Copy)]
+pub struct BuildFamily {
+    pub dest: ValueId,
+    pub members: u16,
+    pub turns: u16,
+    pub looked: bool,
+}
+
+// Finds that of the build in a slot, whose family is found by the block's copies: `family` is clear, one for each value, and gets
+// the family's marks.
+fn find_build(
+    s: &[u8],
+    facts: &[u16],
+    slot: u16,
+    shapes: &[u8],
+    copies: &[u16],
+    dynamic: &[bool],
+    family: &mut [bool],
+    members: &mut [u16],
+) -> BuildFamily
+    ensures { FindsBuild s.now facts.now slot shapes.now copies.now dynamic.now
+        family.old family.new members.old result }
+{
+    let v = fold_scan::dest(s, facts, slot);
+    let shape = bytes_wire::byte_at(shapes, v.0 as usize);
+    let found = fold_family::family(copies, shape, v, family, members);
+    let looked = fold_family::dynamic_index(members, found.members, dynamic);
+    BuildFamily {
+        dest: v,
+        members: found.members,
+        turns: found.turns,
+        looked: looked,
+    }
 }
 
 // Lists the marked values at the head of a line, the least first; how many they are.
@@ -66,20 +104,26 @@ fn put_build(
     requires { length dynamic.now ≤ mostValues }
     ensures { result ≤ lineWidth }
 {
-    let v = fold_scan::dest(s, facts, at.slot);
-    let shape = bytes_wire::byte_at(shapes, v.0 as usize);
     let mut family: [bool; most::VALUES] = [false; most::VALUES];
     let mut members: [u16; most::VALUES] = [0; most::VALUES];
     let marks = &mut family[..dynamic.len()];
-    let found = fold_family::family(copies, shape, v, marks, &mut members);
-    let looked = fold_family::dynamic_index(&members, found.members, dynamic);
+    let found = find_build(
+        s,
+        facts,
+        at.slot,
+        shapes,
+        copies,
+        dynamic,
+        marks,
+        &mut members,
+    );
     let mut line: [u64; LINE] = [0; LINE];
     line[0] = at.block as u64;
     line[1] = at.instruction as u64;
-    line[2] = v.0 as u64;
+    line[2] = found.dest.0 as u64;
     line[3] = found.members as u64;
     line[4] = found.turns as u64;
-    line[5] = looked as u64;
+    line[5] = found.looked as u64;
     if !named {
         return text_lines::numbers_line(text, &line[..NUMBERS]);
     }

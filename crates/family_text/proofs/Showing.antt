@@ -1,19 +1,28 @@
 -- What a line says of a build is so.
 use Prim.Native.Nat.{ℕ, ◌<◌}
 use mathlib.Core.Path.{◌≡◌, refl, ap, ◌∙◌, sym, subst}
-use mathlib.Core.List.{List}
-use mathlib.Core.Bool.{Bool}
+use mathlib.Core.List.{List, [], ◌∷◌}
+use mathlib.Core.Bool.{Bool, true, false, cond}
+use mathlib.Core.Option.{Option, none, some}
 use native.Mathlib.Nat.{le_trans}
-use lib.ListN.{length, get_or}
+use native.Mathlib.Omega.{arith}
+use lib.ListN.{length, get_or, set, replicate, length-set, length-replicate}
 use Rattle.mir.specs.declared.ValueId.{ValueId}
-use Rattle.fold.specs.Family.{Marks}
+use Rattle.mir.specs.Syntax.{Place, Instruction}
+use Rattle.fold.specs.Family.{Marks, accessed, dynamicFirst}
+use Rattle.fold_family.specs.Copies.{dynamicPlace, dynamics}
 use Rattle.fold_family.specs.Turns.{size}
 use Rattle.fold_family.specs.Search.{Members, FindsFamily, DynamicIndex}
 use Rattle.fold_family.specs.declared.Found.{Found}
 use Rattle.fold_family.proofs.Closed.{copies-few}
 use Rattle.fold_scan.specs.Noted.{destIn}
 use Rattle.fold_scan.proofs.Placed.{build-at, build-place}
-use Rattle.family_text.specs.Shown.{FindsBuild}
+use Rattle.fold_looked.specs.Looked.{Looking}
+use Rattle.text.specs.Written.{Written}
+use Rattle.text.proofs.Writing.{written_as}
+use Rattle.text_lines.specs.Lines.{numbersLine}
+use Rattle.family_text.specs.Shown.{foundNumbers, FindsBuild, PutsBuild}
+use Rattle.family_text.specs.declared.BuildFamily.{BuildFamily}
 
 -- a build's dest is its first field; its family is found, whose members are held against the dynamic marks
 pub finds-build : (s facts : List ℕ) (slot : ℕ) (shapes table : List ℕ) (dynamic clear marks : Marks) (room members : List ℕ)
@@ -36,3 +45,38 @@ finds-build s facts slot shapes table dynamic clear marks room members v shp fou
             looked = index τ v is (subst (Members members found.members) f.same f.listed) k.dynamic-all;
           }
     ]
+
+-- there is a dynamic mark for each value
+dynamics-length : (d : Marks) (is : List Instruction) → length (dynamics d is) ≡ length d
+unfolding dynamics
+dynamics-length d [] = refl
+dynamics-length d (i ∷ is) = dynamics-length (dynamicPlace d (accessed i.kind)) is ∙ place d (accessed i.kind)
+  where
+    place : (d : Marks) (o : Option Place) → length (dynamicPlace d o) ≡ length d
+    place d none = refl
+    place d (some p) = flag (dynamicFirst p.projections)
+      where
+        flag : (b : Bool) → length (cond b (set d p.base.0 true) d) ≡ length d
+        flag true = length-set d p.base.0 true
+        flag false = refl
+
+-- a line is put of what was found
+pub puts-build : (named : Bool) (s facts : List ℕ) (k j slot : ℕ) (shapes table : List ℕ) (dynamic clear marks : Marks) (room : List ℕ) (r : BuildFamily)
+    → (text after : List ℕ) (n : ℕ)
+    → FindsBuild s facts slot shapes table dynamic clear marks room r → clear ≡ replicate (length dynamic) false → length room ≡ 256
+    → Written (numbersLine (foundNumbers named k j r marks)) 0 text after n
+    → PutsBuild named s facts k j slot shapes table dynamic text after n
+puts-build named s facts k j slot shapes table dynamic clear marks room r text after n finds cl wide w τ is b i d p at h =
+    let q = p.looking in
+    let many : length dynamic ≡ length τ.recorded =
+    ap length q.dynamic-all ∙ dynamics-length (replicate (length τ.recorded) false) is ∙ length-replicate (length τ.recorded) false in
+    let looking : Looking τ is table dynamic clear room = record {
+      rows = q.rows;
+      short = q.short;
+      few = q.few;
+      wide = omega (arith, wide);
+      cleared = cl ∙ ap (λ (m : ℕ). replicate m false) many;
+      dynamic-all = q.dynamic-all;
+    } in
+    let x = finds p.settings τ is b i d p.eligible looking p.shaped p.values at h in
+    written_as (ap numbersLine (rw (x.dest, x.marks, x.members, x.turns, x.looked) refl)) w

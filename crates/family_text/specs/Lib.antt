@@ -1,2 +1,3 @@
 pub mod Widths
+pub mod Lines
 pub mod Shown

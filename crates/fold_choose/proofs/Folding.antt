@@ -15,7 +15,6 @@ use Rattle.mir.specs.Reads.{kindNumber}
 use Rattle.bytes_field.specs.declared.Bounds.{Bounds}
 use Rattle.bytes_laws.proofs.Bits.{true-false}
 use Rattle.bytes_index.specs.Table.{kindIn}
-use Rattle.bytes_index.specs.Code.{InstructionIn}
 use Rattle.fold.specs.declared.Settings.{Settings}
 use Rattle.mir.specs.Lookup.{Types}
 use Rattle.fold.specs.Family.{Marks, buildDest, hasDynamicIndex}

@@ -1,20 +1,18 @@
 -- What a line says of a build is so.
 use Prim.Native.Nat.{ℕ, ◌<◌}
 use mathlib.Core.Path.{◌≡◌, refl, ap, ◌∙◌, sym, subst}
-use mathlib.Core.List.{List, [], ◌∷◌}
-use mathlib.Core.Bool.{Bool, true, false, cond}
-use mathlib.Core.Option.{Option, none, some}
+use mathlib.Core.List.{List}
+use mathlib.Core.Bool.{Bool, false}
 use native.Mathlib.Nat.{le_trans}
 use native.Mathlib.Omega.{arith}
-use lib.ListN.{length, get_or, set, replicate, length-set, length-replicate}
+use lib.ListN.{length, get_or, replicate, length-replicate}
 use Rattle.mir.specs.declared.ValueId.{ValueId}
-use Rattle.mir.specs.Syntax.{Place, Instruction}
-use Rattle.fold.specs.Family.{Marks, accessed, dynamicFirst}
-use Rattle.fold_family.specs.Copies.{dynamicPlace, dynamics}
+use Rattle.fold.specs.Family.{Marks}
 use Rattle.fold_family.specs.Turns.{size}
 use Rattle.fold_family.specs.Search.{Members, FindsFamily, DynamicIndex}
 use Rattle.fold_family.specs.declared.Found.{Found}
 use Rattle.fold_family.proofs.Closed.{copies-few}
+use Rattle.fold_family.proofs.Dynamic.{dynamics-length}
 use Rattle.fold_scan.specs.Noted.{destIn}
 use Rattle.fold_scan.proofs.Placed.{build-at, build-place}
 use Rattle.fold_looked.specs.Looked.{Looking}
@@ -45,20 +43,6 @@ finds-build s facts slot shapes table dynamic clear marks room members v shp fou
             looked = index τ v is (subst (Members members found.members) f.same f.listed) k.dynamic-all;
           }
     ]
-
--- there is a dynamic mark for each value
-dynamics-length : (d : Marks) (is : List Instruction) → length (dynamics d is) ≡ length d
-unfolding dynamics
-dynamics-length d [] = refl
-dynamics-length d (i ∷ is) = dynamics-length (dynamicPlace d (accessed i.kind)) is ∙ place d (accessed i.kind)
-  where
-    place : (d : Marks) (o : Option Place) → length (dynamicPlace d o) ≡ length d
-    place d none = refl
-    place d (some p) = flag (dynamicFirst p.projections)
-      where
-        flag : (b : Bool) → length (cond b (set d p.base.0 true) d) ≡ length d
-        flag true = length-set d p.base.0 true
-        flag false = refl
 
 -- a line is put of what was found
 pub puts-build : (named : Bool) (s facts : List ℕ) (k j slot : ℕ) (shapes table : List ℕ) (dynamic clear marks : Marks) (room : List ℕ) (r : BuildFamily)

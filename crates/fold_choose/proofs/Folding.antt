@@ -1,12 +1,12 @@
 -- What is decided of one build.
 use Prim.Native.Nat.{ℕ, ◌<◌}
 use mathlib.Core.Path.{◌≡◌, refl, ap, ◌∙◌, sym}
-use mathlib.Core.List.{List, []}
+use mathlib.Core.List.{List}
 use mathlib.Core.Bool.{Bool, true, false, ◌||◌}
 use mathlib.Core.Option.{some, none-ne-some}
 use borrow.Author.Tests.{eq-eqb}
 use lib.Dec.{eqb}
-use lib.ListN.{length, drop}
+use lib.ListN.{length}
 use Rattle.mir.specs.declared.ValueId.{ValueId}
 use Rattle.mir.specs.Syntax.{Instruction, InstructionKind}
 use Rattle.mir.specs.Syntax.{Assign, UnaryOp, BinaryOp, Call, Cast, Load, Store, Debug, Nop, Phi}
@@ -14,17 +14,15 @@ use Rattle.mir.specs.Syntax.{MakeTuple, ExtractTupleElement, MakeStruct, Extract
 use Rattle.mir.specs.Reads.{kindNumber}
 use Rattle.bytes_field.specs.declared.Bounds.{Bounds}
 use Rattle.bytes_laws.proofs.Bits.{true-false}
-use Rattle.bytes_operands.specs.Fields.{fieldsPlace}
-use Rattle.bytes_index.specs.Table.{place_in, kindIn}
-use Rattle.bytes_index.specs.Code.{InstructionIn}
+use Rattle.bytes_index.specs.Table.{kindIn}
 use Rattle.fold.specs.declared.Settings.{Settings}
 use Rattle.mir.specs.Lookup.{Types}
 use Rattle.fold.specs.Family.{Marks, buildDest, hasDynamicIndex}
 use Rattle.fold.specs.Climb.{buildOf}
 use Rattle.rewrite.specs.Run.{foldsBuild}
 use Rattle.fold_climb.specs.Decided.{Decided, FoldsBy}
-use Rattle.fold_climb.proofs.Found.{DestAt, dest, tuple-place, struct-place, array-place}
 use Rattle.fold_scan.specs.Noted.{destIn}
+use Rattle.fold_scan.proofs.Placed.{build-kind, build-at, build-place}
 use Rattle.fold_choose.specs.Chosen.{buildKind, Answers}
 
 neither : (t u : Bool) → (t || u) ≡ false → (t ≡ false) × (u ≡ false)
@@ -53,44 +51,6 @@ fold-any σ τ cross is (InsertTuple d x k y t) v kind looked r h e o w l = absu
 fold-any σ τ cross is (MakeFixedArray d xs t c) v kind looked r h e o w l = let q : d ≡ v = cc in rw q (w.array h (l h))
 fold-any σ τ cross is (AssertEq x y) v kind looked r h e o w l = absurd (none-ne-some _ e)
 fold-any σ τ cross is (HeapAllocCells d x) v kind looked r h e o w l = absurd (none-ne-some _ e)
-
--- a build is one of three kinds
-build-kind : {P : Type 0} (i : InstructionKind) (v : ValueId) → buildDest i ≡ some v → (kindNumber i ≡ 10 → P) → (kindNumber i ≡ 12 → P) → (kindNumber i ≡ 16 → P) → P
-unfolding buildDest
-build-kind (Assign d x t) v e h10 h12 h16 = absurd (none-ne-some _ e)
-build-kind (UnaryOp op d x) v e h10 h12 h16 = absurd (none-ne-some _ e)
-build-kind (BinaryOp op d x y) v e h10 h12 h16 = absurd (none-ne-some _ e)
-build-kind (Call ds f xs ps rs) v e h10 h12 h16 = absurd (none-ne-some _ e)
-build-kind (Cast d x t u) v e h10 h12 h16 = absurd (none-ne-some _ e)
-build-kind (Load d p t) v e h10 h12 h16 = absurd (none-ne-some _ e)
-build-kind (Store p x t) v e h10 h12 h16 = absurd (none-ne-some _ e)
-build-kind (Debug n xs) v e h10 h12 h16 = absurd (none-ne-some _ e)
-build-kind Nop v e h10 h12 h16 = absurd (none-ne-some _ e)
-build-kind (Phi d t ss) v e h10 h12 h16 = absurd (none-ne-some _ e)
-build-kind (MakeTuple d xs) v e h10 h12 h16 = h10 refl
-build-kind (ExtractTupleElement d x k t) v e h10 h12 h16 = absurd (none-ne-some _ e)
-build-kind (MakeStruct d fs t) v e h10 h12 h16 = h12 refl
-build-kind (ExtractStructField d x n t) v e h10 h12 h16 = absurd (none-ne-some _ e)
-build-kind (InsertField d x n y t) v e h10 h12 h16 = absurd (none-ne-some _ e)
-build-kind (InsertTuple d x k y t) v e h10 h12 h16 = absurd (none-ne-some _ e)
-build-kind (MakeFixedArray d xs t c) v e h10 h12 h16 = h16 refl
-build-kind (AssertEq x y) v e h10 h12 h16 = absurd (none-ne-some _ e)
-build-kind (HeapAllocCells d x) v e h10 h12 h16 = absurd (none-ne-some _ e)
-
--- its dest is its first field
-data BuildAt (b : Bounds) (s facts : List ℕ) (slot : ℕ) (v : ValueId) : Type 0 where
-  build-at : v.0 ≡ destIn s facts slot → v.0 < b.next → BuildAt b s facts slot v
-
-from_place : (b : Bounds) (s facts : List ℕ) (slot : ℕ) (i : InstructionKind) (v : ValueId) → buildDest i ≡ some v → DestAt b.next (drop (fieldsPlace (drop (place_in facts slot) s)) (drop (place_in facts slot) s)) i → BuildAt b s facts slot v
-from_place b s facts slot i v h (dest w g a low) = let z : w ≡ v = cc in build-at (rw z at a) (rw z at low)
-
-build-place : (b : Bounds) (s facts : List ℕ) (slot : ℕ) (i : Instruction) (v : ValueId) → InstructionIn b s facts slot i → buildDest i.kind ≡ some v → BuildAt b s facts slot v
-build-place b s facts slot i v at h =
-    let t = drop (place_in facts slot) s in
-    build-kind i.kind v h
-    (λ z. from_place b s facts slot i.kind v h (tuple-place b [] false t i _ at.read z))
-    (λ z. from_place b s facts slot i.kind v h (struct-place b [] false t i _ at.read z))
-    (λ z. from_place b s facts slot i.kind v h (array-place b [] false t i _ at.read z))
 
 -- an instruction of another kind is no build
 pub no-build : (i : InstructionKind) (v : ValueId) (kind : ℕ) → kind ≡ kindNumber i → buildKind kind ≡ false → buildDest i ≡ some v → ⊥

@@ -43,6 +43,12 @@ place-length d (some p) = go (dynamicFirst p.projections)
     go true = length-set d p.base.0 true
     go false = refl
 
+-- there are as many marks behind all
+pub dynamics-length : (d : Marks) (is : List Instruction) → length (dynamics d is) ≡ length d
+unfolding dynamics
+dynamics-length d [] = refl
+dynamics-length d (i ∷ is) = dynamics-length (dynamicPlace d (accessed i.kind)) is ∙ place-length d (accessed i.kind)
+
 meets-place : (m d : Marks) (o : Option Place) → length d ≡ length m → meets m (dynamicPlace d o) ≡ (meets m d || dynamicAt m o)
 unfolding dynamicAt
 meets-place m d none h = sym (or-false (meets m d))

@@ -3,3 +3,4 @@ pub mod Graph
 pub mod Extend
 pub mod One
 pub mod Blocks
+pub mod Placed

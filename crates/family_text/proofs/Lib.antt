@@ -1,0 +1,5 @@
+pub mod Marked
+pub mod Line
+pub mod Showing
+pub mod Parts
+pub mod Putting

@@ -1,5 +1,5 @@
 // Prints a line for each build of the routine on standard input: keeps the first 65,536 bytes, and prints the text that crate
-// family_text makes of them. With the word `members` each line ends with the members of the build's family.
+// pass_families makes of them. With the word `members` each line ends with the members of the build's family.
 #![tactic(auto)]
 
 ghost use Rattle.std.specs.Prelude.{◌≡◌, IfOk, length};
@@ -38,7 +38,7 @@ fn lent(n: usize, alloc: Global) -> io::Result<Vec<u8>>
 fn main(rt: HostRuntime) -> io::Result<()> {
     let named = asks_members(&rt)?;
     let input = text_input::first_bytes(rt.stdin(), KEPT, rt.alloc())?;
-    let mut text = lent(family_text::LONGEST, rt.alloc())?;
-    let size = family_text::families_text(&input, named, &mut text);
+    let mut text = lent(pass_families::LONGEST, rt.alloc())?;
+    let size = pass_families::families_text(&input, named, &mut text);
     rt.stdout().write_all(&text[..size])
 }

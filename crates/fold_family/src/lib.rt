@@ -27,7 +27,7 @@ pub const SIZE: usize = FIRSTS + most::VALUES;
 pub const ANY: u8 = 0;
 
 // The most turns that a search takes: one for each value, and one for each copy of a block.
-const TURNS: u16 = 384;
+const TURNS: u16 = (most::VALUES + most::INSTRUCTIONS) as u16;
 
 // Where a search stands: how many members are found, and how many of them are taken; and the row of the copy that is to be
 // looked at next, 0 where a member is to be taken.

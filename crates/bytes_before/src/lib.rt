@@ -2,7 +2,7 @@
 #![tactic(auto)]
 
 ghost use Rattle.std.specs.Prelude.{◌≡◌, ◌+◌, ◌*◌, ◌≤◌, length};
-ghost use Rattle.bytes_before.specs.Before.{hasName, names_at, sameBytes, part, amongParts};
+ghost use Rattle.bytes_before.specs.Before.{has_name, names_at, same_bytes, part, among_parts};
 
 use mir::NameId;
 
@@ -12,7 +12,7 @@ const FIELD: usize = 4;
 // The name stands among the first `i` of the fields that begin at `from`.
 pub fn name_before(s: &[u8], from: usize, i: u8, x: NameId) -> bool
     requires { from + 4 * i ≤ length s.now }
-    ensures { result ≡ hasName x (names_at s.now from i) }
+    ensures { result ≡ has_name x (names_at s.now from i) }
 {
     let mut j = i;
     while 0 < j {
@@ -26,7 +26,7 @@ pub fn name_before(s: &[u8], from: usize, i: u8, x: NameId) -> bool
 }
 
 fn same_bytes(a: &[u8], b: &[u8]) -> bool
-    ensures { result ≡ sameBytes a.now b.now }
+    ensures { result ≡ same_bytes a.now b.now }
 {
     if a.len() != b.len() {
         return false;
@@ -43,7 +43,7 @@ fn same_bytes(a: &[u8], b: &[u8]) -> bool
 
 // The bytes from `at` to `end` are those of one of the `k` types before, whose places `starts` has.
 pub fn type_before(s: &[u8], starts: &[u16], k: u16, at: usize, end: usize) -> bool
-    ensures { result ≡ amongParts (part s.now at end) s.now starts.now 0 k }
+    ensures { result ≡ among_parts (part s.now at end) s.now starts.now 0 k }
 {
     let here = bytes_field::between(s, at, end);
     let mut j: u16 = 0;

@@ -9,179 +9,179 @@ use borrow.Author.Tests.{le-leb, lt-leb, leb-true}
 use lib.ListN.{length, get_or, drop, length-drop, get_or-eq_default}
 use lib.Seq.{drop-drop}
 use lib.Dec.{leb}
-use Rattle.bytes_wire.specs.Parse.{Parse, ok, bad, later, and_then, mapParse}
-use Rattle.bytes_wire.specs.Number.{u16Of}
+use Rattle.bytes_wire.specs.Parse.{Parse, ok, bad, later, and_then, map_parse}
+use Rattle.bytes_wire.specs.Number.{u16_of}
 use Rattle.bytes_wire.specs.declared.Cause.{Cause}
-use Rattle.bytes_wire.proofs.Laws.{size, size-map, size-later, size-checked, size_number, map-later, later-later}
-use Rattle.bytes_wire.proofs.Inv.{no_ok, both, behind, image, later-inv, and-inv, map-inv, map-bad, checked-inv, number-inv}
+use Rattle.bytes_wire.proofs.Laws.{size, size_map, size_later, size_checked, size_number, map_later, later_later}
+use Rattle.bytes_wire.proofs.Inv.{no_ok, both, behind, image, later_inv, and_inv, map_inv, map_bad, checked_inv, number_inv}
 use Rattle.mir.specs.Syntax.{Instruction, Terminator, Block}
-use Rattle.mir.specs.Reads.{terminatorReads}
-use Rattle.bytes_field.specs.Decode.{terminators, terminatorOf}
-use Rattle.bytes_field.specs.Walk.{Walk, walk_of, leaves, rowWalk, terminatorRows, asScan, asPart, unit}
+use Rattle.mir.specs.Reads.{terminator_reads}
+use Rattle.bytes_field.specs.Decode.{terminators, terminator_of}
+use Rattle.bytes_field.specs.Walk.{Walk, walk_of, leaves, row_walk, terminator_rows, as_scan, as_part, unit}
 use Rattle.bytes_field.specs.declared.Bounds.{Bounds}
 use Rattle.bytes_field.specs.declared.Part.{Part}
 use Rattle.bytes_field.specs.declared.Scan.{Scan}
-use Rattle.bytes_field.proofs.Laws.{and-later}
-use Rattle.bytes_field.proofs.Rows.{terminator-row as row-of}
-use Rattle.bytes_block.specs.Decode.{blockMarks, instructionsOf, blockCountOf, block_of, passed}
-use Rattle.bytes_block.specs.Rows.{rowEnded, InstructionsRead, TerminatorRead, CodeRead}
+use Rattle.bytes_field.proofs.Laws.{and_later}
+use Rattle.bytes_field.proofs.Rows.{terminator_row as row_of_lem}
+use Rattle.bytes_block.specs.Decode.{block_marks, instructions_of, block_count_of, block_of, passed}
+use Rattle.bytes_block.specs.Rows.{row_ended, InstructionsRead, TerminatorRead, CodeRead}
 use Rattle.bytes_block.specs.declared.Mosts.{Mosts}
-use Rattle.bytes_block.proofs.Laws.{instructions-length}
-use Rattle.bytes_block.proofs.Sizes.{size-left, size-instructions}
-use Rattle.bytes_block.proofs.Rows.{noted, row_kept, terminator-row, instructions-same}
-use Rattle.bytes_block.proofs.Filling.{kept-through}
+use Rattle.bytes_block.proofs.Laws.{instructions_length}
+use Rattle.bytes_block.proofs.Sizes.{size_left, size_instructions}
+use Rattle.bytes_block.proofs.Rows.{noted, row_kept, terminator_row, instructions_same}
+use Rattle.bytes_block.proofs.Filling.{kept_through}
 
 -- counted from later or from earlier, the same is chosen
-choose-later : {A : Type 0} (fs : List (List ℕ → Parse A)) (t : List ℕ) (k : ℕ) → k < length fs → get_or (map (λ f. later 1 (f t)) fs) k (bad Cause.Undefined 0) ≡ later 1 (get_or (map (λ f. f t) fs) k (bad Cause.Undefined 0))
-choose-later [] t k h = absurd (omega arith)
-choose-later (f ∷ fs) t zero h = refl
-choose-later (f ∷ fs) t (suc k) h = choose-later fs t k (omega arith)
+choose_later : {A : Type 0} (fs : List (List ℕ → Parse A)) (t : List ℕ) (k : ℕ) → k < length fs → get_or (map (λ f. later 1 (f t)) fs) k (bad Cause.Undefined 0) ≡ later 1 (get_or (map (λ f. f t) fs) k (bad Cause.Undefined 0))
+choose_later [] t k h = absurd (omega arith)
+choose_later (f ∷ fs) t zero h = refl
+choose_later (f ∷ fs) t (suc k) h = choose_later fs t k (omega arith)
 
 module _ (b : Bounds) (w : Walk) (s : List ℕ) where
   -- there is no byte for the kind
-  pub no-terminator : length s < 1 → ◌≡◌ {A = Parse Walk} (bad Cause.Truncated 0) (mapParse (leaves w) (terminatorOf b s))
-  unfolding terminatorOf
-  no-terminator h = simp (lt-leb _ _ h)
+  pub no_terminator : length s < 1 → ◌≡◌ {A = Parse Walk} (bad Cause.Truncated 0) (map_parse (leaves w) (terminator_of b s))
+  unfolding terminator_of
+  no_terminator h = simp (lt-leb _ _ h)
 
   -- the kind is none of the 5
-  pub terminator-past : 1 ≤ length s → 5 ≤ get_or s 0 0 → ◌≡◌ {A = Parse Walk} (bad Cause.Undefined 0) (mapParse (leaves w) (terminatorOf b s))
-  unfolding terminatorOf
-  terminator-past h g =
+  pub terminator_past : 1 ≤ length s → 5 ≤ get_or s 0 0 → ◌≡◌ {A = Parse Walk} (bad Cause.Undefined 0) (map_parse (leaves w) (terminator_of b s))
+  unfolding terminator_of
+  terminator_past h g =
       let e = get_or-eq_default (map (λ f. later 1 (f (drop 1 s))) (terminators b)) (bad Cause.Undefined 0) {n = get_or s 0 0} g in
       simp (le-leb _ _ h) (rw e)
 
   -- the row of the kind
-  pub terminator-walked : {row : ℕ} {r : Parse Walk} → 1 ≤ length s → get_or s 0 0 < 5 → row ≡ get_or terminatorRows (get_or s 0 0) 0 → r ≡ and_then s (ok w 1) (λ v t. rowWalk b 0 5 row v t) → r ≡ mapParse (leaves w) (terminatorOf b s)
-  unfolding terminatorOf
-  terminator-walked h g er e =
+  pub terminator_walked : {row : ℕ} {r : Parse Walk} → 1 ≤ length s → get_or s 0 0 < 5 → row ≡ get_or terminator_rows (get_or s 0 0) 0 → r ≡ and_then s (ok w 1) (λ v t. row_walk b 0 5 row v t) → r ≡ map_parse (leaves w) (terminator_of b s)
+  unfolding terminator_of
+  terminator_walked h g er e =
       let k = get_or s 0 0 in
       let t = drop 1 s in
       let d = get_or (map (λ f. f t) (terminators b)) k (bad Cause.Undefined 0) in
-      let told : mapParse (leaves w) (terminatorOf b s) ≡ later 1 (mapParse (leaves w) d) =
-      simp (le-leb _ _ h) (ap (mapParse (leaves w)) (choose-later (terminators b) t k g) ∙ map-later (leaves w) 1 d) in
-      e ∙ ap (λ x. later 1 (rowWalk b 0 5 x w t)) er ∙ ap (later 1) (row-of b 0 w k t g) ∙ sym told
+      let told : map_parse (leaves w) (terminator_of b s) ≡ later 1 (map_parse (leaves w) d) =
+      simp (le-leb _ _ h) (ap (map_parse (leaves w)) (choose_later (terminators b) t k g) ∙ map_later (leaves w) 1 d) in
+      e ∙ ap (λ x. later 1 (row_walk b 0 5 x w t)) er ∙ ap (later 1) (row_of_lem b 0 w k t g) ∙ sym told
 
 -- reading a terminator: what the scan answered, and the row that it ended
-module _ (b : Bounds) (s facts facts' : List ℕ) (seen seen' : List Bool) (slot at : ℕ) (h : at ≤ length s) (r : Scan) (e : asScan r seen' facts' ≡ mapParse (leaves (walk_of seen facts (387 + 20 * slot + 4) false)) (terminatorOf b (drop at s))) where
+module _ (b : Bounds) (s facts facts' : List ℕ) (seen seen' : List Bool) (slot at : ℕ) (h : at ≤ length s) (r : Scan) (e : as_scan r seen' facts' ≡ map_parse (leaves (walk_of seen facts (387 + 20 * slot + 4) false)) (terminator_of b (drop at s))) where
   abbrev row : Walk
   row = walk_of seen facts (387 + 20 * slot + 4) false
 
-  told : {q : Scan} → r ≡ q → mapParse (leaves row) (terminatorOf b (drop at s)) ≡ asScan q seen' facts'
-  told g = sym e ∙ ap (λ x. asScan x seen' facts') g
+  told : {q : Scan} → r ≡ q → map_parse (leaves row) (terminator_of b (drop at s)) ≡ as_scan q seen' facts'
+  told g = sym e ∙ ap (λ x. as_scan x seen' facts') g
 
   -- it reaches no further than the bytes do
-  pub end-size : {q : Scan} → r ≡ q → at + size (asScan q seen' facts') ≤ length s
-  end-size g = omega (arith, ap (λ d. size d) (told g), size-left b row (drop at s), length-drop at s)
+  pub end_size : {q : Scan} → r ≡ q → at + size (as_scan q seen' facts') ≤ length s
+  end_size g = omega (arith, ap (λ d. size d) (told g), size_left b row (drop at s), length-drop at s)
 
   -- it is refused
-  pub end-bad : {c : Cause} {o : ℕ} → r ≡ Scan.Refused c o → TerminatorRead b at slot s (bad c (at + o)) facts facts'
-  end-bad g =
-      let z = map-bad (leaves row) (terminatorOf b (drop at s)) (told g) in
+  pub end_bad : {c : Cause} {o : ℕ} → r ≡ Scan.Refused c o → TerminatorRead b at slot s (bad c (at + o)) facts facts'
+  end_bad g =
+      let z = map_bad (leaves row) (terminator_of b (drop at s)) (told g) in
       record { answers = sym (rw z); filled = λ x n f. absurd (no_ok (sym z ∙ f)) }
 
   module _ {k m : ℕ} {after : Bool} (g : r ≡ Scan.Used k m after) where
     -- its reads stand behind the row's four numbers
     pub end_reads : 391 + 20 * slot ≤ m
-    end_reads = elim (map-inv (leaves row) (terminatorOf b (drop at s)) (told g)) [ image x f w ↦ omega (arith, (noted row (terminatorReads x)).grows, ap (λ v. v.count) w) ]
+    end_reads = elim (map_inv (leaves row) (terminator_of b (drop at s)) (told g)) [ image x f w ↦ omega (arith, (noted row (terminator_reads x)).grows, ap (λ v. v.count) w) ]
 
     -- its row is ended
-    pub end-some : (facts'' : List ℕ) → facts'' ≡ rowEnded facts' (387 + 20 * slot) at (at + k) 0 (m - (391 + 20 * slot)) → TerminatorRead b at slot s (ok tt (at + k)) facts facts''
-    end-some facts'' ended =
-        elim (map-inv (leaves row) (terminatorOf b (drop at s)) (told g)) [
+    pub end_some : (facts'' : List ℕ) → facts'' ≡ row_ended facts' (387 + 20 * slot) at (at + k) 0 (m - (391 + 20 * slot)) → TerminatorRead b at slot s (ok tt (at + k)) facts facts''
+    end_some facts'' ended =
+        elim (map_inv (leaves row) (terminator_of b (drop at s)) (told g)) [
           | image x f w ↦
               let v = walk_of seen' facts' m after in
-              let n = rw (← w) at (noted row (terminatorReads x)) in
+              let n = rw (← w) at (noted row (terminator_reads x)) in
               record {
                 answers = sym (rw f);
                 filled = λ y j q.
                     let z : x ≡ y = cc in
                     rw (← z) record {
-                      kept = row_kept facts facts'' seen false slot at (at + k) 0 (terminatorReads x) v n ended;
-                      rows = λ t room. terminator-row b s facts facts'' seen slot at k x v w ended f h t room;
+                      kept = row_kept facts facts'' seen false slot at (at + k) 0 (terminator_reads x) v n ended;
+                      rows = λ t room. terminator_row b s facts facts'' seen slot at k x v w ended f h t room;
                     };
               }
         ]
 
 module _ (m : Mosts) (b : Bounds) (total at first : ℕ) (s : List ℕ) (seen : List Bool) (before facts : List ℕ) where
   -- a refusal leaves no rows
-  code-bad : {c : Cause} {o : ℕ} → later at (block_of m b total seen (drop at s)) ≡ bad c o → CodeRead m b total at first s seen (bad c o) before facts
-  code-bad e =
+  code_bad : {c : Cause} {o : ℕ} → later at (block_of m b total seen (drop at s)) ≡ bad c o → CodeRead m b total at first s seen (bad c o) before facts
+  code_bad e =
       record {
-        answers = sym (sym (map-later (passed seen) at (block_of m b total seen (drop at s))) ∙ ap (mapParse (passed seen)) e);
+        answers = sym (sym (map_later (passed seen) at (block_of m b total seen (drop at s))) ∙ ap (map_parse (passed seen)) e);
         filled = λ x n f. absurd (no_ok (sym e ∙ ap (later at) f));
       }
 
   -- the count is refused
-  pub no_block : {c : Cause} {o : ℕ} → blockCountOf m total (drop at s) ≡ bad c o → CodeRead m b total at first s seen (bad c (at + o)) before facts
+  pub no_block : {c : Cause} {o : ℕ} → block_count_of m total (drop at s) ≡ bad c o → CodeRead m b total at first s seen (bad c (at + o)) before facts
   unfolding block_of
-  no_block e = code-bad (rw e refl)
+  no_block e = code_bad (rw e refl)
 
-  module _ {k n : ℕ} (e : blockCountOf m total (drop at s) ≡ ok k n) (marked : List Bool) (middle : List ℕ) (r : Part) (p : InstructionsRead b (at + n) k first s seen marked (asPart r) before middle) where
+  module _ {k n : ℕ} (e : block_count_of m total (drop at s) ≡ ok k n) (marked : List Bool) (middle : List ℕ) (r : Part) (p : InstructionsRead b (at + n) k first s seen marked (as_part r) before middle) where
     -- the instructions behind the count
     abbrev code : Parse (List Instruction)
-    code = later (at + n) (instructionsOf b seen false k (drop (at + n) s))
+    code = later (at + n) (instructions_of b seen false k (drop (at + n) s))
 
     -- and the terminator behind them
     abbrev rest : List Instruction → List ℕ → Parse Block
-    rest is t = mapParse (λ x. record { instructions = is; terminator = x }) (terminatorOf b t)
+    rest is t = map_parse (λ x. record { instructions = is; terminator = x }) (terminator_of b t)
 
-    after-count : later at (block_of m b total seen (drop at s)) ≡ and_then s code rest
+    after_count : later at (block_of m b total seen (drop at s)) ≡ and_then s code rest
     unfolding block_of
-    after-count = simp (e, and-later, later-later, drop-drop)
+    after_count = simp (e, and_later, later_later, drop-drop)
 
-    marked-code : {q : Part} → r ≡ q → mapParse (blockMarks seen) code ≡ mapParse (λ u. marked) (asPart q)
-    marked-code g = map-later (blockMarks seen) (at + n) (instructionsOf b seen false k (drop (at + n) s)) ∙ sym p.answers ∙ ap (λ x. mapParse (λ u. marked) (asPart x)) g
+    marked_code : {q : Part} → r ≡ q → map_parse (block_marks seen) code ≡ map_parse (λ u. marked) (as_part q)
+    marked_code g = map_later (block_marks seen) (at + n) (instructions_of b seen false k (drop (at + n) s)) ∙ sym p.answers ∙ ap (λ x. map_parse (λ u. marked) (as_part x)) g
 
     -- the instructions are refused
-    pub code-stop : {c : Cause} {o : ℕ} → r ≡ Part.Refused c o → CodeRead m b total at first s seen (bad c o) before facts
-    code-stop g = code-bad (after-count ∙ ap (λ d. and_then s d rest) (map-bad (blockMarks seen) code (marked-code g)))
+    pub code_stop : {c : Cause} {o : ℕ} → r ≡ Part.Refused c o → CodeRead m b total at first s seen (bad c o) before facts
+    code_stop g = code_bad (after_count ∙ ap (λ d. and_then s d rest) (map_bad (block_marks seen) code (marked_code g)))
 
     module _ {end : ℕ} (g : r ≡ Part.Used end) where
       -- they end within the bytes
-      pub code-size : at + n ≤ length s → end ≤ length s
-      code-size h = omega (arith, ap (λ d. size d) (marked-code g), size-map (blockMarks seen) code, size-later (at + n) (instructionsOf b seen false k (drop (at + n) s)), size-instructions b seen false k (drop (at + n) s), length-drop (at + n) s)
+      pub code_size : at + n ≤ length s → end ≤ length s
+      code_size h = omega (arith, ap (λ d. size d) (marked_code g), size_map (block_marks seen) code, size_later (at + n) (instructions_of b seen false k (drop (at + n) s)), size_instructions b seen false k (drop (at + n) s), length-drop (at + n) s)
 
-      module _ (q : Part) (f : TerminatorRead b end (first + k) s (asPart q) middle facts) where
+      module _ (q : Part) (f : TerminatorRead b end (first + k) s (as_part q) middle facts) where
         abbrev last : Parse Terminator
-        last = later end (terminatorOf b (drop end s))
+        last = later end (terminator_of b (drop end s))
 
-        after-code : (is : List Instruction) → code ≡ ok is end → later at (block_of m b total seen (drop at s)) ≡ mapParse (λ x. record { instructions = is; terminator = x }) last
-        after-code is h = after-count ∙ ap (λ d. and_then s d rest) h ∙ sym (map-later (λ x. record { instructions = is; terminator = x }) end (terminatorOf b (drop end s)))
+        after_code : (is : List Instruction) → code ≡ ok is end → later at (block_of m b total seen (drop at s)) ≡ map_parse (λ x. record { instructions = is; terminator = x }) last
+        after_code is h = after_count ∙ ap (λ d. and_then s d rest) h ∙ sym (map_later (λ x. record { instructions = is; terminator = x }) end (terminator_of b (drop end s)))
 
-        told-end : {z : Part} → q ≡ z → mapParse unit last ≡ asPart z
-        told-end h = map-later unit end (terminatorOf b (drop end s)) ∙ sym f.answers ∙ ap asPart h
+        told_end : {z : Part} → q ≡ z → map_parse unit last ≡ as_part z
+        told_end h = map_later unit end (terminator_of b (drop end s)) ∙ sym f.answers ∙ ap as_part h
 
         -- the terminator is refused
-        pub code-end : {c : Cause} {o : ℕ} → q ≡ Part.Refused c o → CodeRead m b total at first s seen (bad c o) before facts
-        code-end h =
-            elim (map-inv (blockMarks seen) code (marked-code g)) [
-              | image is i j ↦ code-bad (after-code is i ∙ ap (mapParse (λ x. record { instructions = is; terminator = x })) (map-bad unit last (told-end h)))
+        pub code_end : {c : Cause} {o : ℕ} → q ≡ Part.Refused c o → CodeRead m b total at first s seen (bad c o) before facts
+        code_end h =
+            elim (map_inv (block_marks seen) code (marked_code g)) [
+              | image is i j ↦ code_bad (after_code is i ∙ ap (map_parse (λ x. record { instructions = is; terminator = x })) (map_bad unit last (told_end h)))
             ]
 
         -- the block is read, and has its rows
-        pub code-some : {to : ℕ} → q ≡ Part.Used to → CodeRead m b total at first s seen (ok (record { seen = marked; count = k }) to) before facts
-        code-some {to} h =
-            elim (map-inv (blockMarks seen) code (marked-code g)) [
+        pub code_some : {to : ℕ} → q ≡ Part.Used to → CodeRead m b total at first s seen (ok (record { seen = marked; count = k }) to) before facts
+        code_some {to} h =
+            elim (map_inv (block_marks seen) code (marked_code g)) [
               | image is i marking ↦
-                  elim (map-inv unit last (told-end h)) [
+                  elim (map_inv unit last (told_end h)) [
                     | image x l v ↦
-                        elim (later-inv (at + n) (instructionsOf b seen false k (drop (at + n) s)) i) [
+                        elim (later_inv (at + n) (instructions_of b seen false k (drop (at + n) s)) i) [
                           | behind j read place ↦
-                              elim (later-inv end (terminatorOf b (drop end s)) l) [
+                              elim (later_inv end (terminator_of b (drop end s)) l) [
                                 | behind j' read' place' ↦
-                                    let many : length is ≡ k = instructions-length b seen false k (drop (at + n) s) read in
-                                    let y : later at (block_of m b total seen (drop at s)) ≡ ok (record { instructions = is; terminator = x }) to = after-code is i ∙ rw l refl in
+                                    let many : length is ≡ k = instructions_length b seen false k (drop (at + n) s) read in
+                                    let y : later at (block_of m b total seen (drop at s)) ≡ ok (record { instructions = is; terminator = x }) to = after_code is i ∙ rw l refl in
                                     let I = p.filled is j read in
                                     let T = f.filled x j' read' in
                                     record {
-                                      answers = sym (sym (map-later (passed seen) at (block_of m b total seen (drop at s))) ∙ ap (mapParse (passed seen)) y ∙ rw (← marking, many) refl);
+                                      answers = sym (sym (map_later (passed seen) at (block_of m b total seen (drop at s))) ∙ ap (map_parse (passed seen)) y ∙ rw (← marking, many) refl);
                                       filled = λ x' n' w.
                                           let o : ok (record { instructions = is; terminator = x }) to ≡ later at (ok x' n') = sym y ∙ ap (later at) w in
                                           let z : record { instructions = is; terminator = x } ≡ x' = cc in
                                           rw (← z) record {
-                                            kept = kept-through (387 + 20 * first) (387 + 20 * (first + k)) (omega arith) I.kept T.kept;
+                                            kept = kept_through (387 + 20 * first) (387 + 20 * (first + k)) (omega arith) I.kept T.kept;
                                             rows = λ t room. record {
-                                              instructions = instructions-same b s middle facts t first is (λ j a c. T.kept.same j (omega arith)) (I.rows t (omega arith));
+                                              instructions = instructions_same b s middle facts t first is (λ j a c. T.kept.same j (omega arith)) (I.rows t (omega arith));
                                               terminator = rw many (T.rows t (omega (arith, I.kept.long)));
                                             };
                                           };
@@ -203,26 +203,26 @@ pub record Counted (m : Mosts) (total : ℕ) (s : List ℕ) (k n : ℕ) : Type 0
   pub own : k ≤ m.block
   pub all : total + k ≤ m.all
 
-pub block-counted : (m : Mosts) (total : ℕ) (s : List ℕ) {k n : ℕ} → blockCountOf m total s ≡ ok k n → Counted m total s k n
-block-counted m total s {k} {n} e =
-    let c = checked-inv Cause.TooMany (λ n. leb n m.block && leb (total + n) m.all) (u16Of s) e in
-    let v = number-inv 2 s c.0 in
+pub block_counted : (m : Mosts) (total : ℕ) (s : List ℕ) {k n : ℕ} → block_count_of m total s ≡ ok k n → Counted m total s k n
+block_counted m total s {k} {n} e =
+    let c = checked_inv Cause.TooMany (λ n. leb n m.block && leb (total + n) m.all) (u16_of s) e in
+    let v = number_inv 2 s c.0 in
     let h = both_hold (leb k m.block) (leb (total + k) m.all) c.1 in
     record { size = v.2; there = v.0; own = leb-true k m.block h.0; all = leb-true (total + k) m.all h.1 }
 
 -- it reaches no further than the bytes do
-pub size-block-count : (m : Mosts) (total : ℕ) (s : List ℕ) → size (blockCountOf m total s) ≤ length s
-size-block-count m total s = le_trans (size-checked Cause.TooMany (λ n. leb n m.block && leb (total + n) m.all) (u16Of s)) (size_number 2 s)
+pub size_block_count : (m : Mosts) (total : ℕ) (s : List ℕ) → size (block_count_of m total s) ≤ length s
+size_block_count m total s = le_trans (size_checked Cause.TooMany (λ n. leb n m.block && leb (total + n) m.all) (u16_of s)) (size_number 2 s)
 
 -- a block keeps to the most of all blocks
-pub block-count : (m : Mosts) (b : Bounds) (total : ℕ) (seen : List Bool) (s : List ℕ) {x : Block} {n : ℕ} → block_of m b total seen s ≡ ok x n → total + length x.instructions ≤ m.all
+pub block_count : (m : Mosts) (b : Bounds) (total : ℕ) (seen : List Bool) (s : List ℕ) {x : Block} {n : ℕ} → block_of m b total seen s ≡ ok x n → total + length x.instructions ≤ m.all
 unfolding block_of
-block-count m b total seen s {x} e =
-    elim (and-inv s (blockCountOf m total s) (λ n s. and_then s (instructionsOf b seen false n s) (λ is s. mapParse (λ e. record { instructions = is; terminator = e }) (terminatorOf b s))) e) [
+block_count m b total seen s {x} e =
+    elim (and_inv s (block_count_of m total s) (λ n s. and_then s (instructions_of b seen false n s) (λ is s. map_parse (λ e. record { instructions = is; terminator = e }) (terminator_of b s))) e) [
       | both k j i p q r ↦
-          elim (and-inv (drop j s) (instructionsOf b seen false k (drop j s)) (λ is s. mapParse (λ e. record { instructions = is; terminator = e }) (terminatorOf b s)) q) [
+          elim (and_inv (drop j s) (instructions_of b seen false k (drop j s)) (λ is s. map_parse (λ e. record { instructions = is; terminator = e }) (terminator_of b s)) q) [
             | both is l o p2 q2 r2 ↦
-                elim (map-inv (λ e. record { instructions = is; terminator = e }) (terminatorOf b (drop l (drop j s))) q2)
-                [ image y f g ↦ omega (arith, ap (λ x. length x.instructions) g, instructions-length b seen false k (drop j s) p2, (block-counted m total s p).all) ]
+                elim (map_inv (λ e. record { instructions = is; terminator = e }) (terminator_of b (drop l (drop j s))) q2)
+                [ image y f g ↦ omega (arith, ap (λ x. length x.instructions) g, instructions_length b seen false k (drop j s) p2, (block_counted m total s p).all) ]
           ]
     ]

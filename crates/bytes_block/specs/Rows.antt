@@ -1,19 +1,19 @@
 -- What reading a block leaves in the table of facts (index's Table says what stands where).
 use Rattle.std.specs.Prelude.{ℕ, suc, ◌+◌, ◌*◌, ◌%◌, ◌≤◌, ◌<◌, ◌≡◌, List, Bool, false, length, get_or, drop, set}
-use Rattle.bytes_wire.specs.Parse.{Parse, ok, mapParse, later}
+use Rattle.bytes_wire.specs.Parse.{Parse, ok, map_parse, later}
 use Rattle.bytes_wire.specs.WellFormed.{Bytes}
 use Rattle.mir.specs.Syntax.{Instruction, Terminator, Block}
-use Rattle.bytes_field.specs.Decode.{terminatorOf}
+use Rattle.bytes_field.specs.Decode.{terminator_of}
 use Rattle.bytes_field.specs.Walk.{unit}
 use Rattle.bytes_field.specs.declared.Bounds.{Bounds}
 use Rattle.bytes_laws.specs.WellFormed.{Wide}
 use Rattle.bytes_index.specs.Code.{InstructionsIn, TerminatorIn, BlockIn}
-use Rattle.bytes_block.specs.Decode.{blockMarks, instructionsOf, block_of, Passed, passed}
+use Rattle.bytes_block.specs.Decode.{block_marks, instructions_of, block_of, Passed, passed}
 use Rattle.bytes_block.specs.declared.Mosts.{Mosts}
 
 -- a row that begins at place p, its reads aside: from which place to which it goes, its kind, how many reads
-abbrev pub rowEnded : List ℕ → ℕ → ℕ → ℕ → ℕ → ℕ → List ℕ
-rowEnded facts p from to kind many = set (set (set (set facts p (from % 65536)) (p + 1) (to % 65536)) (p + 2) kind) (p + 3) (many % 65536)
+abbrev pub row_ended : List ℕ → ℕ → ℕ → ℕ → ℕ → ℕ → List ℕ
+row_ended facts p from to kind many = set (set (set (set facts p (from % 65536)) (p + 1) (to % 65536)) (p + 2) kind) (p + 3) (many % 65536)
 
 -- the first n numbers of a table stay, and so does its length
 pub record Kept (n : ℕ) (before after : List ℕ) : Type 0 where
@@ -40,19 +40,19 @@ pub record Filled (b : Bounds) (s : List ℕ) (first slots : ℕ) (before facts 
 -- reading instructions: the answer with the marks behind them, and their rows; what a refusal leaves in the table is left free
 pub record InstructionsRead (b : Bounds) (at count first : ℕ) (s : List ℕ) (seen marked : List Bool) (answer : Parse (Unit {0}))
     (before facts : List ℕ) : Type 0 where
-  pub answers : mapParse (λ u. marked) answer ≡ later at (mapParse (blockMarks seen) (instructionsOf b seen false count (drop at s)))
+  pub answers : map_parse (λ u. marked) answer ≡ later at (map_parse (block_marks seen) (instructions_of b seen false count (drop at s)))
   pub filled : (is : List Instruction) (n : ℕ)
-      → instructionsOf b seen false count (drop at s) ≡ ok is n
+      → instructions_of b seen false count (drop at s) ≡ ok is n
       → Filled b s first count before facts (InstructionsIn b s facts first is)
 
 -- reading a terminator
 pub record TerminatorRead (b : Bounds) (at slot : ℕ) (s : List ℕ) (answer : Parse (Unit {0})) (before facts : List ℕ) : Type 0 where
-  pub answers : answer ≡ later at (mapParse unit (terminatorOf b (drop at s)))
-  pub filled : (e : Terminator) (n : ℕ) → terminatorOf b (drop at s) ≡ ok e n → Filled b s slot 1 before facts (TerminatorIn b s facts slot e)
+  pub answers : answer ≡ later at (map_parse unit (terminator_of b (drop at s)))
+  pub filled : (e : Terminator) (n : ℕ) → terminator_of b (drop at s) ≡ ok e n → Filled b s slot 1 before facts (TerminatorIn b s facts slot e)
 
 -- reading a block
 pub record CodeRead (m : Mosts) (b : Bounds) (total at first : ℕ) (s : List ℕ) (seen : List Bool) (answer : Parse Passed) (before facts : List ℕ) : Type 0 where
-  pub answers : answer ≡ later at (mapParse (passed seen) (block_of m b total seen (drop at s)))
+  pub answers : answer ≡ later at (map_parse (passed seen) (block_of m b total seen (drop at s)))
   pub filled : (x : Block) (n : ℕ)
       → block_of m b total seen (drop at s) ≡ ok x n
       → Filled b s first (suc (length x.instructions)) before facts (BlockIn b s facts first x)

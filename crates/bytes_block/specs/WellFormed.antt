@@ -1,7 +1,7 @@
 -- Which blocks have a byte form, in the words of document 01, "The routine in bytes".
 use Rattle.std.specs.Prelude.{ℕ, ◌+◌, ◌≤◌, List, [], ◌∷◌, Bool, false, not, ◌||◌, length}
 use Rattle.mir.specs.Syntax.{Instruction, Block}
-use Rattle.mir.specs.Reads.{dests, isPhi}
+use Rattle.mir.specs.Reads.{dests, is_phi}
 use Rattle.bytes_field.specs.declared.Bounds.{Bounds}
 use Rattle.bytes_laws.specs.WellFormed.{FitInstruction, FitTerminator}
 use Rattle.bytes_block.specs.Decode.{marks}
@@ -21,7 +21,7 @@ pub record WideMosts (m : Mosts) : Type 0 where
 -- another kind than Phi stands before it in the block
 abbrev pub FitInstructions : Bounds → List Bool → Bool → List Instruction → Type 0
 FitInstructions b seen late [] = Unit {0}
-FitInstructions b seen late (i ∷ is) = FitInstruction b seen late i × FitInstructions b (marks seen (dests i.kind)) (late || not (isPhi i.kind)) is
+FitInstructions b seen late (i ∷ is) = FitInstruction b seen late i × FitInstructions b (marks seen (dests i.kind)) (late || not (is_phi i.kind)) is
 
 -- "u16 instruction count, instructions, terminator"; `total` instructions stand in the blocks before
 pub record FitCode (m : Mosts) (b : Bounds) (total : ℕ) (seen : List Bool) (x : Block) : Type 0 where

@@ -2,13 +2,13 @@
 #![tactic(auto)]
 
 ghost use Rattle.std.specs.Prelude.{◌≡◌, List, Bool, true, false, ℕ, ◌+◌, ◌-◌, ◌*◌, ◌≤◌, ◌<◌, length, get_or};
-ghost use Rattle.bytes_wire.specs.Parse.{and_then, mapParse};
-ghost use Rattle.bytes_field.specs.Decode.{bit as bit_of, definedBits, metaOf, instructionOf, terminatorOf};
-ghost use Rattle.bytes_field.specs.Walk.{walk_of, passes, leaves, asScan, asPart, standsAt};
-ghost use Rattle.bytes_block.specs.Decode.{head_of, skipped, asHead, asBlock};
-ghost use Rattle.bytes_block.specs.Rows.{rowEnded, InstructionsRead, TerminatorRead, CodeRead};
-ghost use Rattle.bytes_index.specs.Table.{row_at, readsAt};
-ghost use Rattle.table.specs.Number.{numbersBelow};
+ghost use Rattle.bytes_wire.specs.Parse.{and_then, map_parse};
+ghost use Rattle.bytes_field.specs.Decode.{bit as bit_of, defined_bits, meta_of, instruction_of, terminator_of};
+ghost use Rattle.bytes_field.specs.Walk.{walk_of, passes, leaves, as_scan, as_part, stands_at};
+ghost use Rattle.bytes_block.specs.Decode.{head_of, skipped, as_head, as_block};
+ghost use Rattle.bytes_block.specs.Rows.{row_ended, InstructionsRead, TerminatorRead, CodeRead};
+ghost use Rattle.bytes_index.specs.Table.{row_at, reads_at};
+ghost use Rattle.table.specs.Number.{numbers_below};
 
 use bytes_field::{Bounds, Part, Scan};
 use bytes_wire::{Cause, Read16};
@@ -51,7 +51,7 @@ const LONG: usize = 8;
 fn then_number(s: &[u8], p: Scan, on: bool, width: usize) -> Scan
     requires { width ≤ 8 }
     ensures { (seen : List Bool) (buffer : List ℕ) →
-        asScan result seen buffer ≡ and_then s.now (asScan p seen buffer) (λ w t. mapParse (λ x. w) (skipped on width t)) }
+        as_scan result seen buffer ≡ and_then s.now (as_scan p seen buffer) (λ w t. map_parse (λ x. w) (skipped on width t)) }
 {
     if !on {
         return p;
@@ -87,7 +87,7 @@ fn bit(x: u8, k: u8) -> bool
 // The span, the expression id and the comment whose bits stand.
 fn then_meta(s: &[u8], p: Scan, bits: u8) -> Scan
     ensures { (seen : List Bool) (buffer : List ℕ) →
-        asScan result seen buffer ≡ and_then s.now (asScan p seen buffer) (λ w t. mapParse (λ x. w) (metaOf bits t)) }
+        as_scan result seen buffer ≡ and_then s.now (as_scan p seen buffer) (λ w t. map_parse (λ x. w) (meta_of bits t)) }
 {
     if bits % 8 == 0 {
         return p;
@@ -104,7 +104,7 @@ fn then_meta(s: &[u8], p: Scan, bits: u8) -> Scan
 
 // No bit above 3 stands, and bit 3 only where MakeFixedArray follows.
 fn defined_bits(s: &[u8], bits: u8) -> bool
-    ensures { result ≡ definedBits s.now bits }
+    ensures { result ≡ defined_bits s.now bits }
 {
     if 16 <= bits {
         return false;
@@ -120,7 +120,7 @@ fn defined_bits(s: &[u8], bits: u8) -> bool
 
 // The bit map and the kind. `late` is whether another kind than Phi stands before.
 pub fn read_head(s: &[u8], late: bool) -> Head
-    ensures { asHead result ≡ head_of late s.now }
+    ensures { as_head result ≡ head_of late s.now }
 {
     if s.len() < 1 {
         return Head::Refused(Cause::Truncated, 0);
@@ -149,7 +149,7 @@ pub fn read_head(s: &[u8], late: bool) -> Head
 
 // The byte that a walk stands at.
 fn peek(s: &[u8], p: Scan) -> u8
-    ensures { result ≡ standsAt s.now p }
+    ensures { result ≡ stands_at s.now p }
 {
     match p {
         Scan::Used(at, _, _) => bytes_wire::byte_at(s, at),
@@ -166,8 +166,8 @@ pub fn read_instruction(
     seen: &mut [bool],
     buffer: &mut [u16],
 ) -> Scan
-    ensures { asScan result seen.new buffer.new ≡
-        mapParse (passes (walk_of seen.old buffer.old n late)) (instructionOf b seen.old late s.now) }
+    ensures { as_scan result seen.new buffer.new ≡
+        map_parse (passes (walk_of seen.old buffer.old n late)) (instruction_of b seen.old late s.now) }
 {
     match read_head(s, late) {
         Head::Refused(c, o) => Scan::Refused(c, o),
@@ -182,8 +182,8 @@ pub fn read_instruction(
 
 // Ends a slot's row, whose reads stand before `behind`: stores from which place to which it goes, its kind, how many reads.
 fn end_row(facts: &mut [u16], slot: u16, from: usize, to: usize, kind: u8, behind: usize)
-    requires { readsAt slot ≤ behind }
-    ensures { facts.new ≡ rowEnded facts.old (row_at slot) from to kind (behind - readsAt slot) }
+    requires { reads_at slot ≤ behind }
+    ensures { facts.new ≡ row_ended facts.old (row_at slot) from to kind (behind - reads_at slot) }
 {
     let n = bytes_index::row_place(slot, 0);
     table::set_place(facts, n, from);
@@ -206,9 +206,9 @@ fn instruction_rows(
     seen: &mut [bool],
     facts: &mut [u16],
 ) -> Part
-    requires { (at ≤ length s.now) × (first + count < numbersBelow) }
+    requires { (at ≤ length s.now) × (first + count < numbers_below) }
     ensures { InstructionsRead b at count first s.now seen.old seen.new
-        (asPart result) facts.old facts.new }
+        (as_part result) facts.old facts.new }
 {
     let mut here = at;
     let mut late = false;
@@ -248,8 +248,8 @@ pub fn read_terminator(
     seen: &mut [bool],
     buffer: &mut [u16],
 ) -> Scan
-    ensures { asScan result seen.new buffer.new ≡
-        mapParse (leaves (walk_of seen.old buffer.old n late)) (terminatorOf b s.now) }
+    ensures { as_scan result seen.new buffer.new ≡
+        map_parse (leaves (walk_of seen.old buffer.old n late)) (terminator_of b s.now) }
 {
     if s.len() < 1 {
         return Scan::Refused(Cause::Truncated, 0);
@@ -272,7 +272,7 @@ pub fn read_terminator(
 // A terminator from `at` on, and its row.
 fn terminator_row(s: &[u8], at: usize, slot: u16, b: Bounds, facts: &mut [u16]) -> Part
     requires { at ≤ length s.now }
-    ensures { TerminatorRead b at slot s.now (asPart result) facts.old facts.new }
+    ensures { TerminatorRead b at slot s.now (as_part result) facts.old facts.new }
 {
     let mut none: [bool; 0] = [false; 0];
     match read_terminator(
@@ -303,9 +303,9 @@ pub fn read_block(
     seen: &mut [bool],
     facts: &mut [u16],
 ) -> BlockRead
-    requires { (at ≤ length s.now) × (first + m.block < numbersBelow) }
+    requires { (at ≤ length s.now) × (first + m.block < numbers_below) }
     ensures { CodeRead m b total at first s.now seen.old
-        (asBlock result seen.new) facts.old facts.new }
+        (as_block result seen.new) facts.old facts.new }
 {
     match bytes_count::block_count(bytes_field::tail(s, at), m.block, m.all, total) {
         Read16::Refused(c, o) => BlockRead::Refused(c, at + o),

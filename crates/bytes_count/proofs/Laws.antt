@@ -7,11 +7,11 @@ use lib.Dec.{leb}
 use Rattle.bytes_wire.specs.Parse.{Parse, ok, bad, checked}
 use Rattle.bytes_wire.specs.Number.{counted}
 use Rattle.bytes_wire.specs.declared.Cause.{Cause}
-use Rattle.bytes_count.specs.Count.{countedTwice}
+use Rattle.bytes_count.specs.Count.{counted_twice}
 
 module _ (most all total : ℕ) where
   -- one test behind the other is both
-  both : (d : Parse ℕ) → checked Cause.TooMany (λ n. leb (total + n) all) (counted most d) ≡ countedTwice most all total d
+  both : (d : Parse ℕ) → checked Cause.TooMany (λ n. leb (total + n) all) (counted most d) ≡ counted_twice most all total d
   both (ok n k) = go (leb n most)
     where
       go : (x : Bool) → checked Cause.TooMany (λ n. leb (total + n) all) (cond x (ok n k) (bad Cause.TooMany 0)) ≡ cond (x && leb (total + n) all) (ok n k) (bad Cause.TooMany 0)
@@ -21,13 +21,13 @@ module _ (most all total : ℕ) where
 
   module _ (d : Parse ℕ) where
     -- the first refuses
-    pub first_past : {c : Cause} {o : ℕ} → counted most d ≡ bad c o → bad c o ≡ countedTwice most all total d
+    pub first_past : {c : Cause} {o : ℕ} → counted most d ≡ bad c o → bad c o ≡ counted_twice most all total d
     first_past e = sym (sym (both d) ∙ rw e)
 
     -- the second does
-    pub second_past : {x k : ℕ} → counted most d ≡ ok x k → all < total + x → bad Cause.TooMany 0 ≡ countedTwice most all total d
+    pub second_past : {x k : ℕ} → counted most d ≡ ok x k → all < total + x → bad Cause.TooMany 0 ≡ counted_twice most all total d
     second_past e h = sym (sym (both d) ∙ rw (e, lt-leb _ _ h))
 
     -- none does
-    pub none-past : {x k : ℕ} → counted most d ≡ ok x k → total + x ≤ all → ok x k ≡ countedTwice most all total d
-    none-past e h = sym (sym (both d) ∙ rw (e, le-leb _ _ h))
+    pub none_past : {x k : ℕ} → counted most d ≡ ok x k → total + x ≤ all → ok x k ≡ counted_twice most all total d
+    none_past e h = sym (sym (both d) ∙ rw (e, le-leb _ _ h))

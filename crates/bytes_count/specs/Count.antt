@@ -3,5 +3,5 @@ use Rattle.std.specs.Prelude.{ℕ, ◌+◌, ◌&&◌, leb}
 use Rattle.bytes_wire.specs.Parse.{Parse, checked}
 use Rattle.bytes_wire.specs.declared.Cause.{Cause}
 
-abbrev pub countedTwice : ℕ → ℕ → ℕ → Parse ℕ → Parse ℕ
-countedTwice most all total d = checked Cause.TooMany (λ n. leb n most && leb (total + n) all) d
+abbrev pub counted_twice : ℕ → ℕ → ℕ → Parse ℕ → Parse ℕ
+counted_twice most all total d = checked Cause.TooMany (λ n. leb n most && leb (total + n) all) d

@@ -12,8 +12,8 @@ pub record Copied (s out₀ out : List ℕ) (to i : ℕ) : Type 0 where
   pub size : length out ≡ length out₀
   pub left : sets out (to + i) (drop i s) ≡ sets out₀ to s
 
-pub copied-start : (s out : List ℕ) (to : ℕ) → Copied s out out to 0
-copied-start s out to = let z : to + 0 ≡ to = omega arith in record { low = omega arith; size = refl; left = rw z }
+pub copied_start : (s out : List ℕ) (to : ℕ) → Copied s out out to 0
+copied_start s out to = let z : to + 0 ≡ to = omega arith in record { low = omega arith; size = refl; left = rw z }
 
 pub copied_on : (s out₀ out out' : List ℕ) (to i : ℕ) → Copied s out₀ out to i → i < length s → out' ≡ set out (to + i) (get_or s i 0) → Copied s out₀ out' to (i + 1)
 copied_on s out₀ out out' to i u h e =
@@ -29,14 +29,14 @@ pub copied_all : (s out₀ out : List ℕ) (to i : ℕ) → Copied s out₀ out 
 copied_all s out₀ out to i u h = sym (ap (sets out (to + i)) (drop_of_length-le s h)) ∙ u.left
 
 -- a part that is lent is the part in the middle
-none-taken : (k : ℕ) → take {A = ℕ} k [] ≡ []
-none-taken zero = refl
-none-taken (suc k) = refl
+none_taken : (k : ℕ) → take {A = ℕ} k [] ≡ []
+none_taken zero = refl
+none_taken (suc k) = refl
 
 pub part_slice : (from end : ℕ) (s : List ℕ) → from ≤ end → take (end - from) (drop from s) ≡ slice from end s
 part_slice zero end s h = let z : end - 0 ≡ end = omega arith in ap (λ k. take k s) z
 part_slice (suc f) zero s h = absurd (omega arith)
-part_slice (suc f) (suc e) [] h = none-taken (suc e - suc f)
+part_slice (suc f) (suc e) [] h = none_taken (suc e - suc f)
 part_slice (suc f) (suc e) (x ∷ s) h =
     let z : suc e - suc f ≡ e - f = omega arith in
     ap (λ k. take k (drop f s)) z ∙ part_slice f e s (omega arith)

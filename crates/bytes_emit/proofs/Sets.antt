@@ -10,25 +10,25 @@ use lib.Seq.{sets, set_comm, slice, slice-cons, slice_empty}
 use Rattle.bytes_wire.specs.Number.{to_bytes}
 
 -- two runs, the second behind the first, are one
-pub sets-append : {A : Type 0} (l : List A) (i : ℕ) (a b : List A) → sets l i (a ++ b) ≡ sets (sets l i a) (i + length a) b
-sets-append l i [] b = ap (λ k. sets l k b) (sym (add-zero i))
-sets-append l i (x ∷ a) b =
+pub sets_append : {A : Type 0} (l : List A) (i : ℕ) (a b : List A) → sets l i (a ++ b) ≡ sets (sets l i a) (i + length a) b
+sets_append l i [] b = ap (λ k. sets l k b) (sym (add-zero i))
+sets_append l i (x ∷ a) b =
     let e : suc i + length a ≡ i + suc (length a) = omega arith in
-    sets-append (set l i x) (suc i) a b ∙ ap (λ k. sets (sets (set l i x) (suc i) a) k b) e
+    sets_append (set l i x) (suc i) a b ∙ ap (λ k. sets (sets (set l i x) (suc i) a) k b) e
 
 -- a store before a run may come first
-set-sets : {A : Type 0} (l : List A) (j i : ℕ) (x : A) (a : List A) → j < i → set (sets l i a) j x ≡ sets (set l j x) i a
-set-sets l j i x [] h = refl
-set-sets l j i x (y ∷ a) h =
+set_sets : {A : Type 0} (l : List A) (j i : ℕ) (x : A) (a : List A) → j < i → set (sets l i a) j x ≡ sets (set l j x) i a
+set_sets l j i x [] h = refl
+set_sets l j i x (y ∷ a) h =
     let ne : (i ≡ j → ⊥) = λ e. omega arith in
-    set-sets (set l i y) j (suc i) x a (omega arith) ∙ ap (λ m. sets m (suc i) a) (set_comm l i j y x ne)
+    set_sets (set l i y) j (suc i) x a (omega arith) ∙ ap (λ m. sets m (suc i) a) (set_comm l i j y x ne)
 
 -- what stands in front may be stored last
-pub sets-front : {A : Type 0} (l : List A) (i : ℕ) (a b : List A) → sets (sets l (i + length a) b) i a ≡ sets l i (a ++ b)
-sets-front l i [] b = ap (λ k. sets l k b) (add-zero i)
-sets-front l i (x ∷ a) b =
+pub sets_front : {A : Type 0} (l : List A) (i : ℕ) (a b : List A) → sets (sets l (i + length a) b) i a ≡ sets l i (a ++ b)
+sets_front l i [] b = ap (λ k. sets l k b) (add-zero i)
+sets_front l i (x ∷ a) b =
     let e : i + suc (length a) ≡ suc i + length a = omega arith in
-    rw (e, set-sets l i (suc i + length a) x b (omega arith)) (sets-front (set l i x) (suc i) a b)
+    rw (e, set_sets l i (suc i + length a) x b (omega arith)) (sets_front (set l i x) (suc i) a b)
 
 -- multiples of 256 do not change the lowest byte
 low_byte : (a b : ℕ) → (a + 256 * b) % 256 ≡ a % 256
@@ -44,14 +44,14 @@ halves x =
     rw (a, b, c)
 
 -- and so a u32 is stored by its halves
-pub sets-halves : (l : List ℕ) (i x : ℕ) → sets (sets l i (to_bytes 2 (x % 65536))) (i + 2) (to_bytes 2 (x / 65536)) ≡ sets l i (to_bytes 4 x)
-sets-halves l i x = sym (ap (sets l i) (halves x) ∙ sets-append l i (to_bytes 2 (x % 65536)) (to_bytes 2 (x / 65536)))
+pub sets_halves : (l : List ℕ) (i x : ℕ) → sets (sets l i (to_bytes 2 (x % 65536))) (i + 2) (to_bytes 2 (x / 65536)) ≡ sets l i (to_bytes 4 x)
+sets_halves l i x = sym (ap (sets l i) (halves x) ∙ sets_append l i (to_bytes 2 (x % 65536)) (to_bytes 2 (x / 65536)))
 
 -- two bytes, a run of two, and two runs behind them, as an Assign is written
-pub sets-assign : (l : List ℕ) (i a b : ℕ) (ds xs ts : List ℕ) → length ds ≡ 2 → sets (sets (sets (sets (sets l i (a ∷ [])) (i + 1) (b ∷ [])) (i + 2) ds) (i + 4) xs) (i + 4 + length xs) ts ≡ sets l i (a ∷ b ∷ (ds ++ (xs ++ ts)))
-sets-assign l i a b ds xs ts h =
+pub sets_assign : (l : List ℕ) (i a b : ℕ) (ds xs ts : List ℕ) → length ds ≡ 2 → sets (sets (sets (sets (sets l i (a ∷ [])) (i + 1) (b ∷ [])) (i + 2) ds) (i + 4) xs) (i + 4 + length xs) ts ≡ sets l i (a ∷ b ∷ (ds ++ (xs ++ ts)))
+sets_assign l i a b ds xs ts h =
     let e : i + 4 ≡ i + 2 + length ds = omega arith in
-    sym (rw (sets-append, ← add-two i, ← e, sets-append, ← add-one i))
+    sym (rw (sets_append, ← add-two i, ← e, sets_append, ← add-one i))
 
 -- the bytes of s from `from` to `end`, of which those before `at` are stored
 pub record Copied (s out₀ : List ℕ) (from end to₀ : ℕ) (out : List ℕ) (at to : ℕ) : Type 0 where
@@ -67,8 +67,8 @@ copy_start s out from end to h = record { low = omega arith; high = h; place = r
 
 module _ (s out₀ : List ℕ) (from end to₀ : ℕ) (out : List ℕ) (at to : ℕ) (c : Copied s out₀ from end to₀ out at to) where
   -- one more is stored
-  pub copy-again : (out' : List ℕ) → at < end → end ≤ length s → out' ≡ sets out to (get_or s at 0 ∷ []) → Copied s out₀ from end to₀ out' (at + 1) (to + 1)
-  copy-again out' h le e = record {
+  pub copy_again : (out' : List ℕ) → at < end → end ≤ length s → out' ≡ sets out to (get_or s at 0 ∷ []) → Copied s out₀ from end to₀ out' (at + 1) (to + 1)
+  copy_again out' h le e = record {
     low = omega arith;
     high = omega arith;
     place = omega (arith, c.place);

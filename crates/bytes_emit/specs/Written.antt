@@ -8,36 +8,36 @@ abbrev pub Writes : List ℕ → List ℕ → List ℕ → ℕ → ℕ → Type 
 Writes bytes out out' to r = (r ≡ to + length bytes) × (out' ≡ sets out to bytes)
 
 -- No place wraps: each writer begins before a bound that is far below 2^64, and twice as low as that of the writers it calls. A number of two bytes:
-abbrev pub numberRoom : ℕ
-numberRoom = 4398046511104
+abbrev pub number_room : ℕ
+number_room = 4398046511104
 
 -- a number of four bytes, or of a value, a type, a name
-abbrev pub wordRoom : ℕ
-wordRoom = 2199023255552
+abbrev pub word_room : ℕ
+word_room = 2199023255552
 
 -- a value, and bytes that are copied
-abbrev pub valueRoom : ℕ
-valueRoom = 1099511627776
+abbrev pub value_room : ℕ
+value_room = 1099511627776
 
 -- an instruction, and a list of values
-abbrev pub instructionRoom : ℕ
-instructionRoom = 549755813888
+abbrev pub instruction_room : ℕ
+instruction_room = 549755813888
 
 -- a build
-abbrev pub buildRoom : ℕ
-buildRoom = 274877906944
+abbrev pub build_room : ℕ
+build_room = 274877906944
 
 -- builds and what needs them
-abbrev pub rebuiltRoom : ℕ
-rebuiltRoom = 137438953472
+abbrev pub rebuilt_room : ℕ
+rebuilt_room = 137438953472
 
 -- a Call behind its kind
-abbrev pub callRoom : ℕ
-callRoom = 68719476736
+abbrev pub call_room : ℕ
+call_room = 68719476736
 
 -- the bytes of s from `from` to `end` can be copied to the places from `to` on
 abbrev pub Copyable : ℕ → List ℕ → ℕ → ℕ → Type 0
-Copyable to s from end = (to < valueRoom) × (from ≤ end) × (end ≤ length s) × (end < valueRoom)
+Copyable to s from end = (to < value_room) × (from ≤ end) × (end ≤ length s) × (end < value_room)
 
 -- they are
 abbrev pub Copies : List ℕ → ℕ → ℕ → List ℕ → List ℕ → ℕ → ℕ → Type 0

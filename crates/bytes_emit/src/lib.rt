@@ -4,10 +4,10 @@
 ghost use Rattle.std.specs.Prelude.{◌≡◌, [], ◌∷◌, ◌+◌, ◌<◌, ◌≤◌, length};
 ghost use Rattle.std.proofs.lemmas.List.Edits.{sets};
 ghost use Rattle.bytes_wire.specs.Number.{to_bytes};
-ghost use Rattle.bytes_wire.specs.Value.{valueBytes, bool_byte};
+ghost use Rattle.bytes_wire.specs.Value.{value_bytes, bool_byte};
 ghost use Rattle.mir.specs.Syntax.{Assign, plain};
-ghost use Rattle.bytes_field.specs.Encode.{instructionBytes, valueIdBytes, typeIdBytes, nameIdBytes};
-ghost use Rattle.bytes_emit.specs.Written.{Writes, Copyable, Copies, numberRoom, wordRoom, valueRoom, instructionRoom};
+ghost use Rattle.bytes_field.specs.Encode.{instruction_bytes, value_id_bytes, type_id_bytes, name_id_bytes};
+ghost use Rattle.bytes_emit.specs.Written.{Writes, Copyable, Copies, number_room, word_room, value_room, instruction_room};
 
 use mir::{Literal, NameId, TypeId, Value, ValueId, kind};
 
@@ -24,7 +24,7 @@ pub fn put_u8(out: &mut [u8], to: usize, b: u8)
 }
 
 pub fn put_u16(out: &mut [u8], to: usize, x: u16)
-    requires { to < numberRoom }
+    requires { to < number_room }
     ensures { out.new ≡ sets out.old to (to_bytes 2 x) }
 {
     put_u8(out, to, (x % 256) as u8);
@@ -32,7 +32,7 @@ pub fn put_u16(out: &mut [u8], to: usize, x: u16)
 }
 
 pub fn put_u32(out: &mut [u8], to: usize, x: u32)
-    requires { to < wordRoom }
+    requires { to < word_room }
     ensures { out.new ≡ sets out.old to (to_bytes 4 x) }
 {
     put_u16(out, to, (x % 65536) as u16);
@@ -41,22 +41,22 @@ pub fn put_u32(out: &mut [u8], to: usize, x: u32)
 
 // The numbers of values, types and names.
 pub fn put_value_id(out: &mut [u8], to: usize, v: ValueId)
-    requires { to < wordRoom }
-    ensures { out.new ≡ sets out.old to (valueIdBytes v) }
+    requires { to < word_room }
+    ensures { out.new ≡ sets out.old to (value_id_bytes v) }
 {
     put_u16(out, to, v.0);
 }
 
 pub fn put_type_id(out: &mut [u8], to: usize, t: TypeId)
-    requires { to < wordRoom }
-    ensures { out.new ≡ sets out.old to (typeIdBytes t) }
+    requires { to < word_room }
+    ensures { out.new ≡ sets out.old to (type_id_bytes t) }
 {
     put_u16(out, to, t.0);
 }
 
 pub fn put_name_id(out: &mut [u8], to: usize, n: NameId)
-    requires { to < wordRoom }
-    ensures { out.new ≡ sets out.old to (nameIdBytes n) }
+    requires { to < word_room }
+    ensures { out.new ≡ sets out.old to (name_id_bytes n) }
 {
     put_u16(out, to, n.0);
 }
@@ -70,8 +70,8 @@ fn bool_byte(b: bool) -> u8
 
 // Writes a literal, and returns the place behind it.
 fn put_literal(out: &mut [u8], to: usize, l: Literal) -> usize
-    requires { to < valueRoom }
-    ensures { Writes (valueBytes (Value.Literal l)) out.old out.new to result }
+    requires { to < value_room }
+    ensures { Writes (value_bytes (Value.Literal l)) out.old out.new to result }
 {
     match l {
         Literal::Integer(x) => {
@@ -93,8 +93,8 @@ fn put_literal(out: &mut [u8], to: usize, l: Literal) -> usize
 
 // Writes a value, and returns the place behind it.
 pub fn put_value(out: &mut [u8], to: usize, x: Value) -> usize
-    requires { to < valueRoom }
-    ensures { Writes (valueBytes x) out.old out.new to result }
+    requires { to < value_room }
+    ensures { Writes (value_bytes x) out.old out.new to result }
 {
     match x {
         Value::Literal(l) => put_literal(out, to, l),
@@ -112,8 +112,8 @@ pub fn put_value(out: &mut [u8], to: usize, x: Value) -> usize
 
 // An Assign without span, expression id and comment; returns the place behind it.
 pub fn put_assign(out: &mut [u8], to: usize, d: ValueId, x: Value, t: TypeId) -> usize
-    requires { to < instructionRoom }
-    ensures { Writes (instructionBytes (plain (Assign d x t))) out.old out.new to result }
+    requires { to < instruction_room }
+    ensures { Writes (instruction_bytes (plain (Assign d x t))) out.old out.new to result }
 {
     put_u8(out, to, NO_BITS);
     put_u8(out, to + 1, ASSIGN);

@@ -8,8 +8,8 @@ use native.Mathlib.Omega.{arith}
 use lib.ListN.{length, get_or, drop, length-drop}
 use lib.Seq.{drop-drop, get_or-drop}
 use Rattle.bytes_wire.specs.Parse.{Parse, ok, bad, later, and_then}
-use Rattle.bytes_wire.proofs.Laws.{size, later-later, assoc, and-nothing}
-use Rattle.bytes_field.specs.Walk.{Walk, times, asScan, bytes_of}
+use Rattle.bytes_wire.proofs.Laws.{size, later_later, assoc, and_nothing}
+use Rattle.bytes_field.specs.Walk.{Walk, times, as_scan, bytes_of}
 use Rattle.bytes_field.specs.declared.Scan.{Scan}
 
 -- the byte at a place is the first behind it
@@ -21,29 +21,29 @@ pub some : (s : List ℕ) (at : ℕ) → at < length s → 1 ≤ length (drop at
 some s at h = omega (arith, length-drop at s)
 
 -- a scan of the bytes t behind `at` answered r: counted from the start, that is what f says there
-pub passed : (s : List ℕ) (at : ℕ) (f : List ℕ → Parse Walk) (seen : List Bool) (buffer : List ℕ) {t : List ℕ} {r r' : Scan} → t ≡ drop at s → asScan r seen buffer ≡ f t → r ≡ r' → later at (asScan r' seen buffer) ≡ later at (f (drop at s))
-passed s at f seen buffer h e g = ap (later at) (sym (ap (λ r. asScan r seen buffer) g) ∙ e ∙ ap f h)
+pub passed : (s : List ℕ) (at : ℕ) (f : List ℕ → Parse Walk) (seen : List Bool) (buffer : List ℕ) {t : List ℕ} {r r' : Scan} → t ≡ drop at s → as_scan r seen buffer ≡ f t → r ≡ r' → later at (as_scan r' seen buffer) ≡ later at (f (drop at s))
+passed s at f seen buffer h e g = ap (later at) (sym (ap (λ r. as_scan r seen buffer) g) ∙ e ∙ ap f h)
 
 -- and it reaches no further than the bytes do
-pub within : (s : List ℕ) (at : ℕ) (f : List ℕ → Parse Walk) (seen : List Bool) (buffer : List ℕ) {t : List ℕ} {r r' : Scan} → ((u : List ℕ) → size (f u) ≤ length u) → t ≡ drop at s → asScan r seen buffer ≡ f t → r ≡ r' → size (asScan r' seen buffer) ≤ length s - at
-within s at f seen buffer l h e g = omega (arith, ap size (sym (ap (λ r. asScan r seen buffer) g) ∙ e ∙ ap f h), l (drop at s), length-drop at s)
+pub within : (s : List ℕ) (at : ℕ) (f : List ℕ → Parse Walk) (seen : List Bool) (buffer : List ℕ) {t : List ℕ} {r r' : Scan} → ((u : List ℕ) → size (f u) ≤ length u) → t ≡ drop at s → as_scan r seen buffer ≡ f t → r ≡ r' → size (as_scan r' seen buffer) ≤ length s - at
+within s at f seen buffer l h e g = omega (arith, ap size (sym (ap (λ r. as_scan r seen buffer) g) ∙ e ∙ ap f h), l (drop at s), length-drop at s)
 
 -- how many bytes the answer of a reader of t speaks of, where t are the bytes behind `at`
-pub bytes-within : (s : List ℕ) (at : ℕ) (r : Scan) (seen : List Bool) (buffer : List ℕ) {t : List ℕ} (d : List ℕ → Parse Walk) → t ≡ drop at s → asScan r seen buffer ≡ d t → ((u : List ℕ) → size (d u) ≤ length u) → bytes_of r ≤ length s - at
-bytes-within s at r seen buffer d h e l = omega (arith, spoken r seen buffer, ap size (e ∙ ap d h), l (drop at s), length-drop at s)
+pub bytes_within : (s : List ℕ) (at : ℕ) (r : Scan) (seen : List Bool) (buffer : List ℕ) {t : List ℕ} (d : List ℕ → Parse Walk) → t ≡ drop at s → as_scan r seen buffer ≡ d t → ((u : List ℕ) → size (d u) ≤ length u) → bytes_of r ≤ length s - at
+bytes_within s at r seen buffer d h e l = omega (arith, spoken r seen buffer, ap size (e ∙ ap d h), l (drop at s), length-drop at s)
   where
-    spoken : (r : Scan) (seen : List Bool) (buffer : List ℕ) → bytes_of r ≡ size (asScan r seen buffer)
+    spoken : (r : Scan) (seen : List Bool) (buffer : List ℕ) → bytes_of r ≡ size (as_scan r seen buffer)
     spoken (Scan.Used k n late) seen buffer = refl
     spoken (Scan.Refused c o) seen buffer = refl
 
 -- which variant an answer was
-pub answer : {r r' : Scan} (seen : List Bool) (buffer : List ℕ) {d : Parse Walk} → asScan r seen buffer ≡ d → r ≡ r' → asScan r' seen buffer ≡ d
-answer seen buffer e g = sym (ap (λ r. asScan r seen buffer) g) ∙ e
+pub answer : {r r' : Scan} (seen : List Bool) (buffer : List ℕ) {d : Parse Walk} → as_scan r seen buffer ≡ d → r ≡ r' → as_scan r' seen buffer ≡ d
+answer seen buffer e g = sym (ap (λ r. as_scan r seen buffer) g) ∙ e
 
 -- a step behind an answer that is counted from `n`
-pub and-later : {A B : Type 0} (s : List ℕ) (n : ℕ) (d : Parse A) (g : A → List ℕ → Parse B) → and_then s (later n d) g ≡ later n (and_then (drop n s) d g)
-and-later s n (ok a m) g = sym (rw (drop-drop, later-later))
-and-later s n (bad c o) g = refl
+pub and_later : {A B : Type 0} (s : List ℕ) (n : ℕ) (d : Parse A) (g : A → List ℕ → Parse B) → and_then s (later n d) g ≡ later n (and_then (drop n s) d g)
+and_later s n (ok a m) g = sym (rw (drop-drop, later_later))
+and_later s n (bad c o) g = refl
 
 -- a step, and then another, are one step
 pub joined : {A B C : Type 0} (s : List ℕ) (p : Parse A) {q : Parse B} {r : Parse C} (f : A → List ℕ → Parse B) (g : B → List ℕ → Parse C) → q ≡ and_then s p f → r ≡ and_then s q g → r ≡ and_then s p (λ a t. and_then t (f a t) g)
@@ -69,4 +69,4 @@ module _ (f : Walk → List ℕ → Parse Walk) (s : List ℕ) (all : Parse Walk
   -- all are behind
   pub done : count ≤ i → p ≡ all
   unfolding times
-  done h = let z : count - i ≡ 0 = omega arith in sym (u.left ∙ rw z (and-nothing s p))
+  done h = let z : count - i ≡ 0 = omega arith in sym (u.left ∙ rw z (and_nothing s p))

@@ -3,11 +3,11 @@
 #![tactic(auto)]
 
 ghost use Rattle.std.specs.Prelude.{◌≡◌, List, Bool, cond, ℕ, ◌+◌, ◌-◌, ◌<◌, length, set, take, drop, ltb};
-ghost use Rattle.bytes_wire.specs.Parse.{mapParse, later};
+ghost use Rattle.bytes_wire.specs.Parse.{map_parse, later};
 ghost use Rattle.bytes_wire.specs.Number.{number_of, below};
-ghost use Rattle.bytes_wire.specs.Value.{value_of, valueIdOf};
-ghost use Rattle.bytes_field.specs.Decode.{definedOf, operationOf, projectionOf};
-ghost use Rattle.bytes_field.specs.Walk.{walk_of, defines, uses, usesValue, usesProjection, asScan, bytes_of, places, Skipped, Noted};
+ghost use Rattle.bytes_wire.specs.Value.{value_of, value_id_of};
+ghost use Rattle.bytes_field.specs.Decode.{defined_of, operation_of, projection_of};
+ghost use Rattle.bytes_field.specs.Walk.{walk_of, defines, uses, uses_value, uses_projection, as_scan, bytes_of, places, Skipped, Noted};
 
 use bytes_wire::{Cause, ReadValue};
 use mir::{Value, ValueId};
@@ -71,7 +71,7 @@ fn note(buffer: &mut [u16], n: usize, v: ValueId) -> usize
 // Notes the value number that a value is, where it is one.
 fn note_value(buffer: &mut [u16], n: usize, x: Value) -> usize
     ensures { (seen : List Bool) (late : Bool) →
-        walk_of seen buffer.new result late ≡ usesValue (walk_of seen buffer.old n late) x }
+        walk_of seen buffer.new result late ≡ uses_value (walk_of seen buffer.old n late) x }
 {
     match x {
         Value::Literal(_) => n,
@@ -83,7 +83,7 @@ fn note_value(buffer: &mut [u16], n: usize, x: Value) -> usize
 // The same answer, counted from `before` bytes earlier.
 pub fn further(p: Scan, before: usize) -> Scan
     requires { before + bytes_of p < places }
-    ensures { (seen : List Bool) (buffer : List ℕ) → asScan result seen buffer ≡ later before (asScan p seen buffer) }
+    ensures { (seen : List Bool) (buffer : List ℕ) → as_scan result seen buffer ≡ later before (as_scan p seen buffer) }
 {
     match p {
         Scan::Refused(c, o) => Scan::Refused(c, before + o),
@@ -116,7 +116,7 @@ pub fn read_below(s: &[u8], n: usize, late: bool, bound: u16) -> Scan
 
 // One of `many` operations.
 pub fn read_operation(s: &[u8], n: usize, late: bool, many: u8) -> Scan
-    ensures { Skipped result n late (operationOf many s.now) }
+    ensures { Skipped result n late (operation_of many s.now) }
 {
     if s.len() < 1 {
         return Scan::Refused(Cause::Truncated, 0);
@@ -130,7 +130,7 @@ pub fn read_operation(s: &[u8], n: usize, late: bool, many: u8) -> Scan
 // A value that is defined here: it is marked.
 pub fn read_defined(s: &[u8], n: usize, late: bool, next: u16, seen: &mut [bool]) -> Scan
     ensures { (buffer : List ℕ) → let w = walk_of seen.old buffer n late in
-        asScan result seen.new buffer ≡ mapParse (defines w) (definedOf next seen.old s.now) }
+        as_scan result seen.new buffer ≡ map_parse (defines w) (defined_of next seen.old s.now) }
 {
     if s.len() < ID {
         return Scan::Refused(Cause::Truncated, 0);
@@ -148,7 +148,7 @@ pub fn read_defined(s: &[u8], n: usize, late: bool, next: u16, seen: &mut [bool]
 
 // A value number that is read: the base of a place.
 pub fn read_base(s: &[u8], n: usize, late: bool, next: u16, buffer: &mut [u16]) -> Scan
-    ensures { Noted result n late buffer.old buffer.new uses (valueIdOf next s.now) }
+    ensures { Noted result n late buffer.old buffer.new uses (value_id_of next s.now) }
 {
     if s.len() < ID {
         return Scan::Refused(Cause::Truncated, 0);
@@ -163,7 +163,7 @@ pub fn read_base(s: &[u8], n: usize, late: bool, next: u16, buffer: &mut [u16]) 
 
 // A value, from its kind on.
 pub fn read_value(s: &[u8], n: usize, late: bool, next: u16, buffer: &mut [u16]) -> Scan
-    ensures { Noted result n late buffer.old buffer.new usesValue (value_of next s.now) }
+    ensures { Noted result n late buffer.old buffer.new uses_value (value_of next s.now) }
 {
     match bytes_wire::read_value(s, next) {
         ReadValue::Refused(c, o) => Scan::Refused(c, o),
@@ -201,7 +201,7 @@ pub fn between(s: &[u8], a: usize, e: usize) -> &[u8]
 
 // A projection: its kind, then a value, a name or an index.
 pub fn read_projection(s: &[u8], n: usize, late: bool, next: u16, buffer: &mut [u16]) -> Scan
-    ensures { Noted result n late buffer.old buffer.new usesProjection (projectionOf next s.now) }
+    ensures { Noted result n late buffer.old buffer.new uses_projection (projection_of next s.now) }
 {
     if s.len() < 1 {
         return Scan::Refused(Cause::Truncated, 0);

@@ -8,44 +8,44 @@ use lib.ListN.{length, get_or, drop}
 use lib.Seq.{get_or-drop}
 use Rattle.mir.specs.Syntax.{Block}
 use Rattle.bytes_field.specs.declared.Bounds.{Bounds}
-use Rattle.bytes_index.specs.Table.{startsIn, rowNumber}
+use Rattle.bytes_index.specs.Table.{starts_in, row_number}
 use Rattle.bytes_index.specs.Code.{no_block, CodeIn, LastSlot}
-use Rattle.bytes_index.specs.Recorded.{recordedFrom}
+use Rattle.bytes_index.specs.Recorded.{recorded_from}
 
 -- a number of a section
-pub in-section : (from k : ℕ) (facts : List ℕ) {r : ℕ} → r ≡ get_or facts (from + k) 0 → r ≡ get_or (drop from facts) k 0
-in-section from k facts e = e ∙ sym (get_or-drop from facts k 0)
+pub in_section : (from k : ℕ) (facts : List ℕ) {r : ℕ} → r ≡ get_or facts (from + k) 0 → r ≡ get_or (drop from facts) k 0
+in_section from k facts e = e ∙ sym (get_or-drop from facts k 0)
 
 -- a number of a row, found at its place
-pub in_row : (slot k at : ℕ) (facts : List ℕ) {r : ℕ} → r ≡ get_or facts at 0 → at ≡ 387 + 20 * slot + k → r ≡ rowNumber facts slot k
+pub in_row : (slot k at : ℕ) (facts : List ℕ) {r : ℕ} → r ≡ get_or facts at 0 → at ≡ 387 + 20 * slot + k → r ≡ row_number facts slot k
 in_row slot k at facts e h = e ∙ ap (λ j. get_or facts j 0) h
 
 -- how many instructions a block has: from its first slot to the next block's, its terminator's aside
-module _ (b : Bounds) (s facts : List ℕ) (ks : List Block) (k : ℕ) (c : CodeIn b s facts ks) (h : k < length ks) {from to : ℕ} (f : from ≡ get_or (startsIn facts) k 0) (t : to ≡ get_or facts (354 + 1 + k) 0) where
-  next-slot : to ≡ from + suc (length (get_or ks k no_block).instructions)
-  next-slot =
-      in-section 354 (suc k) facts (t ∙ ap (λ j. get_or facts j 0) (omega arith)) ∙ c.next k h ∙ ap (λ j. j + suc (length (get_or ks k no_block).instructions)) (sym f)
+module _ (b : Bounds) (s facts : List ℕ) (ks : List Block) (k : ℕ) (c : CodeIn b s facts ks) (h : k < length ks) {from to : ℕ} (f : from ≡ get_or (starts_in facts) k 0) (t : to ≡ get_or facts (354 + 1 + k) 0) where
+  next_slot : to ≡ from + suc (length (get_or ks k no_block).instructions)
+  next_slot =
+      in_section 354 (suc k) facts (t ∙ ap (λ j. get_or facts j 0) (omega arith)) ∙ c.next k h ∙ ap (λ j. j + suc (length (get_or ks k no_block).instructions)) (sym f)
 
   pub count_none : to ≤ from → 0 ≡ length (get_or ks k no_block).instructions
-  count_none e = omega (arith, next-slot)
+  count_none e = omega (arith, next_slot)
 
-  pub count-found : to - from - 1 ≡ length (get_or ks k no_block).instructions
-  count-found = omega (arith, next-slot)
+  pub count_found : to - from - 1 ≡ length (get_or ks k no_block).instructions
+  count_found = omega (arith, next_slot)
 
 -- the slot of a terminator
 module _ (facts : List ℕ) (k : ℕ) {behind : ℕ} (e : behind ≡ get_or facts (354 + 1 + k) 0) where
   pub last_none : behind ≡ 0 → LastSlot facts k 0
-  last_none z b s ks c h = absurd (omega (arith, in-section 354 (suc k) facts (e ∙ ap (λ j. get_or facts j 0) (omega arith)), c.next k h))
+  last_none z b s ks c h = absurd (omega (arith, in_section 354 (suc k) facts (e ∙ ap (λ j. get_or facts j 0) (omega arith)), c.next k h))
 
   pub last_found : LastSlot facts k (behind - 1)
-  last_found b s ks c h = omega (arith, in-section 354 (suc k) facts (e ∙ ap (λ j. get_or facts j 0) (omega arith)), c.next k h)
+  last_found b s ks c h = omega (arith, in_section 354 (suc k) facts (e ∙ ap (λ j. get_or facts j 0) (omega arith)), c.next k h)
 
 -- the number of the table tells the type
-pub from_some : (t : ℕ) → 0 < t → some (record { 0 = t - 1 }) ≡ recordedFrom t
+pub from_some : (t : ℕ) → 0 < t → some (record { 0 = t - 1 }) ≡ recorded_from t
 from_some zero h = absurd (omega arith)
 from_some (suc t) h = let e : suc t - 1 ≡ t = omega arith in ap (λ x. some (record { 0 = x })) e
 
 -- 0 tells that there is none
-pub from-none : (t : ℕ) → t ≤ 0 → none ≡ recordedFrom t
-from-none zero h = refl
-from-none (suc t) h = absurd (omega arith)
+pub from_none : (t : ℕ) → t ≤ 0 → none ≡ recorded_from t
+from_none zero h = refl
+from_none (suc t) h = absurd (omega arith)

@@ -3,11 +3,11 @@ use Rattle.std.specs.Prelude.{ℕ, zero, suc, ◌+◌}
 use Rattle.std.proofs.Math.Option.{Option, none, some}
 use Rattle.mir.specs.declared.TypeId.{TypeId}
 
-abbrev pub recordedNumber : Option TypeId → ℕ
-recordedNumber none = 0
-recordedNumber (some t) = t.0 + 1
+abbrev pub recorded_number : Option TypeId → ℕ
+recorded_number none = 0
+recorded_number (some t) = t.0 + 1
 
 -- the recorded type that a number says
-abbrev pub recordedFrom : ℕ → Option TypeId
-recordedFrom zero = none
-recordedFrom (suc t) = some (record { 0 = t })
+abbrev pub recorded_from : ℕ → Option TypeId
+recorded_from zero = none
+recorded_from (suc t) = some (record { 0 = t })

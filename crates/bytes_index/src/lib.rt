@@ -4,10 +4,10 @@
 ghost use Rattle.std.specs.Prelude.{◌≡◌, List, ℕ, ◌+◌, ◌*◌, ◌<◌, length, get_or, drop};
 ghost use Rattle.mir.specs.Syntax.{Block};
 ghost use Rattle.bytes_field.specs.declared.Bounds.{Bounds};
-ghost use Rattle.bytes_index.specs.Table.{recordedIn, blocksIn, startsIn, blockSet};
-ghost use Rattle.bytes_index.specs.Table.{columnsBelow, row_at, rowNumber, place_in, end_in, kindIn, readCount, readIn};
+ghost use Rattle.bytes_index.specs.Table.{recorded_in, blocks_in, starts_in, block_set};
+ghost use Rattle.bytes_index.specs.Table.{columns_below, row_at, row_number, place_in, end_in, kind_in, read_count, read_in};
 ghost use Rattle.bytes_index.specs.Code.{no_block, CodeIn, LastSlot};
-ghost use Rattle.table.specs.Number.{numbersBelow};
+ghost use Rattle.table.specs.Number.{numbers_below};
 
 use mir::{BlockId, ValueId};
 
@@ -46,22 +46,22 @@ fn section(facts: &[u16], from: usize) -> &[u16]
 
 // The recorded types, by value: 0 for none, else one more than the type's number.
 pub fn recorded(facts: &[u16]) -> &[u16]
-    ensures { result.now ≡ recordedIn facts.now }
+    ensures { result.now ≡ recorded_in facts.now }
 {
     section(facts, RECORDED)
 }
 
 // The places of the blocks, and the place behind the last.
 pub fn blocks(facts: &[u16]) -> &[u16]
-    ensures { result.now ≡ blocksIn facts.now }
+    ensures { result.now ≡ blocks_in facts.now }
 {
     section(facts, BLOCKS)
 }
 
 // Stores that block `k` begins at a place, behind `total` instructions; for k the number of blocks, where the last ends.
 pub fn set_block(facts: &mut [u16], k: BlockId, place: usize, total: u16)
-    requires { total + k.0 < numbersBelow }
-    ensures { facts.new ≡ blockSet facts.old k.0 place total }
+    requires { total + k.0 < numbers_below }
+    ensures { facts.new ≡ block_set facts.old k.0 place total }
 {
     table::set_place(facts, BLOCKS + k.0 as usize, place);
     table::set_number(facts, STARTS + k.0 as usize, total + k.0);
@@ -69,7 +69,7 @@ pub fn set_block(facts: &mut [u16], k: BlockId, place: usize, total: u16)
 
 // Where number `k` of a slot's row stands.
 pub fn row_place(slot: u16, k: usize) -> usize
-    requires { k < columnsBelow }
+    requires { k < columns_below }
     ensures { result ≡ row_at slot + k }
 {
     ROWS + WIDTH * slot as usize + k
@@ -77,42 +77,42 @@ pub fn row_place(slot: u16, k: usize) -> usize
 
 // The place of a slot's instruction or terminator.
 pub fn place(facts: &[u16], slot: u16) -> usize
-    ensures { (result ≡ place_in facts.now slot) × (result < numbersBelow) }
+    ensures { (result ≡ place_in facts.now slot) × (result < numbers_below) }
 {
     table::number(facts, row_place(slot, 0)) as usize
 }
 
 // The place behind it.
 pub fn end(facts: &[u16], slot: u16) -> usize
-    ensures { (result ≡ end_in facts.now slot) × (result < numbersBelow) }
+    ensures { (result ≡ end_in facts.now slot) × (result < numbers_below) }
 {
     table::number(facts, row_place(slot, END)) as usize
 }
 
 // An instruction's kind.
 pub fn kind(facts: &[u16], slot: u16) -> u16
-    ensures { result ≡ kindIn facts.now slot }
+    ensures { result ≡ kind_in facts.now slot }
 {
     table::number(facts, row_place(slot, KIND))
 }
 
 // How many values a slot's instruction or terminator reads.
 pub fn read_count(facts: &[u16], slot: u16) -> u16
-    ensures { result ≡ readCount facts.now slot }
+    ensures { result ≡ read_count facts.now slot }
 {
     table::number(facts, row_place(slot, COUNT))
 }
 
 // Value `k` of those.
 pub fn read(facts: &[u16], slot: u16, k: u16) -> ValueId
-    ensures { result.0 ≡ readIn facts.now slot k }
+    ensures { result.0 ≡ read_in facts.now slot k }
 {
     ValueId(table::number(facts, row_place(slot, READS + k as usize)))
 }
 
 // The slot of the first instruction of block `k`; for k the number of blocks, the slot behind the last.
 pub fn first_slot(facts: &[u16], k: BlockId) -> u16
-    ensures { result ≡ get_or (startsIn facts.now) k.0 0 }
+    ensures { result ≡ get_or (starts_in facts.now) k.0 0 }
 {
     table::number(facts, STARTS + k.0 as usize)
 }

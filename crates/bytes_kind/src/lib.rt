@@ -2,9 +2,9 @@
 #![tactic(auto)]
 
 ghost use Rattle.std.specs.Prelude.{◌≡◌, List, Bool, ℕ, ◌<◌, get_or};
-ghost use Rattle.bytes_wire.specs.Parse.{mapParse};
-ghost use Rattle.bytes_field.specs.Walk.{rows, terminatorRows, asScan};
-ghost use Rattle.bytes_kind.specs.Late.{lateBehind};
+ghost use Rattle.bytes_wire.specs.Parse.{map_parse};
+ghost use Rattle.bytes_field.specs.Walk.{rows, terminator_rows, as_scan};
+ghost use Rattle.bytes_kind.specs.Late.{late_behind};
 
 use bytes_field::Scan;
 use mir::kind;
@@ -56,7 +56,7 @@ pub fn row_of_kind(kind: u8) -> u32
 // The row of a kind of terminator.
 pub fn row_of_end(kind: u8) -> u32
     requires { kind < 5 }
-    ensures { result ≡ get_or terminatorRows kind 0 }
+    ensures { result ≡ get_or terminator_rows kind 0 }
 {
     TERMINATOR_ROWS[kind as usize]
 }
@@ -71,7 +71,7 @@ pub fn kind_at(s: &[u8]) -> u8
 // Behind an instruction that is not a Phi, a Phi is late.
 pub fn after_kind(p: Scan, kind: u8) -> Scan
     ensures { (seen : List Bool) (buffer : List ℕ) →
-        asScan result seen buffer ≡ mapParse (λ w. lateBehind kind w) (asScan p seen buffer) }
+        as_scan result seen buffer ≡ map_parse (λ w. late_behind kind w) (as_scan p seen buffer) }
 {
     match p {
         Scan::Refused(c, o) => Scan::Refused(c, o),

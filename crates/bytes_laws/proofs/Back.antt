@@ -9,14 +9,14 @@ use borrow.Author.Tests.{le-leb}
 use lib.ListN.{length, get_or, length-append}
 use lib.Seq.{drop_at}
 use lib.Dec.{leb}
-use Rattle.bytes_wire.specs.Parse.{Parse, ok, bad, later, and_then, mapParse, checked, tagged, seqOf}
-use Rattle.bytes_wire.specs.Number.{to_bytes, number_of, u8Of}
+use Rattle.bytes_wire.specs.Parse.{Parse, ok, bad, later, and_then, map_parse, checked, tagged, seq_of}
+use Rattle.bytes_wire.specs.Number.{to_bytes, number_of, u8_of}
 use Rattle.bytes_wire.specs.declared.Cause.{Cause}
-use Rattle.bytes_wire.proofs.Laws.{checked-true}
+use Rattle.bytes_wire.proofs.Laws.{checked_true}
 use Rattle.bytes_wire.proofs.Inv.{no_ok}
-use Rattle.bytes_wire.proofs.RoundTrip.{length-toBytes, number-back}
+use Rattle.bytes_wire.proofs.RoundTrip.{length_to_bytes, number_back}
 use Rattle.bytes_field.specs.Decode.{count_of, list_of}
-use Rattle.bytes_field.specs.Encode.{eachBytes, listBytes}
+use Rattle.bytes_field.specs.Encode.{each_bytes, list_bytes}
 use Rattle.mir.specs.Lists.{Each}
 use Rattle.bytes_laws.specs.WellFormed.{FitList}
 
@@ -29,7 +29,7 @@ pub then : {A B : Type 0} {dec : List ℕ → Parse A} {v w : List ℕ} {a : A} 
 then {dec} {v} {w} {a} {b} f x y = record { says = λ t. rw (append_assoc v w t, x.says (w ++ t), drop_at v (w ++ t) (length v) refl, y.says t, length-append v w) }
 
 -- the last field, and what is made of it
-pub last : {A B : Type 0} {dec : List ℕ → Parse A} {w : List ℕ} {a : A} (g : A → B) → Back dec w a → Back (λ s. mapParse g (dec s)) w (g a)
+pub last : {A B : Type 0} {dec : List ℕ → Parse A} {w : List ℕ} {a : A} (g : A → B) → Back dec w a → Back (λ s. map_parse g (dec s)) w (g a)
 last g x = record { says = λ t. rw (x.says t) }
 
 -- no field
@@ -38,18 +38,18 @@ alone = record { says = λ t. refl }
 
 -- a tested field
 pub tested : {A : Type 0} {dec : List ℕ → Parse A} {w : List ℕ} {a : A} (c : Cause) (p : A → Bool) → p a ≡ true → Back dec w a → Back (λ s. checked c p (dec s)) w a
-tested {w} {a} c p h x = record { says = λ t. rw (x.says t) (checked-true c p a (length w) h) }
+tested {w} {a} c p h x = record { says = λ t. rw (x.says t) (checked_true c p a (length w) h) }
 
 -- a number of w bytes, and a byte
 pub number : (w x : ℕ) → x < 256 ^ w → Back (number_of w) (to_bytes w x) x
-number w x h = record { says = λ t. number-back w x t h ∙ ap (ok x) (sym (length-toBytes w x)) }
+number w x h = record { says = λ t. number_back w x t h ∙ ap (ok x) (sym (length_to_bytes w x)) }
 
-pub byte : (x : ℕ) → x < 256 → Back u8Of (x ∷ []) x
+pub byte : (x : ℕ) → x < 256 → Back u8_of (x ∷ []) x
 byte x h = rw (mod-eq_of_lt h) at (number 1 x h)
 
 -- all of a list, one after another
-pub sequence : {A : Type 0} {dec : List ℕ → Parse A} {enc : A → List ℕ} {P : A → Type 0} → ((a : A) → P a → Back dec (enc a) a) → (xs : List A) → Each P xs → Back (seqOf dec (length xs)) (eachBytes enc xs) xs
-unfolding seqOf
+pub sequence : {A : Type 0} {dec : List ℕ → Parse A} {enc : A → List ℕ} {P : A → Type 0} → ((a : A) → P a → Back dec (enc a) a) → (xs : List A) → Each P xs → Back (seq_of dec (length xs)) (each_bytes enc xs) xs
+unfolding seq_of
 sequence x [] h = alone
 sequence x (a ∷ xs) h = then _ (x a h.0) (last _ (sequence x xs h.1))
 
@@ -58,7 +58,7 @@ pub counted : {A : Type 0} {w : List ℕ} {xs : List A} (f : ℕ → List ℕ �
 counted f most n l h x = then f (tested Cause.TooMany (λ n. leb n most) (le-leb n most l) (byte n (omega arith))) x
 
 -- "lists u8 count first"
-pub list : {A : Type 0} {dec : List ℕ → Parse A} {enc : A → List ℕ} {P : A → Type 0} (most : ℕ) → most ≤ 255 → ((a : A) → P a → Back dec (enc a) a) → (xs : List A) → FitList most P xs → Back (list_of most dec) (listBytes enc xs) xs
+pub list : {A : Type 0} {dec : List ℕ → Parse A} {enc : A → List ℕ} {P : A → Type 0} (most : ℕ) → most ≤ 255 → ((a : A) → P a → Back dec (enc a) a) → (xs : List A) → FitList most P xs → Back (list_of most dec) (list_bytes enc xs) xs
 unfolding list_of
 list most m x xs h = counted _ most (length xs) h.0 m (sequence x xs h.1)
 

@@ -8,16 +8,16 @@ use native.Mathlib.Omega.{arith}
 use borrow.Author.Tests.{leb-true}
 use lib.ListN.{length, drop}
 use lib.Dec.{leb}
-use Rattle.bytes_wire.specs.Parse.{Parse, ok, and_then, mapParse, checked, seqOf}
-use Rattle.bytes_wire.specs.Number.{to_bytes, number_of, u8Of}
+use Rattle.bytes_wire.specs.Parse.{Parse, ok, and_then, map_parse, checked, seq_of}
+use Rattle.bytes_wire.specs.Number.{to_bytes, number_of, u8_of}
 use Rattle.bytes_wire.specs.WellFormed.{Bytes}
 use Rattle.bytes_wire.specs.declared.Cause.{Cause}
 use Rattle.bytes_field.specs.Decode.{count_of, list_of}
-use Rattle.bytes_field.specs.Encode.{eachBytes, listBytes}
+use Rattle.bytes_field.specs.Encode.{each_bytes, list_bytes}
 use Rattle.mir.specs.Lists.{Each}
 use Rattle.bytes_laws.specs.WellFormed.{FitList}
-use Rattle.bytes_wire.proofs.Inv.{both, image, and-inv, map-inv, checked-inv, number-inv}
-use Rattle.bytes_wire.proofs.Canon.{Canon, bytes_drop, canon-and, number-canon, number-fit}
+use Rattle.bytes_wire.proofs.Inv.{both, image, and_inv, map_inv, checked_inv, number_inv}
+use Rattle.bytes_wire.proofs.Canon.{Canon, bytes_drop, canon_and, number_canon, number_fit}
 
 -- what was read is written as the n bytes that stood there, is good, and took at most `most`
 pub record Read {A : Type 0} (enc : A → List ℕ) (Good : A → Type 0) (most : ℕ) (a : A) (s : List ℕ) (n : ℕ) : Type 0 where
@@ -42,21 +42,21 @@ pub then : {A B : Type 0} {k : List ℕ → List ℕ} {dec : List ℕ → Parse 
 then {dec} {f} {enc₁} x y =
     record {
       each = λ s b n h e.
-          elim (and-inv s (dec s) f e) [
+          elim (and_inv s (dec s) f e) [
             | both a m j p q r ↦
                 let c = x.each s a m h p in
                 elim ((y a c.good).each (drop m s) b j (bytes_drop s m h) q) [
-                  | ends w u v g l ↦ ends (enc₁ a ++ w) (rw r (canon-and c.canon u)) v g (omega (arith, c.small))
+                  | ends w u v g l ↦ ends (enc₁ a ++ w) (rw r (canon_and c.canon u)) v g (omega (arith, c.small))
                 ]
           ];
     }
 
 -- the last field, and what is made of it
-pub last : {A B : Type 0} {k : List ℕ → List ℕ} {dec : List ℕ → Parse A} {enc₁ : A → List ℕ} {enc : B → List ℕ} {G₁ : A → Type 0} {G : B → Type 0} {m : ℕ} (g : A → B) → Exact dec enc₁ G₁ m → ((a : A) → G₁ a → (enc (g a) ≡ k (enc₁ a)) × G (g a)) → After k (λ s. mapParse g (dec s)) enc G m
+pub last : {A B : Type 0} {k : List ℕ → List ℕ} {dec : List ℕ → Parse A} {enc₁ : A → List ℕ} {enc : B → List ℕ} {G₁ : A → Type 0} {G : B → Type 0} {m : ℕ} (g : A → B) → Exact dec enc₁ G₁ m → ((a : A) → G₁ a → (enc (g a) ≡ k (enc₁ a)) × G (g a)) → After k (λ s. map_parse g (dec s)) enc G m
 last {k} {dec} {enc₁} {enc} {G₁} {G} {m} g x y =
     record {
       each = λ s b n h e.
-          elim (map-inv g (dec s) e) [
+          elim (map_inv g (dec s) e) [
             | image a p q ↦
                 let c = x.each s a n h p in
                 let z = y a c.good in
@@ -101,7 +101,7 @@ pub tested : {A : Type 0} {dec : List ℕ → Parse A} {enc : A → List ℕ} {G
 tested {dec} c p x =
     record {
       each = λ s a n h e.
-          let i = checked-inv c p (dec s) e in
+          let i = checked_inv c p (dec s) e in
           let r = x.each s a n h i.0 in
           record { canon = r.canon; good = (r.good, i.1); small = r.small };
     }
@@ -112,10 +112,10 @@ because x f = record { each = λ s a n h e. let r = x.each s a n h e in record {
 
 -- a number of w bytes
 pub number : (w : ℕ) → Exact (number_of w) (to_bytes w) (λ x. x < 256 ^ w) w
-number w = record { each = λ s a n h e. record { canon = number-canon w s h e; good = number-fit w s h e; small = rw (number-inv w s e).2 (le_refl w) } }
+number w = record { each = λ s a n h e. record { canon = number_canon w s h e; good = number_fit w s h e; small = rw (number_inv w s e).2 (le_refl w) } }
 
 -- a byte
-pub byte : Exact u8Of (λ x. x ∷ []) (λ x. x < 256) 1
+pub byte : Exact u8_of (λ x. x ∷ []) (λ x. x < 256) 1
 byte =
     record {
       each = λ s a n h e.
@@ -125,21 +125,21 @@ byte =
     }
 
 -- k things
-pub sequence : {A : Type 0} {dec : List ℕ → Parse A} {enc : A → List ℕ} {G : A → Type 0} {m : ℕ} → Exact dec enc G m → (k : ℕ) → Exact (seqOf dec k) (eachBytes enc) (λ xs. (length xs ≡ k) × Each G xs) (k * m)
-unfolding seqOf
+pub sequence : {A : Type 0} {dec : List ℕ → Parse A} {enc : A → List ℕ} {G : A → Type 0} {m : ℕ} → Exact dec enc G m → (k : ℕ) → Exact (seq_of dec k) (each_bytes enc) (λ xs. (length xs ≡ k) × Each G xs) (k * m)
+unfolding seq_of
 sequence x zero = whole (alone refl (refl, tt)) zero-le
 sequence {m} x (suc k) = whole (then x (λ a p. last (λ xs. a ∷ xs) (sequence x k) (λ xs q. (refl, (ap suc q.0, (p, q.1)))))) (omega (arith, suc-mul k m))
 
 -- a count, at most so many, then as many things as it says
-pub counted : {A : Type 0} (enc : A → List ℕ) {P : ℕ → List A → Type 0} {f : ℕ → List ℕ → Parse (List A)} (most m : ℕ) → ((k : ℕ) → Exact (f k) (eachBytes enc) (λ xs. (length xs ≡ k) × P k xs) (k * m)) → Exact (λ s. and_then s (count_of most s) f) (listBytes enc) (λ xs. (length xs ≤ most) × P (length xs) xs) (1 + most * m)
+pub counted : {A : Type 0} (enc : A → List ℕ) {P : ℕ → List A → Type 0} {f : ℕ → List ℕ → Parse (List A)} (most m : ℕ) → ((k : ℕ) → Exact (f k) (each_bytes enc) (λ xs. (length xs ≡ k) × P k xs) (k * m)) → Exact (λ s. and_then s (count_of most s) f) (list_bytes enc) (λ xs. (length xs ≤ most) × P (length xs) xs) (1 + most * m)
 counted {A} enc {P} {f} most m x =
     whole
     (then (tested Cause.TooMany (λ n. leb n most) byte) (λ k p.
     let l : k ≤ most = leb-true k most p.1 in
-    within (just (x k) (λ xs q. (ap (λ n. n ∷ eachBytes enc xs) q.0, rw q.0 (l, q.1)))) (mul-le-mul_right m l)))
+    within (just (x k) (λ xs q. (ap (λ n. n ∷ each_bytes enc xs) q.0, rw q.0 (l, q.1)))) (mul-le-mul_right m l)))
     (le_refl (1 + most * m))
 
 -- "lists u8 count first"
-pub list : {A : Type 0} {dec : List ℕ → Parse A} {enc : A → List ℕ} {G : A → Type 0} {m : ℕ} (most : ℕ) → Exact dec enc G m → Exact (list_of most dec) (listBytes enc) (FitList most G) (1 + most * m)
+pub list : {A : Type 0} {dec : List ℕ → Parse A} {enc : A → List ℕ} {G : A → Type 0} {m : ℕ} (most : ℕ) → Exact dec enc G m → Exact (list_of most dec) (list_bytes enc) (FitList most G) (1 + most * m)
 unfolding list_of
 list {A} {dec} {enc} {G} {m} most x = counted enc most m (λ k. sequence x k)

@@ -8,8 +8,8 @@ use lib.ListN.{get_or}
 use Rattle.bytes_wire.specs.Parse.{Parse, ok, bad, later, tagged}
 use Rattle.bytes_wire.specs.WellFormed.{Bytes}
 use Rattle.bytes_wire.specs.declared.Cause.{Cause}
-use Rattle.bytes_wire.proofs.Inv.{no_ok, Behind, behind, later-inv, tagged-inv}
-use Rattle.bytes_wire.proofs.Canon.{bytes_drop, canon-tag}
+use Rattle.bytes_wire.proofs.Inv.{no_ok, Behind, behind, later_inv, tagged_inv}
+use Rattle.bytes_wire.proofs.Canon.{bytes_drop, canon_tag}
 use Rattle.bytes_laws.proofs.Exact.{Read, Exact, ends, After}
 
 -- each decoder of the table reads what its number says; the first has the number n
@@ -30,7 +30,7 @@ row r j = rw zero-add at (at r j)
 -- behind the kind byte
 past : {A : Type 0} (fs : List (List ℕ → Parse A)) (t : List ℕ) (j : ℕ) {a : A} {n : ℕ} → get_or (map (λ f. later 1 (f t)) fs) j (bad Cause.Undefined 0) ≡ ok a n → Behind 1 (get_or (map (λ f. f t) fs) j (bad Cause.Undefined 0)) a n
 past [] t j e = absurd (no_ok e)
-past (f ∷ fs) t zero e = later-inv 1 (f t) e
+past (f ∷ fs) t zero e = later_inv 1 (f t) e
 past (f ∷ fs) t (suc j) e = past fs t j e
 
 -- a kind byte, then the fields of its kind
@@ -40,9 +40,9 @@ tag {A} {enc} {G} {most} {fs} r = record { each = each }
     each : (s : List ℕ) (a : A) (n : ℕ) → Bytes s → tagged fs s ≡ ok a n → Read enc G (1 + most) a s n
     each [] a n h e = absurd (no_ok e)
     each (j ∷ t) a n h e =
-        elim (past fs t j (tagged-inv fs (j ∷ t) e).1) [
+        elim (past fs t j (tagged_inv fs (j ∷ t) e).1) [
           | behind m p q ↦
               elim ((row r j).each t a m (bytes_drop (j ∷ t) 1 h) p) [
-                | ends w u v g l ↦ record { canon = rw v (canon-tag j u q); good = g; small = omega arith }
+                | ends w u v g l ↦ record { canon = rw v (canon_tag j u q); good = g; small = omega arith }
               ]
         ]

@@ -12,7 +12,7 @@ use Rattle.mir.specs.Syntax.{Projection, Index, Field, Tuple, Place, Source, Fie
 use Rattle.mir.specs.Syntax.{Assign, UnaryOp, BinaryOp, Call, Cast, Load, Store, Debug, Nop, Phi}
 use Rattle.mir.specs.Syntax.{MakeTuple, ExtractTupleElement, MakeStruct, ExtractStructField, InsertField, InsertTuple, MakeFixedArray, AssertEq, HeapAllocCells}
 use Rattle.mir.specs.Syntax.{Jump, If, BranchCmp, Return, Unreachable}
-use Rattle.mir.specs.Reads.{isPhi}
+use Rattle.mir.specs.Reads.{is_phi}
 use Rattle.bytes_field.specs.Decode.{mark}
 use Rattle.bytes_field.specs.declared.Bounds.{Bounds}
 
@@ -90,44 +90,44 @@ FitMeta m = FitOption FitSpan m.span × FitOption FitExpression m.expression × 
 -- the fields of each kind, as declared; "`BinaryOp` is a u8 0 to 25, `UnaryOp` a u8 0 to 15";
 -- a Call has as many return types as dests
 module _ (b : Bounds) where
-  abbrev fitValue : Value → Type 0
-  fitValue x = FitValue b.next x
+  abbrev FitsValue : Value → Type 0
+  FitsValue x = FitValue b.next x
 
-  abbrev fitValues : List Value → Type 0
-  fitValues xs = FitList b.list fitValue xs
+  abbrev FitsValues : List Value → Type 0
+  FitsValues xs = FitList b.list FitsValue xs
 
-  abbrev fitTypes : List TypeId → Type 0
-  fitTypes ts = FitList b.list (FitType b) ts
+  abbrev FitsTypes : List TypeId → Type 0
+  FitsTypes ts = FitList b.list (FitType b) ts
 
   abbrev pub FitKind : List Bool → InstructionKind → Type 0
-  FitKind seen (Assign d x t) = FitNew b seen d × fitValue x × FitType b t
-  FitKind seen (UnaryOp op d x) = (op < 16) × FitNew b seen d × fitValue x
-  FitKind seen (BinaryOp op d x y) = (op < 26) × FitNew b seen d × fitValue x × fitValue y
-  FitKind seen (Call ds f xs ps rs) = ((length ds ≤ b.list) × FitNews b seen ds) × Fit16 f × fitValues xs × fitTypes ps × fitTypes rs × (length rs ≡ length ds)
-  FitKind seen (Cast d x t u) = FitNew b seen d × fitValue x × FitType b t × FitType b u
+  FitKind seen (Assign d x t) = FitNew b seen d × FitsValue x × FitType b t
+  FitKind seen (UnaryOp op d x) = (op < 16) × FitNew b seen d × FitsValue x
+  FitKind seen (BinaryOp op d x y) = (op < 26) × FitNew b seen d × FitsValue x × FitsValue y
+  FitKind seen (Call ds f xs ps rs) = ((length ds ≤ b.list) × FitNews b seen ds) × Fit16 f × FitsValues xs × FitsTypes ps × FitsTypes rs × (length rs ≡ length ds)
+  FitKind seen (Cast d x t u) = FitNew b seen d × FitsValue x × FitType b t × FitType b u
   FitKind seen (Load d p t) = FitNew b seen d × FitPlace b p × FitType b t
-  FitKind seen (Store p x t) = FitPlace b p × fitValue x × FitType b t
-  FitKind seen (Debug m xs) = Fit32 m × fitValues xs
+  FitKind seen (Store p x t) = FitPlace b p × FitsValue x × FitType b t
+  FitKind seen (Debug m xs) = Fit32 m × FitsValues xs
   FitKind seen Nop = Unit {0}
   FitKind seen (Phi d t ss) = FitNew b seen d × FitType b t × FitList b.list (FitSource b) ss
-  FitKind seen (MakeTuple d xs) = FitNew b seen d × fitValues xs
-  FitKind seen (ExtractTupleElement d x k t) = FitNew b seen d × fitValue x × Fit32 k × FitType b t
+  FitKind seen (MakeTuple d xs) = FitNew b seen d × FitsValues xs
+  FitKind seen (ExtractTupleElement d x k t) = FitNew b seen d × FitsValue x × Fit32 k × FitType b t
   FitKind seen (MakeStruct d fs t) = FitNew b seen d × FitList b.list (FitInit b) fs × FitType b t
-  FitKind seen (ExtractStructField d x n t) = FitNew b seen d × fitValue x × FitName n × FitType b t
-  FitKind seen (InsertField d x n y t) = FitNew b seen d × fitValue x × FitName n × fitValue y × FitType b t
-  FitKind seen (InsertTuple d x k y t) = FitNew b seen d × fitValue x × Fit32 k × fitValue y × FitType b t
-  FitKind seen (MakeFixedArray d xs t c) = FitNew b seen d × fitValues xs × FitType b t
-  FitKind seen (AssertEq x y) = fitValue x × fitValue y
-  FitKind seen (HeapAllocCells d x) = FitNew b seen d × fitValue x
+  FitKind seen (ExtractStructField d x n t) = FitNew b seen d × FitsValue x × FitName n × FitType b t
+  FitKind seen (InsertField d x n y t) = FitNew b seen d × FitsValue x × FitName n × FitsValue y × FitType b t
+  FitKind seen (InsertTuple d x k y t) = FitNew b seen d × FitsValue x × Fit32 k × FitsValue y × FitType b t
+  FitKind seen (MakeFixedArray d xs t c) = FitNew b seen d × FitsValues xs × FitType b t
+  FitKind seen (AssertEq x y) = FitsValue x × FitsValue y
+  FitKind seen (HeapAllocCells d x) = FitNew b seen d × FitsValue x
 
   -- "Phi after another kind" has no byte form
   abbrev pub FitInstruction : List Bool → Bool → Instruction → Type 0
-  FitInstruction seen late i = FitMeta i.meta × FitKind seen i.kind × (isPhi i.kind ≡ true → late ≡ false)
+  FitInstruction seen late i = FitMeta i.meta × FitKind seen i.kind × (is_phi i.kind ≡ true → late ≡ false)
 
   -- "terminators are a u8 0 to 4 in declared order, then fields"
   abbrev pub FitTerminator : Terminator → Type 0
   FitTerminator (Jump p) = FitBlock b p
-  FitTerminator (If x p q) = fitValue x × FitBlock b p × FitBlock b q
-  FitTerminator (BranchCmp op x y p q) = (op < 26) × fitValue x × fitValue y × FitBlock b p × FitBlock b q
-  FitTerminator (Return xs) = fitValues xs
+  FitTerminator (If x p q) = FitsValue x × FitBlock b p × FitBlock b q
+  FitTerminator (BranchCmp op x y p q) = (op < 26) × FitsValue x × FitsValue y × FitBlock b p × FitBlock b q
+  FitTerminator (Return xs) = FitsValues xs
   FitTerminator Unreachable = Unit {0}

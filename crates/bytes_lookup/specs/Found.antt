@@ -3,6 +3,6 @@ use Rattle.std.proofs.Math.Option.{Option, none, some}
 use Rattle.mir.specs.declared.TypeId.{TypeId}
 use Rattle.bytes_lookup.specs.declared.TypeFound.{TypeFound}
 
-abbrev pub asType : TypeFound → Option TypeId
-asType (TypeFound.Type t) = some t
-asType TypeFound.Nothing = none
+abbrev pub as_type : TypeFound → Option TypeId
+as_type (TypeFound.Type t) = some t
+as_type TypeFound.Nothing = none

@@ -6,11 +6,11 @@ ghost use Rattle.bytes_wire.specs.WellFormed.{Bytes};
 ghost use Rattle.mir.specs.Syntax.{Block};
 ghost use Rattle.bytes_field.specs.declared.Bounds.{Bounds};
 ghost use Rattle.bytes_index.specs.Code.{no_block};
-ghost use Rattle.bytes_index.specs.Recorded.{recordedFrom};
-ghost use Rattle.bytes_block.specs.Encode.{blockBytes};
+ghost use Rattle.bytes_index.specs.Recorded.{recorded_from};
+ghost use Rattle.bytes_block.specs.Encode.{block_bytes};
 ghost use Rattle.bytes_block.specs.Places.{BlocksAt};
 ghost use Rattle.bytes_block.specs.declared.Mosts.{Mosts};
-ghost use Rattle.bytes_lookup.specs.Found.{asType};
+ghost use Rattle.bytes_lookup.specs.Found.{as_type};
 
 use mir::{BlockId, TypeId, ValueId};
 
@@ -24,7 +24,7 @@ pub enum TypeFound {
 // The part of the caller's bytes that is block k.
 pub fn block_bytes<'a>(s: &'a [u8], blocks: &[u16], k: BlockId) -> &'a [u8]
     ensures { (m : Mosts) (b : Bounds) (xs : List Block) → Bytes s.now →
-        BlocksAt m b s.now blocks.now xs → k.0 < length xs → result.now ≡ blockBytes (get_or xs k.0 no_block) }
+        BlocksAt m b s.now blocks.now xs → k.0 < length xs → result.now ≡ block_bytes (get_or xs k.0 no_block) }
 {
     let i = k.0 as usize;
     let from = table::place(blocks, i);
@@ -41,7 +41,7 @@ pub fn type_place(starts: &[u16], t: TypeId) -> usize
 
 // The recorded type of a value, where `recorded` has those of all values.
 pub fn recorded_type(recorded: &[u16], v: ValueId) -> TypeFound
-    ensures { asType result ≡ recordedFrom (get_or recorded.now v.0 0) }
+    ensures { as_type result ≡ recorded_from (get_or recorded.now v.0 0) }
 {
     let t = table::number(recorded, v.0 as usize);
     if 0 < t {

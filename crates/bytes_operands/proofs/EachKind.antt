@@ -8,56 +8,56 @@ use native.Mathlib.Omega.{arith}
 use lib.ListN.{length, get_or, drop, length-map}
 use lib.Seq.{get_or-drop}
 use lib.Dec.{ltb}
-use Rattle.bytes_wire.specs.Parse.{Parse, ok, bad, mapParse}
+use Rattle.bytes_wire.specs.Parse.{Parse, ok, bad, map_parse}
 use Rattle.bytes_wire.specs.Number.{number_of, below}
-use Rattle.bytes_wire.specs.Value.{value_of, valueIdOf, valueKinds}
+use Rattle.bytes_wire.specs.Value.{value_of, value_id_of, value_kinds}
 use Rattle.bytes_wire.specs.declared.Cause.{Cause}
 use Rattle.mir.specs.declared.Value.{Value}
-use Rattle.bytes_wire.proofs.Inv.{no_ok, image, map-inv}
+use Rattle.bytes_wire.proofs.Inv.{no_ok, image, map_inv}
 use Rattle.mir.specs.Syntax.{Projection, InstructionKind}
-use Rattle.mir.specs.Reads.{sourceValues, initValues}
-use Rattle.bytes_field.specs.Decode.{typeIdOf, nameIdOf, list_of, mark, definedOf, definedSeq, definedsOf, operationOf, projectionOf, place_of, source_of, fieldInitOf, returnsOf}
-use Rattle.bytes_field.specs.Decode.{kinds, assignOf, unaryOf, binaryOf, call_of, castOf, load_of, store_of, debugOf, phi_of, makeTupleOf, extractTupleOf, makeStructOf, extractFieldOf, insertFieldOf, insertTupleOf, makeArrayOf, assertEqOf, heapAllocOf}
+use Rattle.mir.specs.Reads.{source_values, init_values}
+use Rattle.bytes_field.specs.Decode.{type_id_of, name_id_of, list_of, mark, defined_of, defined_seq, defineds_of, operation_of, projection_of, place_of, source_of, field_init_of, returns_of}
+use Rattle.bytes_field.specs.Decode.{kinds, assign_of, unary_of, binary_of, call_of, cast_of, load_of, store_of, debug_of, phi_of, make_tuple_of, extract_tuple_of, make_struct_of, extract_field_of, insert_field_of, insert_tuple_of, make_array_of, assert_eq_of, heap_alloc_of}
 use Rattle.bytes_field.specs.declared.Bounds.{Bounds}
 use Rattle.bytes_field.proofs.Laws.{head}
-use Rattle.bytes_operands.specs.Fields.{operandFields, listValues, placeSteps, valueSize, valueEnd, projectionEnd, after, valueStep, operand_row, operandFirst, listRow, listAt, listCount, stepsAt, stepCount}
-use Rattle.bytes_operands.proofs.Places.{Stand, Field, then, last, made, alone, because, Takes, takes-number, takes-map, takes-checked, fixed, Listed, empty, ◌&◌, listed-map, count, list, over, row, tagged-size}
+use Rattle.bytes_operands.specs.Fields.{operand_fields, list_values, place_steps, value_size, value_end, projection_end, after, value_step, operand_row, operand_first, list_row, list_at, list_count, steps_at, step_count}
+use Rattle.bytes_operands.proofs.Places.{Stand, Field, then, last, made, alone, because, Takes, takes_number, takes_map, takes_checked, fixed, Listed, empty, ◌&◌, listed_map, count, list, over, row, tagged_size}
 
 -- the numbers of things take two bytes
-takes-below : (bound : ℕ) → Takes (below bound) 2
-takes-below bound = takes-checked Cause.OutOfRange (λ x. ltb x bound) (takes-number 2)
+takes_below : (bound : ℕ) → Takes (below bound) 2
+takes_below bound = takes_checked Cause.OutOfRange (λ x. ltb x bound) (takes_number 2)
 
-takes-id : (next : ℕ) → Takes (valueIdOf next) 2
-takes-id next = takes-map _ (takes-below next)
+takes_id : (next : ℕ) → Takes (value_id_of next) 2
+takes_id next = takes_map _ (takes_below next)
 
-takes-dest : (next : ℕ) (seen : List Bool) → Takes (definedOf next seen) 2
-takes-dest next seen = takes-checked Cause.Redefined (λ d. not (get_or seen d.0 false)) (takes-id next)
+takes_dest : (next : ℕ) (seen : List Bool) → Takes (defined_of next seen) 2
+takes_dest next seen = takes_checked Cause.Redefined (λ d. not (get_or seen d.0 false)) (takes_id next)
 
 -- a value takes what its kind says
-pub value-size : (next : ℕ) (s : List ℕ) {x : Value} {n : ℕ} → value_of next s ≡ ok x n → n ≡ valueSize (get_or s 0 0)
+pub value_size_lem : (next : ℕ) (s : List ℕ) {x : Value} {n : ℕ} → value_of next s ≡ ok x n → n ≡ value_size (get_or s 0 0)
 unfolding value_of
-value-size next s e =
+value_size_lem next s e =
     let t = drop 1 s in
-    tagged-size {fs = valueKinds next} s
-    (row (λ a n f. ap (λ m. 1 + m) ((takes-map _ (takes-number 4)).each t a n f))
-    (row (λ a n f. ap (λ m. 1 + m) ((takes-map _ (takes-map _ (takes-checked Cause.Undefined (λ x. ltb x 2) (takes-number 1)))).each t a n f))
+    tagged_size {fs = value_kinds next} s
+    (row (λ a n f. ap (λ m. 1 + m) ((takes_map _ (takes_number 4)).each t a n f))
+    (row (λ a n f. ap (λ m. 1 + m) ((takes_map _ (takes_map _ (takes_checked Cause.Undefined (λ x. ltb x 2) (takes_number 1)))).each t a n f))
     (row (λ a n f. let z : n ≡ 0 = cc in ap (λ m. 1 + m) z)
-    (row (λ a n f. ap (λ m. 1 + m) ((takes-map _ (takes-id next)).each t a n f))
+    (row (λ a n f. ap (λ m. 1 + m) ((takes_map _ (takes_id next)).each t a n f))
     (row (λ a n f. let z : n ≡ 0 = cc in ap (λ m. 1 + m) z)
     over)))))
     1 e
 
 -- so does a projection, and an Index what its value's kind says
-pub projection-size : (next : ℕ) (s : List ℕ) {p : Projection} {n : ℕ} → projectionOf next s ≡ ok p n → n ≡ get_or ((1 + valueSize (get_or s 1 0)) ∷ 3 ∷ 5 ∷ []) (get_or s 0 0) 5
-unfolding projectionOf
-projection-size next s e =
+pub projection_size : (next : ℕ) (s : List ℕ) {p : Projection} {n : ℕ} → projection_of next s ≡ ok p n → n ≡ get_or ((1 + value_size (get_or s 1 0)) ∷ 3 ∷ 5 ∷ []) (get_or s 0 0) 5
+unfolding projection_of
+projection_size next s e =
     let t = drop 1 s in
-    tagged-size
-    {fs = (λ t. mapParse Projection.Index (value_of next t)) ∷ (λ t. mapParse Projection.Field (nameIdOf t)) ∷ (λ t. mapParse Projection.Tuple (number_of 4 t)) ∷ []}
+    tagged_size
+    {fs = (λ t. map_parse Projection.Index (value_of next t)) ∷ (λ t. map_parse Projection.Field (name_id_of t)) ∷ (λ t. map_parse Projection.Tuple (number_of 4 t)) ∷ []}
     s
-    (row {w = 1 + valueSize (get_or s 1 0)} (λ a n f. elim (map-inv Projection.Index (value_of next t) f) [ image x p q ↦ ap (λ m. 1 + m) (value-size next t p ∙ ap valueSize (get_or-drop 1 s 0 0)) ])
-    (row (λ a n f. ap (λ m. 1 + m) ((takes-map _ (takes-map _ (takes-number 2))).each t a n f))
-    (row (λ a n f. ap (λ m. 1 + m) ((takes-map _ (takes-number 4)).each t a n f))
+    (row {w = 1 + value_size (get_or s 1 0)} (λ a n f. elim (map_inv Projection.Index (value_of next t) f) [ image x p q ↦ ap (λ m. 1 + m) (value_size_lem next t p ∙ ap value_size (get_or-drop 1 s 0 0)) ])
+    (row (λ a n f. ap (λ m. 1 + m) ((takes_map _ (takes_map _ (takes_number 2))).each t a n f))
+    (row (λ a n f. ap (λ m. 1 + m) ((takes_map _ (takes_number 4)).each t a n f))
     over)))
     5 e
 
@@ -74,81 +74,81 @@ ends p v (suc (suc (suc k))) = refl
 
 -- what is known of an instruction of the kind with number j whose fields are t
 pub record Stands (next : ℕ) (t : List ℕ) (j : ℕ) (i : InstructionKind) : Type 0 where
-  pub operands : Listed (At (value_of next) t) (valueStep t 0 (operand_row j).2) (operandFirst t j) (operandFields i)
-  pub values : Listed (λ p. At (value_of next) t (p + (listRow j).before)) (valueStep t (listRow j).before 0) (listAt t j + 1) (listValues i)
-  pub listed : length (listValues i) ≡ listCount t j
-  pub steps : Listed (At (projectionOf next) t) (projectionEnd t) (stepsAt j + 1) (placeSteps i)
-  pub stepped : length (placeSteps i) ≡ stepCount t j
+  pub operands : Listed (At (value_of next) t) (value_step t 0 (operand_row j).2) (operand_first t j) (operand_fields i)
+  pub values : Listed (λ p. At (value_of next) t (p + (list_row j).before)) (value_step t (list_row j).before 0) (list_at t j + 1) (list_values i)
+  pub listed : length (list_values i) ≡ list_count t j
+  pub steps : Listed (At (projection_of next) t) (projection_end t) (steps_at j + 1) (place_steps i)
+  pub stepped : length (place_steps i) ≡ step_count t j
 
 module _ (b : Bounds) (seen : List Bool) (c : Bool) (t : List ℕ) where
   abbrev Value-at : ℕ → Value → Type 0
   Value-at p x = At (value_of b.next) t p x
 
   -- the fields, wherever they stand
-  value : {p : ℕ} → Field t p (value_of b.next) (Value-at p) (valueEnd t p)
-  value {p} = record { each = λ a n e. (at n e, ap (λ m. p + m) (value-size b.next (drop p t) e ∙ ap valueSize (head t p))) }
+  value : {p : ℕ} → Field t p (value_of b.next) (Value-at p) (value_end t p)
+  value {p} = record { each = λ a n e. (at n e, ap (λ m. p + m) (value_size_lem b.next (drop p t) e ∙ ap value_size (head t p))) }
 
-  projection : (p : ℕ) → Field t p (projectionOf b.next) (At (projectionOf b.next) t p) (projectionEnd t p)
+  projection : (p : ℕ) → Field t p (projection_of b.next) (At (projection_of b.next) t p) (projection_end t p)
   projection p =
       record {
         each = λ a n e.
-            let z : n ≡ get_or ((1 + valueSize (get_or t (p + 1) 0)) ∷ 3 ∷ 5 ∷ []) (get_or t p 0) 5 = rw (get_or-drop p t 1 0, head t p) at (projection-size b.next (drop p t) e) in
-            (at n e, rw z (ends p (valueSize (get_or t (p + 1) 0)) (get_or t p 0)));
+            let z : n ≡ get_or ((1 + value_size (get_or t (p + 1) 0)) ∷ 3 ∷ 5 ∷ []) (get_or t p 0) 5 = rw (get_or-drop p t 1 0, head t p) at (projection_size b.next (drop p t) e) in
+            (at n e, rw z (ends p (value_size (get_or t (p + 1) 0)) (get_or t p 0)));
       }
 
-  dest : {p : ℕ} → Field t p (definedOf b.next seen) (λ a. Unit {0}) (p + 2)
-  dest = fixed (takes-dest b.next seen)
+  dest : {p : ℕ} → Field t p (defined_of b.next seen) (λ a. Unit {0}) (p + 2)
+  dest = fixed (takes_dest b.next seen)
 
-  type : {p : ℕ} → Field t p (typeIdOf b.types) (λ a. Unit {0}) (p + 2)
-  type = fixed (takes-map _ (takes-below b.types))
+  type : {p : ℕ} → Field t p (type_id_of b.types) (λ a. Unit {0}) (p + 2)
+  type = fixed (takes_map _ (takes_below b.types))
 
-  name : {p : ℕ} → Field t p nameIdOf (λ a. Unit {0}) (p + 2)
-  name = fixed (takes-map _ (takes-number 2))
+  name : {p : ℕ} → Field t p name_id_of (λ a. Unit {0}) (p + 2)
+  name = fixed (takes_map _ (takes_number 2))
 
   number : {p : ℕ} (w : ℕ) → Field t p (number_of w) (λ a. Unit {0}) (p + w)
-  number w = fixed (takes-number w)
+  number w = fixed (takes_number w)
 
-  operation : {p : ℕ} (many : ℕ) → Field t p (operationOf many) (λ a. Unit {0}) (p + 1)
-  operation many = fixed (takes-checked Cause.Undefined (λ x. ltb x many) (takes-number 1))
+  operation : {p : ℕ} (many : ℕ) → Field t p (operation_of many) (λ a. Unit {0}) (p + 1)
+  operation many = fixed (takes_checked Cause.Undefined (λ x. ltb x many) (takes_number 1))
 
   -- the dests of a Call
-  news : (seen : List Bool) (k p : ℕ) → Field t p (definedSeq b.next seen k) (λ ds. Unit {0}) (p + 2 * k)
-  unfolding definedSeq
+  news : (seen : List Bool) (k p : ℕ) → Field t p (defined_seq b.next seen k) (λ ds. Unit {0}) (p + 2 * k)
+  unfolding defined_seq
   news seen zero p = alone (tt, omega arith)
-  news seen (suc k) p = then (fixed (takes-dest b.next seen)) (λ d u. last _ (news (mark seen d) k (p + 2)) (λ ds v. (tt, omega arith)))
+  news seen (suc k) p = then (fixed (takes_dest b.next seen)) (λ d u. last _ (news (mark seen d) k (p + 2)) (λ ds v. (tt, omega arith)))
 
-  dests : Field t 0 (definedsOf b.list b.next seen) (λ ds. Unit {0}) (1 + 2 * get_or t 0 0)
-  unfolding definedsOf
+  dests : Field t 0 (defineds_of b.list b.next seen) (λ ds. Unit {0}) (1 + 2 * get_or t 0 0)
+  unfolding defineds_of
   dests = then (count b.list 0) (λ k q. because (news seen k 1) (λ ds e r. (tt, rw q at r.1)))
 
   -- a list of values, of names with values, of blocks with values
   abbrev Values : ℕ → ℕ → List Value → Type 0
-  Values before p xs = Listed (λ p. Value-at (p + before)) (valueStep t before 0) (p + 1) xs × (length xs ≡ get_or t p 0)
+  Values before p xs = Listed (λ p. Value-at (p + before)) (value_step t before 0) (p + 1) xs × (length xs ≡ get_or t p 0)
 
-  values : {p : ℕ} → Field t p (list_of b.list (value_of b.next)) (Values 0 p) (after (valueStep t 0 0) (get_or t p 0) (p + 1))
-  values {p} = list (λ q. rw (add-zero q, add-zero (valueEnd t q)) (value {p = q})) b.list p
+  values : {p : ℕ} → Field t p (list_of b.list (value_of b.next)) (Values 0 p) (after (value_step t 0 0) (get_or t p 0) (p + 1))
+  values {p} = list (λ q. rw (add-zero q, add-zero (value_end t q)) (value {p = q})) b.list p
 
-  types : {p : ℕ} → Field t p (list_of b.list (typeIdOf b.types)) (λ ts. Unit {0}) (after (λ q. q + 2) (get_or t p 0) (p + 1))
+  types : {p : ℕ} → Field t p (list_of b.list (type_id_of b.types)) (λ ts. Unit {0}) (after (λ q. q + 2) (get_or t p 0) (p + 1))
   types {p} = because (list (λ q. type {p = q}) b.list p) (λ ts e q. (tt, q.1))
 
-  sources : {p : ℕ} → Field t p (list_of b.list (source_of b)) (λ ss. Values 2 p (sourceValues ss)) (after (valueStep t 2 0) (get_or t p 0) (p + 1))
+  sources : {p : ℕ} → Field t p (list_of b.list (source_of b)) (λ ss. Values 2 p (source_values ss)) (after (value_step t 2 0) (get_or t p 0) (p + 1))
   sources {p} =
       because
-      (list {Q = λ q s. Value-at (q + 2) s.value} (λ q. then (fixed (takes-map _ (takes-below b.blocks))) (λ k u. last _ value (λ x r. (r, sym (add-zero _))))) b.list p)
-      (λ ss e q. ((listed-map (λ s. s.value) (λ p x r. r) q.0.0, length-map ss _ ∙ q.0.1), q.1))
+      (list {Q = λ q s. Value-at (q + 2) s.value} (λ q. then (fixed (takes_map _ (takes_below b.blocks))) (λ k u. last _ value (λ x r. (r, sym (add-zero _))))) b.list p)
+      (λ ss e q. ((listed_map (λ s. s.value) (λ p x r. r) q.0.0, length-map ss _ ∙ q.0.1), q.1))
 
-  inits : {p : ℕ} → Field t p (list_of b.list (fieldInitOf b)) (λ fs. Values 2 p (initValues fs)) (after (valueStep t 2 0) (get_or t p 0) (p + 1))
+  inits : {p : ℕ} → Field t p (list_of b.list (field_init_of b)) (λ fs. Values 2 p (init_values fs)) (after (value_step t 2 0) (get_or t p 0) (p + 1))
   inits {p} =
       because
       (list {Q = λ q f. Value-at (q + 2) f.value} (λ q. then name (λ k u. last _ value (λ x r. (r, sym (add-zero _))))) b.list p)
-      (λ fs e q. ((listed-map (λ f. f.value) (λ p x r. r) q.0.0, length-map fs _ ∙ q.0.1), q.1))
+      (λ fs e q. ((listed_map (λ f. f.value) (λ p x r. r) q.0.0, length-map fs _ ∙ q.0.1), q.1))
 
   -- a place: its projections behind its base
   abbrev Steps : ℕ → List Projection → Type 0
-  Steps p ps = Listed (At (projectionOf b.next) t) (projectionEnd t) (p + 1) ps × (length ps ≡ get_or t p 0)
+  Steps p ps = Listed (At (projection_of b.next) t) (projection_end t) (p + 1) ps × (length ps ≡ get_or t p 0)
 
-  place : {p : ℕ} → Field t p (place_of b) (λ x. Steps (p + 2) x.projections) (after (projectionEnd t) (get_or t (p + 2) 0) (p + 2 + 1))
-  place {p} = then (fixed (takes-id b.next)) (λ v u. last _ (list projection b.projections (p + 2)) (λ ps q. (q, refl)))
+  place : {p : ℕ} → Field t p (place_of b) (λ x. Steps (p + 2) x.projections) (after (projection_end t) (get_or t (p + 2) 0) (p + 2 + 1))
+  place {p} = then (fixed (takes_id b.next)) (λ v u. last _ (list projection b.projections (p + 2)) (λ ps q. (q, refl)))
 
   -- a decoder of the fields of the kind with number j
   abbrev Of : ℕ → (List ℕ → Parse InstructionKind) → Type 0
@@ -159,31 +159,31 @@ module _ (b : Bounds) (seen : List Bool) (c : Bool) (t : List ℕ) where
   beside p x = rw add-zero x
 
   -- what is to be shown of a kind
-  stands : {j : ℕ} {i : InstructionKind} → Listed (At (value_of b.next) t) (valueStep t 0 (operand_row j).2) (operandFirst t j)
-      (operandFields i) → Listed (λ p. Value-at (p + (listRow j).before)) (valueStep t (listRow j).before 0) (listAt t j + 1)
-      (listValues i) → length (listValues i) ≡ listCount t j → Listed (At (projectionOf b.next) t) (projectionEnd t) (stepsAt j + 1)
-      (placeSteps i) → length (placeSteps i) ≡ stepCount t j → Stands b.next t j i
+  stands : {j : ℕ} {i : InstructionKind} → Listed (At (value_of b.next) t) (value_step t 0 (operand_row j).2) (operand_first t j)
+      (operand_fields i) → Listed (λ p. Value-at (p + (list_row j).before)) (value_step t (list_row j).before 0) (list_at t j + 1)
+      (list_values i) → length (list_values i) ≡ list_count t j → Listed (At (projection_of b.next) t) (projection_end t) (steps_at j + 1)
+      (place_steps i) → length (place_steps i) ≡ step_count t j → Stands b.next t j i
   stands p r s u v = record { operands = p; values = r; listed = s; steps = u; stepped = v }
 
   -- the kinds in order, each field with its law, then what stands where
-  assign : Of 0 (assignOf b seen)
-  unfolding assignOf
+  assign : Of 0 (assign_of b seen)
+  unfolding assign_of
   assign = then dest (λ d u. then (value {p = 2}) (λ x p. last _ type (λ y v. stands (p & empty) empty refl empty refl)))
 
-  unary : Of 1 (unaryOf b seen)
-  unfolding unaryOf
+  unary : Of 1 (unary_of b seen)
+  unfolding unary_of
   unary = then (operation 16) (λ o u. then dest (λ d u. last _ (value {p = 3}) (λ x p. stands (p & empty) empty refl empty refl)))
 
-  binary : Of 2 (binaryOf b seen)
-  unfolding binaryOf
-  binary = then (operation 26) (λ o u. then dest (λ d u. then value (λ x p. last _ value (λ y q. stands (p & beside (valueEnd t 3) q & empty) empty refl empty refl))))
+  binary : Of 2 (binary_of b seen)
+  unfolding binary_of
+  binary = then (operation 26) (λ o u. then dest (λ d u. then value (λ x p. last _ value (λ y q. stands (p & beside (value_end t 3) q & empty) empty refl empty refl))))
 
   call : Of 3 (call_of b seen)
   unfolding call_of
-  call = then dests (λ ds u. then (number 2) (λ f u. then values (λ xs p. then types (λ ps u. made (returnsOf b seen (length ds)) _ (λ rs e. stands empty p.0 p.1 empty refl)))))
+  call = then dests (λ ds u. then (number 2) (λ f u. then values (λ xs p. then types (λ ps u. made (returns_of b seen (length ds)) _ (λ rs e. stands empty p.0 p.1 empty refl)))))
 
-  cast : Of 4 (castOf b seen)
-  unfolding castOf
+  cast : Of 4 (cast_of b seen)
+  unfolding cast_of
   cast = then dest (λ d u. then (value {p = 2}) (λ x p. then type (λ y u. last _ type (λ z u. stands (p & empty) empty refl empty refl))))
 
   load : Of 5 (load_of b seen)
@@ -194,8 +194,8 @@ module _ (b : Bounds) (seen : List Bool) (c : Bool) (t : List ℕ) where
   unfolding store_of
   store = then place (λ x p. then value (λ y q. last _ type (λ z u. stands (q & empty) empty refl p.0 p.1)))
 
-  debug : Of 7 (debugOf b seen)
-  unfolding debugOf
+  debug : Of 7 (debug_of b seen)
+  unfolding debug_of
   debug = then (number 4) (λ m u. last _ values (λ xs p. stands empty p.0 p.1 empty refl))
 
   nop : Of 8 (λ s. ok InstructionKind.Nop 0)
@@ -205,41 +205,41 @@ module _ (b : Bounds) (seen : List Bool) (c : Bool) (t : List ℕ) where
   unfolding phi_of
   phi = then dest (λ d u. then type (λ y u. last _ sources (λ ss p. stands empty p.0 p.1 empty refl)))
 
-  make-tuple : Of 10 (makeTupleOf b seen)
-  unfolding makeTupleOf
-  make-tuple = then dest (λ d u. last _ values (λ xs p. stands empty p.0 p.1 empty refl))
+  make_tuple : Of 10 (make_tuple_of b seen)
+  unfolding make_tuple_of
+  make_tuple = then dest (λ d u. last _ values (λ xs p. stands empty p.0 p.1 empty refl))
 
-  extract-tuple : Of 11 (extractTupleOf b seen)
-  unfolding extractTupleOf
-  extract-tuple = then dest (λ d u. then (value {p = 2}) (λ x p. then (number 4) (λ k u. last _ type (λ y u. stands (p & empty) empty refl empty refl))))
+  extract_tuple : Of 11 (extract_tuple_of b seen)
+  unfolding extract_tuple_of
+  extract_tuple = then dest (λ d u. then (value {p = 2}) (λ x p. then (number 4) (λ k u. last _ type (λ y u. stands (p & empty) empty refl empty refl))))
 
-  make-struct : Of 12 (makeStructOf b seen)
-  unfolding makeStructOf
-  make-struct = then dest (λ d u. then inits (λ fs p. last _ type (λ y u. stands empty p.0 p.1 empty refl)))
+  make_struct : Of 12 (make_struct_of b seen)
+  unfolding make_struct_of
+  make_struct = then dest (λ d u. then inits (λ fs p. last _ type (λ y u. stands empty p.0 p.1 empty refl)))
 
-  extract-field : Of 13 (extractFieldOf b seen)
-  unfolding extractFieldOf
-  extract-field = then dest (λ d u. then (value {p = 2}) (λ x p. then name (λ k u. last _ type (λ y u. stands (p & empty) empty refl empty refl))))
+  extract_field : Of 13 (extract_field_of b seen)
+  unfolding extract_field_of
+  extract_field = then dest (λ d u. then (value {p = 2}) (λ x p. then name (λ k u. last _ type (λ y u. stands (p & empty) empty refl empty refl))))
 
-  insert-field : Of 14 (insertFieldOf b seen)
-  unfolding insertFieldOf
-  insert-field = then dest (λ d u. then (value {p = 2}) (λ x p. then name (λ k u. then value (λ y q. last _ type (λ z u. stands (p & q & empty) empty refl empty refl)))))
+  insert_field : Of 14 (insert_field_of b seen)
+  unfolding insert_field_of
+  insert_field = then dest (λ d u. then (value {p = 2}) (λ x p. then name (λ k u. then value (λ y q. last _ type (λ z u. stands (p & q & empty) empty refl empty refl)))))
 
-  insert-tuple : Of 15 (insertTupleOf b seen)
-  unfolding insertTupleOf
-  insert-tuple = then dest (λ d u. then (value {p = 2}) (λ x p. then (number 4) (λ k u. then value (λ y q. last _ type (λ z u. stands (p & q & empty) empty refl empty refl)))))
+  insert_tuple : Of 15 (insert_tuple_of b seen)
+  unfolding insert_tuple_of
+  insert_tuple = then dest (λ d u. then (value {p = 2}) (λ x p. then (number 4) (λ k u. then value (λ y q. last _ type (λ z u. stands (p & q & empty) empty refl empty refl)))))
 
-  make-array : Of 16 (makeArrayOf b seen c)
-  unfolding makeArrayOf
-  make-array = then dest (λ d u. then values (λ xs p. last _ type (λ y u. stands empty p.0 p.1 empty refl)))
+  make_array : Of 16 (make_array_of b seen c)
+  unfolding make_array_of
+  make_array = then dest (λ d u. then values (λ xs p. last _ type (λ y u. stands empty p.0 p.1 empty refl)))
 
-  assert-eq : Of 17 (assertEqOf b seen)
-  unfolding assertEqOf
-  assert-eq = then value (λ x p. last _ value (λ y q. stands (p & beside (valueEnd t 0) q & empty) empty refl empty refl))
+  assert_eq : Of 17 (assert_eq_of b seen)
+  unfolding assert_eq_of
+  assert_eq = then value (λ x p. last _ value (λ y q. stands (p & beside (value_end t 0) q & empty) empty refl empty refl))
 
-  heap-alloc : Of 18 (heapAllocOf b seen)
-  unfolding heapAllocOf
-  heap-alloc = then dest (λ d u. last _ (value {p = 2}) (λ x p. stands (p & empty) empty refl empty refl))
+  heap_alloc : Of 18 (heap_alloc_of b seen)
+  unfolding heap_alloc_of
+  heap_alloc = then dest (λ d u. last _ (value {p = 2}) (λ x p. stands (p & empty) empty refl empty refl))
 
   -- decoders of the kinds from number j on
   infixr 67 ◌and◌
@@ -258,6 +258,6 @@ module _ (b : Bounds) (seen : List Bool) (c : Bool) (t : List ℕ) where
   fields k =
       rw zero-add at
       (row_at
-      (assign and unary and binary and call and cast and load and store and debug and nop and phi and make-tuple and extract-tuple
-      and make-struct and extract-field and insert-field and insert-tuple and make-array and assert-eq and heap-alloc and done)
+      (assign and unary and binary and call and cast and load and store and debug and nop and phi and make_tuple and extract_tuple
+      and make_struct and extract_field and insert_field and insert_tuple and make_array and assert_eq and heap_alloc and done)
       k)

@@ -6,20 +6,20 @@ use mathlib.Core.Option.{Option, some}
 use native.Mathlib.Nat.{sub-zero}
 use native.Mathlib.Omega.{arith}
 use lib.ListN.{get_or, drop}
-use Rattle.bytes_wire.specs.Parse.{Parse, ok, bad, later, mapParse}
+use Rattle.bytes_wire.specs.Parse.{Parse, ok, bad, later, map_parse}
 use Rattle.bytes_wire.specs.Number.{number_of, at16, at32}
-use Rattle.bytes_wire.specs.Value.{value_of, asValue}
+use Rattle.bytes_wire.specs.Value.{value_of, as_value}
 use Rattle.bytes_wire.specs.declared.Cause.{Cause}
 use Rattle.mir.specs.declared.Value.{Value}
 use Rattle.bytes_wire.specs.declared.ReadValue.{ReadValue}
-use Rattle.bytes_wire.proofs.Laws.{from-16, from-32}
-use Rattle.bytes_wire.proofs.Inv.{no_ok, behind, image, later-inv, map-inv, number-inv, tagged-inv}
+use Rattle.bytes_wire.proofs.Laws.{from_16, from_32}
+use Rattle.bytes_wire.proofs.Inv.{no_ok, behind, image, later_inv, map_inv, number_inv, tagged_inv}
 use Rattle.mir.specs.Syntax.{Projection}
-use Rattle.bytes_field.specs.Decode.{nameIdOf, projectionOf}
-use Rattle.bytes_operands.specs.Fields.{valueSize, valueEnd, valueStep, after}
+use Rattle.bytes_field.specs.Decode.{name_id_of, projection_of}
+use Rattle.bytes_operands.specs.Fields.{value_size, value_end, value_step, after}
 
 -- the kinds of values that take one byte
-pub one_byte : (k : ℕ) → (k ≡ 0 → ⊥) → (k ≡ 1 → ⊥) → (k ≡ 3 → ⊥) → ◌≡◌ {A = ℕ} 1 (valueSize k)
+pub one_byte : (k : ℕ) → (k ≡ 0 → ⊥) → (k ≡ 1 → ⊥) → (k ≡ 3 → ⊥) → ◌≡◌ {A = ℕ} 1 (value_size k)
 one_byte zero f g h = absurd (f refl)
 one_byte (suc zero) f g h = absurd (g refl)
 one_byte (suc (suc zero)) f g h = refl
@@ -55,68 +55,68 @@ unfolding after
 gone end k at here i g h = let z : k - i ≡ 0 = omega arith in sym (rw z at g.left)
 
 -- values with nothing between them
-pub plain_step : (t : List ℕ) (at : ℕ) → valueEnd t at ≡ valueStep t 0 0 at
+pub plain_step : (t : List ℕ) (at : ℕ) → value_end t at ≡ value_step t 0 0 at
 plain_step t at = sym (let z : at + 0 ≡ at = omega arith in rw z (omega arith))
 
-pub plain-values : (t : List ℕ) (k at : ℕ) → after (valueStep t 0 0) k at ≡ after (valueEnd t) k at
+pub plain_values : (t : List ℕ) (k at : ℕ) → after (value_step t 0 0) k at ≡ after (value_end t) k at
 unfolding after
-plain-values t zero at = refl
-plain-values t (suc k) at = ap (after (valueStep t 0 0) k) (sym (plain_step t at)) ∙ plain-values t k (valueEnd t at)
+plain_values t zero at = refl
+plain_values t (suc k) at = ap (after (value_step t 0 0) k) (sym (plain_step t at)) ∙ plain_values t k (value_end t at)
 
 -- a value that was read from the same bytes
-pub same-value : (next : ℕ) (u v : List ℕ) {r : ReadValue} {x y : Value} {m n : ℕ} → asValue r ≡ value_of next u → u ≡ v → r ≡ ReadValue.Got x m → value_of next v ≡ ok y n → x ≡ y
-same-value next u v {r} {x} {y} {m} {n} p q e f =
-    let z : ok x m ≡ ok y n = sym (ap asValue e) ∙ p ∙ ap (value_of next) q ∙ f in
+pub same_value : (next : ℕ) (u v : List ℕ) {r : ReadValue} {x y : Value} {m n : ℕ} → as_value r ≡ value_of next u → u ≡ v → r ≡ ReadValue.Got x m → value_of next v ≡ ok y n → x ≡ y
+same_value next u v {r} {x} {y} {m} {n} p q e f =
+    let z : ok x m ≡ ok y n = sym (ap as_value e) ∙ p ∙ ap (value_of next) q ∙ f in
     cc
 
 -- one that was refused
-pub refused-value : (next : ℕ) (u v : List ℕ) {r : ReadValue} {c : Cause} {o : ℕ} {y : Value} {n : ℕ} → asValue r ≡ value_of next u → u ≡ v → r ≡ ReadValue.Refused c o → value_of next v ≡ ok y n → ⊥
-refused-value next u v {r} {c} {o} {y} {n} p q e f = no_ok (sym (ap asValue e) ∙ p ∙ ap (value_of next) q ∙ f)
+pub refused_value : (next : ℕ) (u v : List ℕ) {r : ReadValue} {c : Cause} {o : ℕ} {y : Value} {n : ℕ} → as_value r ≡ value_of next u → u ≡ v → r ≡ ReadValue.Refused c o → value_of next v ≡ ok y n → ⊥
+refused_value next u v {r} {c} {o} {y} {n} p q e f = no_ok (sym (ap as_value e) ∙ p ∙ ap (value_of next) q ∙ f)
 
 -- the decoders of projections, by their kind byte
 abbrev steps : ℕ → List (List ℕ → Parse Projection)
-steps next = (λ t. mapParse Projection.Index (value_of next t)) ∷ (λ t. mapParse Projection.Field (nameIdOf t)) ∷ (λ t. mapParse Projection.Tuple (number_of 4 t)) ∷ []
+steps next = (λ t. map_parse Projection.Index (value_of next t)) ∷ (λ t. map_parse Projection.Field (name_id_of t)) ∷ (λ t. map_parse Projection.Tuple (number_of 4 t)) ∷ []
 
-module _ (next : ℕ) (s : List ℕ) {p : Projection} {n : ℕ} (e : projectionOf next s ≡ ok p n) where
+module _ (next : ℕ) (s : List ℕ) {p : Projection} {n : ℕ} (e : projection_of next s ≡ ok p n) where
   -- what the kind byte chose
   chose : get_or (map (λ f. later 1 (f (drop 1 s))) (steps next)) (get_or s 0 0) (bad Cause.Undefined 0) ≡ ok p n
-  unfolding projectionOf
-  chose = (tagged-inv (steps next) s e).1
+  unfolding projection_of
+  chose = (tagged_inv (steps next) s e).1
 
   -- an Index has the value behind it
-  pub step-index : {r : Option Projection} → get_or s 0 0 ≡ 0 → ((x : Value) (m : ℕ) → value_of next (drop 1 s) ≡ ok x m → r ≡ some (Projection.Index x)) → r ≡ some p
-  step-index {r} z f =
-      let h : later 1 (mapParse Projection.Index (value_of next (drop 1 s))) ≡ ok p n = rw z at chose in
-      elim (later-inv 1 (mapParse Projection.Index (value_of next (drop 1 s))) h) [
-        | behind k q l ↦ elim (map-inv Projection.Index (value_of next (drop 1 s)) q) [ image x g i ↦ rw i (f x k g) ]
+  pub step_index_lem : {r : Option Projection} → get_or s 0 0 ≡ 0 → ((x : Value) (m : ℕ) → value_of next (drop 1 s) ≡ ok x m → r ≡ some (Projection.Index x)) → r ≡ some p
+  step_index_lem {r} z f =
+      let h : later 1 (map_parse Projection.Index (value_of next (drop 1 s))) ≡ ok p n = rw z at chose in
+      elim (later_inv 1 (map_parse Projection.Index (value_of next (drop 1 s))) h) [
+        | behind k q l ↦ elim (map_inv Projection.Index (value_of next (drop 1 s)) q) [ image x g i ↦ rw i (f x k g) ]
       ]
 
   -- a Field the name
   pub step_field : get_or s 0 0 ≡ 1 → some (Projection.Field (record { 0 = at16 s 1 })) ≡ some p
   step_field z =
-      let h : later 1 (mapParse Projection.Field (nameIdOf (drop 1 s))) ≡ ok p n = rw z at chose in
-      elim (later-inv 1 (mapParse Projection.Field (nameIdOf (drop 1 s))) h) [
+      let h : later 1 (map_parse Projection.Field (name_id_of (drop 1 s))) ≡ ok p n = rw z at chose in
+      elim (later_inv 1 (map_parse Projection.Field (name_id_of (drop 1 s))) h) [
         | behind k q l ↦
-            elim (map-inv Projection.Field (nameIdOf (drop 1 s)) q) [
+            elim (map_inv Projection.Field (name_id_of (drop 1 s)) q) [
               | image x g i ↦
-                  elim (map-inv (λ y. record { 0 = y }) (number_of 2 (drop 1 s)) g) [
-                    | image y f j ↦ let v : y ≡ at16 s 1 = (number-inv 2 (drop 1 s) f).1 ∙ from-16 s 1 in rw (i, j, v)
+                  elim (map_inv (λ y. record { 0 = y }) (number_of 2 (drop 1 s)) g) [
+                    | image y f j ↦ let v : y ≡ at16 s 1 = (number_inv 2 (drop 1 s) f).1 ∙ from_16 s 1 in rw (i, j, v)
                   ]
             ]
       ]
 
   -- and a Tuple the index
-  pub step-tuple : (get_or s 0 0 ≡ 0 → ⊥) → (get_or s 0 0 ≡ 1 → ⊥) → some (Projection.Tuple (at32 s 1)) ≡ some p
-  step-tuple z z' = go (get_or s 0 0) z z' chose
+  pub step_tuple : (get_or s 0 0 ≡ 0 → ⊥) → (get_or s 0 0 ≡ 1 → ⊥) → some (Projection.Tuple (at32 s 1)) ≡ some p
+  step_tuple z z' = go (get_or s 0 0) z z' chose
     where
       go : (k : ℕ) → (k ≡ 0 → ⊥) → (k ≡ 1 → ⊥) → get_or (map (λ f. later 1 (f (drop 1 s))) (steps next)) k (bad Cause.Undefined 0) ≡ ok p n → some (Projection.Tuple (at32 s 1)) ≡ some p
       go zero f g h = absurd (f refl)
       go (suc zero) f g h = absurd (g refl)
       go (suc (suc zero)) f g h =
-          elim (later-inv 1 (mapParse Projection.Tuple (number_of 4 (drop 1 s))) h) [
+          elim (later_inv 1 (map_parse Projection.Tuple (number_of 4 (drop 1 s))) h) [
             | behind k q l ↦
-                elim (map-inv Projection.Tuple (number_of 4 (drop 1 s)) q) [
-                  | image x f i ↦ let v : x ≡ at32 s 1 = (number-inv 4 (drop 1 s) f).1 ∙ from-32 s 1 in rw (i, v)
+                elim (map_inv Projection.Tuple (number_of 4 (drop 1 s)) q) [
+                  | image x f i ↦ let v : x ≡ at32 s 1 = (number_inv 4 (drop 1 s) f).1 ∙ from_32 s 1 in rw (i, v)
                 ]
           ]
       go (suc (suc (suc k))) f g h = absurd (no_ok h)

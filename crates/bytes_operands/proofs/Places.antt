@@ -8,11 +8,11 @@ use native.Mathlib.Omega.{arith}
 use lib.ListN.{length, get_or, get_elem?, drop}
 use lib.Seq.{drop-drop}
 use lib.Dec.{leb}
-use Rattle.bytes_wire.specs.Parse.{Parse, ok, bad, later, and_then, mapParse, checked, tagged, seqOf}
-use Rattle.bytes_wire.specs.Number.{number_of, u8Of}
+use Rattle.bytes_wire.specs.Parse.{Parse, ok, bad, later, and_then, map_parse, checked, tagged, seq_of}
+use Rattle.bytes_wire.specs.Number.{number_of, u8_of}
 use Rattle.bytes_wire.specs.declared.Cause.{Cause}
-use Rattle.bytes_wire.proofs.Laws.{from-8}
-use Rattle.bytes_wire.proofs.Inv.{no_ok, both, behind, image, later-inv, and-inv, map-inv, checked-inv, number-inv, tagged-inv}
+use Rattle.bytes_wire.proofs.Laws.{from_8}
+use Rattle.bytes_wire.proofs.Inv.{no_ok, both, behind, image, later_inv, and_inv, map_inv, checked_inv, number_inv, tagged_inv}
 use Rattle.bytes_field.specs.Decode.{count_of, list_of}
 use Rattle.bytes_operands.specs.Fields.{after}
 
@@ -29,7 +29,7 @@ pub then : {A B : Type 0} {t : List ℕ} {at end : ℕ} {dec : List ℕ → Pars
 then {A} {B} {t} {at} {end} {dec} {f} {Q} {P} x y =
     record {
       each = λ b n e.
-          elim (and-inv (drop at t) (dec (drop at t)) f e) [
+          elim (and_inv (drop at t) (dec (drop at t)) f e) [
             | both a m j p q r ↦
                 let h = x.each a m p in
                 let k : f a (drop end t) ≡ ok b j = rw (drop-drop, h.1) at q in
@@ -39,16 +39,16 @@ then {A} {B} {t} {at} {end} {dec} {f} {Q} {P} x y =
     }
 
 -- the last field, and what is made of it
-pub last : {A B : Type 0} {t : List ℕ} {at end : ℕ} {dec : List ℕ → Parse A} {Q : A → Type 0} {P : B → ℕ → Type 0} (g : A → B) → Field t at dec Q end → ((a : A) → Q a → P (g a) end) → Stand t at (λ s. mapParse g (dec s)) P
+pub last : {A B : Type 0} {t : List ℕ} {at end : ℕ} {dec : List ℕ → Parse A} {Q : A → Type 0} {P : B → ℕ → Type 0} (g : A → B) → Field t at dec Q end → ((a : A) → Q a → P (g a) end) → Stand t at (λ s. map_parse g (dec s)) P
 last {A} {B} {t} {at} {end} {dec} g x y =
     record {
       each = λ b n e.
-          elim (map-inv g (dec (drop at t)) e) [ image a p q ↦ let h = x.each a n p in rw (q, h.1) (y a h.0) ];
+          elim (map_inv g (dec (drop at t)) e) [ image a p q ↦ let h = x.each a n p in rw (q, h.1) (y a h.0) ];
     }
 
 -- the last field, of which nothing is known, and what is made of it
-pub made : {A B : Type 0} {t : List ℕ} {at : ℕ} {P : B → ℕ → Type 0} (dec : List ℕ → Parse A) (g : A → B) → ((a : A) (e : ℕ) → P (g a) e) → Stand t at (λ s. mapParse g (dec s)) P
-made {A} {B} {t} {at} dec g y = record { each = λ b n e. elim (map-inv g (dec (drop at t)) e) [ image a p q ↦ rw q (y a (at + n)) ] }
+pub made : {A B : Type 0} {t : List ℕ} {at : ℕ} {P : B → ℕ → Type 0} (dec : List ℕ → Parse A) (g : A → B) → ((a : A) (e : ℕ) → P (g a) e) → Stand t at (λ s. map_parse g (dec s)) P
+made {A} {B} {t} {at} dec g y = record { each = λ b n e. elim (map_inv g (dec (drop at t)) e) [ image a p q ↦ rw q (y a (at + n)) ] }
 
 -- no field
 pub alone : {A : Type 0} {t : List ℕ} {at : ℕ} {a : A} {P : A → ℕ → Type 0} → P a at → Stand t at (λ s. ok a 0) P
@@ -69,20 +69,20 @@ pub record Takes {A : Type 0} (dec : List ℕ → Parse A) (w : ℕ) : Type 0 wh
   pub each : (s : List ℕ) (a : A) (n : ℕ) → dec s ≡ ok a n → n ≡ w
 
 -- a number does
-pub takes-number : (w : ℕ) → Takes (number_of w) w
-takes-number w = record { each = λ s a n e. (number-inv w s e).2 }
+pub takes_number : (w : ℕ) → Takes (number_of w) w
+takes_number w = record { each = λ s a n e. (number_inv w s e).2 }
 
 -- so does what is made of such a thing
-pub takes-map : {A B : Type 0} {dec : List ℕ → Parse A} {w : ℕ} (g : A → B) → Takes dec w → Takes (λ s. mapParse g (dec s)) w
-takes-map {dec} g x = record { each = λ s b n e. elim (map-inv g (dec s) e) [ image a p q ↦ x.each s a n p ] }
+pub takes_map : {A B : Type 0} {dec : List ℕ → Parse A} {w : ℕ} (g : A → B) → Takes dec w → Takes (λ s. map_parse g (dec s)) w
+takes_map {dec} g x = record { each = λ s b n e. elim (map_inv g (dec s) e) [ image a p q ↦ x.each s a n p ] }
 
 -- a tested one
-pub takes-checked : {A : Type 0} {dec : List ℕ → Parse A} {w : ℕ} (c : Cause) (p : A → Bool) → Takes dec w → Takes (λ s. checked c p (dec s)) w
-takes-checked {dec} c p x = record { each = λ s a n e. x.each s a n (checked-inv c p (dec s) e).0 }
+pub takes_checked : {A : Type 0} {dec : List ℕ → Parse A} {w : ℕ} (c : Cause) (p : A → Bool) → Takes dec w → Takes (λ s. checked c p (dec s)) w
+takes_checked {dec} c p x = record { each = λ s a n e. x.each s a n (checked_inv c p (dec s) e).0 }
 
 -- and two in sequence
-pub takes-and : {A B : Type 0} {dec : List ℕ → Parse A} {f : A → List ℕ → Parse B} {v w : ℕ} → Takes dec v → ((a : A) → Takes (f a) w) → Takes (λ s. and_then s (dec s) f) (v + w)
-takes-and {dec} {f} x y = record { each = λ s b n e. elim (and-inv s (dec s) f e) [ both a m j p q r ↦ omega (arith, x.each s a m p, (y a).each (drop m s) b j q) ] }
+pub takes_and : {A B : Type 0} {dec : List ℕ → Parse A} {f : A → List ℕ → Parse B} {v w : ℕ} → Takes dec v → ((a : A) → Takes (f a) w) → Takes (λ s. and_then s (dec s) f) (v + w)
+takes_and {dec} {f} x y = record { each = λ s b n e. elim (and_inv s (dec s) f e) [ both a m j p q r ↦ omega (arith, x.each s a m p, (y a).each (drop m s) b j q) ] }
 
 -- such a field, at any place
 pub fixed : {A : Type 0} {t : List ℕ} {at w : ℕ} {dec : List ℕ → Parse A} → Takes dec w → Field t at dec (λ a. Unit {0}) (at + w)
@@ -108,26 +108,26 @@ apart w zero p = omega arith
 apart w (suc k) p = apart w k (p + w) ∙ (let z : w * suc k ≡ w + w * k = omega arith in omega arith)
 
 -- what holds of the k-th of them
-pub listed-each : {A : Type 0} {Q : ℕ → A → Type 0} {end : ℕ → ℕ} {at : ℕ} {xs : List A} (d : A) → Listed Q end at xs → (k : ℕ) → k < length xs → Q (after end k at) (get_or xs k d)
+pub listed_each : {A : Type 0} {Q : ℕ → A → Type 0} {end : ℕ → ℕ} {at : ℕ} {xs : List A} (d : A) → Listed Q end at xs → (k : ℕ) → k < length xs → Q (after end k at) (get_or xs k d)
 unfolding after
-listed-each d empty k h = absurd (omega arith)
-listed-each d (q & qs) zero h = q
-listed-each d (q & qs) (suc k) h = listed-each d qs k (omega arith)
+listed_each d empty k h = absurd (omega arith)
+listed_each d (q & qs) zero h = q
+listed_each d (q & qs) (suc k) h = listed_each d qs k (omega arith)
 
 -- and there is none past their number
-pub listed-past : {A : Type 0} (xs : List A) (k : ℕ) → length xs ≤ k → none ≡ get_elem? xs k
-listed-past [] k h = refl
-listed-past (x ∷ xs) zero h = absurd (omega arith)
-listed-past (x ∷ xs) (suc k) h = listed-past xs k (omega arith)
+pub listed_past : {A : Type 0} (xs : List A) (k : ℕ) → length xs ≤ k → none ≡ get_elem? xs k
+listed_past [] k h = refl
+listed_past (x ∷ xs) zero h = absurd (omega arith)
+listed_past (x ∷ xs) (suc k) h = listed_past xs k (omega arith)
 
 -- what is made of each has what is known of it
-pub listed-map : {A B : Type 0} {Q : ℕ → A → Type 0} {R : ℕ → B → Type 0} {end : ℕ → ℕ} {at : ℕ} {xs : List A} (g : A → B) → ((p : ℕ) (x : A) → Q p x → R p (g x)) → Listed Q end at xs → Listed R end at (map g xs)
-listed-map g f empty = empty
-listed-map g f (p & ps) = f _ _ p & listed-map g f ps
+pub listed_map : {A B : Type 0} {Q : ℕ → A → Type 0} {R : ℕ → B → Type 0} {end : ℕ → ℕ} {at : ℕ} {xs : List A} (g : A → B) → ((p : ℕ) (x : A) → Q p x → R p (g x)) → Listed Q end at xs → Listed R end at (map g xs)
+listed_map g f empty = empty
+listed_map g f (p & ps) = f _ _ p & listed_map g f ps
 
 -- k things, one after another
-pub sequence : {A : Type 0} {t : List ℕ} {dec : List ℕ → Parse A} {Q : ℕ → A → Type 0} {end : ℕ → ℕ} → ((p : ℕ) → Field t p dec (Q p) (end p)) → (k at : ℕ) → Field t at (seqOf dec k) (λ xs. Listed Q end at xs × (length xs ≡ k)) (after end k at)
-unfolding seqOf after
+pub sequence : {A : Type 0} {t : List ℕ} {dec : List ℕ → Parse A} {Q : ℕ → A → Type 0} {end : ℕ → ℕ} → ((p : ℕ) → Field t p dec (Q p) (end p)) → (k at : ℕ) → Field t at (seq_of dec k) (λ xs. Listed Q end at xs × (length xs ≡ k)) (after end k at)
+unfolding seq_of after
 sequence x zero at = alone ((empty, refl), refl)
 sequence {end} x (suc k) at = then (x at) (λ a q. last (λ xs. a ∷ xs) (sequence x k (end at)) (λ xs r. ((q & r.0, ap suc r.1), refl)))
 
@@ -136,8 +136,8 @@ pub count : {t : List ℕ} (most at : ℕ) → Field t at (count_of most) (λ k.
 count {t} most at =
     record {
       each = λ k n e.
-          let h = number-inv 1 (drop at t) (checked-inv Cause.TooMany (λ n. leb n most) (u8Of (drop at t)) e).0 in
-          (h.1 ∙ from-8 t at, ap (λ m. at + m) h.2);
+          let h = number_inv 1 (drop at t) (checked_inv Cause.TooMany (λ n. leb n most) (u8_of (drop at t)) e).0 in
+          (h.1 ∙ from_8 t at, ap (λ m. at + m) h.2);
     }
 
 -- "lists u8 count first"
@@ -152,11 +152,11 @@ pub data Sizes {A : Type 0} (t : List ℕ) : List (List ℕ → Parse A) → Lis
   row : {f : List ℕ → Parse A} {fs : List (List ℕ → Parse A)} {w : ℕ} {ws : List ℕ} → ((a : A) (n : ℕ) → f t ≡ ok a n → 1 + n ≡ w) → Sizes t fs ws → Sizes t (f ∷ fs) (w ∷ ws)
 
 -- so does the one that a kind byte chooses
-sizes-at : {A : Type 0} {t : List ℕ} {fs : List (List ℕ → Parse A)} {ws : List ℕ} → Sizes t fs ws → (j d : ℕ) {a : A} {n : ℕ} → get_or (map (λ f. later 1 (f t)) fs) j (bad Cause.Undefined 0) ≡ ok a n → n ≡ get_or ws j d
-sizes-at over j d e = absurd (no_ok e)
-sizes-at {t} (row {f} x r) zero d {a} e = elim (later-inv 1 (f t) e) [ behind k p q ↦ q ∙ x a k p ]
-sizes-at (row x r) (suc j) d e = sizes-at r j d e
+sizes_at : {A : Type 0} {t : List ℕ} {fs : List (List ℕ → Parse A)} {ws : List ℕ} → Sizes t fs ws → (j d : ℕ) {a : A} {n : ℕ} → get_or (map (λ f. later 1 (f t)) fs) j (bad Cause.Undefined 0) ≡ ok a n → n ≡ get_or ws j d
+sizes_at over j d e = absurd (no_ok e)
+sizes_at {t} (row {f} x r) zero d {a} e = elim (later_inv 1 (f t) e) [ behind k p q ↦ q ∙ x a k p ]
+sizes_at (row x r) (suc j) d e = sizes_at r j d e
 
 -- and a tagged thing takes what its kind's row says
-pub tagged-size : {A : Type 0} {fs : List (List ℕ → Parse A)} {ws : List ℕ} (s : List ℕ) → Sizes (drop 1 s) fs ws → (d : ℕ) {a : A} {n : ℕ} → tagged fs s ≡ ok a n → n ≡ get_or ws (get_or s 0 0) d
-tagged-size {fs} s r d e = sizes-at r (get_or s 0 0) d (tagged-inv fs s e).1
+pub tagged_size : {A : Type 0} {fs : List (List ℕ → Parse A)} {ws : List ℕ} (s : List ℕ) → Sizes (drop 1 s) fs ws → (d : ℕ) {a : A} {n : ℕ} → tagged fs s ≡ ok a n → n ≡ get_or ws (get_or s 0 0) d
+tagged_size {fs} s r d e = sizes_at r (get_or s 0 0) d (tagged_inv fs s e).1

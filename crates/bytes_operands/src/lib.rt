@@ -8,10 +8,10 @@ ghost use Rattle.bytes_wire.specs.Parse.{ok};
 ghost use Rattle.bytes_wire.specs.Value.{value_of};
 ghost use Rattle.mir.specs.declared.Value.{Value as AnyValue};
 ghost use Rattle.mir.specs.Syntax.{Projection, Instruction};
-ghost use Rattle.bytes_field.specs.Decode.{projectionOf, instructionOf};
-ghost use Rattle.bytes_operands.specs.Fields.{ValueAt, operandFields, placeSteps, fieldsPlace, valueSize, valueEnd, projectionEnd};
-ghost use Rattle.bytes_operands.specs.Fields.{after, valueStep, operand_row, operandFirst, stepsAt, stepCount, asFound, asStep};
-ghost use Rattle.bytes_operands.specs.Reach.{valueReach, stepReach, listReach, operandReach};
+ghost use Rattle.bytes_field.specs.Decode.{projection_of, instruction_of};
+ghost use Rattle.bytes_operands.specs.Fields.{ValueAt, operand_fields, place_steps, fields_place, value_size, value_end, projection_end};
+ghost use Rattle.bytes_operands.specs.Fields.{after, value_step, operand_row, operand_first, steps_at, step_count, as_found, as_step};
+ghost use Rattle.bytes_operands.specs.Reach.{value_reach, step_reach, list_reach, operand_reach};
 
 use bytes_field::Bounds;
 use bytes_wire::ReadValue;
@@ -85,7 +85,7 @@ fn stands(bits: u8, power: u8, size: usize) -> usize
 
 // Where an instruction's own fields begin: behind the bit map, the kind, and what stands beside it.
 pub fn fields_place(s: &[u8]) -> usize
-    ensures { result ≡ fieldsPlace s.now }
+    ensures { result ≡ fields_place s.now }
 {
     let bits = bytes_wire::byte_at(s, 0);
     2 + (stands(bits, 1, 8) + (stands(bits, 2, 12) + stands(bits, 4, 4)))
@@ -93,7 +93,7 @@ pub fn fields_place(s: &[u8]) -> usize
 
 // How many bytes a value takes, by its kind.
 fn value_size(kind: u8) -> usize
-    ensures { (result ≡ valueSize kind) × (result < 6) }
+    ensures { (result ≡ value_size kind) × (result < 6) }
 {
     match kind {
         bytes_wire::INTEGER => 5,
@@ -105,8 +105,8 @@ fn value_size(kind: u8) -> usize
 
 // The place behind the value that stands at a place.
 pub fn value_end(t: &[u8], at: usize) -> usize
-    requires { at < valueReach }
-    ensures { (result ≡ valueEnd t.now at) × (result ≤ at + 5) }
+    requires { at < value_reach }
+    ensures { (result ≡ value_end t.now at) × (result ≤ at + 5) }
 {
     at + value_size(bytes_wire::byte_at(t, at))
 }
@@ -123,7 +123,7 @@ pub fn value_at(t: &[u8], at: usize, next: u16) -> Value
 
 // The value that stands at a place, where one does.
 fn found_at(t: &[u8], at: usize, next: u16) -> Found
-    ensures { (x : AnyValue) (n : ℕ) → value_of next (drop at t.now) ≡ ok x n → asFound result ≡ some x }
+    ensures { (x : AnyValue) (n : ℕ) → value_of next (drop at t.now) ≡ ok x n → as_found result ≡ some x }
 {
     match bytes_wire::read_value(bytes_field::tail(t, at), next) {
         ReadValue::Got(x, _) => Found::Value(x),
@@ -133,8 +133,8 @@ fn found_at(t: &[u8], at: usize, next: u16) -> Found
 
 // The place behind the projection that stands at a place.
 pub fn projection_end(t: &[u8], at: usize) -> usize
-    requires { at < stepReach }
-    ensures { (result ≡ projectionEnd t.now at) × (result ≤ at + 6) }
+    requires { at < step_reach }
+    ensures { (result ≡ projection_end t.now at) × (result ≤ at + 6) }
 {
     let kind = bytes_wire::byte_at(t, at);
     match kind {
@@ -146,8 +146,8 @@ pub fn projection_end(t: &[u8], at: usize) -> usize
 
 // The place behind `k` projections.
 pub fn projections_end(t: &[u8], at: usize, k: u8) -> usize
-    requires { at < listReach }
-    ensures { (result ≡ after (projectionEnd t.now) k at) × (result ≤ at + 6 * k) }
+    requires { at < list_reach }
+    ensures { (result ≡ after (projection_end t.now) k at) × (result ≤ at + 6 * k) }
 {
     let mut here = at;
     let mut i: u8 = 0;
@@ -160,8 +160,8 @@ pub fn projections_end(t: &[u8], at: usize, k: u8) -> usize
 
 // The place behind `k` values with `before` bytes before each and `gap` behind it.
 pub fn values_end(t: &[u8], at: usize, before: u8, gap: u8, k: u8) -> usize
-    requires { at < listReach }
-    ensures { (result ≡ after (valueStep t.now before gap) k at) × (result ≤ at + 600 * k) }
+    requires { at < list_reach }
+    ensures { (result ≡ after (value_step t.now before gap) k at) × (result ≤ at + 600 * k) }
 {
     let mut here = at;
     let mut j: u8 = 0;
@@ -174,7 +174,7 @@ pub fn values_end(t: &[u8], at: usize, before: u8, gap: u8, k: u8) -> usize
 
 // Where the first operand field stands.
 fn operand_first(t: &[u8], kind: u8) -> usize
-    ensures { (result ≡ operandFirst t.now kind) × (result < operandReach) }
+    ensures { (result ≡ operand_first t.now kind) × (result < operand_reach) }
 {
     if kind == STORE {
         return projections_end(t, 3, bytes_wire::byte_at(t, 2));
@@ -185,7 +185,7 @@ fn operand_first(t: &[u8], kind: u8) -> usize
 // Operand field `k` of an instruction.
 pub fn operand(s: &[u8], b: Bounds, k: u8) -> Found
     ensures { (seen : List Bool) (late : Bool) (i : Instruction) (n : ℕ) →
-        instructionOf b seen late s.now ≡ ok i n → asFound result ≡ get_elem? (operandFields i.kind) k }
+        instruction_of b seen late s.now ≡ ok i n → as_found result ≡ get_elem? (operand_fields i.kind) k }
 {
     let kind = bytes_wire::byte_at(s, 1);
     let o = operands_of(kind);
@@ -198,7 +198,7 @@ pub fn operand(s: &[u8], b: Bounds, k: u8) -> Found
 
 // The projection that stands at a place.
 pub fn step_at(t: &[u8], at: usize, next: u16) -> Step
-    ensures { (p : Projection) (n : ℕ) → projectionOf next (drop at t.now) ≡ ok p n → asStep result ≡ some p }
+    ensures { (p : Projection) (n : ℕ) → projection_of next (drop at t.now) ≡ ok p n → as_step result ≡ some p }
 {
     let u = bytes_field::tail(t, at);
     let kind = bytes_wire::byte_at(u, 0);
@@ -214,14 +214,14 @@ pub fn step_at(t: &[u8], at: usize, next: u16) -> Step
 
 // Where the count of an instruction's projections stands.
 fn steps_at(kind: u8) -> usize
-    ensures { (result ≡ stepsAt kind) × (result < 5) }
+    ensures { (result ≡ steps_at kind) × (result < 5) }
 {
     if kind == LOAD { 4 } else { 2 }
 }
 
 // How many projections an instruction has.
 fn step_count(t: &[u8], kind: u8) -> u8
-    ensures { result ≡ stepCount t.now kind }
+    ensures { result ≡ step_count t.now kind }
 {
     match kind {
         LOAD => bytes_wire::byte_at(t, 4),
@@ -233,7 +233,7 @@ fn step_count(t: &[u8], kind: u8) -> u8
 // Projection `k` of a Load's or Store's place.
 pub fn projection(s: &[u8], b: Bounds, k: u8) -> Step
     ensures { (seen : List Bool) (late : Bool) (i : Instruction) (n : ℕ) →
-        instructionOf b seen late s.now ≡ ok i n → asStep result ≡ get_elem? (placeSteps i.kind) k }
+        instruction_of b seen late s.now ≡ ok i n → as_step result ≡ get_elem? (place_steps i.kind) k }
 {
     let kind = bytes_wire::byte_at(s, 1);
     let t = bytes_field::tail(s, fields_place(s));

@@ -3,8 +3,8 @@
 
 ghost use Rattle.std.specs.Prelude.{◌≡◌, false, ◌≤◌, length, replicate};
 ghost use Rattle.bytes_sections.specs.Facts.{BodyRead, RoutineRead};
-ghost use Rattle.bytes_index.specs.Table.{factsSize};
-ghost use Rattle.mir.specs.Most.{mostValues, mostBlocks};
+ghost use Rattle.bytes_index.specs.Table.{facts_size};
+ghost use Rattle.mir.specs.Most.{most_values, most_blocks};
 
 use bytes_field::{Bounds, Part};
 use bytes_sections::{Checked, SizesRead, sections};
@@ -14,7 +14,7 @@ use mir::most;
 // What stands behind the sizes: parameters, recorded types, blocks, and nothing more. No value is marked in `seen`.
 fn read_marked(s: &[u8], at: usize, b: Bounds, seen: &mut [bool], facts: &mut [u16]) -> Checked
     requires { (at ≤ length s.now) × (seen.old ≡ replicate b.next false)
-        × (b.next ≤ mostValues) × (b.blocks ≤ mostBlocks) × (factsSize ≤ length facts.old) }
+        × (b.next ≤ most_values) × (b.blocks ≤ most_blocks) × (facts_size ≤ length facts.old) }
     ensures { BodyRead b at s.now result facts.old facts.new }
 {
     let map = match sections::parameters_part(&s[at..], b, seen) {
@@ -49,7 +49,7 @@ fn read_marked(s: &[u8], at: usize, b: Bounds, seen: &mut [bool], facts: &mut [u
 
 // What stands behind the sizes, where no value is marked as defined yet: the marks are made here.
 fn read_body(s: &[u8], at: usize, b: Bounds, facts: &mut [u16]) -> Checked
-    requires { (at ≤ length s.now) × (b.next ≤ mostValues) × (b.blocks ≤ mostBlocks) × (factsSize ≤ length facts.old) }
+    requires { (at ≤ length s.now) × (b.next ≤ most_values) × (b.blocks ≤ most_blocks) × (facts_size ≤ length facts.old) }
     ensures { BodyRead b at s.now result facts.old facts.new }
 {
     let n = b.next as usize;
@@ -59,7 +59,7 @@ fn read_body(s: &[u8], at: usize, b: Bounds, facts: &mut [u16]) -> Checked
 
 // Reads a whole routine, and fills the table with its facts. What a refusal leaves in the table is free (`LeftFree`).
 pub fn read_routine(s: &[u8], facts: &mut [u16]) -> Checked
-    requires { factsSize ≤ length facts.old }
+    requires { facts_size ≤ length facts.old }
     ensures { RoutineRead s.now result facts.old facts.new }
 {
     let m = bytes_sections::MOSTS;

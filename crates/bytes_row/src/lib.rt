@@ -3,10 +3,10 @@
 #![tactic(auto)]
 
 ghost use Rattle.std.specs.Prelude.{◌≡◌, List, Bool, not, ◌≤◌, ◌<◌, length};
-ghost use Rattle.bytes_wire.specs.Parse.{and_then, mapParse};
+ghost use Rattle.bytes_wire.specs.Parse.{and_then, map_parse};
 ghost use Rattle.bytes_wire.specs.Value.{value_of};
-ghost use Rattle.bytes_field.specs.Walk.{walk_of, usesValue, pairWalk, times, first_of, second_of, counts};
-ghost use Rattle.bytes_field.specs.Walk.{listWalk, placeWalk, fieldWalk, rowWalk, asScan};
+ghost use Rattle.bytes_field.specs.Walk.{walk_of, uses_value, pair_walk, times, first_of, second_of, counts};
+ghost use Rattle.bytes_field.specs.Walk.{list_walk, place_walk, field_walk, row_walk, as_scan};
 
 use bytes_field::{Bounds, Lists, Scan};
 use bytes_wire::{Cause, Read8};
@@ -65,8 +65,8 @@ fn miscounts(count: u8, l: Lists) -> bool
 
 // A value, behind what was read.
 fn then_value(s: &[u8], p: Scan, next: u16, buffer: &mut [u16]) -> Scan
-    ensures { (seen : List Bool) → asScan result seen buffer.new ≡
-        and_then s.now (asScan p seen buffer.old) (λ w t. mapParse (usesValue w) (value_of next t)) }
+    ensures { (seen : List Bool) → as_scan result seen buffer.new ≡
+        and_then s.now (as_scan p seen buffer.old) (λ w t. map_parse (uses_value w) (value_of next t)) }
 {
     match p {
         Scan::Refused(k, o) => Scan::Refused(k, o),
@@ -87,8 +87,8 @@ fn read_element(
     seen: &mut [bool],
     buffer: &mut [u16],
 ) -> Scan
-    ensures { asScan result seen.new buffer.new ≡
-        pairWalk b (first_of k) (second_of k) (walk_of seen.old buffer.old n late) s.now }
+    ensures { as_scan result seen.new buffer.new ≡
+        pair_walk b (first_of k) (second_of k) (walk_of seen.old buffer.old n late) s.now }
 {
     match k {
         VALUES => bytes_field::read_value(s, n, late, b.next, buffer),
@@ -122,7 +122,7 @@ fn read_elements(
     seen: &mut [bool],
     buffer: &mut [u16],
 ) -> Scan
-    ensures { asScan result seen.new buffer.new ≡ times (pairWalk b (first_of k) (second_of k)) count
+    ensures { as_scan result seen.new buffer.new ≡ times (pair_walk b (first_of k) (second_of k)) count
         (walk_of seen.old buffer.old p before) s.now }
 {
     let mut at: usize = 0;
@@ -154,8 +154,8 @@ fn read_list(
     seen: &mut [bool],
     buffer: &mut [u16],
 ) -> Scan
-    ensures { asScan result seen.new buffer.new ≡
-        listWalk b l (first_of k) (second_of k) (walk_of seen.old buffer.old n late) s.now }
+    ensures { as_scan result seen.new buffer.new ≡
+        list_walk b l (first_of k) (second_of k) (walk_of seen.old buffer.old n late) s.now }
 {
     match bytes_count::list_count(s, l.most) {
         Read8::Refused(c, o) => Scan::Refused(c, o),
@@ -178,8 +178,8 @@ fn read_place(
     seen: &mut [bool],
     buffer: &mut [u16],
 ) -> Scan
-    ensures { asScan result seen.new buffer.new ≡
-        placeWalk b (walk_of seen.old buffer.old n late) s.now }
+    ensures { as_scan result seen.new buffer.new ≡
+        place_walk b (walk_of seen.old buffer.old n late) s.now }
 {
     match bytes_field::read_base(s, n, late, b.next, buffer) {
         Scan::Refused(c, o) => Scan::Refused(c, o),
@@ -210,8 +210,8 @@ fn read_listed(
     buffer: &mut [u16],
 ) -> Scan
     requires { (10 ≤ c) × (c < 16) }
-    ensures { asScan result seen.new buffer.new ≡
-        fieldWalk b many c (walk_of seen.old buffer.old n late) s.now }
+    ensures { as_scan result seen.new buffer.new ≡
+        field_walk b many c (walk_of seen.old buffer.old n late) s.now }
 {
     let l = Lists {
         most: b.list,
@@ -233,8 +233,8 @@ fn read_field(
     buffer: &mut [u16],
 ) -> Scan
     requires { c < 16 }
-    ensures { asScan result seen.new buffer.new ≡
-        fieldWalk b many c (walk_of seen.old buffer.old n late) s.now }
+    ensures { as_scan result seen.new buffer.new ≡
+        field_walk b many c (walk_of seen.old buffer.old n late) s.now }
 {
     match c {
         NONE => Scan::Used(0, n, late),
@@ -262,8 +262,8 @@ fn read_row(
     seen: &mut [bool],
     buffer: &mut [u16],
 ) -> Scan
-    ensures { asScan result seen.new buffer.new ≡
-        rowWalk b many 5 row (walk_of seen.old buffer.old p before) s.now }
+    ensures { as_scan result seen.new buffer.new ≡
+        row_walk b many 5 row (walk_of seen.old buffer.old p before) s.now }
 {
     let mut at: usize = 0;
     let mut n = p;
@@ -294,8 +294,8 @@ pub fn then_row(
     seen: &mut [bool],
     buffer: &mut [u16],
 ) -> Scan
-    ensures { asScan result seen.new buffer.new ≡
-        and_then s.now (asScan p seen.old buffer.old) (λ w t. rowWalk b many 5 row w t) }
+    ensures { as_scan result seen.new buffer.new ≡
+        and_then s.now (as_scan p seen.old buffer.old) (λ w t. row_walk b many 5 row w t) }
 {
     match p {
         Scan::Refused(k, o) => Scan::Refused(k, o),

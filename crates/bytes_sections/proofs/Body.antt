@@ -9,103 +9,103 @@ use native.Mathlib.Omega.{arith}
 use borrow.Author.Tests.{eq-eqb, ne_eqb}
 use lib.ListN.{length, take, drop, replicate, length-drop}
 use lib.Seq.{drop-drop}
-use Rattle.bytes_wire.specs.Parse.{Parse, ok, bad, later, and_then, mapParse}
+use Rattle.bytes_wire.specs.Parse.{Parse, ok, bad, later, and_then, map_parse}
 use Rattle.bytes_wire.specs.declared.Cause.{Cause}
 use Rattle.mir.specs.declared.BlockId.{BlockId}
 use Rattle.mir.specs.declared.TypeId.{TypeId}
 use Rattle.mir.specs.declared.ValueId.{ValueId}
-use Rattle.bytes_wire.proofs.Laws.{size, map-later, later-later, rest_all, told, told-size}
-use Rattle.bytes_wire.proofs.Inv.{behind, image, later-inv, map-inv, map-bad}
+use Rattle.bytes_wire.proofs.Laws.{size, map_later, later_later, rest_all, told, told_size}
+use Rattle.bytes_wire.proofs.Inv.{behind, image, later_inv, map_inv, map_bad}
 use Rattle.mir.specs.Syntax.{Block}
-use Rattle.bytes_field.specs.Decode.{definedsOf}
-use Rattle.bytes_field.specs.Walk.{asPart, unit}
+use Rattle.bytes_field.specs.Decode.{defineds_of}
+use Rattle.bytes_field.specs.Walk.{as_part, unit}
 use Rattle.bytes_field.specs.declared.Bounds.{Bounds}
 use Rattle.bytes_field.specs.declared.Part.{Part}
 use Rattle.bytes_block.specs.Decode.{marks}
-use Rattle.bytes_index.specs.Table.{recordedIn}
+use Rattle.bytes_index.specs.Table.{recorded_in}
 use Rattle.bytes_block.specs.Rows.{Kept}
-use Rattle.bytes_block.proofs.Filling.{kept-through}
+use Rattle.bytes_block.proofs.Filling.{kept_through}
 use Rattle.mir.specs.MirType.{MirType}
 use Rattle.mir.specs.Routine.{Routine}
-use Rattle.bytes_sections.specs.Decode.{mosts, mapOf, recordedOf, blocksOf, bounds_of, body_of, ended}
+use Rattle.bytes_sections.specs.Decode.{mosts, map_of, recorded_of, blocks_of, bounds_of, body_of, ended}
 use Rattle.bytes_sections.specs.Index.{RecordedAt, RecordedRead, ParametersRead, BlocksFilled, BlocksRead}
-use Rattle.bytes_sections.specs.Facts.{sizesFrom, BodyRead}
+use Rattle.bytes_sections.specs.Facts.{sizes_from, BodyRead}
 use Rattle.bytes_sections.specs.declared.Checked.{Checked}
-use Rattle.bytes_sections.proofs.Laws.{refused, refusal, part-bad, part-some}
-use Rattle.bytes_sections.proofs.Map.{size-map-of, map-bytes, same-types}
-use Rattle.bytes_sections.proofs.Recording.{size-recorded, recorded-length, recorded-kept}
-use Rattle.bytes_sections.proofs.Parameters.{size-parameters}
-use Rattle.bytes_sections.proofs.Coding.{size-blocks, blocks-length}
+use Rattle.bytes_sections.proofs.Laws.{refused, refusal, part_bad, part_some}
+use Rattle.bytes_sections.proofs.Map.{size_map_of, map_bytes, same_types}
+use Rattle.bytes_sections.proofs.Recording.{size_recorded, recorded_length, recorded_kept}
+use Rattle.bytes_sections.proofs.Parameters.{size_parameters}
+use Rattle.bytes_sections.proofs.Coding.{size_blocks, blocks_length}
 
 -- no value is defined
 abbrev pub clear : Bounds → List Bool
 clear b = replicate b.next false
 
 -- an answer of the parameters reaches no further than the bytes do
-pub parameters-size : (b : Bounds) (s : List ℕ) (at : ℕ) {before seen : List Bool} {r r' : Part} → at ≤ length s → ParametersRead b (take (length s - at) (drop at s)) (asPart r) before seen → r ≡ r' → at + size (asPart r') ≤ length s
-parameters-size b s at {before} h p g = told-size asPart (λ t. mapParse unit (definedsOf b.list b.next before t)) at s (size-parameters b before) h p.answers g
+pub parameters_size : (b : Bounds) (s : List ℕ) (at : ℕ) {before seen : List Bool} {r r' : Part} → at ≤ length s → ParametersRead b (take (length s - at) (drop at s)) (as_part r) before seen → r ≡ r' → at + size (as_part r') ≤ length s
+parameters_size b s at {before} h p g = told_size as_part (λ t. map_parse unit (defineds_of b.list b.next before t)) at s (size_parameters b before) h p.answers g
 
 -- the parameters are read
 pub record Marked (b : Bounds) (s : List ℕ) (at k : ℕ) (seen : List Bool) : Type 0 where
   pub names : List ValueId
-  pub read : definedsOf b.list b.next (clear b) (drop at s) ≡ ok names k
+  pub read : defineds_of b.list b.next (clear b) (drop at s) ≡ ok names k
   pub marking : seen ≡ marks (clear b) names
-  pub in-s : at + k ≤ length s
+  pub in_s : at + k ≤ length s
 
 -- so the code tells
-pub marked : (b : Bounds) (s : List ℕ) (at : ℕ) {k : ℕ} {before seen : List Bool} {r : Part} → at ≤ length s → before ≡ clear b → ParametersRead b (take (length s - at) (drop at s)) (asPart r) before seen → r ≡ Part.Used k → Marked b s at k seen
+pub marked : (b : Bounds) (s : List ℕ) (at : ℕ) {k : ℕ} {before seen : List Bool} {r : Part} → at ≤ length s → before ≡ clear b → ParametersRead b (take (length s - at) (drop at s)) (as_part r) before seen → r ≡ Part.Used k → Marked b s at k seen
 marked b s at {k} {before} {seen} {r} h f p g =
-    let d = definedsOf b.list b.next before (drop at s) in
+    let d = defineds_of b.list b.next before (drop at s) in
     let q = rw (rest_all at s) at p in
-    elim (map-inv unit d (sym q.answers ∙ ap asPart g)) [
+    elim (map_inv unit d (sym q.answers ∙ ap as_part g)) [
       | image ps e i ↦
           record {
             names = ps;
-            read = ap (λ x. definedsOf b.list b.next x (drop at s)) (sym f) ∙ e;
+            read = ap (λ x. defineds_of b.list b.next x (drop at s)) (sym f) ∙ e;
             marking = q.marking ps k e ∙ ap (λ x. marks x ps) f;
-            in-s = parameters-size b s at h p g;
+            in_s = parameters_size b s at h p g;
           }
     ]
 
 -- an answer of the map reaches no further than the bytes do
-pub map-size : (next : ℕ) (s : List ℕ) (at : ℕ) {r r' : Part} → at ≤ length s → asPart r ≡ mapParse unit (mapOf next (take (length s - at) (drop at s))) → r ≡ r' → at + size (asPart r') ≤ length s
-map-size next s at h p g = told-size asPart (λ t. mapParse unit (mapOf next t)) at s (size-map-of next) h p g
+pub map_size : (next : ℕ) (s : List ℕ) (at : ℕ) {r r' : Part} → at ≤ length s → as_part r ≡ map_parse unit (map_of next (take (length s - at) (drop at s))) → r ≡ r' → at + size (as_part r') ≤ length s
+map_size next s at h p g = told_size as_part (λ t. map_parse unit (map_of next t)) at s (size_map_of next) h p g
 
 -- the map is read
 pub record Mapped (next : ℕ) (s : List ℕ) (at k : ℕ) : Type 0 where
   pub bits : List ℕ
-  pub read : mapOf next (drop at s) ≡ ok bits k
-  pub in-s : at + k ≤ length s
+  pub read : map_of next (drop at s) ≡ ok bits k
+  pub in_s : at + k ≤ length s
 
 -- so the code tells
-pub mapped : (next : ℕ) (s : List ℕ) (at : ℕ) {k : ℕ} {r : Part} → at ≤ length s → asPart r ≡ mapParse unit (mapOf next (take (length s - at) (drop at s))) → r ≡ Part.Used k → Mapped next s at k
+pub mapped : (next : ℕ) (s : List ℕ) (at : ℕ) {k : ℕ} {r : Part} → at ≤ length s → as_part r ≡ map_parse unit (map_of next (take (length s - at) (drop at s))) → r ≡ Part.Used k → Mapped next s at k
 mapped next s at {k} {r} h p g =
-    elim (map-inv unit (mapOf next (drop at s)) (told asPart (λ t. mapParse unit (mapOf next t)) at s p g)) [
-      | image bits e i ↦ record { bits = bits; read = e; in-s = map-size next s at h p g }
+    elim (map_inv unit (map_of next (drop at s)) (told as_part (λ t. map_parse unit (map_of next t)) at s p g)) [
+      | image bits e i ↦ record { bits = bits; read = e; in_s = map_size next s at h p g }
     ]
 
 -- the recorded types are read, from behind their map
 pub record Typed (types next : ℕ) (s bits : List ℕ) (at end : ℕ) (before facts : List ℕ) : Type 0 where
   pub found : List (Option TypeId)
   pub took : ℕ
-  pub read : recordedOf types bits 0 next (drop at s) ≡ ok found took
+  pub read : recorded_of types bits 0 next (drop at s) ≡ ok found took
   pub end_is : end ≡ at + took
   pub kept : Kept 65 before facts
-  pub stored : RecordedAt (recordedIn facts) found
-  pub in-s : end ≤ length s
+  pub stored : RecordedAt (recorded_in facts) found
+  pub in_s : end ≤ length s
 
 -- the definition looks at the map that was read, the code at the bytes
-by_bytes : (types next : ℕ) (s : List ℕ) (map k at : ℕ) (u : Mapped next s map k) → recordedOf types u.bits 0 next (drop at s) ≡ recordedOf types (drop map s) 0 next (drop at s)
-by_bytes types next s map k at u = same-types types next (drop map s) u.bits (map-bytes next (drop map s) u.read) next 0 (drop at s) (omega arith)
+by_bytes : (types next : ℕ) (s : List ℕ) (map k at : ℕ) (u : Mapped next s map k) → recorded_of types u.bits 0 next (drop at s) ≡ recorded_of types (drop map s) 0 next (drop at s)
+by_bytes types next s map k at u = same_types types next (drop map s) u.bits (map_bytes next (drop map s) u.read) next 0 (drop at s) (omega arith)
 
 -- so the code tells, where the map is read
-pub typed : (types next : ℕ) (s : List ℕ) (map at : ℕ) {end k : ℕ} {before facts : List ℕ} {r : Part} (u : Mapped next s map k) → at ≤ length s → RecordedRead types (drop map s) next at s (asPart r) before facts → r ≡ Part.Used end → Typed types next s u.bits at end before facts
+pub typed : (types next : ℕ) (s : List ℕ) (map at : ℕ) {end k : ℕ} {before facts : List ℕ} {r : Part} (u : Mapped next s map k) → at ≤ length s → RecordedRead types (drop map s) next at s (as_part r) before facts → r ≡ Part.Used end → Typed types next s u.bits at end before facts
 typed types next s map at {end} {k} {before} {facts} {r} u h p g =
-    let d = recordedOf types (drop map s) 0 next (drop at s) in
-    let q : ok tt end ≡ later at (mapParse unit (recordedOf types (drop map s) 0 next (drop at s))) = sym (ap asPart g) ∙ p.answers in
-    elim (later-inv at (mapParse unit d) (sym q)) [
+    let d = recorded_of types (drop map s) 0 next (drop at s) in
+    let q : ok tt end ≡ later at (map_parse unit (recorded_of types (drop map s) 0 next (drop at s))) = sym (ap as_part g) ∙ p.answers in
+    elim (later_inv at (map_parse unit d) (sym q)) [
       | behind n e f ↦
-          elim (map-inv unit d e) [
+          elim (map_inv unit d e) [
             | image rs i j ↦
                 record {
                   found = rs;
@@ -114,7 +114,7 @@ typed types next s map at {end} {k} {before} {facts} {r} u h p g =
                   end_is = f;
                   kept = p.kept rs n i;
                   stored = p.numbers rs n i;
-                  in-s = omega (arith, ap (λ x. size x) i, size-recorded types (drop map s) 0 next (drop at s), length-drop at s);
+                  in_s = omega (arith, ap (λ x. size x) i, size_recorded types (drop map s) 0 next (drop at s), length-drop at s);
                 }
           ]
     ]
@@ -123,27 +123,27 @@ typed types next s map at {end} {k} {before} {facts} {r} u h p g =
 pub record Coded (b : Bounds) (s : List ℕ) (names : List ValueId) (at end : ℕ) (before facts : List ℕ) : Type 0 where
   pub found : List Block
   pub took : ℕ
-  pub read : blocksOf mosts b 0 (marks (clear b) names) b.blocks (drop at s) ≡ ok found took
+  pub read : blocks_of mosts b 0 (marks (clear b) names) b.blocks (drop at s) ≡ ok found took
   pub end_is : end ≡ at + took
   pub filled : BlocksFilled b s before facts found
-  pub in-s : end ≤ length s
+  pub in_s : end ≤ length s
 
 -- so the code tells, where the parameters are read
-pub coded : (b : Bounds) (s : List ℕ) (at : ℕ) {end k from : ℕ} {seen : List Bool} {before facts : List ℕ} {r : Part} (u : Marked b s from k seen) → at ≤ length s → BlocksRead b at s seen (asPart r) before facts → r ≡ Part.Used end → Coded b s u.names at end before facts
+pub coded : (b : Bounds) (s : List ℕ) (at : ℕ) {end k from : ℕ} {seen : List Bool} {before facts : List ℕ} {r : Part} (u : Marked b s from k seen) → at ≤ length s → BlocksRead b at s seen (as_part r) before facts → r ≡ Part.Used end → Coded b s u.names at end before facts
 coded b s at {end} {k} {from} {seen} {before} {facts} {r} u h p g =
-    let d = blocksOf mosts b 0 seen b.blocks (drop at s) in
-    let q : ok tt end ≡ later at (mapParse unit (blocksOf mosts b 0 seen b.blocks (drop at s))) = sym (ap asPart g) ∙ p.answers in
-    elim (later-inv at (mapParse unit d) (sym q)) [
+    let d = blocks_of mosts b 0 seen b.blocks (drop at s) in
+    let q : ok tt end ≡ later at (map_parse unit (blocks_of mosts b 0 seen b.blocks (drop at s))) = sym (ap as_part g) ∙ p.answers in
+    elim (later_inv at (map_parse unit d) (sym q)) [
       | behind n e f ↦
-          elim (map-inv unit d e) [
+          elim (map_inv unit d e) [
             | image xs i j ↦
                 record {
                   found = xs;
                   took = n;
-                  read = ap (λ x. blocksOf mosts b 0 x b.blocks (drop at s)) (sym u.marking) ∙ i;
+                  read = ap (λ x. blocks_of mosts b 0 x b.blocks (drop at s)) (sym u.marking) ∙ i;
                   end_is = f;
                   filled = p.filled xs n i;
-                  in-s = omega (arith, ap (λ x. size x) i, size-blocks mosts b 0 seen b.blocks (drop at s), length-drop at s);
+                  in_s = omega (arith, ap (λ x. size x) i, size_blocks mosts b 0 seen b.blocks (drop at s), length-drop at s);
                 }
           ]
     ]
@@ -155,129 +155,129 @@ module _ (b : Bounds) (entry : BlockId) (ts : List MirType) where
   made_of ps rs ks = record { types = ts; next = b.next; entry = entry; parameters = ps; recorded = rs; blocks = ks }
 
   -- the blocks are left
-  abbrev codeLeft : List ValueId → List (Option TypeId) → List ℕ → Parse Routine
-  codeLeft ps rs s = mapParse (made_of ps rs) (blocksOf mosts b 0 (marks (clear b) ps) b.blocks s)
+  abbrev code_left : List ValueId → List (Option TypeId) → List ℕ → Parse Routine
+  code_left ps rs s = map_parse (made_of ps rs) (blocks_of mosts b 0 (marks (clear b) ps) b.blocks s)
 
   -- the recorded types, and they
-  abbrev typesLeft : List ValueId → List ℕ → List ℕ → Parse Routine
-  typesLeft ps bits s = and_then s (recordedOf b.types bits 0 b.next s) (λ rs s. codeLeft ps rs s)
+  abbrev types_left : List ValueId → List ℕ → List ℕ → Parse Routine
+  types_left ps bits s = and_then s (recorded_of b.types bits 0 b.next s) (λ rs s. code_left ps rs s)
 
   -- the map, and these
-  abbrev mapLeft : List ValueId → List ℕ → Parse Routine
-  mapLeft ps s = and_then s (mapOf b.next s) (λ bits s. typesLeft ps bits s)
+  abbrev map_left : List ValueId → List ℕ → Parse Routine
+  map_left ps s = and_then s (map_of b.next s) (λ bits s. types_left ps bits s)
 
   -- the parameters, and these
-  abbrev bodyLeft : List ℕ → Parse Routine
-  bodyLeft s = and_then s (definedsOf b.list b.next (clear b) s) (λ ps s. mapLeft ps s)
+  abbrev body_left : List ℕ → Parse Routine
+  body_left s = and_then s (defineds_of b.list b.next (clear b) s) (λ ps s. map_left ps s)
 
   -- where the bounds are those of the definition, that is the definition's body
-  body-left : (s : List ℕ) → b ≡ bounds_of mosts (length ts) b.next b.blocks → body_of mosts ts (sizesFrom b entry) s ≡ bodyLeft s
+  body_left_lem : (s : List ℕ) → b ≡ bounds_of mosts (length ts) b.next b.blocks → body_of mosts ts (sizes_from b entry) s ≡ body_left s
   unfolding body_of
-  body-left s h = rw h
+  body_left_lem s h = rw h
 
 -- the answer of what is left from a place on, and of the end
 abbrev ending : List ℕ → ℕ → (List ℕ → Parse Routine) → Parse (Unit {0})
-ending s at f = later at (mapParse unit (and_then (drop at s) (f (drop at s)) (λ r t. ended r t)))
+ending s at f = later at (map_parse unit (and_then (drop at s) (f (drop at s)) (λ r t. ended r t)))
 
 module _ (b : Bounds) (s : List ℕ) (at : ℕ) where
   -- a refusal finds nothing
-  body-bad : {c : Cause} {o : ℕ} {before facts : List ℕ} → ((entry : BlockId) (ts : List MirType) → bad c o ≡ ending s at (bodyLeft b entry ts)) → BodyRead b at s (Checked.Refused c o) before facts
-  body-bad f =
+  body_bad : {c : Cause} {o : ℕ} {before facts : List ℕ} → ((entry : BlockId) (ts : List MirType) → bad c o ≡ ending s at (body_left b entry ts)) → BodyRead b at s (Checked.Refused c o) before facts
+  body_bad f =
       record {
         bounds = λ l e. absurd (let z : ◌≡◌ {A = ℕ} 0 1 = cc in omega arith);
-        answers = λ entry ts h. f entry ts ∙ ap (λ d. later at (mapParse unit (and_then (drop at s) d (λ r t. ended r t)))) (sym (body-left b entry ts (drop at s) h));
+        answers = λ entry ts h. f entry ts ∙ ap (λ d. later at (map_parse unit (and_then (drop at s) d (λ r t. ended r t)))) (sym (body_left_lem b entry ts (drop at s) h));
         found = λ entry ts l r n h e g. absurd (let z : ◌≡◌ {A = ℕ} 0 1 = cc in omega arith);
       }
 
   -- the parameters are refused
-  pub body-parameters : {c : Cause} {o : ℕ} {facts facts' : List ℕ} {before seen : List Bool} {r : Part} → before ≡ clear b → ParametersRead b (take (length s - at) (drop at s)) (asPart r) before seen → r ≡ Part.Refused c o → BodyRead b at s (Checked.Refused c (at + o)) facts facts'
-  body-parameters {before} f p g =
-      let d = definedsOf b.list b.next (clear b) (drop at s) in
-      let q = rw f at (told asPart (λ t. mapParse unit (definedsOf b.list b.next before t)) at s p.answers g) in
-      body-bad (λ entry ts. part-bad s at (definedsOf b.list b.next (clear b)) (λ ps t. mapLeft b entry ts ps t) (λ r t. ended r t) (map-bad unit d q))
+  pub body_parameters : {c : Cause} {o : ℕ} {facts facts' : List ℕ} {before seen : List Bool} {r : Part} → before ≡ clear b → ParametersRead b (take (length s - at) (drop at s)) (as_part r) before seen → r ≡ Part.Refused c o → BodyRead b at s (Checked.Refused c (at + o)) facts facts'
+  body_parameters {before} f p g =
+      let d = defineds_of b.list b.next (clear b) (drop at s) in
+      let q = rw f at (told as_part (λ t. map_parse unit (defineds_of b.list b.next before t)) at s p.answers g) in
+      body_bad (λ entry ts. part_bad s at (defineds_of b.list b.next (clear b)) (λ ps t. map_left b entry ts ps t) (λ r t. ended r t) (map_bad unit d q))
 
   module _ {k : ℕ} {seen : List Bool} (u : Marked b s at k seen) where
     -- the parameters are passed
-    after-parameters : (entry : BlockId) (ts : List MirType) → ending s at (bodyLeft b entry ts) ≡ ending s (at + k) (mapLeft b entry ts u.names)
-    after-parameters entry ts = part-some s at (definedsOf b.list b.next (clear b)) (λ ps t. mapLeft b entry ts ps t) (λ r t. ended r t) u.read
+    after_parameters : (entry : BlockId) (ts : List MirType) → ending s at (body_left b entry ts) ≡ ending s (at + k) (map_left b entry ts u.names)
+    after_parameters entry ts = part_some s at (defineds_of b.list b.next (clear b)) (λ ps t. map_left b entry ts ps t) (λ r t. ended r t) u.read
 
     -- the map is refused
-    pub body_map : {c : Cause} {o : ℕ} {facts facts' : List ℕ} {r : Part} → asPart r ≡ mapParse unit (mapOf b.next (take (length s - (at + k)) (drop (at + k) s))) → r ≡ Part.Refused c o → BodyRead b at s (Checked.Refused c (at + k + o)) facts facts'
+    pub body_map : {c : Cause} {o : ℕ} {facts facts' : List ℕ} {r : Part} → as_part r ≡ map_parse unit (map_of b.next (take (length s - (at + k)) (drop (at + k) s))) → r ≡ Part.Refused c o → BodyRead b at s (Checked.Refused c (at + k + o)) facts facts'
     body_map p g =
-        let q = told asPart (λ t. mapParse unit (mapOf b.next t)) (at + k) s p g in
-        body-bad (λ entry ts. part-bad s (at + k) (mapOf b.next) (λ bits t. typesLeft b entry ts u.names bits t) (λ r t. ended r t) (map-bad unit (mapOf b.next (drop (at + k) s)) q) ∙ sym (after-parameters entry ts))
+        let q = told as_part (λ t. map_parse unit (map_of b.next t)) (at + k) s p g in
+        body_bad (λ entry ts. part_bad s (at + k) (map_of b.next) (λ bits t. types_left b entry ts u.names bits t) (λ r t. ended r t) (map_bad unit (map_of b.next (drop (at + k) s)) q) ∙ sym (after_parameters entry ts))
 
     module _ {j : ℕ} (v : Mapped b.next s (at + k) j) where
       -- the map is passed
-      after_map : (entry : BlockId) (ts : List MirType) → ending s at (bodyLeft b entry ts) ≡ ending s (at + k + j) (typesLeft b entry ts u.names v.bits)
-      after_map entry ts = after-parameters entry ts ∙ part-some s (at + k) (mapOf b.next) (λ bits t. typesLeft b entry ts u.names bits t) (λ r t. ended r t) v.read
+      after_map : (entry : BlockId) (ts : List MirType) → ending s at (body_left b entry ts) ≡ ending s (at + k + j) (types_left b entry ts u.names v.bits)
+      after_map entry ts = after_parameters entry ts ∙ part_some s (at + k) (map_of b.next) (λ bits t. types_left b entry ts u.names bits t) (λ r t. ended r t) v.read
 
       -- the recorded types are refused
-      pub body-types : {c : Cause} {o : ℕ} {before facts facts' : List ℕ} {r : Part} → RecordedRead b.types (drop (at + k) s) b.next (at + k + j) s (asPart r) before facts → r ≡ Part.Refused c o → BodyRead b at s (Checked.Refused c o) before facts'
-      body-types {c} p g =
-          elim (refusal (at + k + j) (recordedOf b.types (drop (at + k) s) 0 b.next (drop (at + k + j) s)) (sym (ap asPart g) ∙ p.answers)) [
+      pub body_types : {c : Cause} {o : ℕ} {before facts facts' : List ℕ} {r : Part} → RecordedRead b.types (drop (at + k) s) b.next (at + k + j) s (as_part r) before facts → r ≡ Part.Refused c o → BodyRead b at s (Checked.Refused c o) before facts'
+      body_types {c} p g =
+          elim (refusal (at + k + j) (recorded_of b.types (drop (at + k) s) 0 b.next (drop (at + k + j) s)) (sym (ap as_part g) ∙ p.answers)) [
             | refused i e f ↦
-                body-bad (λ entry ts. ap (bad c) f ∙ part-bad s (at + k + j) (recordedOf b.types v.bits 0 b.next) (λ rs t. codeLeft b entry ts u.names rs t) (λ r t. ended r t) (by_bytes b.types b.next s (at + k) j (at + k + j) v ∙ e) ∙ sym (after_map entry ts))
+                body_bad (λ entry ts. ap (bad c) f ∙ part_bad s (at + k + j) (recorded_of b.types v.bits 0 b.next) (λ rs t. code_left b entry ts u.names rs t) (λ r t. ended r t) (by_bytes b.types b.next s (at + k) j (at + k + j) v ∙ e) ∙ sym (after_map entry ts))
           ]
 
       module _ {code : ℕ} {before middle : List ℕ} (w : Typed b.types b.next s v.bits (at + k + j) code before middle) where
         -- the recorded types are passed
-        after-types : (entry : BlockId) (ts : List MirType) → ending s at (bodyLeft b entry ts) ≡ ending s code (codeLeft b entry ts u.names w.found)
-        after-types entry ts = after_map entry ts ∙ part-some s (at + k + j) (recordedOf b.types v.bits 0 b.next) (λ rs t. codeLeft b entry ts u.names rs t) (λ r t. ended r t) w.read ∙ rw (← w.end_is)
+        after_types : (entry : BlockId) (ts : List MirType) → ending s at (body_left b entry ts) ≡ ending s code (code_left b entry ts u.names w.found)
+        after_types entry ts = after_map entry ts ∙ part_some s (at + k + j) (recorded_of b.types v.bits 0 b.next) (λ rs t. code_left b entry ts u.names rs t) (λ r t. ended r t) w.read ∙ rw (← w.end_is)
 
         -- the blocks are refused
-        pub body-code : {c : Cause} {o : ℕ} {facts : List ℕ} {r : Part} → BlocksRead b code s seen (asPart r) middle facts → r ≡ Part.Refused c o → BodyRead b at s (Checked.Refused c o) before facts
-        body-code {c} p g =
-            elim (refusal code (blocksOf mosts b 0 seen b.blocks (drop code s)) (sym (ap asPart g) ∙ p.answers)) [
+        pub body_code : {c : Cause} {o : ℕ} {facts : List ℕ} {r : Part} → BlocksRead b code s seen (as_part r) middle facts → r ≡ Part.Refused c o → BodyRead b at s (Checked.Refused c o) before facts
+        body_code {c} p g =
+            elim (refusal code (blocks_of mosts b 0 seen b.blocks (drop code s)) (sym (ap as_part g) ∙ p.answers)) [
               | refused i e f ↦
-                  let q : blocksOf mosts b 0 (marks (clear b) u.names) b.blocks (drop code s) ≡ bad c i = ap (λ x. blocksOf mosts b 0 x b.blocks (drop code s)) (sym u.marking) ∙ e in
-                  body-bad (λ entry ts. sym (after-types entry ts ∙ simp (q, f)))
+                  let q : blocks_of mosts b 0 (marks (clear b) u.names) b.blocks (drop code s) ≡ bad c i = ap (λ x. blocks_of mosts b 0 x b.blocks (drop code s)) (sym u.marking) ∙ e in
+                  body_bad (λ entry ts. sym (after_types entry ts ∙ simp (q, f)))
             ]
 
         module _ {end : ℕ} {facts : List ℕ} (x : Coded b s u.names code end middle facts) where
           -- the blocks are passed
-          after-code : (entry : BlockId) (ts : List MirType) → ending s at (bodyLeft b entry ts) ≡ later end (mapParse unit (ended (made_of b entry ts u.names w.found x.found) (drop end s)))
-          after-code entry ts = after-types entry ts ∙ simp (x.read, map-later, later-later, drop-drop, ← x.end_is)
+          after_code : (entry : BlockId) (ts : List MirType) → ending s at (body_left b entry ts) ≡ later end (map_parse unit (ended (made_of b entry ts u.names w.found x.found) (drop end s)))
+          after_code entry ts = after_types entry ts ∙ simp (x.read, map_later, later_later, drop-drop, ← x.end_is)
 
           -- bytes stand behind the last
-          pub body-trailing : end < length s → BodyRead b at s (Checked.Refused Cause.Trailing end) before facts
-          body-trailing h =
+          pub body_trailing : end < length s → BodyRead b at s (Checked.Refused Cause.Trailing end) before facts
+          body_trailing h =
               let z : length (drop end s) ≡ 0 → ⊥ = λ q. omega (arith, length-drop end s) in
-              body-bad (λ entry ts. sym (after-code entry ts ∙ simp (ne_eqb _ _ z, add-zero)))
+              body_bad (λ entry ts. sym (after_code entry ts ∙ simp (ne_eqb _ _ z, add-zero)))
 
           -- the body that the definition gives
-          body-made : (entry : BlockId) (ts : List MirType) → bodyLeft b entry ts (drop at s) ≡ ok (made_of b entry ts u.names w.found x.found) (k + (j + (w.took + x.took)))
-          body-made entry ts = simp (u.read, drop-drop, v.read, w.read, ← w.end_is, x.read)
+          body_made : (entry : BlockId) (ts : List MirType) → body_left b entry ts (drop at s) ≡ ok (made_of b entry ts u.names w.found x.found) (k + (j + (w.took + x.took)))
+          body_made entry ts = simp (u.read, drop-drop, v.read, w.read, ← w.end_is, x.read)
 
           -- nothing does: the routine is accepted
-          pub body-accepted : b.next ≤ 256 → length s ≤ end → BodyRead b at s (Checked.Accepted b) before facts
-          body-accepted few h =
+          pub body_accepted : b.next ≤ 256 → length s ≤ end → BodyRead b at s (Checked.Accepted b) before facts
+          body_accepted few h =
               let z : length (drop end s) ≡ 0 = omega (arith, length-drop end s) in
-              let y : end ≡ length s = omega (arith, x.in-s) in
+              let y : end ≡ length s = omega (arith, x.in_s) in
               record {
                 bounds = λ l e. cc;
                 answers = λ entry ts h.
-                    sym (ap (λ d. later at (mapParse unit (and_then (drop at s) d (λ r t. ended r t)))) (body-left b entry ts (drop at s) h)
-                    ∙ after-code entry ts ∙ simp (eq-eqb _ _ z, add-zero) (ap (ok tt) y));
+                    sym (ap (λ d. later at (map_parse unit (and_then (drop at s) d (λ r t. ended r t)))) (body_left_lem b entry ts (drop at s) h)
+                    ∙ after_code entry ts ∙ simp (eq-eqb _ _ z, add-zero) (ap (ok tt) y));
                 found = λ entry ts l r n h e f.
-                    let i : ok (made_of b entry ts u.names w.found x.found) (k + (j + (w.took + x.took))) ≡ ok r n = sym (body-left b entry ts (drop at s) h ∙ body-made entry ts) ∙ f in
+                    let i : ok (made_of b entry ts u.names w.found x.found) (k + (j + (w.took + x.took))) ≡ ok r n = sym (body_left_lem b entry ts (drop at s) h ∙ body_made entry ts) ∙ f in
                     let p : made_of b entry ts u.names w.found x.found ≡ r = cc in
                     let d = x.filled in
                     rw (← p) (record {
                       next = refl;
-                      many = blocks-length mosts b 0 (marks (clear b) u.names) b.blocks (drop code s) x.read;
-                      kept = kept-through 65 321 (omega arith) w.kept d.kept;
-                      recorded = recorded-kept w.found middle facts d.kept (omega (arith, recorded-length b.types v.bits 0 b.next (drop (at + k + j) s) w.read)) w.stored;
+                      many = blocks_length mosts b 0 (marks (clear b) u.names) b.blocks (drop code s) x.read;
+                      kept = kept_through 65 321 (omega arith) w.kept d.kept;
+                      recorded = recorded_kept w.found middle facts d.kept (omega (arith, recorded_length b.types v.bits 0 b.next (drop (at + k + j) s) w.read)) w.stored;
                       blocks = d.blocks;
                       code = d.code;
                     });
               }
 
 -- a front part of clear marks
-pub take-clear : (n k : ℕ) → n ≤ k → take n (replicate k false) ≡ replicate n false
-take-clear zero k h = refl
-take-clear (suc n) zero h = absurd (omega arith)
-take-clear (suc n) (suc k) h = ap (λ x. false ∷ x) (take-clear n k (omega arith))
+pub take_clear : (n k : ℕ) → n ≤ k → take n (replicate k false) ≡ replicate n false
+take_clear zero k h = refl
+take_clear (suc n) zero h = absurd (omega arith)
+take_clear (suc n) (suc k) h = ap (λ x. false ∷ x) (take_clear n k (omega arith))
 
-pub none-marked : (n k : ℕ) → n ≤ k → take (n - 0) (replicate k false) ≡ replicate n false
-none-marked n k h = rw sub-zero (take-clear n k h)
+pub none_marked : (n k : ℕ) → n ≤ k → take (n - 0) (replicate k false) ≡ replicate n false
+none_marked n k h = rw sub-zero (take_clear n k h)

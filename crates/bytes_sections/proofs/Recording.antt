@@ -10,164 +10,164 @@ use native.Mathlib.Omega.{arith}
 use borrow.Author.Tests.{lt-ltb, le-ltb}
 use lib.ListN.{length, get_or, drop, set, length-append, length-drop, length-set, get_or-append}
 use lib.Seq.{drop-drop, drop-set-add, get_or-drop, get_or_at, get_or-set_same, get_or-set_other}
-use Rattle.bytes_wire.specs.Parse.{ok, bad, later, mapParse}
-use Rattle.bytes_wire.specs.Number.{u16Of}
+use Rattle.bytes_wire.specs.Parse.{ok, bad, later, map_parse}
+use Rattle.bytes_wire.specs.Number.{u16_of}
 use Rattle.bytes_wire.specs.declared.Cause.{Cause}
 use Rattle.mir.specs.declared.TypeId.{TypeId}
-use Rattle.bytes_wire.proofs.Laws.{size, size-map, size-later, size-and, size_below, map-id, map-later, map-map, later-later}
-use Rattle.bytes_wire.proofs.Inv.{both, behind, image, later-inv, and-inv, map-inv}
+use Rattle.bytes_wire.proofs.Laws.{size, size_map, size_later, size_and, size_below, map_id, map_later, map_map, later_later}
+use Rattle.bytes_wire.proofs.Inv.{both, behind, image, later_inv, and_inv, map_inv}
 use Rattle.bytes_field.specs.Walk.{unit}
-use Rattle.bytes_index.specs.Table.{recordedIn}
+use Rattle.bytes_index.specs.Table.{recorded_in}
 use Rattle.bytes_block.specs.Rows.{Kept}
-use Rattle.bytes_block.proofs.Filling.{kept-all, kept_set}
-use Rattle.bytes_sections.specs.Decode.{hasRecorded, recordedTypeOf, recordedOf}
+use Rattle.bytes_block.proofs.Filling.{kept_all, kept_set}
+use Rattle.bytes_sections.specs.Decode.{has_recorded, recorded_type_of, recorded_of}
 use Rattle.bytes_sections.proofs.Laws.{refused, refusal, no_value}
-use Rattle.bytes_sections.specs.Index.{recordedNumber, RecordedAt, RecordedOne, RecordedRead}
+use Rattle.bytes_sections.specs.Index.{recorded_number, RecordedAt, RecordedOne, RecordedRead}
 
 -- the type of one value, by its bit
 module _ (types : ℕ) (at : ℕ) (s before : List ℕ) where
   -- the bit does not stand
-  one-no : (v : ℕ) (b : Bool) (after : List ℕ) → b ≡ false → after ≡ set before (65 + v) 0 → (ok tt at ≡ later at (mapParse unit (recordedTypeOf types b (drop at s)))) × ((t : Option TypeId) (n : ℕ) → recordedTypeOf types b (drop at s) ≡ ok t n → after ≡ set before (65 + v) (recordedNumber t))
-  one-no v true after e f = absurd (let z : ◌≡◌ {A = ℕ} 0 1 = cc in omega arith)
-  one-no v false after e f = (ap (ok tt) (sym (add-zero at)), λ t n q. let z : none ≡ t = cc in f ∙ ap (λ y. set before (65 + v) (recordedNumber y)) z)
+  one_no : (v : ℕ) (b : Bool) (after : List ℕ) → b ≡ false → after ≡ set before (65 + v) 0 → (ok tt at ≡ later at (map_parse unit (recorded_type_of types b (drop at s)))) × ((t : Option TypeId) (n : ℕ) → recorded_type_of types b (drop at s) ≡ ok t n → after ≡ set before (65 + v) (recorded_number t))
+  one_no v true after e f = absurd (let z : ◌≡◌ {A = ℕ} 0 1 = cc in omega arith)
+  one_no v false after e f = (ap (ok tt) (sym (add-zero at)), λ t n q. let z : none ≡ t = cc in f ∙ ap (λ y. set before (65 + v) (recorded_number y)) z)
 
   -- it stands, and a type follows
-  one-some : (v : ℕ) (b : Bool) (after : List ℕ) {x k : ℕ} → b ≡ true → u16Of (drop at s) ≡ ok x k → x < types → after ≡ set before (65 + v) (x + 1) → (ok tt (at + k) ≡ later at (mapParse unit (recordedTypeOf types b (drop at s)))) × ((t : Option TypeId) (n : ℕ) → recordedTypeOf types b (drop at s) ≡ ok t n → after ≡ set before (65 + v) (recordedNumber t))
-  one-some v false after e g h f = absurd (let z : ◌≡◌ {A = ℕ} 0 1 = cc in omega arith)
-  one-some v true after {x} {k} e g h f =
-      let r : recordedTypeOf types true (drop at s) ≡ ok (some (record { 0 = x })) k = simp (g, lt-ltb _ _ h) in
-      (sym (rw r), λ t n q. let z : some (record { 0 = x }) ≡ t = cc in f ∙ ap (λ y. set before (65 + v) (recordedNumber y)) z)
+  one_some : (v : ℕ) (b : Bool) (after : List ℕ) {x k : ℕ} → b ≡ true → u16_of (drop at s) ≡ ok x k → x < types → after ≡ set before (65 + v) (x + 1) → (ok tt (at + k) ≡ later at (map_parse unit (recorded_type_of types b (drop at s)))) × ((t : Option TypeId) (n : ℕ) → recorded_type_of types b (drop at s) ≡ ok t n → after ≡ set before (65 + v) (recorded_number t))
+  one_some v false after e g h f = absurd (let z : ◌≡◌ {A = ℕ} 0 1 = cc in omega arith)
+  one_some v true after {x} {k} e g h f =
+      let r : recorded_type_of types true (drop at s) ≡ ok (some (record { 0 = x })) k = simp (g, lt-ltb _ _ h) in
+      (sym (rw r), λ t n q. let z : some (record { 0 = x }) ≡ t = cc in f ∙ ap (λ y. set before (65 + v) (recorded_number y)) z)
 
   -- it stands, and the type is refused
-  one-bad : (b : Bool) {c : Cause} {o : ℕ} → b ≡ true → u16Of (drop at s) ≡ bad c o → bad c (at + o) ≡ later at (mapParse unit (recordedTypeOf types b (drop at s)))
-  one-bad false e g = absurd (let z : ◌≡◌ {A = ℕ} 0 1 = cc in omega arith)
-  one-bad true e g = sym (rw g)
+  one_bad : (b : Bool) {c : Cause} {o : ℕ} → b ≡ true → u16_of (drop at s) ≡ bad c o → bad c (at + o) ≡ later at (map_parse unit (recorded_type_of types b (drop at s)))
+  one_bad false e g = absurd (let z : ◌≡◌ {A = ℕ} 0 1 = cc in omega arith)
+  one_bad true e g = sym (rw g)
 
   -- it is no type
-  one-past : (b : Bool) {x k : ℕ} → b ≡ true → u16Of (drop at s) ≡ ok x k → types ≤ x → bad Cause.OutOfRange at ≡ later at (mapParse unit (recordedTypeOf types b (drop at s)))
-  one-past false e g h = absurd (let z : ◌≡◌ {A = ℕ} 0 1 = cc in omega arith)
-  one-past true e g h = sym (simp (g, le-ltb _ _ h, add-zero))
+  one_past : (b : Bool) {x k : ℕ} → b ≡ true → u16_of (drop at s) ≡ ok x k → types ≤ x → bad Cause.OutOfRange at ≡ later at (map_parse unit (recorded_type_of types b (drop at s)))
+  one_past false e g h = absurd (let z : ◌≡◌ {A = ℕ} 0 1 = cc in omega arith)
+  one_past true e g h = sym (simp (g, le-ltb _ _ h, add-zero))
 
 -- reading one value's type
 module _ (types : ℕ) (map : List ℕ) (v at : ℕ) (s before : List ℕ) where
   -- it has none
-  pub recorded-no : {after : List ℕ} → hasRecorded map v ≡ false → after ≡ set before (65 + v) 0 → RecordedOne types map v at s (ok tt at) before after
-  recorded-no {after} e f = let r = one-no types at s before v (hasRecorded map v) after e f in record { answers = r.0; long = ap length f ∙ length-set before (65 + v) 0; number = r.1 }
+  pub recorded_no : {after : List ℕ} → has_recorded map v ≡ false → after ≡ set before (65 + v) 0 → RecordedOne types map v at s (ok tt at) before after
+  recorded_no {after} e f = let r = one_no types at s before v (has_recorded map v) after e f in record { answers = r.0; long = ap length f ∙ length-set before (65 + v) 0; number = r.1 }
 
   -- it has one
-  pub recorded-some : {after : List ℕ} {x k : ℕ} → hasRecorded map v ≡ true → u16Of (drop at s) ≡ ok x k → x < types → after ≡ set before (65 + v) (x + 1) → RecordedOne types map v at s (ok tt (at + k)) before after
-  recorded-some {after} {x} e g h f = let r = one-some types at s before v (hasRecorded map v) after e g h f in record { answers = r.0; long = ap length f ∙ length-set before (65 + v) (x + 1); number = r.1 }
+  pub recorded_some : {after : List ℕ} {x k : ℕ} → has_recorded map v ≡ true → u16_of (drop at s) ≡ ok x k → x < types → after ≡ set before (65 + v) (x + 1) → RecordedOne types map v at s (ok tt (at + k)) before after
+  recorded_some {after} {x} e g h f = let r = one_some types at s before v (has_recorded map v) after e g h f in record { answers = r.0; long = ap length f ∙ length-set before (65 + v) (x + 1); number = r.1 }
 
   -- a refusal stores nothing
-  one-refused : {c : Cause} {o : ℕ} → bad c o ≡ later at (mapParse unit (recordedTypeOf types (hasRecorded map v) (drop at s))) → RecordedOne types map v at s (bad c o) before before
-  one-refused e = record { answers = e; long = refl; number = λ t n q. absurd (no_value at (recordedTypeOf types (hasRecorded map v) (drop at s)) e t n q) }
+  one_refused : {c : Cause} {o : ℕ} → bad c o ≡ later at (map_parse unit (recorded_type_of types (has_recorded map v) (drop at s))) → RecordedOne types map v at s (bad c o) before before
+  one_refused e = record { answers = e; long = refl; number = λ t n q. absurd (no_value at (recorded_type_of types (has_recorded map v) (drop at s)) e t n q) }
 
   -- it is cut off
-  pub recorded-bad : {c : Cause} {o : ℕ} → hasRecorded map v ≡ true → u16Of (drop at s) ≡ bad c o → RecordedOne types map v at s (bad c (at + o)) before before
-  recorded-bad e g = one-refused (one-bad types at s before (hasRecorded map v) e g)
+  pub recorded_bad : {c : Cause} {o : ℕ} → has_recorded map v ≡ true → u16_of (drop at s) ≡ bad c o → RecordedOne types map v at s (bad c (at + o)) before before
+  recorded_bad e g = one_refused (one_bad types at s before (has_recorded map v) e g)
 
   -- it is no type
-  pub recorded-past : {x k : ℕ} → hasRecorded map v ≡ true → u16Of (drop at s) ≡ ok x k → types ≤ x → RecordedOne types map v at s (bad Cause.OutOfRange at) before before
-  recorded-past e g h = one-refused (one-past types at s before (hasRecorded map v) e g h)
+  pub recorded_past : {x k : ℕ} → has_recorded map v ≡ true → u16_of (drop at s) ≡ ok x k → types ≤ x → RecordedOne types map v at s (bad Cause.OutOfRange at) before before
+  recorded_past e g h = one_refused (one_past types at s before (has_recorded map v) e g h)
 
 -- no such answer reaches further than the bytes do
-size-recorded-type : (types : ℕ) (b : Bool) (s : List ℕ) → size (recordedTypeOf types b s) ≤ length s
-size-recorded-type types true s = rw (size-map, size-map) (size_below types s)
-size-recorded-type types false s = zero-le
+size_recorded_type : (types : ℕ) (b : Bool) (s : List ℕ) → size (recorded_type_of types b s) ≤ length s
+size_recorded_type types true s = rw (size_map, size_map) (size_below types s)
+size_recorded_type types false s = zero-le
 
 -- nor do the types of several values
-pub size-recorded : (types : ℕ) (map : List ℕ) (v k : ℕ) (s : List ℕ) → size (recordedOf types map v k s) ≤ length s
-unfolding recordedOf
-size-recorded types map v zero s = zero-le
-size-recorded types map v (suc k) s = size-and s (recordedTypeOf types (hasRecorded map v) s) _ (size-recorded-type types (hasRecorded map v) s) (λ t u. rw size-map (size-recorded types map (suc v) k u))
+pub size_recorded : (types : ℕ) (map : List ℕ) (v k : ℕ) (s : List ℕ) → size (recorded_of types map v k s) ≤ length s
+unfolding recorded_of
+size_recorded types map v zero s = zero-le
+size_recorded types map v (suc k) s = size_and s (recorded_type_of types (has_recorded map v) s) _ (size_recorded_type types (has_recorded map v) s) (λ t u. rw size_map (size_recorded types map (suc v) k u))
 
 -- of `next` values v are behind, and their types are stored
 pub record Recording (types : ℕ) (map : List ℕ) (next at : ℕ) (s before facts : List ℕ) (v here : ℕ) : Type 0 where
   pub under : v ≤ next
-  pub in-s : here ≤ length s
+  pub in_s : here ≤ length s
   pub kept : Kept 65 before facts
-  pub behind-it : List (Option TypeId)
-  pub many : length behind-it ≡ v
-  pub table : RecordedAt (recordedIn facts) behind-it
-  pub left : later at (recordedOf types map 0 next (drop at s)) ≡ later here (mapParse (λ rs. behind-it ++ rs) (recordedOf types map v (next - v) (drop here s)))
+  pub behind_it_lem : List (Option TypeId)
+  pub many : length behind_it_lem ≡ v
+  pub table : RecordedAt (recorded_in facts) behind_it_lem
+  pub left : later at (recorded_of types map 0 next (drop at s)) ≡ later here (map_parse (λ rs. behind_it_lem ++ rs) (recorded_of types map v (next - v) (drop here s)))
 
 -- none is behind yet
-pub recording-start : (types : ℕ) (map : List ℕ) (next at : ℕ) (s before : List ℕ) → at ≤ length s → Recording types map next at s before before 0 at
-recording-start types map next at s before h = record { under = zero-le; in-s = h; kept = kept-all 65 before; behind-it = []; many = refl; table = λ v q l. absurd (omega arith); left = simp (map-id, sub-zero) }
+pub recording_start : (types : ℕ) (map : List ℕ) (next at : ℕ) (s before : List ℕ) → at ≤ length s → Recording types map next at s before before 0 at
+recording_start types map next at s before h = record { under = zero-le; in_s = h; kept = kept_all 65 before; behind_it_lem = []; many = refl; table = λ v q l. absurd (omega arith); left = simp (map_id, sub-zero) }
 
 -- one more number is stored
-store-more : (recorded : List ℕ) (rs : List (Option TypeId)) (v : ℕ) (t : Option TypeId) → length rs ≡ v → RecordedAt recorded rs → RecordedAt (set recorded v (recordedNumber t)) (rs ++ (t ∷ []))
-store-more recorded rs v t m a w h l =
+store_more : (recorded : List ℕ) (rs : List (Option TypeId)) (v : ℕ) (t : Option TypeId) → length rs ≡ v → RecordedAt recorded rs → RecordedAt (set recorded v (recorded_number t)) (rs ++ (t ∷ []))
+store_more recorded rs v t m a w h l =
     let k : w ≤ v = omega (arith, length-append rs (t ∷ [])) in
-    let j : w < length recorded = omega (arith, length-set recorded v (recordedNumber t)) in
+    let j : w < length recorded = omega (arith, length-set recorded v (recorded_number t)) in
     ⊎_elim
     (λ q.
     let i : v < length recorded = omega arith in
-    ap (λ j. get_or (set recorded v (recordedNumber t)) j 0) q ∙ get_or-set_same recorded v (recordedNumber t) 0 i
-    ∙ sym (ap recordedNumber (ap (λ j. get_or (rs ++ (t ∷ [])) j none) q ∙ get_or_at rs t [] none v m)))
-    (λ q. let i : w < length rs = omega arith in rw (get_or-set_other recorded v w (recordedNumber t) 0 (λ p. omega arith), get_or-append rs (t ∷ []) none w i) (a w i j))
+    ap (λ j. get_or (set recorded v (recorded_number t)) j 0) q ∙ get_or-set_same recorded v (recorded_number t) 0 i
+    ∙ sym (ap recorded_number (ap (λ j. get_or (rs ++ (t ∷ [])) j none) q ∙ get_or_at rs t [] none v m)))
+    (λ q. let i : w < length rs = omega arith in rw (get_or-set_other recorded v w (recorded_number t) 0 (λ p. omega arith), get_or-append rs (t ∷ []) none w i) (a w i j))
     (eq-or-lt_of_le k)
 
 module _ (types : ℕ) (map : List ℕ) (next at : ℕ) (s before facts : List ℕ) (v here : ℕ) (u : Recording types map next at s before facts v here) (h : v < next) where
   -- the next type is refused
-  pub recording-stop : {c : Cause} {o : ℕ} {after : List ℕ} → RecordedOne types map v here s (bad c o) facts after → RecordedRead types map next at s (bad c o) before after
-  unfolding recordedOf
-  recording-stop {c} {o} {after} r =
+  pub recording_stop : {c : Cause} {o : ℕ} {after : List ℕ} → RecordedOne types map v here s (bad c o) facts after → RecordedRead types map next at s (bad c o) before after
+  unfolding recorded_of
+  recording_stop {c} {o} {after} r =
       let z : next - v ≡ suc (next - (v + 1)) = omega arith in
-      elim (refusal here (recordedTypeOf types (hasRecorded map v) (drop here s)) r.answers) [
+      elim (refusal here (recorded_type_of types (has_recorded map v) (drop here s)) r.answers) [
         | refused k p q ↦
-            let e : bad c o ≡ later at (mapParse unit (recordedOf types map 0 next (drop at s))) =
-            sym (sym (map-later unit at (recordedOf types map 0 next (drop at s))) ∙ ap (mapParse unit) u.left ∙ simp (z, p, q)) in
-            let no = no_value at (recordedOf types map 0 next (drop at s)) e in
+            let e : bad c o ≡ later at (map_parse unit (recorded_of types map 0 next (drop at s))) =
+            sym (sym (map_later unit at (recorded_of types map 0 next (drop at s))) ∙ ap (map_parse unit) u.left ∙ simp (z, p, q)) in
+            let no = no_value at (recorded_of types map 0 next (drop at s)) e in
             record { answers = e; kept = λ rs n f. absurd (no rs n f); numbers = λ rs n f. absurd (no rs n f) }
       ]
 
   -- it is stored, and one more is behind
-  pub recording-again : {end : ℕ} {after : List ℕ} → RecordedOne types map v here s (ok tt end) facts after → Recording types map next at s before after (v + 1) end
-  unfolding recordedOf
-  recording-again {end} {after} r =
-      let d = recordedTypeOf types (hasRecorded map v) (drop here s) in
+  pub recording_again : {end : ℕ} {after : List ℕ} → RecordedOne types map v here s (ok tt end) facts after → Recording types map next at s before after (v + 1) end
+  unfolding recorded_of
+  recording_again {end} {after} r =
+      let d = recorded_type_of types (has_recorded map v) (drop here s) in
       let z : next - v ≡ suc (next - (v + 1)) = omega arith in
       let y : suc v ≡ v + 1 = omega arith in
-      let l : end ≤ length s = omega (arith, ap (λ x. size x) r.answers, size-later here (mapParse unit d), size-map unit d, size-recorded-type types (hasRecorded map v) (drop here s), length-drop here s, u.in-s) in
-      elim (later-inv here (mapParse unit d) (sym r.answers)) [
+      let l : end ≤ length s = omega (arith, ap (λ x. size x) r.answers, size_later here (map_parse unit d), size_map unit d, size_recorded_type types (has_recorded map v) (drop here s), length-drop here s, u.in_s) in
+      elim (later_inv here (map_parse unit d) (sym r.answers)) [
         | behind n p q ↦
-            elim (map-inv unit d p) [
+            elim (map_inv unit d p) [
               | image t e i ↦
                   record {
                     under = omega arith;
-                    in-s = l;
-                    kept = rw (r.number t n e) (kept_set 65 (65 + v) (recordedNumber t) (omega arith) u.kept);
-                    behind-it = u.behind-it ++ (t ∷ []);
-                    many = omega (arith, length-append u.behind-it (t ∷ []), u.many);
-                    table = rw (r.number t n e, drop-set-add 65 facts v (recordedNumber t)) (store-more (recordedIn facts) u.behind-it v t u.many u.table);
-                    left = u.left ∙ simp (z, e, q, y, map-later, map-map, later-later, drop-drop, append_assoc);
+                    in_s = l;
+                    kept = rw (r.number t n e) (kept_set 65 (65 + v) (recorded_number t) (omega arith) u.kept);
+                    behind_it_lem = u.behind_it_lem ++ (t ∷ []);
+                    many = omega (arith, length-append u.behind_it_lem (t ∷ []), u.many);
+                    table = rw (r.number t n e, drop-set-add 65 facts v (recorded_number t)) (store_more (recorded_in facts) u.behind_it_lem v t u.many u.table);
+                    left = u.left ∙ simp (z, e, q, y, map_later, map_map, later_later, drop-drop, append_assoc);
                   }
             ]
       ]
 
 -- all are behind
-pub recording-done : (types : ℕ) (map : List ℕ) (next at : ℕ) (s before facts : List ℕ) (v here : ℕ) → Recording types map next at s before facts v here → next ≤ v → RecordedRead types map next at s (ok tt here) before facts
-unfolding recordedOf
-recording-done types map next at s before facts v here u h =
+pub recording_done : (types : ℕ) (map : List ℕ) (next at : ℕ) (s before facts : List ℕ) (v here : ℕ) → Recording types map next at s before facts v here → next ≤ v → RecordedRead types map next at s (ok tt here) before facts
+unfolding recorded_of
+recording_done types map next at s before facts v here u h =
     let z : next - v ≡ 0 = omega arith in
-    let e : later at (recordedOf types map 0 next (drop at s)) ≡ ok u.behind-it here = u.left ∙ simp (z, append-nil, add-zero) in
+    let e : later at (recorded_of types map 0 next (drop at s)) ≡ ok u.behind_it_lem here = u.left ∙ simp (z, append-nil, add-zero) in
     record {
-      answers = sym (sym (map-later unit at (recordedOf types map 0 next (drop at s))) ∙ ap (mapParse unit) e);
+      answers = sym (sym (map_later unit at (recorded_of types map 0 next (drop at s))) ∙ ap (map_parse unit) e);
       kept = λ rs n f. u.kept;
-      numbers = λ rs n f. let g : later at (ok rs n) ≡ ok u.behind-it here = sym (ap (later at) f) ∙ e in let p : u.behind-it ≡ rs = cc in rw p at u.table;
+      numbers = λ rs n f. let g : later at (ok rs n) ≡ ok u.behind_it_lem here = sym (ap (later at) f) ∙ e in let p : u.behind_it_lem ≡ rs = cc in rw p at u.table;
     }
 
 -- k values have k entries
-pub recorded-length : (types : ℕ) (map : List ℕ) (v k : ℕ) (s : List ℕ) {rs : List (Option TypeId)} {n : ℕ} → recordedOf types map v k s ≡ ok rs n → length rs ≡ k
-unfolding recordedOf
-recorded-length types map v zero s {rs} e = let p : [] ≡ rs = cc in sym (ap length p)
-recorded-length types map v (suc k) s e =
-    elim (and-inv s (recordedTypeOf types (hasRecorded map v) s) _ e) [
-      | both t i j p q r ↦ elim (map-inv (λ ts. t ∷ ts) (recordedOf types map (suc v) k (drop i s)) q) [ image us f g ↦ ap length g ∙ ap suc (recorded-length types map (suc v) k (drop i s) f) ]
+pub recorded_length : (types : ℕ) (map : List ℕ) (v k : ℕ) (s : List ℕ) {rs : List (Option TypeId)} {n : ℕ} → recorded_of types map v k s ≡ ok rs n → length rs ≡ k
+unfolding recorded_of
+recorded_length types map v zero s {rs} e = let p : [] ≡ rs = cc in sym (ap length p)
+recorded_length types map v (suc k) s e =
+    elim (and_inv s (recorded_type_of types (has_recorded map v) s) _ e) [
+      | both t i j p q r ↦ elim (map_inv (λ ts. t ∷ ts) (recorded_of types map (suc v) k (drop i s)) q) [ image us f g ↦ ap length g ∙ ap suc (recorded_length types map (suc v) k (drop i s) f) ]
     ]
 
 -- what is stored behind them leaves them
-pub recorded-kept : (rs : List (Option TypeId)) (before facts : List ℕ) → Kept 321 before facts → length rs ≤ 256 → RecordedAt (recordedIn before) rs → RecordedAt (recordedIn facts) rs
-recorded-kept rs before facts k h a v l m =
+pub recorded_kept : (rs : List (Option TypeId)) (before facts : List ℕ) → Kept 321 before facts → length rs ≤ 256 → RecordedAt (recorded_in before) rs → RecordedAt (recorded_in facts) rs
+recorded_kept rs before facts k h a v l m =
     get_or-drop 65 facts v 0 ∙ k.same (65 + v) (omega arith) ∙ sym (get_or-drop 65 before v 0) ∙ a v l (omega (arith, length-drop 65 before, length-drop 65 facts, k.long))

@@ -3,15 +3,15 @@
 -- rising; then the blocks".
 use Rattle.std.specs.Prelude.{ℕ, zero, suc, ◌+◌, ◌/◌, ◌%◌, ◌^◌, List, [], ◌∷◌, ◌++◌, Bool, true, false, cond, length, get_or, replicate, ltb, eqb}
 use Rattle.std.proofs.Math.Option.{Option, none, some}
-use Rattle.bytes_wire.specs.Parse.{Parse, ok, bad, and_then, mapParse, checked, seqOf}
-use Rattle.bytes_wire.specs.Number.{u8Of, u16Of, counted}
+use Rattle.bytes_wire.specs.Parse.{Parse, ok, bad, and_then, map_parse, checked, seq_of}
+use Rattle.bytes_wire.specs.Number.{u8_of, u16_of, counted}
 use Rattle.bytes_wire.specs.declared.Cause.{Cause}
 use Rattle.mir.specs.declared.BlockId.{BlockId}
 use Rattle.mir.specs.declared.TypeId.{TypeId}
 use Rattle.mir.specs.Syntax.{Block}
-use Rattle.bytes_field.specs.Decode.{typeIdOf, blockIdOf, definedsOf, bit}
+use Rattle.bytes_field.specs.Decode.{type_id_of, block_id_of, defineds_of, bit}
 use Rattle.bytes_field.specs.declared.Bounds.{Bounds}
-use Rattle.bytes_block.specs.Decode.{marks, blockMarks, block_of}
+use Rattle.bytes_block.specs.Decode.{marks, block_marks, block_of}
 use Rattle.bytes_block.specs.declared.Mosts.{Mosts}
 use Rattle.mir.specs.MirType.{MirType}
 use Rattle.bytes_types.specs.Decode.{types_of}
@@ -23,35 +23,35 @@ mosts = record { types = 64; next = 256; blocks = 32; block = 128; all = 256; li
 
 -- a u16 that is a count: next value, blocks
 abbrev pub at_most : ℕ → List ℕ → Parse ℕ
-at_most most s = counted most (u16Of s)
+at_most most s = counted most (u16_of s)
 
 -- "value v is bit v mod 8 of byte v div 8, low bit first, spare bits 0"
-abbrev pub lastByteOf : ℕ → List ℕ → Parse (List ℕ)
-lastByteOf bits s = cond (eqb bits 0) (ok [] 0) (mapParse (λ x. x ∷ []) (checked Cause.Undefined (λ x. ltb x (2 ^ bits)) (u8Of s)))
+abbrev pub last_byte_of : ℕ → List ℕ → Parse (List ℕ)
+last_byte_of bits s = cond (eqb bits 0) (ok [] 0) (map_parse (λ x. x ∷ []) (checked Cause.Undefined (λ x. ltb x (2 ^ bits)) (u8_of s)))
 
 -- "a bit map of next-value bits": the whole bytes, then one for the bits that are left
-unfoldable pub mapOf : ℕ → List ℕ → Parse (List ℕ)
-mapOf next s = and_then s (seqOf u8Of (next / 8) s) (λ whole s. mapParse (λ last. whole ++ last) (lastByteOf (next % 8) s))
+unfoldable pub map_of : ℕ → List ℕ → Parse (List ℕ)
+map_of next s = and_then s (seq_of u8_of (next / 8) s) (λ whole s. map_parse (λ last. whole ++ last) (last_byte_of (next % 8) s))
 
-abbrev pub hasRecorded : List ℕ → ℕ → Bool
-hasRecorded map v = bit (v % 8) (get_or map (v / 8) 0)
+abbrev pub has_recorded : List ℕ → ℕ → Bool
+has_recorded map v = bit (v % 8) (get_or map (v / 8) 0)
 
 -- a type for each of k values from v on whose bit stands
-abbrev pub recordedTypeOf : ℕ → Bool → List ℕ → Parse (Option TypeId)
-recordedTypeOf types true s = mapParse some (typeIdOf types s)
-recordedTypeOf types false s = ok none 0
+abbrev pub recorded_type_of : ℕ → Bool → List ℕ → Parse (Option TypeId)
+recorded_type_of types true s = map_parse some (type_id_of types s)
+recorded_type_of types false s = ok none 0
 
-unfoldable pub recordedOf : ℕ → List ℕ → ℕ → ℕ → List ℕ → Parse (List (Option TypeId))
-recordedOf types map v zero s = ok [] 0
-recordedOf types map v (suc k) s =
-    and_then s (recordedTypeOf types (hasRecorded map v) s) (λ t s. mapParse (λ ts. t ∷ ts) (recordedOf types map (suc v) k s))
+unfoldable pub recorded_of : ℕ → List ℕ → ℕ → ℕ → List ℕ → Parse (List (Option TypeId))
+recorded_of types map v zero s = ok [] 0
+recorded_of types map v (suc k) s =
+    and_then s (recorded_type_of types (has_recorded map v) s) (λ t s. map_parse (λ ts. t ∷ ts) (recorded_of types map (suc v) k s))
 
 -- k blocks, behind `total` instructions
-unfoldable pub blocksOf : Mosts → Bounds → ℕ → List Bool → ℕ → List ℕ → Parse (List Block)
-blocksOf m b total seen zero s = ok [] 0
-blocksOf m b total seen (suc k) s =
+unfoldable pub blocks_of : Mosts → Bounds → ℕ → List Bool → ℕ → List ℕ → Parse (List Block)
+blocks_of m b total seen zero s = ok [] 0
+blocks_of m b total seen (suc k) s =
     and_then s (block_of m b total seen s) (λ x s.
-    mapParse (λ xs. x ∷ xs) (blocksOf m b (total + length x.instructions) (blockMarks seen x.instructions) k s))
+    map_parse (λ xs. x ∷ xs) (blocks_of m b (total + length x.instructions) (block_marks seen x.instructions) k s))
 
 abbrev pub bounds_of : Mosts → ℕ → ℕ → ℕ → Bounds
 bounds_of m types next blocks = record { types = types; next = next; blocks = blocks; list = m.list; projections = m.projections }
@@ -63,25 +63,25 @@ pub record Sizes : Type 0 where
   pub entry : BlockId
 
 -- the three numbers behind the types
-unfoldable pub sizesOf : Mosts → List ℕ → Parse Sizes
-sizesOf m s =
+unfoldable pub sizes_of : Mosts → List ℕ → Parse Sizes
+sizes_of m s =
     and_then s (at_most m.next s) (λ next s.
     and_then s (at_most m.blocks s) (λ blocks s.
-    mapParse (λ entry. record { next = next; blocks = blocks; entry = entry }) (blockIdOf blocks s)))
+    map_parse (λ entry. record { next = next; blocks = blocks; entry = entry }) (block_id_of blocks s)))
 
 -- what stands behind the sizes: parameters, recorded types, blocks; no value is defined before
 unfoldable pub body_of : Mosts → List MirType → Sizes → List ℕ → Parse Routine
 body_of m ts z s =
     let clear = replicate z.next false in
-    and_then s (definedsOf m.list z.next clear s) (λ ps s.
-    and_then s (mapOf z.next s) (λ map s.
-    and_then s (recordedOf (length ts) map 0 z.next s) (λ rs s.
-    mapParse (λ ks. record { types = ts; next = z.next; entry = z.entry; parameters = ps; recorded = rs; blocks = ks })
-    (blocksOf m (bounds_of m (length ts) z.next z.blocks) 0 (marks clear ps) z.blocks s))))
+    and_then s (defineds_of m.list z.next clear s) (λ ps s.
+    and_then s (map_of z.next s) (λ map s.
+    and_then s (recorded_of (length ts) map 0 z.next s) (λ rs s.
+    map_parse (λ ks. record { types = ts; next = z.next; entry = z.entry; parameters = ps; recorded = rs; blocks = ks })
+    (blocks_of m (bounds_of m (length ts) z.next z.blocks) 0 (marks clear ps) z.blocks s))))
 
 -- "u16 type count, types", then the sizes, then the rest
 unfoldable pub routine_of : Mosts → List ℕ → Parse Routine
-routine_of m s = and_then s (types_of m.types m.list s) (λ ts s. and_then s (sizesOf m s) (λ z s. body_of m ts z s))
+routine_of m s = and_then s (types_of m.types m.list s) (λ ts s. and_then s (sizes_of m s) (λ z s. body_of m ts z s))
 
 -- "bytes after the last block" are refused at the first
 abbrev pub ended : Routine → List ℕ → Parse Routine

@@ -1,11 +1,11 @@
 // The parts of a routine: sizes, map, recorded types, parameters, blocks.
 ghost use Rattle.std.specs.Prelude.{◌≡◌, ◌≤◌, ◌<◌, length, drop};
-ghost use Rattle.bytes_wire.specs.Parse.{mapParse};
-ghost use Rattle.bytes_field.specs.Walk.{asPart, unit};
-ghost use Rattle.bytes_sections.specs.Decode.{mapOf, hasRecorded, sizesOf};
-ghost use Rattle.bytes_sections.specs.Index.{RecordedOne, RecordedRead, ParametersRead, BlocksRead, asSizes};
-ghost use Rattle.bytes_index.specs.Table.{factsSize};
-ghost use Rattle.mir.specs.Most.{mostBlocks};
+ghost use Rattle.bytes_wire.specs.Parse.{map_parse};
+ghost use Rattle.bytes_field.specs.Walk.{as_part, unit};
+ghost use Rattle.bytes_sections.specs.Decode.{map_of, has_recorded, sizes_of};
+ghost use Rattle.bytes_sections.specs.Index.{RecordedOne, RecordedRead, ParametersRead, BlocksRead, as_sizes};
+ghost use Rattle.bytes_index.specs.Table.{facts_size};
+ghost use Rattle.mir.specs.Most.{most_blocks};
 
 use crate::{MOSTS, SizesRead};
 use bytes_block::{BlockRead, Mosts};
@@ -29,7 +29,7 @@ const POWERS: [u8; 8] = [1, 2, 4, 8, 16, 32, 64, 128];
 
 // "u16 next value; u16 block count; u16 entry block".
 pub fn read_sizes(s: &[u8], m: Mosts) -> SizesRead
-    ensures { asSizes result ≡ sizesOf m s.now }
+    ensures { as_sizes result ≡ sizes_of m s.now }
 {
     match bytes_count::section_count(s, m.next) {
         Read16::Refused(c, o) => SizesRead::Refused(c, o),
@@ -58,7 +58,7 @@ pub fn read_sizes(s: &[u8], m: Mosts) -> SizesRead
 
 // The map of the values that have a recorded type.
 pub fn map_part(s: &[u8], next: u16) -> Part
-    ensures { asPart result ≡ mapParse unit (mapOf next s.now) }
+    ensures { as_part result ≡ map_parse unit (map_of next s.now) }
 {
     let whole = (next / 8) as usize;
     if s.len() < whole {
@@ -79,7 +79,7 @@ pub fn map_part(s: &[u8], next: u16) -> Part
 
 // Value v's bit in the map at a place.
 fn map_bit(s: &[u8], map: usize, v: ValueId) -> bool
-    ensures { result ≡ hasRecorded (drop map s.now) v.0 }
+    ensures { result ≡ has_recorded (drop map s.now) v.0 }
 {
     let k = (v.0 / 8) as usize;
     let b = bytes_wire::byte_at(bytes_field::tail(s, map), k);
@@ -97,7 +97,7 @@ fn recorded_one(
     facts: &mut [u16],
 ) -> Part
     requires { here ≤ length s.now }
-    ensures { RecordedOne types (drop map s.now) v.0 here s.now (asPart result) facts.old facts.new }
+    ensures { RecordedOne types (drop map s.now) v.0 here s.now (as_part result) facts.old facts.new }
 {
     let place = bytes_index::RECORDED + v.0 as usize;
     if !map_bit(s, map, v) {
@@ -126,7 +126,7 @@ pub fn recorded_part(
     facts: &mut [u16],
 ) -> Part
     requires { at ≤ length s.now }
-    ensures { RecordedRead types (drop map s.now) next at s.now (asPart result) facts.old facts.new }
+    ensures { RecordedRead types (drop map s.now) next at s.now (as_part result) facts.old facts.new }
 {
     let mut here = at;
     let mut v: u16 = 0;
@@ -146,7 +146,7 @@ pub fn recorded_part(
 
 // The parameters, from their count on: each is marked as defined.
 pub fn parameters_part(s: &[u8], b: Bounds, seen: &mut [bool]) -> Part
-    ensures { ParametersRead b s.now (asPart result) seen.old seen.new }
+    ensures { ParametersRead b s.now (as_part result) seen.old seen.new }
 {
     let mut none: [u16; 0] = [0; 0];
     match bytes_row::then_row(
@@ -165,8 +165,8 @@ pub fn parameters_part(s: &[u8], b: Bounds, seen: &mut [bool]) -> Part
 
 // The blocks, from `at` on: the table is given each block's place, the slot of its first instruction, and its rows.
 pub fn blocks_part(s: &[u8], at: usize, b: Bounds, seen: &mut [bool], facts: &mut [u16]) -> Part
-    requires { (at ≤ length s.now) × (b.blocks ≤ mostBlocks) × (factsSize ≤ length facts.old) }
-    ensures { BlocksRead b at s.now seen.old (asPart result) facts.old facts.new }
+    requires { (at ≤ length s.now) × (b.blocks ≤ most_blocks) × (facts_size ≤ length facts.old) }
+    ensures { BlocksRead b at s.now seen.old (as_part result) facts.old facts.new }
 {
     let many = b.blocks;
     let mut here = at;

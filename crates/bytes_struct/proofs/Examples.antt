@@ -6,8 +6,8 @@ use mathlib.Core.List.{List, [], ◌∷◌}
 use mathlib.Core.Option.{Option, none, some}
 use lib.ListN.{get_elem?}
 use Rattle.mir.specs.MirType.{StructField, MirType}
-use Rattle.mir.specs.Lookup.{structFieldsOf}
-use Rattle.bytes_struct.specs.FindField.{FoundField, findFrom, findField}
+use Rattle.mir.specs.Lookup.{struct_fields_of}
+use Rattle.bytes_struct.specs.FindField.{FoundField, find_from, find_field}
 
 -- a field called n, of type t
 called : ℕ → ℕ → StructField
@@ -29,23 +29,23 @@ types =
 
 -- the name n in type t
 find : ℕ → ℕ → Option FoundField
-find t n = findField (get_elem? types t) (record { 0 = n })
+find t n = find_field (get_elem? types t) (record { 0 = n })
 
 -- position, part type and number of fields
 found : ℕ → ℕ → ℕ → Option FoundField
 found k t m = some (record { position = k; part = record { 0 = t }; fields = m })
 
 -- both fields
-both-fields : find 2 2 ∷ find 2 1 ∷ [] ≡ found 1 1 2 ∷ found 0 0 2 ∷ []
-unfolding called types find found findField findFrom structFieldsOf
-both-fields = refl
+both_fields : find 2 2 ∷ find 2 1 ∷ [] ≡ found 1 1 2 ∷ found 0 0 2 ∷ []
+unfolding called types find found find_field find_from struct_fields_of
+both_fields = refl
 
 -- absent: a name that the struct has not, and the struct's own; in a type that is no struct; in a struct of no fields; where there is no such type
-absent-names : find 2 3 ∷ find 2 9 ∷ find 0 1 ∷ find 3 1 ∷ find 5 1 ∷ [] ≡ none ∷ none ∷ none ∷ none ∷ none ∷ []
-unfolding called types find findField findFrom structFieldsOf
-absent-names = refl
+absent_names : find 2 3 ∷ find 2 9 ∷ find 0 1 ∷ find 3 1 ∷ find 5 1 ∷ [] ≡ none ∷ none ∷ none ∷ none ∷ none ∷ []
+unfolding called types find find_field find_from struct_fields_of
+absent_names = refl
 
 -- the first, the second, the last of sixteen, and none of them
-of-sixteen : find 4 0 ∷ find 4 65535 ∷ find 4 33 ∷ find 4 34 ∷ [] ≡ found 0 0 16 ∷ found 1 1 16 ∷ found 15 2 16 ∷ none ∷ []
-unfolding called sixteen types find found findField findFrom structFieldsOf
-of-sixteen = refl
+of_sixteen : find 4 0 ∷ find 4 65535 ∷ find 4 33 ∷ find 4 34 ∷ [] ≡ found 0 0 16 ∷ found 1 1 16 ∷ found 15 2 16 ∷ none ∷ []
+unfolding called sixteen types find found find_field find_from struct_fields_of
+of_sixteen = refl

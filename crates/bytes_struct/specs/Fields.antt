@@ -4,11 +4,11 @@ use Rattle.bytes_wire.specs.Number.{at16}
 use Rattle.mir.specs.MirType.{StructField}
 
 -- in the bytes of a struct type, its kind first: where the first field's name stands, and its type
-abbrev pub firstName : ℕ
-firstName = 4
+abbrev pub first_name : ℕ
+first_name = 4
 
-abbrev pub firstPart : ℕ
-firstPart = 6
+abbrev pub first_part : ℕ
+first_part = 6
 
 -- past the end of a list of fields
 abbrev pub no_field : StructField

@@ -8,30 +8,30 @@ use Rattle.mir.specs.declared.TypeId.{TypeId}
 use Rattle.mir.specs.MirType.{StructField, MirType}
 use Rattle.bytes_types.specs.Decode.{type_of}
 use Rattle.bytes_types.specs.Index.{TypesAt}
-use Rattle.bytes_struct.specs.FindField.{FoundField, findFrom, findField}
-use Rattle.bytes_struct.specs.Fields.{firstName, firstPart, Names, PartTypes}
+use Rattle.bytes_struct.specs.FindField.{FoundField, find_from, find_field}
+use Rattle.bytes_struct.specs.Fields.{first_name, first_part, Names, PartTypes}
 use Rattle.bytes_struct.specs.declared.FieldLookup.{FieldLookup}
 
 -- the code's answer, case by case
-abbrev pub asFound : FieldLookup → Option FoundField
-asFound (FieldLookup.Found k t n) = some (record { position = k; part = t; fields = n })
-asFound FieldLookup.Absent = none
+abbrev pub as_found : FieldLookup → Option FoundField
+as_found (FieldLookup.Found k t n) = some (record { position = k; part = t; fields = n })
+as_found FieldLookup.Absent = none
 
 -- a name among the fields that stand in the bytes `row` of a struct type
 abbrev pub FoundAmong : List ℕ → ℕ → NameId → FieldLookup → Type 0
 FoundAmong row n name r =
     (fs : List StructField)
-    → Names row firstName fs
-    → PartTypes row firstPart fs
+    → Names row first_name fs
+    → PartTypes row first_part fs
     → length fs ≡ n
-    → asFound r ≡ findFrom 0 (length fs) name fs
+    → as_found r ≡ find_from 0 (length fs) name fs
 
 -- in the type whose bytes are `row`
 abbrev pub FoundInRow : List ℕ → NameId → FieldLookup → Type 0
 FoundInRow row name r =
     (most own n : ℕ) (T : MirType)
     → type_of most own row ≡ ok T n
-    → asFound r ≡ findField (some T) name
+    → as_found r ≡ find_field (some T) name
 
 -- in type t of those that stand at the places `types`
 abbrev pub FoundIn : List ℕ → List ℕ → ℕ → TypeId → NameId → FieldLookup → Type 0
@@ -39,4 +39,4 @@ FoundIn s types many t name r =
     (most : ℕ) (ts : List MirType)
     → TypesAt most s types ts
     → length ts ≡ many
-    → asFound r ≡ findField (get_elem? ts t.0) name
+    → as_found r ≡ find_field (get_elem? ts t.0) name

@@ -5,59 +5,59 @@ use mathlib.Core.List.{List, [], ◌∷◌, map}
 use native.Mathlib.Omega.{arith}
 use borrow.Author.Tests.{le-leb, lt-leb}
 use lib.ListN.{length, get_or, drop, get_or-eq_default}
-use Rattle.bytes_wire.specs.Parse.{Parse, ok, bad, later, and_then, mapParse}
+use Rattle.bytes_wire.specs.Parse.{Parse, ok, bad, later, and_then, map_parse}
 use Rattle.bytes_wire.specs.declared.Cause.{Cause}
-use Rattle.bytes_wire.proofs.Laws.{map-map, map-and, map-later, and-map, and_ok}
-use Rattle.bytes_field.specs.Walk.{Walk, simpleWalk, fieldWalk, rowWalk, unit}
+use Rattle.bytes_wire.proofs.Laws.{map_map, map_and, map_later, and_map, and_ok}
+use Rattle.bytes_field.specs.Walk.{Walk, simple_walk, field_walk, row_walk, unit}
 use Rattle.bytes_field.specs.declared.Bounds.{Bounds}
-use Rattle.bytes_field.proofs.Rows.{types-list}
-use Rattle.bytes_types.specs.Decode.{struct_of, typeKinds, type_of}
+use Rattle.bytes_field.proofs.Rows.{types_list}
+use Rattle.bytes_types.specs.Decode.{struct_of, type_kinds, type_of}
 
 -- the rows of the kinds; a Struct has none
-abbrev pub typeRows : List ℕ
-typeRows = 0x0 ∷ 0x0 ∷ 0x0 ∷ 0xb ∷ 0x0 ∷ 0x53 ∷ 0x3 ∷ 0x3b ∷ 0x0 ∷ 0x0 ∷ 0x0 ∷ []
+abbrev pub type_rows : List ℕ
+type_rows = 0x0 ∷ 0x0 ∷ 0x0 ∷ 0xb ∷ 0x0 ∷ 0x53 ∷ 0x3 ∷ 0x3b ∷ 0x0 ∷ 0x0 ∷ 0x0 ∷ []
 
 -- the kind at the first byte, by the kind's number k
-chosen : (most own : ℕ) (s : List ℕ) → 1 ≤ length s → type_of most own s ≡ get_or (map (λ f. later 1 (f (drop 1 s))) (typeKinds most own)) (get_or s 0 0) (bad Cause.Undefined 0)
+chosen : (most own : ℕ) (s : List ℕ) → 1 ≤ length s → type_of most own s ≡ get_or (map (λ f. later 1 (f (drop 1 s))) (type_kinds most own)) (get_or s 0 0) (bad Cause.Undefined 0)
 unfolding type_of
 chosen most own s h = rw (le-leb _ _ h)
 
 module _ (most own : ℕ) (s : List ℕ) where
   -- there is no byte for the kind
-  pub type-none : length s < 1 → bad Cause.Truncated 0 ≡ mapParse unit (type_of most own s)
+  pub type_none : length s < 1 → bad Cause.Truncated 0 ≡ map_parse unit (type_of most own s)
   unfolding type_of
-  type-none h = sym (rw (lt-leb _ _ h))
+  type_none h = sym (rw (lt-leb _ _ h))
 
   -- it is no kind
-  pub type-undefined : 1 ≤ length s → 11 ≤ get_or s 0 0 → bad Cause.Undefined 0 ≡ mapParse unit (type_of most own s)
-  type-undefined h l =
-      sym (ap (mapParse unit) (chosen most own s h
-      ∙ get_or-eq_default (map (λ f. later 1 (f (drop 1 s))) (typeKinds most own)) (bad Cause.Undefined 0) {n = get_or s 0 0} l))
+  pub type_undefined : 1 ≤ length s → 11 ≤ get_or s 0 0 → bad Cause.Undefined 0 ≡ map_parse unit (type_of most own s)
+  type_undefined h l =
+      sym (ap (map_parse unit) (chosen most own s h
+      ∙ get_or-eq_default (map (λ f. later 1 (f (drop 1 s))) (type_kinds most own)) (bad Cause.Undefined 0) {n = get_or s 0 0} l))
 
   -- it is a Struct
-  pub type-struct : 1 ≤ length s → get_or s 0 0 ≡ 4 → later 1 (mapParse unit (struct_of most own (drop 1 s))) ≡ mapParse unit (type_of most own s)
-  type-struct h e = sym (rw (chosen most own s h, e) (map-later unit 1 (struct_of most own (drop 1 s))))
+  pub type_struct : 1 ≤ length s → get_or s 0 0 ≡ 4 → later 1 (map_parse unit (struct_of most own (drop 1 s))) ≡ map_parse unit (type_of most own s)
+  type_struct h e = sym (rw (chosen most own s h, e) (map_later unit 1 (struct_of most own (drop 1 s))))
 
 -- the row of a kind says what its decoder does
-kind-type : (b : Bounds) (w : Walk) (t : List ℕ) (k : ℕ) → k < 11 → (k ≡ 4 → ⊥) → mapParse unit (later 1 (rowWalk b 0 5 (get_or typeRows k 0) w t)) ≡ mapParse unit (get_or (map (λ f. later 1 (f t)) (typeKinds b.list b.types)) k (bad Cause.Undefined 0))
-unfolding rowWalk fieldWalk simpleWalk
-kind-type b w t zero h g = refl
-kind-type b w t (suc zero) h g = refl
-kind-type b w t (suc (suc zero)) h g = refl
-kind-type b w t (suc (suc (suc zero))) h g = simp (map-later, and-map, map-map, and_ok, types-list)
-kind-type b w t (suc (suc (suc (suc zero)))) h g = absurd (g refl)
-kind-type b w t (suc (suc (suc (suc (suc zero))))) h g = simp (map-later, and-map, map-and, map-map, and_ok)
-kind-type b w t (suc (suc (suc (suc (suc (suc zero)))))) h g = simp (map-later, and-map, map-map, and_ok)
-kind-type b w t (suc (suc (suc (suc (suc (suc (suc zero))))))) h g = simp (map-later, and-map, map-and, map-map, and_ok, types-list)
-kind-type b w t (suc (suc (suc (suc (suc (suc (suc (suc zero)))))))) h g = refl
-kind-type b w t (suc (suc (suc (suc (suc (suc (suc (suc (suc zero))))))))) h g = refl
-kind-type b w t (suc (suc (suc (suc (suc (suc (suc (suc (suc (suc zero)))))))))) h g = refl
-kind-type b w t (suc (suc (suc (suc (suc (suc (suc (suc (suc (suc (suc k))))))))))) h g = absurd (omega arith)
+kind_type : (b : Bounds) (w : Walk) (t : List ℕ) (k : ℕ) → k < 11 → (k ≡ 4 → ⊥) → map_parse unit (later 1 (row_walk b 0 5 (get_or type_rows k 0) w t)) ≡ map_parse unit (get_or (map (λ f. later 1 (f t)) (type_kinds b.list b.types)) k (bad Cause.Undefined 0))
+unfolding row_walk field_walk simple_walk
+kind_type b w t zero h g = refl
+kind_type b w t (suc zero) h g = refl
+kind_type b w t (suc (suc zero)) h g = refl
+kind_type b w t (suc (suc (suc zero))) h g = simp (map_later, and_map, map_map, and_ok, types_list)
+kind_type b w t (suc (suc (suc (suc zero)))) h g = absurd (g refl)
+kind_type b w t (suc (suc (suc (suc (suc zero))))) h g = simp (map_later, and_map, map_and, map_map, and_ok)
+kind_type b w t (suc (suc (suc (suc (suc (suc zero)))))) h g = simp (map_later, and_map, map_map, and_ok)
+kind_type b w t (suc (suc (suc (suc (suc (suc (suc zero))))))) h g = simp (map_later, and_map, map_and, map_map, and_ok, types_list)
+kind_type b w t (suc (suc (suc (suc (suc (suc (suc (suc zero)))))))) h g = refl
+kind_type b w t (suc (suc (suc (suc (suc (suc (suc (suc (suc zero))))))))) h g = refl
+kind_type b w t (suc (suc (suc (suc (suc (suc (suc (suc (suc (suc zero)))))))))) h g = refl
+kind_type b w t (suc (suc (suc (suc (suc (suc (suc (suc (suc (suc (suc k))))))))))) h g = absurd (omega arith)
 
 -- it is another kind
-type_row : (b : Bounds) (w : Walk) (s : List ℕ) → 1 ≤ length s → get_or s 0 0 < 11 → (get_or s 0 0 ≡ 4 → ⊥) → mapParse unit (and_then s (ok w 1) (λ v t. rowWalk b 0 5 (get_or typeRows (get_or s 0 0) 0) v t)) ≡ mapParse unit (type_of b.list b.types s)
-type_row b w s h l g = kind-type b w (drop 1 s) (get_or s 0 0) l g ∙ sym (ap (mapParse unit) (chosen b.list b.types s h))
+type_row : (b : Bounds) (w : Walk) (s : List ℕ) → 1 ≤ length s → get_or s 0 0 < 11 → (get_or s 0 0 ≡ 4 → ⊥) → map_parse unit (and_then s (ok w 1) (λ v t. row_walk b 0 5 (get_or type_rows (get_or s 0 0) 0) v t)) ≡ map_parse unit (type_of b.list b.types s)
+type_row b w s h l g = kind_type b w (drop 1 s) (get_or s 0 0) l g ∙ sym (ap (map_parse unit) (chosen b.list b.types s h))
 
 -- and what was made of the walk over its row is what is made of the type
-pub read-row : (b : Bounds) (w : Walk) (s : List ℕ) {d : Parse (Unit {0})} {q : Parse Walk} → d ≡ mapParse unit q → q ≡ and_then s (ok w 1) (λ v t. rowWalk b 0 5 (get_or typeRows (get_or s 0 0) 0) v t) → 1 ≤ length s → get_or s 0 0 < 11 → (get_or s 0 0 ≡ 4 → ⊥) → d ≡ mapParse unit (type_of b.list b.types s)
-read-row b w s e f h l g = e ∙ ap (mapParse unit) f ∙ type_row b w s h l g
+pub read_row : (b : Bounds) (w : Walk) (s : List ℕ) {d : Parse (Unit {0})} {q : Parse Walk} → d ≡ map_parse unit q → q ≡ and_then s (ok w 1) (λ v t. row_walk b 0 5 (get_or type_rows (get_or s 0 0) 0) v t) → 1 ≤ length s → get_or s 0 0 < 11 → (get_or s 0 0 ≡ 4 → ⊥) → d ≡ map_parse unit (type_of b.list b.types s)
+read_row b w s e f h l g = e ∙ ap (map_parse unit) f ∙ type_row b w s h l g

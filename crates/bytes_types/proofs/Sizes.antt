@@ -5,64 +5,64 @@ use mathlib.Core.Bool.{not}
 use native.Mathlib.Nat.{le_trans}
 use lib.ListN.{length}
 use lib.Dec.{leb}
-use Rattle.bytes_wire.specs.Parse.{Parse, mapParse, checked}
-use Rattle.bytes_wire.specs.Number.{u16Of}
+use Rattle.bytes_wire.specs.Parse.{Parse, map_parse, checked}
+use Rattle.bytes_wire.specs.Number.{u16_of}
 use Rattle.bytes_wire.specs.declared.Cause.{Cause}
 use Rattle.mir.specs.declared.NameId.{NameId}
-use Rattle.bytes_wire.proofs.Laws.{size, size-map, size-checked, size-and, size_number, size_below, size-seq, size-tagged, none, ◌&◌}
-use Rattle.bytes_field.specs.Decode.{typeIdOf, nameIdOf, count_of, list_of}
+use Rattle.bytes_wire.proofs.Laws.{size, size_map, size_checked, size_and, size_number, size_below, size_seq, size_tagged, none, ◌&◌}
+use Rattle.bytes_field.specs.Decode.{type_id_of, name_id_of, count_of, list_of}
 use Rattle.bytes_field.specs.Walk.{unit}
-use Rattle.bytes_field.proofs.Sizes.{size-count}
+use Rattle.bytes_field.proofs.Sizes.{size_count}
 use Rattle.mir.specs.MirType.{MirType}
-use Rattle.bytes_types.specs.Decode.{hasName, newNameOf, structFields, struct_of, typeKinds, type_of, hasType, typeSeq, types_of}
+use Rattle.bytes_types.specs.Decode.{has_name, new_name_of, struct_fields, struct_of, type_kinds, type_of, has_type, type_seq, types_of}
 
 -- a type number
-size-type-id : (own : ℕ) (s : List ℕ) → size (typeIdOf own s) ≤ length s
-size-type-id own s = rw size-map (size_below own s)
+size_type_id : (own : ℕ) (s : List ℕ) → size (type_id_of own s) ≤ length s
+size_type_id own s = rw size_map (size_below own s)
 
 -- a name number
-size-name-id : (s : List ℕ) → size (nameIdOf s) ≤ length s
-size-name-id s = rw size-map (size_number 2 s)
+size_name_id : (s : List ℕ) → size (name_id_of s) ≤ length s
+size_name_id s = rw size_map (size_number 2 s)
 
 -- a new name
-size-new-name : (names : List NameId) (s : List ℕ) → size (newNameOf names s) ≤ length s
-size-new-name names s = le_trans (size-checked Cause.Repeated (λ x. not (hasName x names)) (nameIdOf s)) (size-name-id s)
+size_new_name : (names : List NameId) (s : List ℕ) → size (new_name_of names s) ≤ length s
+size_new_name names s = le_trans (size_checked Cause.Repeated (λ x. not (has_name x names)) (name_id_of s)) (size_name_id s)
 
 -- a list
-size-list-of : {A : Type 0} (most : ℕ) (dec : List ℕ → Parse A) → ((t : List ℕ) → size (dec t) ≤ length t) → (s : List ℕ) → size (list_of most dec s) ≤ length s
+size_list_of : {A : Type 0} (most : ℕ) (dec : List ℕ → Parse A) → ((t : List ℕ) → size (dec t) ≤ length t) → (s : List ℕ) → size (list_of most dec s) ≤ length s
 unfolding list_of
-size-list-of most dec h s = size-and s (count_of most s) _ (size-count most s) (λ n t. size-seq dec h n t)
+size_list_of most dec h s = size_and s (count_of most s) _ (size_count most s) (λ n t. size_seq dec h n t)
 
 -- a struct's fields
-pub size-fields : (own : ℕ) (names : List NameId) (k : ℕ) (s : List ℕ) → size (structFields own names k s) ≤ length s
-unfolding structFields
-size-fields own names zero s = zero-le
-size-fields own names (suc k) s =
-    size-and s (newNameOf names s) _ (size-new-name names s) (λ n t.
-    size-and t (typeIdOf own t) _ (size-type-id own t) (λ p u.
-    rw size-map (size-fields own (n ∷ names) k u)))
+pub size_fields : (own : ℕ) (names : List NameId) (k : ℕ) (s : List ℕ) → size (struct_fields own names k s) ≤ length s
+unfolding struct_fields
+size_fields own names zero s = zero-le
+size_fields own names (suc k) s =
+    size_and s (new_name_of names s) _ (size_new_name names s) (λ n t.
+    size_and t (type_id_of own t) _ (size_type_id own t) (λ p u.
+    rw size_map (size_fields own (n ∷ names) k u)))
 
 -- a struct
-pub size-struct : (most own : ℕ) (s : List ℕ) → size (struct_of most own s) ≤ length s
+pub size_struct : (most own : ℕ) (s : List ℕ) → size (struct_of most own s) ≤ length s
 unfolding struct_of
-size-struct most own s =
-    size-and s (nameIdOf s) _ (size-name-id s) (λ n t.
-    size-and t (count_of most t) _ (size-count most t) (λ k u.
-    rw size-map (size-fields own [] k u)))
+size_struct most own s =
+    size_and s (name_id_of s) _ (size_name_id s) (λ n t.
+    size_and t (count_of most t) _ (size_count most t) (λ k u.
+    rw size_map (size_fields own [] k u)))
 
 -- a type
 pub size_type : (most own : ℕ) (s : List ℕ) → size (type_of most own s) ≤ length s
 unfolding type_of
 size_type most own s =
-    size-tagged (typeKinds most own)
+    size_tagged (type_kinds most own)
     ((λ t. zero-le)
     & (λ t. zero-le)
     & (λ t. zero-le)
-    & (λ t. rw size-map (size-list-of most (typeIdOf own) (size-type-id own) t))
-    & (λ t. size-struct most own t)
-    & (λ t. size-and t (typeIdOf own t) _ (size-type-id own t) (λ p u. rw size-map (size_number 4 u)))
-    & (λ t. rw size-map (size-type-id own t))
-    & (λ t. size-and t (list_of most (typeIdOf own) t) _ (size-list-of most (typeIdOf own) (size-type-id own) t) (λ ps u. rw size-map (size-type-id own u)))
+    & (λ t. rw size_map (size_list_of most (type_id_of own) (size_type_id own) t))
+    & (λ t. size_struct most own t)
+    & (λ t. size_and t (type_id_of own t) _ (size_type_id own t) (λ p u. rw size_map (size_number 4 u)))
+    & (λ t. rw size_map (size_type_id own t))
+    & (λ t. size_and t (list_of most (type_id_of own) t) _ (size_list_of most (type_id_of own) (size_type_id own) t) (λ ps u. rw size_map (size_type_id own u)))
     & (λ t. zero-le)
     & (λ t. zero-le)
     & (λ t. zero-le)
@@ -70,22 +70,22 @@ size_type most own s =
     s
 
 -- several types
-pub size-type-seq : (most : ℕ) (earlier : List MirType) (k : ℕ) (s : List ℕ) → size (typeSeq most earlier k s) ≤ length s
-unfolding typeSeq
-size-type-seq most earlier zero s = zero-le
-size-type-seq most earlier (suc k) s =
-    size-and s (checked Cause.Repeated (λ t. not (hasType t earlier)) (type_of most (length earlier) s)) _
-    (le_trans (size-checked Cause.Repeated (λ t. not (hasType t earlier)) (type_of most (length earlier) s)) (size_type most (length earlier) s))
-    (λ t u. rw size-map (size-type-seq most (earlier ++ (t ∷ [])) k u))
+pub size_type_seq : (most : ℕ) (earlier : List MirType) (k : ℕ) (s : List ℕ) → size (type_seq most earlier k s) ≤ length s
+unfolding type_seq
+size_type_seq most earlier zero s = zero-le
+size_type_seq most earlier (suc k) s =
+    size_and s (checked Cause.Repeated (λ t. not (has_type t earlier)) (type_of most (length earlier) s)) _
+    (le_trans (size_checked Cause.Repeated (λ t. not (has_type t earlier)) (type_of most (length earlier) s)) (size_type most (length earlier) s))
+    (λ t u. rw size_map (size_type_seq most (earlier ++ (t ∷ [])) k u))
 
 -- the table
-pub size-types : (mostTypes most : ℕ) (s : List ℕ) → size (types_of mostTypes most s) ≤ length s
+pub size_types : (most_types most : ℕ) (s : List ℕ) → size (types_of most_types most s) ≤ length s
 unfolding types_of
-size-types mostTypes most s =
-    size-and s (checked Cause.TooMany (λ n. leb n mostTypes) (u16Of s)) _
-    (le_trans (size-checked Cause.TooMany (λ n. leb n mostTypes) (u16Of s)) (size_number 2 s))
-    (λ n t. size-type-seq most [] n t)
+size_types most_types most s =
+    size_and s (checked Cause.TooMany (λ n. leb n most_types) (u16_of s)) _
+    (le_trans (size_checked Cause.TooMany (λ n. leb n most_types) (u16_of s)) (size_number 2 s))
+    (λ n t. size_type_seq most [] n t)
 
 -- a type of which nothing is kept
-pub size-unit-type : (most own : ℕ) (s : List ℕ) → size (mapParse unit (type_of most own s)) ≤ length s
-size-unit-type most own s = rw size-map (size_type most own s)
+pub size_unit_type : (most own : ℕ) (s : List ℕ) → size (map_parse unit (type_of most own s)) ≤ length s
+size_unit_type most own s = rw size_map (size_type most own s)

@@ -1,18 +1,18 @@
 -- Where the rows of a type table stand, as the code finds them again.
 use Rattle.std.specs.Prelude.{ℕ, suc, ◌-◌, ◌≤◌, ◌<◌, ◌≡◌, List, Bool, length, get_or, drop}
-use Rattle.bytes_wire.specs.Parse.{Parse, ok, and_then, mapParse}
+use Rattle.bytes_wire.specs.Parse.{Parse, ok, and_then, map_parse}
 use Rattle.bytes_wire.specs.WellFormed.{Bytes}
 use Rattle.mir.specs.declared.NameId.{NameId}
 use Rattle.mir.specs.declared.TypeId.{TypeId}
-use Rattle.bytes_field.specs.Decode.{typeIdOf}
+use Rattle.bytes_field.specs.Decode.{type_id_of}
 use Rattle.bytes_field.specs.Walk.{unit}
 use Rattle.mir.specs.MirType.{MirType}
 pub use Rattle.bytes_before.specs.Before.{names_at}
-use Rattle.bytes_types.specs.Decode.{newNameOf, type_of, hasType, types_of}
+use Rattle.bytes_types.specs.Decode.{new_name_of, type_of, has_type, types_of}
 
 -- a struct's field, of which only its type is kept
 abbrev pub field_of : ℕ → List NameId → List ℕ → Parse TypeId
-field_of own names s = and_then s (newNameOf names s) (λ n t. typeIdOf own t)
+field_of own names s = and_then s (new_name_of names s) (λ n t. type_id_of own t)
 
 -- type k stands from place k of `starts` to place k + 1
 pub record TypesAt (most : ℕ) (s starts : List ℕ) (ts : List MirType) : Type 0 where
@@ -27,11 +27,11 @@ TestedBefore s starts k at end r = (most own : ℕ) (ts : List MirType) (t : Mir
     → length ts ≡ k
     → TypesAt most s starts ts
     → type_of most own (drop at s) ≡ ok t (end - at)
-    → r ≡ hasType t ts
+    → r ≡ has_type t ts
 
 -- what reading the table gives: the definition's answer and, where that is a table, its places
-pub record TypesRead (mostTypes most : ℕ) (s : List ℕ) (answer : Parse (Unit {0})) (before starts : List ℕ) : Type 0 where
-  pub answers : answer ≡ mapParse unit (types_of mostTypes most s)
+pub record TypesRead (most_types most : ℕ) (s : List ℕ) (answer : Parse (Unit {0})) (before starts : List ℕ) : Type 0 where
+  pub answers : answer ≡ map_parse unit (types_of most_types most s)
   pub long : length starts ≡ length before
-  pub places : (ts : List MirType) (n : ℕ) → types_of mostTypes most s ≡ ok ts n → TypesAt most s starts ts
-  pub first : (ts : List MirType) (n : ℕ) → types_of mostTypes most s ≡ ok ts n → get_or starts 0 0 ≡ 2
+  pub places : (ts : List MirType) (n : ℕ) → types_of most_types most s ≡ ok ts n → TypesAt most s starts ts
+  pub first : (ts : List MirType) (n : ℕ) → types_of most_types most s ≡ ok ts n → get_or starts 0 0 ≡ 2

@@ -4,10 +4,10 @@
 pub mod layout;
 
 ghost use Rattle.std.specs.Prelude.{◌≡◌, List, [], Bool, ℕ, ◌+◌, ◌*◌, ◌≤◌, ◌<◌, length, drop};
-ghost use Rattle.bytes_wire.specs.Parse.{mapParse, later};
-ghost use Rattle.bytes_field.specs.Walk.{asScan, asPart, unit};
+ghost use Rattle.bytes_wire.specs.Parse.{map_parse, later};
+ghost use Rattle.bytes_field.specs.Walk.{as_scan, as_part, unit};
 ghost use Rattle.bytes_before.specs.Before.{names_at};
-ghost use Rattle.bytes_types.specs.Decode.{structFields, struct_of, type_of};
+ghost use Rattle.bytes_types.specs.Decode.{struct_fields, struct_of, type_of};
 ghost use Rattle.bytes_types.specs.Index.{field_of, TypesRead};
 
 use bytes_field::{Bounds, Part, Scan};
@@ -24,8 +24,8 @@ const KINDS: u8 = 11;
 // Field `i` of the fields that begin at `from`: a new name, then a type below the struct's own number.
 fn struct_field(s: &[u8], from: usize, i: u8, own: u16) -> Part
     requires { from + 4 * i ≤ length s.now }
-    ensures { asPart result ≡ later (from + 4 * i)
-        (mapParse unit (field_of own (names_at s.now from i) (drop (from + 4 * i) s.now))) }
+    ensures { as_part result ≡ later (from + 4 * i)
+        (map_parse unit (field_of own (names_at s.now from i) (drop (from + 4 * i) s.now))) }
 {
     let at = from + 4 * (i as usize);
     match bytes_wire::read_u16(&s[at..]) {
@@ -52,7 +52,7 @@ fn struct_field(s: &[u8], from: usize, i: u8, own: u16) -> Part
 // The `count` fields that begin at `from`, one after another; `own` is the number of their struct.
 fn struct_fields(s: &[u8], from: usize, count: u8, own: u16) -> Part
     requires { from ≤ length s.now }
-    ensures { asPart result ≡ later from (mapParse unit (structFields own [] count (drop from s.now))) }
+    ensures { as_part result ≡ later from (map_parse unit (struct_fields own [] count (drop from s.now))) }
 {
     let mut at = from;
     let mut i: u8 = 0;
@@ -73,7 +73,7 @@ fn struct_fields(s: &[u8], from: usize, count: u8, own: u16) -> Part
 // A Struct, from its kind on.
 fn struct_type(s: &[u8], most: u8, own: u16) -> Part
     requires { 1 ≤ length s.now }
-    ensures { asPart result ≡ later 1 (mapParse unit (struct_of most own (drop 1 s.now))) }
+    ensures { as_part result ≡ later 1 (map_parse unit (struct_of most own (drop 1 s.now))) }
 {
     match bytes_wire::read_u16(&s[1..]) {
         Read16::Refused(c, o) => Part::Refused(c, 1 + o),
@@ -92,7 +92,7 @@ fn struct_type(s: &[u8], most: u8, own: u16) -> Part
 
 // How many bytes a walk took, whatever it noted.
 fn part_of(p: Scan) -> Part
-    ensures { (seen : List Bool) (buffer : List ℕ) → asPart result ≡ mapParse unit (asScan p seen buffer) }
+    ensures { (seen : List Bool) (buffer : List ℕ) → as_part result ≡ map_parse unit (as_scan p seen buffer) }
 {
     match p {
         Scan::Used(at, _, _) => Part::Used(at),
@@ -102,7 +102,7 @@ fn part_of(p: Scan) -> Part
 
 // A type, from its kind on. Its parts stay below its own number.
 pub fn read_type(s: &[u8], most: u8, own: u16) -> Part
-    ensures { asPart result ≡ mapParse unit (type_of most own s.now) }
+    ensures { as_part result ≡ map_parse unit (type_of most own s.now) }
 {
     if s.len() < 1 {
         return Part::Refused(Cause::Truncated, 0);
@@ -139,7 +139,7 @@ pub fn read_type(s: &[u8], most: u8, own: u16) -> Part
 // The type table, from its count on. `starts` is given each type's place, and the place behind the last.
 pub fn read_types(s: &[u8], limit: u16, most: u8, starts: &mut [u16]) -> Part
     requires { (limit ≤ 64) × (most ≤ 16) × (limit < length starts.old) }
-    ensures { TypesRead limit most s.now (asPart result) starts.old starts.new }
+    ensures { TypesRead limit most s.now (as_part result) starts.old starts.new }
 {
     match bytes_wire::read_u16(s) {
         Read16::Refused(c, o) => Part::Refused(c, o),

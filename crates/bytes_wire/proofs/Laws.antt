@@ -9,9 +9,9 @@ use borrow.Author.Tests.{leb-true, lt-leb, le-leb}
 use lib.ListN.{length, get_or, take, drop, length-drop, get_or-eq_default}
 use lib.Seq.{take_all, take-nil, drop-drop, get_or-drop}
 use lib.Dec.{leb, ltb}
-use Rattle.bytes_wire.specs.Parse.{Parse, ok, bad, later, and_then, mapParse, checked, tagged, seqOf}
-use Rattle.bytes_wire.specs.Number.{fromBytes, number_of, below, at16, at32}
-use Rattle.bytes_wire.specs.Value.{boolOf, valueIdOf, value_of, valueKinds}
+use Rattle.bytes_wire.specs.Parse.{Parse, ok, bad, later, and_then, map_parse, checked, tagged, seq_of}
+use Rattle.bytes_wire.specs.Number.{from_bytes, number_of, below, at16, at32}
+use Rattle.bytes_wire.specs.Value.{bool_of, value_id_of, value_of, value_kinds}
 use Rattle.bytes_wire.specs.declared.Cause.{Cause}
 
 -- the count, or the offset
@@ -20,34 +20,34 @@ size (ok a n) = n
 size (bad c o) = o
 
 -- counted from earlier, it reaches further
-pub size-later : {A : Type 0} (n : ℕ) (d : Parse A) → size (later n d) ≡ n + size d
-size-later n (ok a m) = refl
-size-later n (bad c o) = refl
+pub size_later : {A : Type 0} (n : ℕ) (d : Parse A) → size (later n d) ≡ n + size d
+size_later n (ok a m) = refl
+size_later n (bad c o) = refl
 
 -- what is made of the value does not move the count
-pub size-map : {A B : Type 0} (f : A → B) (d : Parse A) → size (mapParse f d) ≡ size d
-size-map f (ok a m) = refl
-size-map f (bad c o) = refl
+pub size_map : {A B : Type 0} (f : A → B) (d : Parse A) → size (map_parse f d) ≡ size d
+size_map f (ok a m) = refl
+size_map f (bad c o) = refl
 
 -- both arms within a bound, the first where the test holds
-pub size-cond : {A : Type 0} (b : Bool) (x y : Parse A) (len : ℕ) → (b ≡ true → size x ≤ len) → size y ≤ len → size (cond b x y) ≤ len
-size-cond true x y len f g = f refl
-size-cond false x y len f g = g
+pub size_cond : {A : Type 0} (b : Bool) (x y : Parse A) (len : ℕ) → (b ≡ true → size x ≤ len) → size y ≤ len → size (cond b x y) ≤ len
+size_cond true x y len f g = f refl
+size_cond false x y len f g = g
 
 -- a test moves no count further
-pub size-checked : {A : Type 0} (c : Cause) (p : A → Bool) (d : Parse A) → size (checked c p d) ≤ size d
-size-checked c p (ok a n) = size-cond (p a) (ok a n) (bad c 0) n (λ e. le_refl n) zero-le
-size-checked c p (bad k o) = le_refl o
+pub size_checked : {A : Type 0} (c : Cause) (p : A → Bool) (d : Parse A) → size (checked c p d) ≤ size d
+size_checked c p (ok a n) = size_cond (p a) (ok a n) (bad c 0) n (λ e. le_refl n) zero-le
+size_checked c p (bad k o) = le_refl o
 
 -- a decoder, then one that stays within what is left
-pub size-and : {A B : Type 0} (s : List ℕ) (d : Parse A) (f : A → List ℕ → Parse B) → size d ≤ length s → ((a : A) (t : List ℕ) → size (f a t) ≤ length t) → size (and_then s d f) ≤ length s
-size-and s (ok a n) f h g = omega (arith, size-later n (f a (drop n s)), g a (drop n s), length-drop n s)
-size-and s (bad c o) f h g = h
+pub size_and : {A B : Type 0} (s : List ℕ) (d : Parse A) (f : A → List ℕ → Parse B) → size d ≤ length s → ((a : A) (t : List ℕ) → size (f a t) ≤ length t) → size (and_then s d f) ≤ length s
+size_and s (ok a n) f h g = omega (arith, size_later n (f a (drop n s)), g a (drop n s), length-drop n s)
+size_and s (bad c o) f h g = h
 
 -- a number stays within its bytes
 pub size_number : (w : ℕ) (s : List ℕ) → size (number_of w s) ≤ length s
 unfolding number_of
-size_number w s = size-cond (leb w (length s)) _ _ _ (λ e. leb-true _ _ e) zero-le
+size_number w s = size_cond (leb w (length s)) _ _ _ (λ e. leb-true _ _ e) zero-le
 
 -- each of the decoders stays within its bytes
 infixr 67 ◌&◌
@@ -56,39 +56,39 @@ pub data Sized {A : Type 0} : List (List ℕ → Parse A) → Type 0 where
   ◌&◌ : {f : List ℕ → Parse A} {fs : List (List ℕ → Parse A)} → ((t : List ℕ) → size (f t) ≤ length t) → Sized fs → Sized (f ∷ fs)
 
 -- and so does the one that a kind byte chooses, with that byte
-size-kind : {A : Type 0} (fs : List (List ℕ → Parse A)) → Sized fs → (t : List ℕ) (k : ℕ) → size (get_or (map (λ f. later 1 (f t)) fs) k (bad Cause.Undefined 0)) ≤ 1 + length t
-size-kind [] none t k = zero-le
-size-kind (f ∷ fs) (h & hs) t zero = omega (arith, size-later 1 (f t), h t)
-size-kind (f ∷ fs) (h & hs) t (suc k) = size-kind fs hs t k
+size_kind : {A : Type 0} (fs : List (List ℕ → Parse A)) → Sized fs → (t : List ℕ) (k : ℕ) → size (get_or (map (λ f. later 1 (f t)) fs) k (bad Cause.Undefined 0)) ≤ 1 + length t
+size_kind [] none t k = zero-le
+size_kind (f ∷ fs) (h & hs) t zero = omega (arith, size_later 1 (f t), h t)
+size_kind (f ∷ fs) (h & hs) t (suc k) = size_kind fs hs t k
 
 -- a kind byte and the decoder it chooses stay within the bytes
-pub size-tagged : {A : Type 0} (fs : List (List ℕ → Parse A)) → Sized fs → (s : List ℕ) → size (tagged fs s) ≤ length s
-size-tagged fs h s = size-cond (leb 1 (length s)) _ _ _ (λ e. omega (arith, size-kind fs h (drop 1 s) (get_or s 0 0), length-drop 1 s, leb-true 1 (length s) e)) zero-le
+pub size_tagged : {A : Type 0} (fs : List (List ℕ → Parse A)) → Sized fs → (s : List ℕ) → size (tagged fs s) ≤ length s
+size_tagged fs h s = size_cond (leb 1 (length s)) _ _ _ (λ e. omega (arith, size_kind fs h (drop 1 s) (get_or s 0 0), length-drop 1 s, leb-true 1 (length s) e)) zero-le
 
 -- a sequence stays within the bytes
-pub size-seq : {A : Type 0} (dec : List ℕ → Parse A) → ((t : List ℕ) → size (dec t) ≤ length t) → (k : ℕ) (s : List ℕ) → size (seqOf dec k s) ≤ length s
-unfolding seqOf
-size-seq dec h zero s = zero-le
-size-seq dec h (suc k) s = size-and s (dec s) (λ a t. mapParse (λ xs. a ∷ xs) (seqOf dec k t)) (h s) (λ a t. rw (size-map (λ xs. a ∷ xs) (seqOf dec k t)) (size-seq dec h k t))
+pub size_seq : {A : Type 0} (dec : List ℕ → Parse A) → ((t : List ℕ) → size (dec t) ≤ length t) → (k : ℕ) (s : List ℕ) → size (seq_of dec k s) ≤ length s
+unfolding seq_of
+size_seq dec h zero s = zero-le
+size_seq dec h (suc k) s = size_and s (dec s) (λ a t. map_parse (λ xs. a ∷ xs) (seq_of dec k t)) (h s) (λ a t. rw (size_map (λ xs. a ∷ xs) (seq_of dec k t)) (size_seq dec h k t))
 
 -- the fields and the value stay within their bytes
 pub size_below : (bound : ℕ) (s : List ℕ) → size (below bound s) ≤ length s
-size_below bound s = le_trans (size-checked Cause.OutOfRange (λ x. ltb x bound) (number_of 2 s)) (size_number 2 s)
+size_below bound s = le_trans (size_checked Cause.OutOfRange (λ x. ltb x bound) (number_of 2 s)) (size_number 2 s)
 
-pub size-id : (next : ℕ) (s : List ℕ) → size (valueIdOf next s) ≤ length s
-size-id next s = rw size-map (size_below next s)
+pub size_id : (next : ℕ) (s : List ℕ) → size (value_id_of next s) ≤ length s
+size_id next s = rw size_map (size_below next s)
 
-pub size-bool : (s : List ℕ) → size (boolOf s) ≤ length s
-size-bool s = rw size-map (le_trans (size-checked Cause.Undefined (λ x. ltb x 2) (number_of 1 s)) (size_number 1 s))
+pub size_bool : (s : List ℕ) → size (bool_of s) ≤ length s
+size_bool s = rw size_map (le_trans (size_checked Cause.Undefined (λ x. ltb x 2) (number_of 1 s)) (size_number 1 s))
 
-pub size-value : (next : ℕ) (s : List ℕ) → size (value_of next s) ≤ length s
+pub size_value : (next : ℕ) (s : List ℕ) → size (value_of next s) ≤ length s
 unfolding value_of
-size-value next s =
-    size-tagged (valueKinds next)
-    ((λ t. rw size-map (size_number 4 t))
-    & (λ t. rw size-map (size-bool t))
+size_value next s =
+    size_tagged (value_kinds next)
+    ((λ t. rw size_map (size_number 4 t))
+    & (λ t. rw size_map (size_bool t))
     & (λ t. zero-le)
-    & (λ t. rw size-map (size-id next t))
+    & (λ t. rw size_map (size_id next t))
     & (λ t. zero-le)
     & none)
     s
@@ -102,55 +102,55 @@ pub told : {R A : Type 0} (view : R → Parse A) (dec : List ℕ → Parse A) (n
 told view dec n s p q = sym (ap dec (rest_all n s)) ∙ sym p ∙ ap view q
 
 -- such an answer reaches no further than the bytes do
-pub told-size : {R A : Type 0} (view : R → Parse A) (dec : List ℕ → Parse A) (n : ℕ) (s : List ℕ) {r r' : R} → ((t : List ℕ) → size (dec t) ≤ length t) → n ≤ length s → view r ≡ dec (take (length s - n) (drop n s)) → r ≡ r' → n + size (view r') ≤ length s
-told-size view dec n s h l p q = omega (arith, ap size (told view dec n s p q), h (drop n s), length-drop n s)
+pub told_size : {R A : Type 0} (view : R → Parse A) (dec : List ℕ → Parse A) (n : ℕ) (s : List ℕ) {r r' : R} → ((t : List ℕ) → size (dec t) ≤ length t) → n ≤ length s → view r ≡ dec (take (length s - n) (drop n s)) → r ≡ r' → n + size (view r') ≤ length s
+told_size view dec n s h l p q = omega (arith, ap size (told view dec n s p q), h (drop n s), length-drop n s)
 
 -- nothing was before
-pub later-zero : {A : Type 0} (d : Parse A) → later 0 d ≡ d
-later-zero (ok a m) = ap (ok a) (zero-add m)
-later-zero (bad c o) = ap (bad c) (zero-add o)
+pub later_zero : {A : Type 0} (d : Parse A) → later 0 d ≡ d
+later_zero (ok a m) = ap (ok a) (zero-add m)
+later_zero (bad c o) = ap (bad c) (zero-add o)
 
 -- two distances are their sum
-pub later-later : {A : Type 0} (m n : ℕ) (d : Parse A) → later m (later n d) ≡ later (m + n) d
-later-later m n (ok a k) = ap (ok a) (sym (add_assoc m n k))
-later-later m n (bad c o) = ap (bad c) (sym (add_assoc m n o))
+pub later_later : {A : Type 0} (m n : ℕ) (d : Parse A) → later m (later n d) ≡ later (m + n) d
+later_later m n (ok a k) = ap (ok a) (sym (add_assoc m n k))
+later_later m n (bad c o) = ap (bad c) (sym (add_assoc m n o))
 
 -- what is made of the value, and the distance, in either order
-pub map-later : {A B : Type 0} (f : A → B) (n : ℕ) (d : Parse A) → mapParse f (later n d) ≡ later n (mapParse f d)
-map-later f n (ok a m) = refl
-map-later f n (bad c o) = refl
+pub map_later : {A B : Type 0} (f : A → B) (n : ℕ) (d : Parse A) → map_parse f (later n d) ≡ later n (map_parse f d)
+map_later f n (ok a m) = refl
+map_later f n (bad c o) = refl
 
 -- nothing is made of the value
-pub map-id : {A : Type 0} (d : Parse A) → mapParse (λ a. a) d ≡ d
-map-id (ok a n) = refl
-map-id (bad c o) = refl
+pub map_id : {A : Type 0} (d : Parse A) → map_parse (λ a. a) d ≡ d
+map_id (ok a n) = refl
+map_id (bad c o) = refl
 
 -- two things made of the value, one after the other
-pub map-map : {A B C : Type 0} (f : B → C) (g : A → B) (d : Parse A) → mapParse f (mapParse g d) ≡ mapParse (λ a. f (g a)) d
-map-map f g (ok a m) = refl
-map-map f g (bad c o) = refl
+pub map_map : {A B C : Type 0} (f : B → C) (g : A → B) (d : Parse A) → map_parse f (map_parse g d) ≡ map_parse (λ a. f (g a)) d
+map_map f g (ok a m) = refl
+map_map f g (bad c o) = refl
 
 -- what is made of the last value is made behind
-pub map-and : {A B C : Type 0} (s : List ℕ) (d : Parse A) (g : A → List ℕ → Parse B) (f : B → C) → mapParse f (and_then s d g) ≡ and_then s d (λ a t. mapParse f (g a t))
-map-and s (ok a n) g f = map-later f n (g a (drop n s))
-map-and s (bad c o) g f = refl
+pub map_and : {A B C : Type 0} (s : List ℕ) (d : Parse A) (g : A → List ℕ → Parse B) (f : B → C) → map_parse f (and_then s d g) ≡ and_then s d (λ a t. map_parse f (g a t))
+map_and s (ok a n) g f = map_later f n (g a (drop n s))
+map_and s (bad c o) g f = refl
 
 -- what is made of the first value is passed on
-pub and-map : {A B C : Type 0} (s : List ℕ) (f : A → B) (d : Parse A) (g : B → List ℕ → Parse C) → and_then s (mapParse f d) g ≡ and_then s d (λ a t. g (f a) t)
-and-map s f (ok a n) g = refl
-and-map s f (bad c o) g = refl
+pub and_map : {A B C : Type 0} (s : List ℕ) (f : A → B) (d : Parse A) (g : B → List ℕ → Parse C) → and_then s (map_parse f d) g ≡ and_then s d (λ a t. g (f a) t)
+and_map s f (ok a n) g = refl
+and_map s f (bad c o) g = refl
 
 -- three decoders, grouped either way
 pub assoc : {A B C : Type 0} (s : List ℕ) (d : Parse A) (f : A → List ℕ → Parse B) (g : B → List ℕ → Parse C) → and_then s (and_then s d f) g ≡ and_then s d (λ a t. and_then t (f a t) g)
 assoc s (ok a n) f g = inner (f a (drop n s))
   where
     inner : (e : Parse _) → and_then s (later n e) g ≡ later n (and_then (drop n s) e g)
-    inner (ok b m) = sym (rw (drop-drop, later-later))
+    inner (ok b m) = sym (rw (drop-drop, later_later))
     inner (bad c o) = refl
 assoc s (bad c o) f g = refl
 
 -- nothing is read behind
-pub and_ok : {A B : Type 0} (s : List ℕ) (d : Parse A) (f : A → B) → and_then s d (λ a t. ok (f a) 0) ≡ mapParse f d
+pub and_ok : {A B : Type 0} (s : List ℕ) (d : Parse A) (f : A → B) → and_then s d (λ a t. ok (f a) 0) ≡ map_parse f d
 and_ok s (ok a n) f = ap (ok (f a)) (add-zero n)
 and_ok s (bad c o) f = refl
 
@@ -160,13 +160,13 @@ and_same s (ok a n) f g h = ap (later n) (h a (drop n s))
 and_same s (bad c o) f g h = refl
 
 -- nothing is read behind, and nothing is made
-pub and-nothing : {A : Type 0} (s : List ℕ) (d : Parse A) → and_then s d (λ a t. ok a 0) ≡ d
-and-nothing s (ok a n) = ap (ok a) (add-zero n)
-and-nothing s (bad c o) = refl
+pub and_nothing : {A : Type 0} (s : List ℕ) (d : Parse A) → and_then s d (λ a t. ok a 0) ≡ d
+and_nothing s (ok a n) = ap (ok a) (add-zero n)
+and_nothing s (bad c o) = refl
 
 -- the test holds
-pub checked-true : {A : Type 0} (c : Cause) (p : A → Bool) (a : A) (n : ℕ) → p a ≡ true → checked c p (ok a n) ≡ ok a n
-checked-true c p a n h = rw h
+pub checked_true : {A : Type 0} (c : Cause) (p : A → Bool) (a : A) (n : ℕ) → p a ≡ true → checked c p (ok a n) ≡ ok a n
+checked_true c p a n h = rw h
 
 -- too few bytes
 pub number_short : (w : ℕ) (s : List ℕ) → length s < w → number_of w s ≡ bad Cause.Truncated 0
@@ -174,41 +174,41 @@ unfolding number_of
 number_short w s h = rw (lt-leb _ _ h)
 
 -- enough bytes
-pub number-some : (w : ℕ) (s : List ℕ) → w ≤ length s → number_of w s ≡ ok (fromBytes (take w s)) w
+pub number_some : (w : ℕ) (s : List ℕ) → w ≤ length s → number_of w s ≡ ok (from_bytes (take w s)) w
 unfolding number_of
-number-some w s h = rw (le-leb _ _ h)
+number_some w s h = rw (le-leb _ _ h)
 
 -- the first byte at a place, and those behind it
-from_step : (w : ℕ) (s : List ℕ) (at : ℕ) → fromBytes (take (suc w) (drop at s)) ≡ get_or s at 0 + 256 * fromBytes (take w (drop (at + 1) s))
+from_step : (w : ℕ) (s : List ℕ) (at : ℕ) → from_bytes (take (suc w) (drop at s)) ≡ get_or s at 0 + 256 * from_bytes (take w (drop (at + 1) s))
 from_step w s at = head (drop at s) ∙ rw (get_or-drop, drop-drop, add-zero)
   where
-    head : (t : List ℕ) → fromBytes (take (suc w) t) ≡ get_or t 0 0 + 256 * fromBytes (take w (drop 1 t))
+    head : (t : List ℕ) → from_bytes (take (suc w) t) ≡ get_or t 0 0 + 256 * from_bytes (take w (drop 1 t))
     head [] = rw take-nil
     head (a ∷ t) = refl
 
 -- the bytes at a place make the number at it
-pub from-8 : (s : List ℕ) (at : ℕ) → fromBytes (take 1 (drop at s)) ≡ get_or s at 0
-from-8 s at = rw (from_step 0 s at) (omega arith)
+pub from_8 : (s : List ℕ) (at : ℕ) → from_bytes (take 1 (drop at s)) ≡ get_or s at 0
+from_8 s at = rw (from_step 0 s at) (omega arith)
 
-pub from-16 : (s : List ℕ) (at : ℕ) → fromBytes (take 2 (drop at s)) ≡ at16 s at
-from-16 s at = rw (from_step 1 s at, from-8 s (at + 1))
+pub from_16 : (s : List ℕ) (at : ℕ) → from_bytes (take 2 (drop at s)) ≡ at16 s at
+from_16 s at = rw (from_step 1 s at, from_8 s (at + 1))
 
-pub from-32 : (s : List ℕ) (at : ℕ) → fromBytes (take 4 (drop at s)) ≡ at32 s at
-from-32 s at = let e : at + 1 + 1 ≡ at + 2 = omega arith in rw (from_step 3 s at, from_step 2 s (at + 1), e, from-16 s (at + 2)) (omega arith)
+pub from_32 : (s : List ℕ) (at : ℕ) → from_bytes (take 4 (drop at s)) ≡ at32 s at
+from_32 s at = let e : at + 1 + 1 ≡ at + 2 = omega arith in rw (from_step 3 s at, from_step 2 s (at + 1), e, from_16 s (at + 2)) (omega arith)
 
 -- past the end there are only zeros
-pub past-16 : (s : List ℕ) (at : ℕ) → length s ≤ at → ◌≡◌ {A = ℕ} 0 (at16 s at)
-past-16 s at h =
+pub past_16 : (s : List ℕ) (at : ℕ) → length s ≤ at → ◌≡◌ {A = ℕ} 0 (at16 s at)
+past_16 s at h =
     let k : length s ≤ at + 1 = omega arith in
     omega (arith, get_or-eq_default s 0 h, get_or-eq_default s 0 k)
 
-pub past-32 : (s : List ℕ) (at : ℕ) → length s ≤ at → ◌≡◌ {A = ℕ} 0 (at32 s at)
-past-32 s at h =
+pub past_32 : (s : List ℕ) (at : ℕ) → length s ≤ at → ◌≡◌ {A = ℕ} 0 (at32 s at)
+past_32 s at h =
     let k : length s ≤ at + 2 = omega arith in
-    omega (arith, past-16 s at h, past-16 s (at + 2) k)
+    omega (arith, past_16 s at h, past_16 s (at + 2) k)
 
 -- a u32 of whose bytes two are left
-pub half-32 : (s : List ℕ) (at : ℕ) → at < length s → length s - at ≤ 2 → at16 s at ≡ at32 s at
-half-32 s at h g =
+pub half_32 : (s : List ℕ) (at : ℕ) → at < length s → length s - at ≤ 2 → at16 s at ≡ at32 s at
+half_32 s at h g =
     let k : length s ≤ at + 2 = omega arith in
-    omega (arith, past-16 s (at + 2) k)
+    omega (arith, past_16 s (at + 2) k)

@@ -7,9 +7,9 @@ use Rattle.bytes_wire.specs.declared.Read16.{Read16}
 use Rattle.bytes_wire.specs.declared.Read32.{Read32}
 
 -- the number whose bytes these are, the lowest first
-abbrev pub fromBytes : List ℕ → ℕ
-fromBytes [] = 0
-fromBytes (b ∷ bs) = b + 256 * fromBytes bs
+abbrev pub from_bytes : List ℕ → ℕ
+from_bytes [] = 0
+from_bytes (b ∷ bs) = b + 256 * from_bytes bs
 
 -- the w bytes of a number, the lowest first
 abbrev pub to_bytes : ℕ → ℕ → List ℕ
@@ -18,20 +18,20 @@ to_bytes (suc w) x = x % 256 ∷ to_bytes w (x / 256)
 
 -- a number of w bytes; where the bytes end before it does, that is refused at the number
 unfoldable pub number_of : ℕ → List ℕ → Parse ℕ
-number_of w s = cond (leb w (length s)) (ok (fromBytes (take w s)) w) (bad Cause.Truncated 0)
+number_of w s = cond (leb w (length s)) (ok (from_bytes (take w s)) w) (bad Cause.Truncated 0)
 
-abbrev pub u8Of : List ℕ → Parse ℕ
-u8Of s = number_of 1 s
+abbrev pub u8_of : List ℕ → Parse ℕ
+u8_of s = number_of 1 s
 
-abbrev pub u16Of : List ℕ → Parse ℕ
-u16Of s = number_of 2 s
+abbrev pub u16_of : List ℕ → Parse ℕ
+u16_of s = number_of 2 s
 
-abbrev pub u32Of : List ℕ → Parse ℕ
-u32Of s = number_of 4 s
+abbrev pub u32_of : List ℕ → Parse ℕ
+u32_of s = number_of 4 s
 
 -- a u16 that has to stay below a bound: a type, value or block number
 abbrev pub below : ℕ → List ℕ → Parse ℕ
-below bound s = checked Cause.OutOfRange (λ x. ltb x bound) (u16Of s)
+below bound s = checked Cause.OutOfRange (λ x. ltb x bound) (u16_of s)
 
 -- a count that passes its most is refused at its offset
 abbrev pub counted : ℕ → Parse ℕ → Parse ℕ

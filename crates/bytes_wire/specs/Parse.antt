@@ -18,9 +18,9 @@ abbrev pub and_then : {A B : Type 0} → List ℕ → Parse A → (A → List �
 and_then s (ok a n) f = later n (f a (drop n s))
 and_then s (bad c o) f = bad c o
 
-abbrev pub mapParse : {A B : Type 0} → (A → B) → Parse A → Parse B
-mapParse f (ok a n) = ok (f a) n
-mapParse f (bad c o) = bad c o
+abbrev pub map_parse : {A B : Type 0} → (A → B) → Parse A → Parse B
+map_parse f (ok a n) = ok (f a) n
+map_parse f (bad c o) = bad c o
 
 -- a field that fails its test is refused at its own offset
 abbrev pub checked : {A : Type 0} → Cause → (A → Bool) → Parse A → Parse A
@@ -35,18 +35,18 @@ tagged fs s =
     (bad Cause.Truncated 0)
 
 -- k things, one after another
-unfoldable pub seqOf : {A : Type 0} → (List ℕ → Parse A) → ℕ → List ℕ → Parse (List A)
-seqOf dec zero s = ok [] 0
-seqOf dec (suc k) s = and_then s (dec s) (λ a t. mapParse (λ xs. a ∷ xs) (seqOf dec k t))
+unfoldable pub seq_of : {A : Type 0} → (List ℕ → Parse A) → ℕ → List ℕ → Parse (List A)
+seq_of dec zero s = ok [] 0
+seq_of dec (suc k) s = and_then s (dec s) (λ a t. map_parse (λ xs. a ∷ xs) (seq_of dec k t))
 
 -- document 01's number of each cause of a refusal
-abbrev pub numberOfCause : Cause → ℕ
-numberOfCause Cause.Truncated = 1
-numberOfCause Cause.TooMany = 2
-numberOfCause Cause.Undefined = 3
-numberOfCause Cause.OutOfRange = 4
-numberOfCause Cause.Repeated = 5
-numberOfCause Cause.Redefined = 6
-numberOfCause Cause.LatePhi = 7
-numberOfCause Cause.CallCounts = 8
-numberOfCause Cause.Trailing = 9
+abbrev pub number_of_cause : Cause → ℕ
+number_of_cause Cause.Truncated = 1
+number_of_cause Cause.TooMany = 2
+number_of_cause Cause.Undefined = 3
+number_of_cause Cause.OutOfRange = 4
+number_of_cause Cause.Repeated = 5
+number_of_cause Cause.Redefined = 6
+number_of_cause Cause.LatePhi = 7
+number_of_cause Cause.CallCounts = 8
+number_of_cause Cause.Trailing = 9

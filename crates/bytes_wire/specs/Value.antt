@@ -1,7 +1,7 @@
 -- Values: "a value is a u8: 0 Integer u32; 1 Boolean u8 (0, 1); 2 Unit; 3 Operand u16; 4 Error".
 use Rattle.std.specs.Prelude.{ℕ, List, [], ◌∷◌, Bool, true, false, ltb, eqb}
-use Rattle.bytes_wire.specs.Parse.{Parse, ok, bad, mapParse, checked, tagged}
-use Rattle.bytes_wire.specs.Number.{u8Of, u32Of, below, to_bytes}
+use Rattle.bytes_wire.specs.Parse.{Parse, ok, bad, map_parse, checked, tagged}
+use Rattle.bytes_wire.specs.Number.{u8_of, u32_of, below, to_bytes}
 use Rattle.bytes_wire.specs.declared.Cause.{Cause}
 use Rattle.mir.specs.declared.Literal.{Literal}
 use Rattle.mir.specs.declared.Value.{Value}
@@ -19,36 +19,36 @@ abbrev pub unit : Value
 unit = Value.Literal Literal.Unit
 
 -- a byte that is 0 or 1
-abbrev pub boolOf : List ℕ → Parse Bool
-boolOf s = mapParse (λ x. eqb x 1) (checked Cause.Undefined (λ x. ltb x 2) (u8Of s))
+abbrev pub bool_of : List ℕ → Parse Bool
+bool_of s = map_parse (λ x. eqb x 1) (checked Cause.Undefined (λ x. ltb x 2) (u8_of s))
 
-abbrev pub valueIdOf : ℕ → List ℕ → Parse ValueId
-valueIdOf next s = mapParse (λ x. record { 0 = x }) (below next s)
+abbrev pub value_id_of : ℕ → List ℕ → Parse ValueId
+value_id_of next s = map_parse (λ x. record { 0 = x }) (below next s)
 
-abbrev pub valueKinds : ℕ → List (List ℕ → Parse Value)
-valueKinds next =
-    (λ s. mapParse integer (u32Of s))
-    ∷ (λ s. mapParse boolean (boolOf s))
+abbrev pub value_kinds : ℕ → List (List ℕ → Parse Value)
+value_kinds next =
+    (λ s. map_parse integer (u32_of s))
+    ∷ (λ s. map_parse boolean (bool_of s))
     ∷ (λ s. ok unit 0)
-    ∷ (λ s. mapParse Value.Operand (valueIdOf next s))
+    ∷ (λ s. map_parse Value.Operand (value_id_of next s))
     ∷ (λ s. ok Value.Error 0)
     ∷ []
 
 unfoldable pub value_of : ℕ → List ℕ → Parse Value
-value_of next s = tagged (valueKinds next) s
+value_of next s = tagged (value_kinds next) s
 
-abbrev pub asValue : ReadValue → Parse Value
-asValue (ReadValue.Got x n) = ok x n
-asValue (ReadValue.Refused c o) = bad c o
+abbrev pub as_value : ReadValue → Parse Value
+as_value (ReadValue.Got x n) = ok x n
+as_value (ReadValue.Refused c o) = bad c o
 
 -- the bytes of a value
 abbrev pub bool_byte : Bool → ℕ
 bool_byte true = 1
 bool_byte false = 0
 
-abbrev pub valueBytes : Value → List ℕ
-valueBytes (Value.Literal (Literal.Integer x)) = 0 ∷ to_bytes 4 x
-valueBytes (Value.Literal (Literal.Boolean b)) = 1 ∷ bool_byte b ∷ []
-valueBytes (Value.Literal Literal.Unit) = 2 ∷ []
-valueBytes (Value.Operand v) = 3 ∷ to_bytes 2 v.0
-valueBytes Value.Error = 4 ∷ []
+abbrev pub value_bytes : Value → List ℕ
+value_bytes (Value.Literal (Literal.Integer x)) = 0 ∷ to_bytes 4 x
+value_bytes (Value.Literal (Literal.Boolean b)) = 1 ∷ bool_byte b ∷ []
+value_bytes (Value.Literal Literal.Unit) = 2 ∷ []
+value_bytes (Value.Operand v) = 3 ∷ to_bytes 2 v.0
+value_bytes Value.Error = 4 ∷ []

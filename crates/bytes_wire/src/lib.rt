@@ -2,9 +2,9 @@
 #![tactic(auto)]
 
 ghost use Rattle.std.specs.Prelude.{◌≡◌, ◌+◌, ◌*◌, get_or};
-ghost use Rattle.bytes_wire.specs.Parse.{numberOfCause};
-ghost use Rattle.bytes_wire.specs.Number.{u8Of, u16Of, u32Of, as8, as16, as32, at16, at32};
-ghost use Rattle.bytes_wire.specs.Value.{value_of, asValue};
+ghost use Rattle.bytes_wire.specs.Parse.{number_of_cause};
+ghost use Rattle.bytes_wire.specs.Number.{u8_of, u16_of, u32_of, as8, as16, as32, at16, at32};
+ghost use Rattle.bytes_wire.specs.Value.{value_of, as_value};
 
 use mir::{Literal, Value, ValueId};
 
@@ -24,7 +24,7 @@ pub enum Cause {
 
 // The number document 01 gives the cause.
 pub fn cause_number(c: Cause) -> u8
-    ensures { result ≡ numberOfCause c }
+    ensures { result ≡ number_of_cause c }
 {
     match c {
         Cause::Truncated => 1,
@@ -77,7 +77,7 @@ pub enum ReadValue {
 
 // A number of one, two and four bytes, the lowest first.
 pub fn read_u8(s: &[u8]) -> Read8
-    ensures { as8 result ≡ u8Of s.now }
+    ensures { as8 result ≡ u8_of s.now }
 {
     if s.len() < 1 {
         return Read8::Refused(Cause::Truncated, 0);
@@ -86,7 +86,7 @@ pub fn read_u8(s: &[u8]) -> Read8
 }
 
 pub fn read_u16(s: &[u8]) -> Read16
-    ensures { as16 result ≡ u16Of s.now }
+    ensures { as16 result ≡ u16_of s.now }
 {
     if s.len() < 2 {
         return Read16::Refused(Cause::Truncated, 0);
@@ -97,7 +97,7 @@ pub fn read_u16(s: &[u8]) -> Read16
 }
 
 pub fn read_u32(s: &[u8]) -> Read32
-    ensures { as32 result ≡ u32Of s.now }
+    ensures { as32 result ≡ u32_of s.now }
 {
     if s.len() < 4 {
         return Read32::Refused(Cause::Truncated, 0);
@@ -111,7 +111,7 @@ pub fn read_u32(s: &[u8]) -> Read32
 
 // A value, from its kind byte on.
 pub fn read_value(s: &[u8], next: u16) -> ReadValue
-    ensures { asValue result ≡ value_of next s.now }
+    ensures { as_value result ≡ value_of next s.now }
 {
     if s.len() < 1 {
         return ReadValue::Refused(Cause::Truncated, 0);

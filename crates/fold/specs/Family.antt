@@ -7,10 +7,10 @@ use Rattle.mir.specs.declared.Value.{Value}
 use Rattle.mir.specs.Syntax.{Projection, Index, Field, Tuple, Place, Instruction, InstructionKind, Block}
 use Rattle.mir.specs.Syntax.{Assign, UnaryOp, BinaryOp, Call, Cast, Load, Store, Debug, Nop, Phi}
 use Rattle.mir.specs.Syntax.{MakeTuple, ExtractTupleElement, MakeStruct, ExtractStructField, InsertField, InsertTuple, MakeFixedArray, AssertEq, HeapAllocCells}
-use Rattle.mir.specs.Reads.{reads, counted, terminatorReads}
+use Rattle.mir.specs.Reads.{reads, counted, terminator_reads}
 use Rattle.fold.specs.declared.Settings.{Settings}
-use Rattle.mir.specs.Lookup.{Types, row_of, valueRow, shape, isInteger, any}
-use Rattle.fold.specs.Scalarizable.{isScalarizable}
+use Rattle.mir.specs.Lookup.{Types, row_of, value_row, shape, is_integer, any}
+use Rattle.fold.specs.Scalarizable.{is_scalarizable}
 
 -- a set of values: a mark for each
 abbrev pub Marks : Type 0
@@ -62,29 +62,29 @@ sweeps τ root (suc k) m is = sweeps τ root k (sweep τ root m is) is
 
 -- sroa.rs 410, `build_aggregate_family`
 unfoldable pub family : Types → ValueId → List Instruction → Marks
-family τ v is = sweeps τ (shape (valueRow τ v)) (length is) (mark (replicate (length τ.recorded) false) v) is
+family τ v is = sweeps τ (shape (value_row τ v)) (length is) (mark (replicate (length τ.recorded) false) v) is
 
 -- the dest of a build
-unfoldable pub buildDest : InstructionKind → Option ValueId
-buildDest (Assign d x t) = none
-buildDest (UnaryOp op d x) = none
-buildDest (BinaryOp op d x y) = none
-buildDest (Call ds f xs ps rs) = none
-buildDest (Cast d x t u) = none
-buildDest (Load d p t) = none
-buildDest (Store p x t) = none
-buildDest (Debug n xs) = none
-buildDest Nop = none
-buildDest (Phi d t ss) = none
-buildDest (MakeTuple d xs) = some d
-buildDest (ExtractTupleElement d x k t) = none
-buildDest (MakeStruct d fs t) = some d
-buildDest (ExtractStructField d x n t) = none
-buildDest (InsertField d x n y t) = none
-buildDest (InsertTuple d x k y t) = none
-buildDest (MakeFixedArray d xs t c) = some d
-buildDest (AssertEq x y) = none
-buildDest (HeapAllocCells d x) = none
+unfoldable pub build_dest : InstructionKind → Option ValueId
+build_dest (Assign d x t) = none
+build_dest (UnaryOp op d x) = none
+build_dest (BinaryOp op d x y) = none
+build_dest (Call ds f xs ps rs) = none
+build_dest (Cast d x t u) = none
+build_dest (Load d p t) = none
+build_dest (Store p x t) = none
+build_dest (Debug n xs) = none
+build_dest Nop = none
+build_dest (Phi d t ss) = none
+build_dest (MakeTuple d xs) = some d
+build_dest (ExtractTupleElement d x k t) = none
+build_dest (MakeStruct d fs t) = some d
+build_dest (ExtractStructField d x n t) = none
+build_dest (InsertField d x n y t) = none
+build_dest (InsertTuple d x k y t) = none
+build_dest (MakeFixedArray d xs t c) = some d
+build_dest (AssertEq x y) = none
+build_dest (HeapAllocCells d x) = none
 
 -- the place that a Load or Store walks
 unfoldable pub accessed : InstructionKind → Option Place
@@ -109,31 +109,31 @@ accessed (AssertEq x y) = none
 accessed (HeapAllocCells d x) = none
 
 -- the first projection is an Index that is no Integer literal
-unfoldable pub dynamicFirst : List Projection → Bool
-dynamicFirst [] = false
-dynamicFirst (Index x ∷ ps) = not (isInteger x)
-dynamicFirst (Field n ∷ ps) = false
-dynamicFirst (Tuple k ∷ ps) = false
+unfoldable pub dynamic_first : List Projection → Bool
+dynamic_first [] = false
+dynamic_first (Index x ∷ ps) = not (is_integer x)
+dynamic_first (Field n ∷ ps) = false
+dynamic_first (Tuple k ∷ ps) = false
 
 -- a member of the family is looked into by such an Index
-unfoldable pub dynamicAt : Marks → Option Place → Bool
-dynamicAt m none = false
-dynamicAt m (some p) = marked m p.base && dynamicFirst p.projections
+unfoldable pub dynamic_at : Marks → Option Place → Bool
+dynamic_at m none = false
+dynamic_at m (some p) = marked m p.base && dynamic_first p.projections
 
 -- sroa.rs 476, `array_family_has_dynamic_index_use`
-unfoldable pub hasDynamicIndex : Types → ValueId → List Instruction → Bool
-hasDynamicIndex τ v is = let m = family τ v is in any (λ i. dynamicAt m (accessed i.kind)) is
+unfoldable pub has_dynamic_index : Types → ValueId → List Instruction → Bool
+has_dynamic_index τ v is = let m = family τ v is in any (λ i. dynamic_at m (accessed i.kind)) is
 
 -- a block reads one of the values; Debug's reads do not count here
-unfoldable pub readsOne : Marks → Block → Bool
-readsOne m k =
+unfoldable pub reads_one : Marks → Block → Bool
+reads_one m k =
     any (λ i. counted false i.kind && any (marked m) (reads i.kind)) k.instructions
-    || any (marked m) (terminatorReads k.terminator)
+    || any (marked m) (terminator_reads k.terminator)
 
 -- some block other than number own, counted from `at`, reads one of the values
-unfoldable pub readElsewhere : Marks → ℕ → ℕ → List Block → Bool
-readElsewhere m own at [] = false
-readElsewhere m own at (k ∷ ks) = (not (eqb at own) && readsOne m k) || readElsewhere m own (suc at) ks
+unfoldable pub read_elsewhere : Marks → ℕ → ℕ → List Block → Bool
+read_elsewhere m own at [] = false
+read_elsewhere m own at (k ∷ ks) = (not (eqb at own) && reads_one m k) || read_elsewhere m own (suc at) ks
 
 -- the set of both
 unfoldable pub union : Marks → Marks → Marks
@@ -142,24 +142,24 @@ union (a ∷ m) [] = a ∷ m
 union (a ∷ m) (b ∷ n) = (a || b) ∷ union m n
 
 -- a family that another block reads is used across blocks, with all its members
-unfoldable pub crossFamily : Types → List Block → ℕ → Block → ValueId → Marks → Marks
-crossFamily τ ks own k v m = let f = family τ v k.instructions in cond (readElsewhere f own 0 ks) (union f m) m
+unfoldable pub cross_family : Types → List Block → ℕ → Block → ValueId → Marks → Marks
+cross_family τ ks own k v m = let f = family τ v k.instructions in cond (read_elsewhere f own 0 ks) (union f m) m
 
 -- sroa.rs 530: only a build whose recorded type is scalarizable is a root
-unfoldable pub crossBuild : Settings → Types → List Block → ℕ → Block → Option ValueId → Marks → Marks
-crossBuild σ τ ks own k none m = m
-crossBuild σ τ ks own k (some v) m = cond (isScalarizable σ (valueRow τ v)) (crossFamily τ ks own k v m) m
+unfoldable pub cross_build : Settings → Types → List Block → ℕ → Block → Option ValueId → Marks → Marks
+cross_build σ τ ks own k none m = m
+cross_build σ τ ks own k (some v) m = cond (is_scalarizable σ (value_row τ v)) (cross_family τ ks own k v m) m
 
 -- the builds of block number own, in order
-unfoldable pub crossBuilds : Settings → Types → List Block → ℕ → Block → List Instruction → Marks → Marks
-crossBuilds σ τ ks own k [] m = m
-crossBuilds σ τ ks own k (i ∷ is) m = crossBuilds σ τ ks own k is (crossBuild σ τ ks own k (buildDest i.kind) m)
+unfoldable pub cross_builds : Settings → Types → List Block → ℕ → Block → List Instruction → Marks → Marks
+cross_builds σ τ ks own k [] m = m
+cross_builds σ τ ks own k (i ∷ is) m = cross_builds σ τ ks own k is (cross_build σ τ ks own k (build_dest i.kind) m)
 
 -- the blocks from number own on, among all
-unfoldable pub crossBlocks : Settings → Types → List Block → ℕ → List Block → Marks → Marks
-crossBlocks σ τ all own [] m = m
-crossBlocks σ τ all own (k ∷ ks) m = crossBlocks σ τ all (suc own) ks (crossBuilds σ τ all own k k.instructions m)
+unfoldable pub cross_blocks : Settings → Types → List Block → ℕ → List Block → Marks → Marks
+cross_blocks σ τ all own [] m = m
+cross_blocks σ τ all own (k ∷ ks) m = cross_blocks σ τ all (suc own) ks (cross_builds σ τ all own k k.instructions m)
 
 -- sroa.rs 513, `find_cross_block_aggregates`
-unfoldable pub crossBlockAggregates : Settings → Types → List Block → Marks
-crossBlockAggregates σ τ ks = crossBlocks σ τ ks 0 ks (replicate (length τ.recorded) false)
+unfoldable pub cross_block_aggregates : Settings → Types → List Block → Marks
+cross_block_aggregates σ τ ks = cross_blocks σ τ ks 0 ks (replicate (length τ.recorded) false)

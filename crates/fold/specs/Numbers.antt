@@ -1,29 +1,29 @@
 -- Numbers that the choice of builds goes by, of which contracts speak. (mir's src/kind.rt and src/shape.rt have the same.)
 use Rattle.std.specs.Prelude.{ℕ}
 
--- the kinds of a Call and of the three builds (mir's kindNumber)
-abbrev pub callKind : ℕ
-callKind = 3
+-- the kinds of a Call and of the three builds (mir's kind_number)
+abbrev pub call_kind : ℕ
+call_kind = 3
 
-abbrev pub tupleKind : ℕ
-tupleKind = 10
+abbrev pub tuple_kind : ℕ
+tuple_kind = 10
 
-abbrev pub structKind : ℕ
-structKind = 12
+abbrev pub struct_kind : ℕ
+struct_kind = 12
 
-abbrev pub arrayKind : ℕ
-arrayKind = 16
+abbrev pub array_kind : ℕ
+array_kind = 16
 
 -- the shapes of a Tuple, a Struct and a FixedArray (mir's shape)
-abbrev pub tupleShape : ℕ
-tupleShape = 1
+abbrev pub tuple_shape : ℕ
+tuple_shape = 1
 
-abbrev pub structShape : ℕ
-structShape = 2
+abbrev pub struct_shape : ℕ
+struct_shape = 2
 
-abbrev pub arrayShape : ℕ
-arrayShape = 3
+abbrev pub array_shape : ℕ
+array_shape = 3
 
 -- places below this can be added to with no overflow
-abbrev pub mostPlace : ℕ
-mostPlace = 16777216
+abbrev pub most_place : ℕ
+most_place = 16777216

@@ -10,16 +10,16 @@ abbrev pub defaults : Settings
 defaults = record { tuples = true; structs = true; most = 8 }
 
 -- sroa.rs 172, `is_scalarizable`
-unfoldable pub isScalarizable : Settings → Option MirType → B.Bool
-isScalarizable σ none = false
-isScalarizable σ (some Felt) = false
-isScalarizable σ (some Bool) = false
-isScalarizable σ (some U32) = false
-isScalarizable σ (some (Tuple ts)) = σ.tuples && leb (length ts) σ.most
-isScalarizable σ (some (Struct n fs)) = σ.structs && leb (length fs) σ.most
-isScalarizable σ (some (FixedArray t size)) = σ.tuples && leb size σ.most
-isScalarizable σ (some (Pointer t)) = false
-isScalarizable σ (some (Function ps r)) = false
-isScalarizable σ (some Unit) = false
-isScalarizable σ (some Error) = false
-isScalarizable σ (some Unknown) = false
+unfoldable pub is_scalarizable : Settings → Option MirType → B.Bool
+is_scalarizable σ none = false
+is_scalarizable σ (some Felt) = false
+is_scalarizable σ (some Bool) = false
+is_scalarizable σ (some U32) = false
+is_scalarizable σ (some (Tuple ts)) = σ.tuples && leb (length ts) σ.most
+is_scalarizable σ (some (Struct n fs)) = σ.structs && leb (length fs) σ.most
+is_scalarizable σ (some (FixedArray t size)) = σ.tuples && leb size σ.most
+is_scalarizable σ (some (Pointer t)) = false
+is_scalarizable σ (some (Function ps r)) = false
+is_scalarizable σ (some Unit) = false
+is_scalarizable σ (some Error) = false
+is_scalarizable σ (some Unknown) = false

@@ -10,18 +10,18 @@ use lib.ListN.{length, get_or}
 use lib.Dec.{eqb}
 use Rattle.mir.specs.Syntax.{Instruction, Block}
 use Rattle.bytes_field.specs.declared.Bounds.{Bounds}
-use Rattle.bytes_index.specs.Table.{startsIn, kindIn}
-use Rattle.bytes_index.specs.Code.{noInstruction, no_block, InstructionsIn, CodeIn}
-use Rattle.fold_choose.specs.Chosen.{SlotsOf, buildKind, NoneBuilds, Buildless, AllBuildless}
-use Rattle.fold_choose.proofs.Folding.{no-build}
+use Rattle.bytes_index.specs.Table.{starts_in, kind_in}
+use Rattle.bytes_index.specs.Code.{no_instruction, no_block, InstructionsIn, CodeIn}
+use Rattle.fold_choose.specs.Chosen.{SlotsOf, build_kind, NoneBuilds, Buildless, AllBuildless}
+use Rattle.fold_choose.proofs.Folding.{no_build}
 
 module _ {b : Bounds} {s facts : List ℕ} {ks : List Block} (code : CodeIn b s facts ks) where
   -- a later block begins later
-  rises : (j k : ℕ) → j ≤ k → k ≤ length ks → get_or (startsIn facts) j 0 ≤ get_or (startsIn facts) k 0
+  rises : (j k : ℕ) → j ≤ k → k ≤ length ks → get_or (starts_in facts) j 0 ≤ get_or (starts_in facts) k 0
   rises j zero h l = let z : j ≡ 0 = omega arith in rw z (le_refl _)
   rises j (suc k) h l = go (λ m. rises j k m (omega arith)) (eqb j (suc k)) refl
     where
-      go : (j ≤ k → get_or (startsIn facts) j 0 ≤ get_or (startsIn facts) k 0) → (c : Bool) → eqb j (suc k) ≡ c → get_or (startsIn facts) j 0 ≤ get_or (startsIn facts) (suc k) 0
+      go : (j ≤ k → get_or (starts_in facts) j 0 ≤ get_or (starts_in facts) k 0) → (c : Bool) → eqb j (suc k) ≡ c → get_or (starts_in facts) j 0 ≤ get_or (starts_in facts) (suc k) 0
       go ih true e = let z : j ≡ suc k = eqb-true j (suc k) e in rw z (le_refl _)
       go ih false e =
           let n : j ≡ suc k → ⊥ = λ z. eqb-false j (suc k) e z in
@@ -29,21 +29,21 @@ module _ {b : Bounds} {s facts : List ℕ} {ks : List Block} (code : CodeIn b s 
           le_trans (ih m) (omega (arith, code.next k (omega arith)))
 
   -- the slots of a block stand before those of a later one
-  pub before : (j k i : ℕ) → j < k → k ≤ length ks → i < length (get_or ks j no_block).instructions → get_or (startsIn facts) j 0 + i < get_or (startsIn facts) k 0
+  pub before : (j k i : ℕ) → j < k → k ≤ length ks → i < length (get_or ks j no_block).instructions → get_or (starts_in facts) j 0 + i < get_or (starts_in facts) k 0
   before j k i h l m = omega (arith, code.next j (omega arith), rises (suc j) k (omega arith) l)
 
-  pub roomy : (k : ℕ) → k < length ks → get_or (startsIn facts) k 0 + length (get_or ks k no_block).instructions < 288
+  pub roomy : (k : ℕ) → k < length ks → get_or (starts_in facts) k 0 + length (get_or ks k no_block).instructions < 288
   roomy k h = omega (arith, code.next k h, rises (suc k) (length ks) (omega arith) (le_refl _), code.within)
 
 -- the slots of a block
-module _ (facts : List ℕ) (k first count : ℕ) (f : first ≡ get_or (startsIn facts) k 0)
+module _ (facts : List ℕ) (k first count : ℕ) (f : first ≡ get_or (starts_in facts) k 0)
     (c : (b : Bounds) (s : List ℕ) (ks : List Block) → CodeIn b s facts ks → k < length ks → count ≡ length (get_or ks k no_block).instructions)
   where
-    pub slots-here : first + count ≤ 288 → SlotsOf facts k (record { first = first; count = count })
-    slots-here h = record { low = h; so = λ b s ks code l. (f, c b s ks code l) }
+    pub slots_here : first + count ≤ 288 → SlotsOf facts k (record { first = first; count = count })
+    slots_here h = record { low = h; so = λ b s ks code l. (f, c b s ks code l) }
 
-    pub slots-none : 288 < first + count → SlotsOf facts k (record { first = 0; count = 0 })
-    slots-none h = record { low = omega arith; so = λ b s ks code l. absurd (omega (arith, roomy code k l, c b s ks code l)) }
+    pub slots_none : 288 < first + count → SlotsOf facts k (record { first = 0; count = 0 })
+    slots_none h = record { low = omega arith; so = λ b s ks code l. absurd (omega (arith, roomy code k l, c b s ks code l)) }
 
 -- none of the slots from `from` on is a build
 pub record Seeking (facts : List ℕ) (from to slot : ℕ) : Type 0 where
@@ -53,21 +53,21 @@ pub record Seeking (facts : List ℕ) (from to slot : ℕ) : Type 0 where
 pub seeking : (facts : List ℕ) (from to : ℕ) → to < 65536 → Seeking facts from to from
 seeking facts from to h = record { small = h; none = λ slot l m. absurd (omega arith) }
 
-pub seek-on : {facts : List ℕ} {from to slot : ℕ} → Seeking facts from to slot → (kind : ℕ) → kind ≡ kindIn facts slot → (build : Bool) → build ≡ buildKind kind → build ≡ false → Seeking facts from to (slot + 1)
-seek-on {facts} {from} {to} {slot} inv kind k build e f = record { small = inv.small; none = λ j l m. go j l m (eqb j slot) refl }
+pub seek_on : {facts : List ℕ} {from to slot : ℕ} → Seeking facts from to slot → (kind : ℕ) → kind ≡ kind_in facts slot → (build : Bool) → build ≡ build_kind kind → build ≡ false → Seeking facts from to (slot + 1)
+seek_on {facts} {from} {to} {slot} inv kind k build e f = record { small = inv.small; none = λ j l m. go j l m (eqb j slot) refl }
   where
-    go : (j : ℕ) → from ≤ j → j < slot + 1 → (c : Bool) → eqb j slot ≡ c → buildKind (kindIn facts j) ≡ false
+    go : (j : ℕ) → from ≤ j → j < slot + 1 → (c : Bool) → eqb j slot ≡ c → build_kind (kind_in facts j) ≡ false
     go j l m true y = let z : j ≡ slot = eqb-true j slot y in rw (z, sym k, sym e) f
     go j l m false y = let n : j ≡ slot → ⊥ = λ w. eqb-false j slot y w in inv.none j l (omega (arith, n))
 
-pub seek-all : {facts : List ℕ} {from to slot : ℕ} → Seeking facts from to slot → to ≤ slot → NoneBuilds facts from to
-seek-all inv h j l m = inv.none j l (omega arith)
+pub seek_all : {facts : List ℕ} {from to slot : ℕ} → Seeking facts from to slot → to ≤ slot → NoneBuilds facts from to
+seek_all inv h j l m = inv.none j l (omega arith)
 
 -- what that says of a block, and of all
-pub none-built : (b : Bounds) (s facts : List ℕ) (first to : ℕ) (is : List Instruction) → NoneBuilds facts first to → InstructionsIn b s facts first is → first + length is ≤ to → Buildless is
-none-built b s facts first to is none code l j d h e = no-build (get_or is j noInstruction).kind d (kindIn facts (first + j)) (code j h).kind (none (first + j) (omega arith) (omega arith)) e
+pub none_built : (b : Bounds) (s facts : List ℕ) (first to : ℕ) (is : List Instruction) → NoneBuilds facts first to → InstructionsIn b s facts first is → first + length is ≤ to → Buildless is
+none_built b s facts first to is none code l j d h e = no_build (get_or is j no_instruction).kind d (kind_in facts (first + j)) (code j h).kind (none (first + j) (omega arith) (omega arith)) e
 
-pub all-built : (facts : List ℕ) (many to : ℕ) → to ≡ get_or (startsIn facts) many 0 → NoneBuilds facts 0 to → AllBuildless facts many
-all-built facts many to e none b s ks code l k h j d m x =
-    no-build (get_or (get_or ks k no_block).instructions j noInstruction).kind d (kindIn facts (get_or (startsIn facts) k 0 + j)) ((code.each k h).instructions j m).kind
-    (none (get_or (startsIn facts) k 0 + j) (omega arith) (omega (arith, before code k (length ks) j h (le_refl _) m, rw (sym l) at e))) x
+pub all_built : (facts : List ℕ) (many to : ℕ) → to ≡ get_or (starts_in facts) many 0 → NoneBuilds facts 0 to → AllBuildless facts many
+all_built facts many to e none b s ks code l k h j d m x =
+    no_build (get_or (get_or ks k no_block).instructions j no_instruction).kind d (kind_in facts (get_or (starts_in facts) k 0 + j)) ((code.each k h).instructions j m).kind
+    (none (get_or (starts_in facts) k 0 + j) (omega arith) (omega (arith, before code k (length ks) j h (le_refl _) m, rw (sym l) at e))) x

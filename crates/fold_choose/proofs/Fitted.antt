@@ -8,9 +8,9 @@ use native.Mathlib.Omega.{arith}
 use lib.ListN.{length, get_or, length-replicate}
 use Rattle.mir.specs.Syntax.{Block}
 use Rattle.bytes_field.specs.declared.Bounds.{Bounds}
-use Rattle.bytes_block.specs.Decode.{marks, blockMarks}
+use Rattle.bytes_block.specs.Decode.{marks, block_marks}
 use Rattle.bytes_block.specs.declared.Mosts.{Mosts}
-use Rattle.bytes_block.proofs.Marks.{marks-length, block-length}
+use Rattle.bytes_block.proofs.Marks.{marks_length, block_length}
 use Rattle.mir.specs.Routine.{Routine}
 use Rattle.bytes_index.specs.Code.{no_block}
 use Rattle.bytes_laws_whole.specs.WellFormed.{FitBlocks, WellFormed, bounds, unmarked}
@@ -21,11 +21,11 @@ each_fits : (m : Mosts) (b : Bounds) (total : ℕ) (seen : List Bool) (ks : List
 each_fits m b total seen [] f l k h = absurd (omega arith)
 each_fits m b total seen (x ∷ xs) f l zero h = fitting total seen l f.0
 each_fits m b total seen (x ∷ xs) f l (suc k) h =
-    each_fits m b (total + length x.instructions) (blockMarks seen x.instructions) xs f.1 (rw (block-length seen x.instructions) l) k (omega arith)
+    each_fits m b (total + length x.instructions) (block_marks seen x.instructions) xs f.1 (rw (block_length seen x.instructions) l) k (omega arith)
 
-pub routine-fits : (m : Mosts) (r : Routine) → WellFormed m r → m.block ≤ 128 → Fits (bounds m r) r.blocks
-routine-fits m r w short =
-    let long : length (marks (unmarked r) r.parameters) ≡ r.next = marks-length (unmarked r) r.parameters ∙ length-replicate {A = Bool} r.next false in
+pub routine_fits : (m : Mosts) (r : Routine) → WellFormed m r → m.block ≤ 128 → Fits (bounds m r) r.blocks
+routine_fits m r w short =
+    let long : length (marks (unmarked r) r.parameters) ≡ r.next = marks_length (unmarked r) r.parameters ∙ length-replicate {A = Bool} r.next false in
     record {
       mosts = m;
       short = short;

@@ -6,32 +6,32 @@ use Rattle.mir.specs.Syntax.{Instruction, Block}
 use Rattle.bytes_field.specs.declared.Bounds.{Bounds}
 use Rattle.bytes_block.specs.declared.Mosts.{Mosts}
 use Rattle.bytes_block.specs.WellFormed.{FitCode}
-use Rattle.bytes_index.specs.Table.{startsIn, recordedIn, kindIn}
-use Rattle.bytes_index.specs.Code.{noInstruction, no_block, InstructionIn, InstructionsIn, CodeIn}
-use Rattle.bytes_operands.specs.Fields.{listValues}
+use Rattle.bytes_index.specs.Table.{starts_in, recorded_in, kind_in}
+use Rattle.bytes_index.specs.Code.{no_instruction, no_block, InstructionIn, InstructionsIn, CodeIn}
+use Rattle.bytes_operands.specs.Fields.{list_values}
 use Rattle.fold.specs.declared.Settings.{Settings}
-use Rattle.mir.specs.Reads.{kindNumber}
+use Rattle.mir.specs.Reads.{kind_number}
 use Rattle.mir.specs.Lookup.{Types}
-use Rattle.mir.specs.Most.{mostValues, mostSlots, mostBlocks, mostInstructions}
-use Rattle.fold.specs.Numbers.{tupleKind, structKind, arrayKind}
-use Rattle.fold.specs.Family.{Marks, buildDest, hasDynamicIndex}
-use Rattle.fold.specs.Climb.{buildOf}
-use Rattle.mir.specs.Phis.{behindPhis}
+use Rattle.mir.specs.Most.{most_values, most_slots, most_blocks, most_instructions}
+use Rattle.fold.specs.Numbers.{tuple_kind, struct_kind, array_kind}
+use Rattle.fold.specs.Family.{Marks, build_dest, has_dynamic_index}
+use Rattle.fold.specs.Climb.{build_of}
+use Rattle.mir.specs.Phis.{behind_phis}
 use Rattle.fold.specs.Fold.{skipped}
 use Rattle.fold.specs.Tables.{ShapesAt, Ground, Coded}
 use Rattle.fold_looked.specs.Looked.{ArraysLooked}
-use Rattle.fold_climb.specs.Scanned.{graphSize, Scanned}
-use Rattle.rewrite.specs.Run.{Choice, foldsIn, foldsBuild}
+use Rattle.fold_climb.specs.Scanned.{graph_size, Scanned}
+use Rattle.rewrite.specs.Run.{Choice, folds_in, folds_build}
 use Rattle.rewrite_progress.specs.Chosen.{Follows}
 use Rattle.fold_choose.specs.declared.Slots.{Slots}
 
 -- the flags: one for each slot, and one for each block behind them
-abbrev pub flagsSize : ℕ
-flagsSize = mostSlots + mostBlocks
+abbrev pub flags_size : ℕ
+flags_size = most_slots + most_blocks
 
 -- the choice that the Rust makes, where `cross` are the aggregates that are used across blocks
-abbrev pub chosenBy : Settings → Types → Marks → Choice
-chosenBy σ τ cross = record { folds = λ k. foldsIn σ τ cross (behindPhis k.instructions); skips = λ k. skipped τ k.instructions }
+abbrev pub chosen_by : Settings → Types → Marks → Choice
+chosen_by σ τ cross = record { folds = λ k. folds_in σ τ cross (behind_phis k.instructions); skips = λ k. skipped τ k.instructions }
 
 -- a block that has a byte form behind some others: it defines no value twice
 pub data Fitting (m : Mosts) (b : Bounds) (x : Block) : Type 0 where
@@ -40,27 +40,27 @@ pub data Fitting (m : Mosts) (b : Bounds) (x : Block) : Type 0 where
 -- so does each block, and none has more than 128 instructions
 pub record Fits (b : Bounds) (ks : List Block) : Type 0 where
   pub mosts : Mosts
-  pub short : mosts.block ≤ mostInstructions
+  pub short : mosts.block ≤ most_instructions
   pub each : (k : ℕ) → k < length ks → Fitting mosts b (get_or ks k no_block)
 
 -- the slots of block k
 pub record SlotsOf (facts : List ℕ) (k : ℕ) (at : Slots) : Type 0 where
-  pub low : at.first + at.count ≤ mostSlots
+  pub low : at.first + at.count ≤ most_slots
   pub so :
       (b : Bounds) (s : List ℕ) (ks : List Block) → CodeIn b s facts ks → k < length ks
-      → (at.first ≡ get_or (startsIn facts) k 0) × (at.count ≡ length (get_or ks k no_block).instructions)
+      → (at.first ≡ get_or (starts_in facts) k 0) × (at.count ≡ length (get_or ks k no_block).instructions)
 
 -- MakeTuple, MakeStruct and MakeFixedArray
-abbrev pub buildKind : ℕ → Bool
-buildKind kind = eqb kind tupleKind || (eqb kind structKind || eqb kind arrayKind)
+abbrev pub build_kind : ℕ → Bool
+build_kind kind = eqb kind tuple_kind || (eqb kind struct_kind || eqb kind array_kind)
 
 -- none of the slots from one to another holds a build
 abbrev pub NoneBuilds : List ℕ → ℕ → ℕ → Type 0
-NoneBuilds facts from to = (slot : ℕ) → from ≤ slot → slot < to → buildKind (kindIn facts slot) ≡ false
+NoneBuilds facts from to = (slot : ℕ) → from ≤ slot → slot < to → build_kind (kind_in facts slot) ≡ false
 
 -- none of the instructions is a build
 abbrev pub Buildless : List Instruction → Type 0
-Buildless all = (j : ℕ) (d : ValueId) → j < length all → buildDest (get_or all j noInstruction).kind ≡ some d → ⊥
+Buildless all = (j : ℕ) (d : ValueId) → j < length all → build_dest (get_or all j no_instruction).kind ≡ some d → ⊥
 
 -- no block has a build
 abbrev pub AllBuildless : List ℕ → ℕ → Type 0
@@ -82,81 +82,81 @@ Answers σ shapes graph looked s b facts slot answer =
     (τ : Types) (cross : Marks) (is : List Instruction) (i : Instruction) (d : ValueId)
     → Seen σ τ cross is shapes graph
     → length τ.recorded ≡ b.next
-    → b.next ≤ mostValues
+    → b.next ≤ most_values
     → InstructionIn b s facts slot i
-    → buildDest i.kind ≡ some d
-    → buildOf σ τ cross d is ≡ some i.kind
-    → (kindNumber i.kind ≡ arrayKind → looked ≡ hasDynamicIndex τ d is)
-    → answer ≡ foldsBuild σ τ cross is (some i.kind)
+    → build_dest i.kind ≡ some d
+    → build_of σ τ cross d is ≡ some i.kind
+    → (kind_number i.kind ≡ array_kind → looked ≡ has_dynamic_index τ d is)
+    → answer ≡ folds_build σ τ cross is (some i.kind)
 
 -- a block's instructions: where they stand, few enough for the tables, and each build is the one of its dest
 pub record Standing (σ : Settings) (τ : Types) (cross : Marks) (b : Bounds) (s facts : List ℕ)
     (first count : ℕ) (all : List Instruction) : Type 0 where
   pub code : InstructionsIn b s facts first all
   pub counted : length all ≡ count
-  pub few : count ≤ mostInstructions
-  pub listed : (k : ℕ) → k < length all → length (listValues (get_or all k noInstruction).kind) ≤ 16
+  pub few : count ≤ most_instructions
+  pub listed : (k : ℕ) → k < length all → length (list_values (get_or all k no_instruction).kind) ≤ 16
   pub once :
       (j : ℕ) (d : ValueId)
       → j < length all
-      → buildDest (get_or all j noInstruction).kind ≡ some d
-      → buildOf σ τ cross d (behindPhis all) ≡ some (get_or all j noInstruction).kind
+      → build_dest (get_or all j no_instruction).kind ≡ some d
+      → build_of σ τ cross d (behind_phis all) ≡ some (get_or all j no_instruction).kind
 
 -- each build of a block has its flag, from `first` on
 abbrev pub FoldedAt : Settings → Types → Marks → ℕ → List Instruction → List Bool → Type 0
 FoldedAt σ τ cross first all choice =
     (j : ℕ) (d : ValueId)
     → j < length all
-    → buildDest (get_or all j noInstruction).kind ≡ some d
-    → get_or choice (first + j) false ≡ foldsIn σ τ cross (behindPhis all) d
+    → build_dest (get_or all j no_instruction).kind ≡ some d
+    → get_or choice (first + j) false ≡ folds_in σ τ cross (behind_phis all) d
 
 -- of the flags only those of slots from `first` on change
 pub record Flagged (first : ℕ) (before behind : List Bool) : Type 0 where
   pub size : length behind ≡ length before
-  pub old : (j : ℕ) → (first ≤ j → j < mostSlots → ⊥) → get_or behind j false ≡ get_or before j false
+  pub old : (j : ℕ) → (first ≤ j → j < most_slots → ⊥) → get_or behind j false ≡ get_or before j false
 
 -- what is decided of a block whose tables stand
 abbrev pub DecidesAll : Settings → List ℕ → List ℕ → List Bool → List ℕ → Bounds → List ℕ → Slots → List Bool → List Bool → Type 0
 DecidesAll σ shapes graph looked s b facts at before behind =
     (τ : Types) (cross : Marks) (all : List Instruction)
     → Standing σ τ cross b s facts at.first at.count all
-    → Seen σ τ cross (behindPhis all) shapes graph
+    → Seen σ τ cross (behind_phis all) shapes graph
     → ArraysLooked τ all looked
     → length τ.recorded ≡ b.next
-    → b.next ≤ mostValues
-    → mostSlots ≤ length before
+    → b.next ≤ most_values
+    → most_slots ≤ length before
     → FoldedAt σ τ cross at.first all behind
 
 -- what the graph of a block holds behind its filling
 abbrev pub FillsGraph : Settings → List ℕ → List Bool → Marks → List ℕ → Bounds → List ℕ → Slots → List ℕ → List ℕ → Type 0
 FillsGraph σ shapes eligible cross s b facts at before behind =
     (τ : Types) (all : List Instruction)
-    → Ground b s facts (recordedIn facts) τ
+    → Ground b s facts (recorded_in facts) τ
     → ShapesAt σ τ shapes eligible
     → Standing σ τ cross b s facts at.first at.count all
-    → graphSize ≤ length before
-    → Scanned σ τ cross (behindPhis all) behind
+    → graph_size ≤ length before
+    → Scanned σ τ cross (behind_phis all) behind
 
 -- what is decided of a block with nothing but room for the graph
 abbrev pub DecidesBlock : Settings → List ℕ → List Bool → Marks → ℕ → List ℕ → Bounds → List ℕ → Slots → List Bool → List Bool → Type 0
 DecidesBlock σ shapes eligible cross room s b facts at before behind =
     (τ : Types) (all : List Instruction)
-    → Ground b s facts (recordedIn facts) τ
+    → Ground b s facts (recorded_in facts) τ
     → ShapesAt σ τ shapes eligible
     → Standing σ τ cross b s facts at.first at.count all
-    → graphSize ≤ room
-    → mostSlots ≤ length before
+    → graph_size ≤ room
+    → most_slots ≤ length before
     → FoldedAt σ τ cross at.first all behind
 
 -- what is chosen of block k: no other flag changes
 pub record BlockChosen (c : Choice) (k first : ℕ) (x : Block) (before choice : List Bool) : Type 0 where
-  pub old : (j : ℕ) → (first ≤ j → j < mostSlots → ⊥) → (j ≡ mostSlots + k → ⊥) → get_or choice j false ≡ get_or before j false
-  pub skip : get_or choice (mostSlots + k) false ≡ c.skips x
+  pub old : (j : ℕ) → (first ≤ j → j < most_slots → ⊥) → (j ≡ most_slots + k → ⊥) → get_or choice j false ≡ get_or before j false
+  pub skip : get_or choice (most_slots + k) false ≡ c.skips x
   pub fold :
       (j : ℕ) (d : ValueId)
       → c.skips x ≡ false
       → j < length x.instructions
-      → buildDest (get_or x.instructions j noInstruction).kind ≡ some d
+      → build_dest (get_or x.instructions j no_instruction).kind ≡ some d
       → get_or choice (first + j) false ≡ c.folds x d
 
 -- what is chosen of block k of a routine with nothing but room for the graph
@@ -167,9 +167,9 @@ ChoosesBlock σ shapes eligible cross room s b facts k before behind =
     → Fits b ks
     → ShapesAt σ τ shapes eligible
     → k < length ks
-    → graphSize ≤ room
-    → flagsSize ≤ length before
-    → BlockChosen (chosenBy σ τ cross) k (get_or (startsIn facts) k 0) (get_or ks k no_block) before behind
+    → graph_size ≤ room
+    → flags_size ≤ length before
+    → BlockChosen (chosen_by σ τ cross) k (get_or (starts_in facts) k 0) (get_or ks k no_block) before behind
 
 -- what is chosen of all blocks
 abbrev pub Chooses : Settings → List ℕ → List Bool → Marks → List ℕ → Bounds → List ℕ → List Bool → List Bool → Type 0
@@ -178,5 +178,5 @@ Chooses σ shapes eligible cross s b facts before behind =
     → Coded b s facts τ ks
     → Fits b ks
     → ShapesAt σ τ shapes eligible
-    → flagsSize ≤ length before
-    → Follows (chosenBy σ τ cross) facts behind ks
+    → flags_size ≤ length before
+    → Follows (chosen_by σ τ cross) facts behind ks

@@ -2,8 +2,8 @@
 #![tactic(auto)]
 
 ghost use Rattle.std.specs.Prelude.{◌≡◌, false, ◌+◌, ◌≤◌, length};
-ghost use Rattle.mir.specs.Most.{mostSlots};
-ghost use Rattle.fold_choose.specs.Chosen.{SlotsOf, buildKind, NoneBuilds, AllBuildless, Answers, Flagged};
+ghost use Rattle.mir.specs.Most.{most_slots};
+ghost use Rattle.fold_choose.specs.Chosen.{SlotsOf, build_kind, NoneBuilds, AllBuildless, Answers, Flagged};
 ghost use Rattle.fold_choose.specs.Chosen.{DecidesAll, FillsGraph, DecidesBlock, ChoosesBlock, Chooses};
 
 use bytes_field::Bounds;
@@ -32,7 +32,7 @@ fn find_slots(facts: &[u16], k: BlockId) -> Slots
 
 // MakeTuple, MakeStruct and MakeFixedArray.
 fn is_build(kind: u16) -> bool
-    ensures { result ≡ buildKind kind }
+    ensures { result ≡ build_kind kind }
 {
     if kind == kind::MAKE_TUPLE {
         return true;
@@ -98,7 +98,7 @@ fn decide_all(
     looked: &[bool],
     choice: &mut [bool],
 )
-    requires { at.first + at.count ≤ mostSlots }
+    requires { at.first + at.count ≤ most_slots }
     ensures flagged { Flagged at.first choice.old choice.new }
     ensures decides_all { DecidesAll settings shapes.now graph.now looked.now
         s.now b facts.now at choice.old choice.new }
@@ -135,7 +135,7 @@ fn fill_graph(
     cross: &[bool],
     graph: &mut [u16],
 )
-    requires { at.first + at.count ≤ mostSlots }
+    requires { at.first + at.count ≤ most_slots }
     ensures { FillsGraph settings shapes.now eligible.now cross.now s.now b facts.now at
         graph.old graph.new }
 {
@@ -161,7 +161,7 @@ fn choose_block(
     graph: &mut [u16],
     choice: &mut [bool],
 )
-    requires { at.first + at.count ≤ mostSlots }
+    requires { at.first + at.count ≤ most_slots }
     ensures flagged { Flagged at.first choice.old choice.new }
     ensures decides_block { DecidesBlock settings shapes.now eligible.now cross.now (length graph.old)
         s.now b facts.now at choice.old choice.new }

@@ -9,19 +9,19 @@ use Rattle.mir.specs.declared.Value.{Value}
 use Rattle.mir.specs.Syntax.{Instruction, InstructionKind}
 use Rattle.mir.specs.Syntax.{Assign, UnaryOp, BinaryOp, Call, Cast, Load, Store, Debug, Nop, Phi}
 use Rattle.mir.specs.Syntax.{MakeTuple, ExtractTupleElement, MakeStruct, ExtractStructField, InsertField, InsertTuple, MakeFixedArray, AssertEq, HeapAllocCells}
-use Rattle.mir.specs.Reads.{kindNumber, operands, reads}
+use Rattle.mir.specs.Reads.{kind_number, operands, reads}
 use Rattle.fold.specs.declared.Settings.{Settings}
 use Rattle.mir.specs.Lists.{every}
-use Rattle.mir.specs.Lookup.{Types, isOperand, any}
-use Rattle.fold.specs.Family.{Marks, buildDest}
-use Rattle.fold.specs.Climb.{canScalarize}
-use Rattle.fold.specs.Fold.{tupleParent}
-use Rattle.fold_climb.specs.Edges.{Edge, edge, partEdges, buildEdges, tupleEdgesOf, tuplesClimb}
+use Rattle.mir.specs.Lookup.{Types, is_operand, any}
+use Rattle.fold.specs.Family.{Marks, build_dest}
+use Rattle.fold.specs.Climb.{can_scalarize}
+use Rattle.fold.specs.Fold.{tuple_parent}
+use Rattle.fold_climb.specs.Edges.{Edge, edge, part_edges, build_edges, tuple_edges_of, tuples_climb}
 
 module _ (can : ℕ → Bool) (v : ℕ) where
   -- one part of a tuple d: the part is its own dest, or the value, or another
-  part : (d w : ℕ) (es : List Edge) (own met any c rest same : Bool) → eqb d v ≡ own → eqb w v ≡ met → eqb w d ≡ same → can d ≡ c → tuplesClimb can v es ≡ ((own || (not any || c)) && rest) → tuplesClimb can v (cond same es (edge w d ∷ es)) ≡ ((own || (not (met || any) || c)) && rest)
-  unfolding tuplesClimb
+  part : (d w : ℕ) (es : List Edge) (own met any c rest same : Bool) → eqb d v ≡ own → eqb w v ≡ met → eqb w d ≡ same → can d ≡ c → tuples_climb can v es ≡ ((own || (not any || c)) && rest) → tuples_climb can v (cond same es (edge w d ∷ es)) ≡ ((own || (not (met || any) || c)) && rest)
+  unfolding tuples_climb
   part d w es true met any c rest true o m s k ih = ih
   part d w es true true any c rest false o m s k ih = absurd (eqb-false w d s (eqb-true w v m ∙ sym (eqb-true d v o)))
   part d w es true false any c rest false o m s k ih = rw m ih
@@ -33,20 +33,20 @@ module _ (can : ℕ → Bool) (v : ℕ) where
   part d w es false false any c rest false o m s k ih = rw m ih
 
   -- a tuple d in front of others
-  tuple : (d : ℕ) (xs : List Value) (es : List Edge) → tuplesClimb can v (partEdges d (operands xs) es) ≡ ((eqb d v || (not (any (isOperand (record { 0 = v })) xs) || can d)) && tuplesClimb can v es)
-  unfolding partEdges any isOperand
+  tuple : (d : ℕ) (xs : List Value) (es : List Edge) → tuples_climb can v (part_edges d (operands xs) es) ≡ ((eqb d v || (not (any (is_operand (record { 0 = v })) xs) || can d)) && tuples_climb can v es)
+  unfolding part_edges any is_operand
   tuple d [] es = rw (or-true (eqb d v))
   tuple d (Value.Literal l ∷ xs) es = tuple d xs es
   tuple d (Value.Operand w ∷ xs) es =
-      part d w.0 (partEdges d (operands xs) es) (eqb d v) (eqb w.0 v) (any (isOperand (record { 0 = v })) xs) (can d) (tuplesClimb can v es) (eqb w.0 d) refl refl refl refl (tuple d xs es)
+      part d w.0 (part_edges d (operands xs) es) (eqb d v) (eqb w.0 v) (any (is_operand (record { 0 = v })) xs) (can d) (tuples_climb can v es) (eqb w.0 d) refl refl refl refl (tuple d xs es)
   tuple d (Value.Error ∷ xs) es = tuple d xs es
 
 module _ (σ : Settings) (τ : Types) (cross : Marks) (is : List Instruction) (v : ℕ) where
   abbrev can : ℕ → Bool
-  can p = canScalarize σ τ cross is (record { 0 = p })
+  can p = can_scalarize σ τ cross is (record { 0 = p })
 
-  one : (i : InstructionKind) (es : List Edge) → (tupleParent σ τ cross is (record { 0 = v }) i && tuplesClimb can v es) ≡ tuplesClimb can v (cond (eqb (kindNumber i) 10) (buildEdges (buildDest i) (reads i) es) es)
-  unfolding tupleParent buildEdges buildDest
+  one : (i : InstructionKind) (es : List Edge) → (tuple_parent σ τ cross is (record { 0 = v }) i && tuples_climb can v es) ≡ tuples_climb can v (cond (eqb (kind_number i) 10) (build_edges (build_dest i) (reads i) es) es)
+  unfolding tuple_parent build_edges build_dest
   one (Assign d x t) es = refl
   one (UnaryOp op d x) es = refl
   one (BinaryOp op d x y) es = refl
@@ -68,7 +68,7 @@ module _ (σ : Settings) (τ : Types) (cross : Marks) (is : List Instruction) (v
   one (HeapAllocCells d x) es = refl
 
   -- the test over some instructions of the block
-  pub over-tuples : (js : List Instruction) → every (λ i. tupleParent σ τ cross is (record { 0 = v }) i.kind) js ≡ tuplesClimb can v (tupleEdgesOf js)
-  unfolding tupleEdgesOf tuplesClimb
-  over-tuples [] = refl
-  over-tuples (i ∷ js) = rw (over-tuples js) (one i.kind (tupleEdgesOf js))
+  pub over_tuples : (js : List Instruction) → every (λ i. tuple_parent σ τ cross is (record { 0 = v }) i.kind) js ≡ tuples_climb can v (tuple_edges_of js)
+  unfolding tuple_edges_of tuples_climb
+  over_tuples [] = refl
+  over_tuples (i ∷ js) = rw (over_tuples js) (one i.kind (tuple_edges_of js))

@@ -4,11 +4,11 @@ use Rattle.std.proofs.Math.Option.{Option, none, some}
 use Rattle.mir.specs.declared.ValueId.{ValueId}
 use Rattle.mir.specs.declared.Value.{Value}
 use Rattle.mir.specs.Syntax.{Projection, Index, Field, Tuple, Place, Instruction, InstructionKind}
-use Rattle.mir.specs.Reads.{kindNumber, reads}
-use Rattle.bytes_operands.specs.Fields.{listValues}
-use Rattle.mir.specs.Lookup.{isOperand, isInteger, any}
-use Rattle.fold.specs.Numbers.{callKind, tupleKind, arrayShape}
-use Rattle.fold.specs.Family.{Marks, buildDest, accessed}
+use Rattle.mir.specs.Reads.{kind_number, reads}
+use Rattle.bytes_operands.specs.Fields.{list_values}
+use Rattle.mir.specs.Lookup.{is_operand, is_integer, any}
+use Rattle.fold.specs.Numbers.{call_kind, tuple_kind, array_shape}
+use Rattle.fold.specs.Family.{Marks, build_dest, accessed}
 use Rattle.fold_climb.specs.declared.Climbed.{Climbed}
 
 -- a value, and a build that has it as a part
@@ -20,47 +20,47 @@ abbrev pub edge : ℕ → ℕ → Edge
 edge c p = record { child = c; parent = p }
 
 -- the parts of a build d, each other than d itself, in front of others
-unfoldable pub partEdges : ℕ → List ValueId → List Edge → List Edge
-partEdges d [] es = es
-partEdges d (w ∷ ws) es = cond (eqb w.0 d) (partEdges d ws es) (edge w.0 d ∷ partEdges d ws es)
+unfoldable pub part_edges : ℕ → List ValueId → List Edge → List Edge
+part_edges d [] es = es
+part_edges d (w ∷ ws) es = cond (eqb w.0 d) (part_edges d ws es) (edge w.0 d ∷ part_edges d ws es)
 
-unfoldable pub buildEdges : Option ValueId → List ValueId → List Edge → List Edge
-buildEdges none ws es = es
-buildEdges (some d) ws es = partEdges d.0 ws es
+unfoldable pub build_edges : Option ValueId → List ValueId → List Edge → List Edge
+build_edges none ws es = es
+build_edges (some d) ws es = part_edges d.0 ws es
 
 -- a block's edges, in order: a build reads its parts
-unfoldable pub edgesOf : List Instruction → List Edge
-edgesOf [] = []
-edgesOf (i ∷ is) = buildEdges (buildDest i.kind) (reads i.kind) (edgesOf is)
+unfoldable pub edges_of : List Instruction → List Edge
+edges_of [] = []
+edges_of (i ∷ is) = build_edges (build_dest i.kind) (reads i.kind) (edges_of is)
 
 -- those of its MakeTuples
-unfoldable pub tupleEdgesOf : List Instruction → List Edge
-tupleEdgesOf [] = []
-tupleEdgesOf (i ∷ is) =
-    cond (eqb (kindNumber i.kind) tupleKind) (buildEdges (buildDest i.kind) (reads i.kind) (tupleEdgesOf is)) (tupleEdgesOf is)
+unfoldable pub tuple_edges_of : List Instruction → List Edge
+tuple_edges_of [] = []
+tuple_edges_of (i ∷ is) =
+    cond (eqb (kind_number i.kind) tuple_kind) (build_edges (build_dest i.kind) (reads i.kind) (tuple_edges_of is)) (tuple_edges_of is)
 
 -- the arguments of a Call
 unfoldable pub arguments : InstructionKind → List Value
-arguments i = cond (eqb (kindNumber i) callKind) (listValues i) []
+arguments i = cond (eqb (kind_number i) call_kind) (list_values i) []
 
 -- the first projection is no Integer literal
-unfoldable pub variesFirst : List Projection → Bool
-variesFirst [] = false
-variesFirst (Index x ∷ ps) = not (isInteger x)
-variesFirst (Field n ∷ ps) = true
-variesFirst (Tuple k ∷ ps) = true
+unfoldable pub varies_first : List Projection → Bool
+varies_first [] = false
+varies_first (Index x ∷ ps) = not (is_integer x)
+varies_first (Field n ∷ ps) = true
+varies_first (Tuple k ∷ ps) = true
 
-unfoldable pub variesAt : ℕ → Option Place → Bool
-variesAt v none = false
-variesAt v (some p) = eqb p.base.0 v && variesFirst p.projections
+unfoldable pub varies_at : ℕ → Option Place → Bool
+varies_at v none = false
+varies_at v (some p) = eqb p.base.0 v && varies_first p.projections
 
 -- an instruction for which the value must stand whole
 unfoldable pub blocks : ℕ → InstructionKind → Bool
-blocks v i = any (isOperand (record { 0 = v })) (arguments i) || variesAt v (accessed i)
+blocks v i = any (is_operand (record { 0 = v })) (arguments i) || varies_at v (accessed i)
 
-unfoldable pub blockedIn : ℕ → List Instruction → Bool
-blockedIn v [] = false
-blockedIn v (i ∷ is) = blocks v i.kind || blockedIn v is
+unfoldable pub blocked_in : ℕ → List Instruction → Bool
+blocked_in v [] = false
+blocked_in v (i ∷ is) = blocks v i.kind || blocked_in v is
 
 -- what the climb looks at: by value its shape, whether its build passes its own conditions, whether it is wanted whole
 pub record Sight : Type 0 where
@@ -69,11 +69,11 @@ pub record Sight : Type 0 where
   pub barred : ℕ → Bool
   pub edges : List Edge
 
-abbrev pub arrayIn : Sight → ℕ → Bool
-arrayIn t v = eqb (get_or t.shapes v 0) arrayShape
+abbrev pub array_in : Sight → ℕ → Bool
+array_in t v = eqb (get_or t.shapes v 0) array_shape
 
-abbrev pub allowedIn : Sight → ℕ → Bool
-allowedIn t v = t.built v && not (t.barred v)
+abbrev pub allowed_in : Sight → ℕ → Bool
+allowed_in t v = t.built v && not (t.barred v)
 
 abbrev pub onto : Option Marks → (Marks → Option Marks) → Option Marks
 onto none f = none
@@ -86,11 +86,11 @@ parents up array v (e ∷ es) m =
     cond (eqb e.child v) (cond array none (onto (up e.parent m) (parents up array v es))) (parents up array v es m)
 
 -- the climb, at most k values deep; a value past the marks counts as visited
-unfoldable pub climbIn : Sight → ℕ → ℕ → Marks → Option Marks
-climbIn t zero v m = none
-climbIn t (suc k) v m =
+unfoldable pub climb_in : Sight → ℕ → ℕ → Marks → Option Marks
+climb_in t zero v m = none
+climb_in t (suc k) v m =
     cond (get_or m v true) none
-    (cond (allowedIn t v) (parents (climbIn t k) (arrayIn t v) v t.edges (set m v true)) none)
+    (cond (allowed_in t v) (parents (climb_in t k) (array_in t v) v t.edges (set m v true)) none)
 
 -- how many marks are not set
 unfoldable pub unmarked : Marks → ℕ
@@ -99,14 +99,14 @@ unmarked (true ∷ m) = unmarked m
 unmarked (false ∷ m) = suc (unmarked m)
 
 -- each step sets a mark, so that it is never deeper than there are clear ones
-unfoldable pub climbOf : Sight → ℕ → Marks → Option Marks
-climbOf t v m = climbIn t (suc (unmarked m)) v m
+unfoldable pub climb_of : Sight → ℕ → Marks → Option Marks
+climb_of t v m = climb_in t (suc (unmarked m)) v m
 
 -- a tuple's own test: each tuple that takes it as a part can be taken apart, by itself
-unfoldable pub tuplesClimb : (ℕ → Bool) → ℕ → List Edge → Bool
-tuplesClimb can v [] = true
-tuplesClimb can v (e ∷ es) = (not (eqb e.child v) || can e.parent) && tuplesClimb can v es
+unfoldable pub tuples_climb : (ℕ → Bool) → ℕ → List Edge → Bool
+tuples_climb can v [] = true
+tuples_climb can v (e ∷ es) = (not (eqb e.child v) || can e.parent) && tuples_climb can v es
 
 -- what the code's answer says
-abbrev pub asClimbed : Climbed → Option Marks
-asClimbed r = cond r.ok (some r.visited) none
+abbrev pub as_climbed : Climbed → Option Marks
+as_climbed r = cond r.ok (some r.visited) none

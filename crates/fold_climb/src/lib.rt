@@ -2,10 +2,10 @@
 #![tactic(auto)]
 
 ghost use Rattle.std.specs.Prelude.{◌≡◌, not, ◌&&◌, ◌<◌};
-ghost use Rattle.mir.specs.Most.{mostValues};
-ghost use Rattle.fold_climb.specs.Edges.{climbOf, asClimbed};
-ghost use Rattle.fold_climb.specs.Scanned.{sight_of, builtIn, barredIn};
-ghost use Rattle.fold_climb.specs.Decided.{climbs, tuplesPass, FoldsBy};
+ghost use Rattle.mir.specs.Most.{most_values};
+ghost use Rattle.fold_climb.specs.Edges.{climb_of, as_climbed};
+ghost use Rattle.fold_climb.specs.Scanned.{sight_of, built_in, barred_in};
+ghost use Rattle.fold_climb.specs.Decided.{climbs, tuples_pass, FoldsBy};
 
 use fold::Settings;
 use mir::{ValueId, kind, most, shape};
@@ -37,8 +37,8 @@ pub struct Climbed {
 
 // The value's build passes its own conditions, and nothing wants the value whole.
 fn allowed(graph: &[u16], at: usize) -> bool
-    requires { at < mostValues }
-    ensures { result ≡ builtIn graph.now at && not (barredIn graph.now at) }
+    requires { at < most_values }
+    ensures { result ≡ built_in graph.now at && not (barred_in graph.now at) }
 {
     if table::number(graph, BUILT + at) == 1 {
         table::number(graph, BARRED + at) != 1
@@ -49,7 +49,7 @@ fn allowed(graph: &[u16], at: usize) -> bool
 
 // sroa.rs 195, `can_scalarize_aggregate`, over the block's graph.
 fn climb(v: ValueId, graph: &[u16], shapes: &[u8], visited: [bool; 256]) -> Climbed
-    ensures { asClimbed result ≡ climbOf (sight_of shapes.now graph.now) v.0 visited }
+    ensures { as_climbed result ≡ climb_of (sight_of shapes.now graph.now) v.0 visited }
 {
     let at = v.0 as usize;
     if most::VALUES <= at {
@@ -99,7 +99,7 @@ fn can_scalarize(v: ValueId, graph: &[u16], shapes: &[u8]) -> bool
 
 // Each tuple that takes the value as a part can be taken apart, with a new set of visited values for each.
 fn tuple_parents(v: ValueId, graph: &[u16], shapes: &[u8]) -> bool
-    ensures { result ≡ tuplesPass shapes.now graph.now v.0 }
+    ensures { result ≡ tuples_pass shapes.now graph.now v.0 }
 {
     let mut i = table::number(graph, 0);
     while 0 < i {

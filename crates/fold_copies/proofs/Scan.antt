@@ -15,77 +15,77 @@ use lib.Seq.{get_or-set_same, get_or-set_other, get_or_at, drop-cons, drop-lengt
 use Rattle.std.proofs.lemmas.List.{get_or-replicate}
 use Rattle.mir.specs.Syntax.{Instruction}
 use Rattle.bytes_field.specs.declared.Bounds.{Bounds}
-use Rattle.bytes_index.specs.Table.{place_in, end_in, kindIn}
-use Rattle.bytes_index.specs.Code.{noInstruction, InstructionIn, InstructionsIn}
+use Rattle.bytes_index.specs.Table.{place_in, end_in, kind_in}
+use Rattle.bytes_index.specs.Code.{no_instruction, InstructionIn, InstructionsIn}
 use Rattle.bytes_types.specs.Index.{TypesAt}
 use Rattle.mir.specs.Lookup.{Types}
-use Rattle.mir.specs.Most.{mostValues, mostInstructions}
+use Rattle.mir.specs.Most.{most_values, most_instructions}
 use Rattle.fold.specs.Family.{Marks, accessed}
-use Rattle.fold_family.specs.Copies.{Copy, noCopy, copy_of, before, copies, last, rowAt, firstsAt, tableSize, RowsAt, dynamicPlace, dynamics}
+use Rattle.fold_family.specs.Copies.{Copy, no_copy, copy_of, before, copies, last, row_at, firsts_at, table_size, RowsAt, dynamic_place, dynamics}
 use Rattle.fold_family.proofs.Rows.{newest}
 use Rattle.fold_copies.specs.Found.{Headed, ScanCopies, CopyFound, CopyNoted, DynamicNoted}
 
 -- the last row of a value among some copies, with another behind them: those in front tell it, or it is the new one
-last-front : (cs : List Copy) (c : Copy) (v e : ℕ) → e ≤ length cs → last (cs ++ (c ∷ [])) v e ≡ last cs v e
+last_front : (cs : List Copy) (c : Copy) (v e : ℕ) → e ≤ length cs → last (cs ++ (c ∷ [])) v e ≡ last cs v e
 unfolding last
-last-front cs c v zero h = refl
-last-front cs c v (suc j) h =
-    rw (get_or-append cs (c ∷ []) noCopy j (omega arith), last-front cs c v j (omega arith)) refl
+last_front cs c v zero h = refl
+last_front cs c v (suc j) h =
+    rw (get_or-append cs (c ∷ []) no_copy j (omega arith), last_front cs c v j (omega arith)) refl
 
-last-new : (cs : List Copy) (c : Copy) (v : ℕ) → last (cs ++ (c ∷ [])) v (suc (length cs)) ≡ cond (eqb c.source v) (suc (length cs)) (last cs v (length cs))
+last_new : (cs : List Copy) (c : Copy) (v : ℕ) → last (cs ++ (c ∷ [])) v (suc (length cs)) ≡ cond (eqb c.source v) (suc (length cs)) (last cs v (length cs))
 unfolding last
-last-new cs c v =
-    rw (get_or_at cs c [] noCopy (length cs) refl, last-front cs c v (length cs) (omega arith)) refl
+last_new cs c v =
+    rw (get_or_at cs c [] no_copy (length cs) refl, last_front cs c v (length cs) (omega arith)) refl
 
 -- one more copy
 module _ (l : List ℕ) (n : ℕ) (cs : List Copy) (c : Copy)
-    (a : RowsAt l cs) (many : length cs ≡ n) (room : length l ≡ tableSize) (low : n < mostInstructions)
+    (a : RowsAt l cs) (many : length cs ≡ n) (room : length l ≡ table_size) (low : n < most_instructions)
   where
     abbrev l₁ : List ℕ
-    l₁ = set l (rowAt n) c.dest
+    l₁ = set l (row_at n) c.dest
 
     abbrev l₂ : List ℕ
-    l₂ = set l₁ (rowAt n + 1) c.asked
+    l₂ = set l₁ (row_at n + 1) c.asked
 
     abbrev l₃ : List ℕ
-    l₃ = set l₂ (rowAt n + 2) (get_or l₂ (firstsAt + c.source) 0)
+    l₃ = set l₂ (row_at n + 2) (get_or l₂ (firsts_at + c.source) 0)
 
     abbrev l₄ : List ℕ
-    l₄ = set l₃ (firstsAt + c.source) (n + 1)
+    l₄ = set l₃ (firsts_at + c.source) (n + 1)
 
     -- the numbers that are not written
-    kept : (j : ℕ) → (j < rowAt n) ⊎ (firstsAt ≤ j) → (j ≡ firstsAt + c.source → ⊥) → get_or l₄ j 0 ≡ get_or l j 0
+    kept : (j : ℕ) → (j < row_at n) ⊎ (firsts_at ≤ j) → (j ≡ firsts_at + c.source → ⊥) → get_or l₄ j 0 ≡ get_or l j 0
     kept j h o =
-        get_or-set_other l₃ (firstsAt + c.source) j (n + 1) 0 o
-        ∙ get_or-set_other l₂ (rowAt n + 2) j (get_or l₂ (firstsAt + c.source) 0) 0 (λ z. ⊎_elim (λ y. omega arith) (λ y. omega arith) h)
-        ∙ get_or-set_other l₁ (rowAt n + 1) j c.asked 0 (λ z. ⊎_elim (λ y. omega arith) (λ y. omega arith) h)
-        ∙ get_or-set_other l (rowAt n) j c.dest 0 (λ z. ⊎_elim (λ y. omega arith) (λ y. omega arith) h)
+        get_or-set_other l₃ (firsts_at + c.source) j (n + 1) 0 o
+        ∙ get_or-set_other l₂ (row_at n + 2) j (get_or l₂ (firsts_at + c.source) 0) 0 (λ z. ⊎_elim (λ y. omega arith) (λ y. omega arith) h)
+        ∙ get_or-set_other l₁ (row_at n + 1) j c.asked 0 (λ z. ⊎_elim (λ y. omega arith) (λ y. omega arith) h)
+        ∙ get_or-set_other l (row_at n) j c.dest 0 (λ z. ⊎_elim (λ y. omega arith) (λ y. omega arith) h)
 
     -- the last row of the source so far
-    head : get_or l₂ (firstsAt + c.source) 0 ≡ get_or l (firstsAt + c.source) 0
+    head : get_or l₂ (firsts_at + c.source) 0 ≡ get_or l (firsts_at + c.source) 0
     head =
-        get_or-set_other l₁ (rowAt n + 1) (firstsAt + c.source) c.asked 0 (λ z. omega arith)
-        ∙ get_or-set_other l (rowAt n) (firstsAt + c.source) c.dest 0 (λ z. omega arith)
+        get_or-set_other l₁ (row_at n + 1) (firsts_at + c.source) c.asked 0 (λ z. omega arith)
+        ∙ get_or-set_other l (row_at n) (firsts_at + c.source) c.dest 0 (λ z. omega arith)
 
     -- the new row
-    new-dest : get_or l₄ (rowAt n) 0 ≡ c.dest
-    new-dest =
-        get_or-set_other l₃ (firstsAt + c.source) (rowAt n) (n + 1) 0 (λ z. omega arith)
-        ∙ get_or-set_other l₂ (rowAt n + 2) (rowAt n) (get_or l₂ (firstsAt + c.source) 0) 0 (λ z. omega arith)
-        ∙ get_or-set_other l₁ (rowAt n + 1) (rowAt n) c.asked 0 (λ z. omega arith)
-        ∙ get_or-set_same l (rowAt n) c.dest 0 (omega (arith, room))
+    new_dest : get_or l₄ (row_at n) 0 ≡ c.dest
+    new_dest =
+        get_or-set_other l₃ (firsts_at + c.source) (row_at n) (n + 1) 0 (λ z. omega arith)
+        ∙ get_or-set_other l₂ (row_at n + 2) (row_at n) (get_or l₂ (firsts_at + c.source) 0) 0 (λ z. omega arith)
+        ∙ get_or-set_other l₁ (row_at n + 1) (row_at n) c.asked 0 (λ z. omega arith)
+        ∙ get_or-set_same l (row_at n) c.dest 0 (omega (arith, room))
 
-    new-asked : get_or l₄ (rowAt n + 1) 0 ≡ c.asked
-    new-asked =
-        get_or-set_other l₃ (firstsAt + c.source) (rowAt n + 1) (n + 1) 0 (λ z. omega arith)
-        ∙ get_or-set_other l₂ (rowAt n + 2) (rowAt n + 1) (get_or l₂ (firstsAt + c.source) 0) 0 (λ z. omega arith)
-        ∙ get_or-set_same l₁ (rowAt n + 1) c.asked 0 (omega (arith, room, length-set l (rowAt n) c.dest))
+    new_asked : get_or l₄ (row_at n + 1) 0 ≡ c.asked
+    new_asked =
+        get_or-set_other l₃ (firsts_at + c.source) (row_at n + 1) (n + 1) 0 (λ z. omega arith)
+        ∙ get_or-set_other l₂ (row_at n + 2) (row_at n + 1) (get_or l₂ (firsts_at + c.source) 0) 0 (λ z. omega arith)
+        ∙ get_or-set_same l₁ (row_at n + 1) c.asked 0 (omega (arith, room, length-set l (row_at n) c.dest))
 
-    new-next : get_or l₄ (rowAt n + 2) 0 ≡ get_or l (firstsAt + c.source) 0
-    new-next =
-        get_or-set_other l₃ (firstsAt + c.source) (rowAt n + 2) (n + 1) 0 (λ z. omega arith)
-        ∙ get_or-set_same l₂ (rowAt n + 2) (get_or l₂ (firstsAt + c.source) 0) 0
-        (omega (arith, room, length-set l (rowAt n) c.dest, length-set l₁ (rowAt n + 1) c.asked))
+    new_next : get_or l₄ (row_at n + 2) 0 ≡ get_or l (firsts_at + c.source) 0
+    new_next =
+        get_or-set_other l₃ (firsts_at + c.source) (row_at n + 2) (n + 1) 0 (λ z. omega arith)
+        ∙ get_or-set_same l₂ (row_at n + 2) (get_or l₂ (firsts_at + c.source) 0) 0
+        (omega (arith, room, length-set l (row_at n) c.dest, length-set l₁ (row_at n + 1) c.asked))
         ∙ head
 
     abbrev all : List Copy
@@ -95,73 +95,73 @@ module _ (l : List ℕ) (n : ℕ) (cs : List Copy) (c : Copy)
     counted = omega (arith, length-append cs (c ∷ []), many)
 
     -- what holds of each row
-    each : (P : ℕ → Copy → Type 0) → ((k : ℕ) → k < length cs → P k (get_or cs k noCopy)) → P n c → (k : ℕ) → k < length all → P k (get_or all k noCopy)
+    each : (P : ℕ → Copy → Type 0) → ((k : ℕ) → k < length cs → P k (get_or cs k no_copy)) → P n c → (k : ℕ) → k < length all → P k (get_or all k no_copy)
     each P old new k h =
         ⊎_elim
-        (λ q. subst (λ j. P j (get_or all j noCopy)) (sym q) (subst (P n) (sym (get_or_at cs c [] noCopy n many)) new))
-        (λ q. let m : k < length cs = omega (arith, many) in subst (P k) (sym (get_or-append cs (c ∷ []) noCopy k m)) (old k m))
+        (λ q. subst (λ j. P j (get_or all j no_copy)) (sym q) (subst (P n) (sym (get_or_at cs c [] no_copy n many)) new))
+        (λ q. let m : k < length cs = omega (arith, many) in subst (P k) (sym (get_or-append cs (c ∷ []) no_copy k m)) (old k m))
         (newest k n (omega (arith, counted)))
 
-    rows-first : (v : ℕ) → v < mostValues → (b : Bool) → eqb c.source v ≡ b → get_or l₄ (firstsAt + v) 0 ≡ last all v (length all)
-    rows-first v h true e =
+    rows_first : (v : ℕ) → v < most_values → (b : Bool) → eqb c.source v ≡ b → get_or l₄ (firsts_at + v) 0 ≡ last all v (length all)
+    rows_first v h true e =
         let z : c.source ≡ v = eqb-true c.source v e in
-        ap (λ x. get_or l₄ (firstsAt + x) 0) (sym z)
-        ∙ get_or-set_same l₃ (firstsAt + c.source) (n + 1) 0
+        ap (λ x. get_or l₄ (firsts_at + x) 0) (sym z)
+        ∙ get_or-set_same l₃ (firsts_at + c.source) (n + 1) 0
         (omega (
           arith,
           room,
-          length-set l (rowAt n) c.dest,
-          length-set l₁ (rowAt n + 1) c.asked,
-          length-set l₂ (rowAt n + 2) (get_or l₂ (firstsAt + c.source) 0),
+          length-set l (row_at n) c.dest,
+          length-set l₁ (row_at n + 1) c.asked,
+          length-set l₂ (row_at n + 2) (get_or l₂ (firsts_at + c.source) 0),
         ))
         ∙ omega (arith, many)
         ∙ sym (ap (λ b. cond b (suc (length cs)) (last cs v (length cs))) e)
-        ∙ sym (last-new cs c v)
+        ∙ sym (last_new cs c v)
         ∙ ap (λ x. last all v x) (ap suc many ∙ sym counted)
-    rows-first v h false e =
-        kept (firstsAt + v) (inr (omega arith)) (λ z. eqb-false c.source v e (omega arith))
+    rows_first v h false e =
+        kept (firsts_at + v) (inr (omega arith)) (λ z. eqb-false c.source v e (omega arith))
         ∙ a.first v h
         ∙ sym (ap (λ b. cond b (suc (length cs)) (last cs v (length cs))) e)
-        ∙ sym (last-new cs c v)
+        ∙ sym (last_new cs c v)
         ∙ ap (λ x. last all v x) (ap suc many ∙ sym counted)
 
-    rows-next : (v : ℕ) (k : ℕ) → k < length all → (get_or all k noCopy).source ≡ v → v < mostValues → get_or l₄ (rowAt k + 2) 0 ≡ last all v k
-    rows-next v =
-        each (λ k x. x.source ≡ v → v < mostValues → get_or l₄ (rowAt k + 2) 0 ≡ last all v k)
+    rows_next : (v : ℕ) (k : ℕ) → k < length all → (get_or all k no_copy).source ≡ v → v < most_values → get_or l₄ (row_at k + 2) 0 ≡ last all v k
+    rows_next v =
+        each (λ k x. x.source ≡ v → v < most_values → get_or l₄ (row_at k + 2) 0 ≡ last all v k)
         (λ k h s w.
-        kept (rowAt k + 2) (inl (omega (arith, many))) (λ z. omega (arith, many)) ∙ a.next k v h s w ∙ sym (last-front cs c v k (omega arith)))
+        kept (row_at k + 2) (inl (omega (arith, many))) (λ z. omega (arith, many)) ∙ a.next k v h s w ∙ sym (last_front cs c v k (omega arith)))
         (λ s w.
-        new-next ∙ ap (λ x. get_or l (firstsAt + x) 0) s ∙ a.first v w ∙ ap (λ x. last cs v x) many ∙ sym (last-front cs c v n (omega (arith, many))))
+        new_next ∙ ap (λ x. get_or l (firsts_at + x) 0) s ∙ a.first v w ∙ ap (λ x. last cs v x) many ∙ sym (last_front cs c v n (omega (arith, many))))
 
-    rows-all : RowsAt l₄ all
-    rows-all =
+    rows_all : RowsAt l₄ all
+    rows_all =
         record {
-          dest = each (λ k x. get_or l₄ (rowAt k) 0 ≡ x.dest)
-              (λ k h. kept (rowAt k) (inl (omega (arith, many))) (λ z. omega (arith, many)) ∙ a.dest k h) new-dest;
-          asked = each (λ k x. get_or l₄ (rowAt k + 1) 0 ≡ x.asked)
-              (λ k h. kept (rowAt k + 1) (inl (omega (arith, many))) (λ z. omega (arith, many)) ∙ a.asked k h) new-asked;
-          next = λ k v h s w. rows-next v k h s w;
-          first = λ v h. rows-first v h (eqb c.source v) refl;
+          dest = each (λ k x. get_or l₄ (row_at k) 0 ≡ x.dest)
+              (λ k h. kept (row_at k) (inl (omega (arith, many))) (λ z. omega (arith, many)) ∙ a.dest k h) new_dest;
+          asked = each (λ k x. get_or l₄ (row_at k + 1) 0 ≡ x.asked)
+              (λ k h. kept (row_at k + 1) (inl (omega (arith, many))) (λ z. omega (arith, many)) ∙ a.asked k h) new_asked;
+          next = λ k v h s w. rows_next v k h s w;
+          first = λ v h. rows_first v h (eqb c.source v) refl;
         }
 
-    pub rows-more : {a₁ a₂ a₃ a₄ : List ℕ} {x : ℕ} → a₁ ≡ set l (rowAt n + 0) c.dest → a₂ ≡ set a₁ (rowAt n + 1) c.asked
-        → x ≡ get_or a₂ (firstsAt + c.source) 0 → a₃ ≡ set a₂ (rowAt n + 2) x
-        → a₄ ≡ set a₃ (firstsAt + c.source) (n + 1) → RowsAt a₄ all × (length all ≡ n + 1)
-    rows-more e₁ e₂ ex e₃ e₄ = (rw (e₄, e₃, ex, e₂, e₁, add-zero) rows-all, omega (arith, counted))
+    pub rows_more : {a₁ a₂ a₃ a₄ : List ℕ} {x : ℕ} → a₁ ≡ set l (row_at n + 0) c.dest → a₂ ≡ set a₁ (row_at n + 1) c.asked
+        → x ≡ get_or a₂ (firsts_at + c.source) 0 → a₃ ≡ set a₂ (row_at n + 2) x
+        → a₄ ≡ set a₃ (firsts_at + c.source) (n + 1) → RowsAt a₄ all × (length all ≡ n + 1)
+    rows_more e₁ e₂ ex e₃ e₄ = (rw (e₄, e₃, ex, e₂, e₁, add-zero) rows_all, omega (arith, counted))
 
 -- none
-pub rows-same : (l : List ℕ) (n : ℕ) (cs : List Copy) → RowsAt l cs → length cs ≡ n → RowsAt l (cs ++ []) × (length (cs ++ []) ≡ n)
-rows-same l n cs a h = (rw append-nil a, rw append-nil h)
+pub rows_same : (l : List ℕ) (n : ℕ) (cs : List Copy) → RowsAt l cs → length cs ≡ n → RowsAt l (cs ++ []) × (length (cs ++ []) ≡ n)
+rows_same l n cs a h = (rw append-nil a, rw append-nil h)
 
 -- a clear table has no rows
-rows-none : RowsAt (replicate tableSize 0) []
+rows_none : RowsAt (replicate table_size 0) []
 unfolding last
-rows-none =
+rows_none =
     record {
       dest = λ k h. absurd (omega arith);
       asked = λ k h. absurd (omega arith);
       next = λ k v h s w. absurd (omega arith);
-      first = λ v h. get_or-replicate {A = ℕ} tableSize (firstsAt + v) 0 0 (omega arith);
+      first = λ v h. get_or-replicate {A = ℕ} table_size (firsts_at + v) 0 0 (omega arith);
     }
 
 -- k instructions of a block are behind
@@ -178,17 +178,17 @@ grouped cs none ds = rw append-nil
 grouped cs (some c) ds = sym (append_assoc cs (c ∷ []) ds)
 
 -- the next is behind
-left-more : (τ : Types) (is : List Instruction) (l : List ℕ) (n : ℕ) (dyn₀ dyn : Marks) (k : ℕ) (l' : List ℕ) (n' : ℕ) (dyn' : Marks)
+left_more : (τ : Types) (is : List Instruction) (l : List ℕ) (n : ℕ) (dyn₀ dyn : Marks) (k : ℕ) (l' : List ℕ) (n' : ℕ) (dyn' : Marks)
     → k < length is
     → (o : Option Copy)
-    → o ≡ copy_of τ (get_or is k noInstruction).kind
+    → o ≡ copy_of τ (get_or is k no_instruction).kind
     → ((cs : List Copy) → RowsAt l cs → length cs ≡ n → RowsAt l' (cs ++ before o []) × (length (cs ++ before o []) ≡ n'))
-    → dyn' ≡ dynamicPlace dyn (accessed (get_or is k noInstruction).kind)
+    → dyn' ≡ dynamic_place dyn (accessed (get_or is k no_instruction).kind)
     → Left τ is l n dyn₀ dyn k
     → Left τ is l' n' dyn₀ dyn' (k + 1)
 unfolding copies dynamics
-left-more τ is l n dyn₀ dyn k l' n' dyn' h o eo f ed u =
-    let e : drop k is ≡ get_or is k noInstruction ∷ drop (k + 1) is = rw (add-one k) (drop-cons is k noInstruction h) in
+left_more τ is l n dyn₀ dyn k l' n' dyn' h o eo f ed u =
+    let e : drop k is ≡ get_or is k no_instruction ∷ drop (k + 1) is = rw (add-one k) (drop-cons is k no_instruction h) in
     record {
       done = u.done ++ before o [];
       noted = (f u.done u.noted u.many).0;
@@ -200,7 +200,7 @@ left-more τ is l n dyn₀ dyn k l' n' dyn' h o eo f ed u =
 -- an instruction whose row begins at `row`
 pub headed : (b : Bounds) (s facts : List ℕ) (slot row : ℕ) (i : Instruction) (kind at : ℕ) (t : List ℕ) → row ≡ 387 + 20 * slot → kind ≡ get_or facts (row + 2) 0 → at ≡ get_or facts row 0 → t ≡ drop at s → InstructionIn b s facts slot i → Headed b t kind i
 headed b s facts slot row i kind at t er ek ea et a =
-    let k : kind ≡ kindIn facts slot = ek ∙ ap (λ x. get_or facts (x + 2) 0) er in
+    let k : kind ≡ kind_in facts slot = ek ∙ ap (λ x. get_or facts (x + 2) 0) er in
     let z : row ≡ 387 + 20 * slot + 0 = omega arith in
     let p : at ≡ place_in facts slot = ea ∙ ap (λ x. get_or facts x 0) z in
     record { size = end_in facts slot - place_in facts slot; read = rw (et, p) a.read; numbered = k ∙ a.kind }
@@ -212,21 +212,21 @@ module _ (s : List ℕ) (b : Bounds) (facts : List ℕ) (first count : ℕ) (l�
     pub few : n ≤ k
     pub at : row ≡ 387 + 20 * (first + k)
     pub long : length l ≡ length l₀
-    pub long-dyn : length dyn ≡ length dyn₀
-    pub left : (most : ℕ) (τ : Types) (is : List Instruction) → TypesAt most s facts τ.rows → length τ.rows ≡ b.types → InstructionsIn b s facts first is → length is ≡ count → l₀ ≡ replicate tableSize 0 → Left τ is l n dyn₀ dyn k
+    pub long_dyn : length dyn ≡ length dyn₀
+    pub left : (most : ℕ) (τ : Types) (is : List Instruction) → TypesAt most s facts τ.rows → length τ.rows ≡ b.types → InstructionsIn b s facts first is → length is ≡ count → l₀ ≡ replicate table_size 0 → Left τ is l n dyn₀ dyn k
 
-  pub scan-start : (row : ℕ) → row ≡ 387 + 20 * first + 0 → Scanning l₀ dyn₀ 0 0 row
-  scan-start row e =
+  pub scan_start : (row : ℕ) → row ≡ 387 + 20 * first + 0 → Scanning l₀ dyn₀ 0 0 row
+  scan_start row e =
       record {
         under = zero-le;
         few = zero-le;
         at = omega arith;
         long = refl;
-        long-dyn = refl;
-        left = λ most τ is a m p q r. record { done = []; noted = rw r rows-none; many = refl; rest = refl; dynamic = refl };
+        long_dyn = refl;
+        left = λ most τ is a m p q r. record { done = []; noted = rw r rows_none; many = refl; rest = refl; dynamic = refl };
       }
 
-  pub scan-again : (l : List ℕ) (dyn : Marks) (n k row : ℕ) (l' : List ℕ) (dyn' : Marks) (n' kind at : ℕ) (t : List ℕ) (o : Option Copy)
+  pub scan_again : (l : List ℕ) (dyn : Marks) (n k row : ℕ) (l' : List ℕ) (dyn' : Marks) (n' kind at : ℕ) (t : List ℕ) (o : Option Copy)
       → Scanning l dyn n k row
       → k < count
       → kind ≡ get_or facts (row + 2) 0
@@ -239,28 +239,28 @@ module _ (s : List ℕ) (b : Bounds) (facts : List ℕ) (first count : ℕ) (l�
       → length l' ≡ length l
       → length dyn' ≡ length dyn
       → Scanning l' dyn' n' (k + 1) (row + 20)
-  scan-again l dyn n k row l' dyn' n' kind at t o u h ek ea et ec hn ef ey ll ly =
+  scan_again l dyn n k row l' dyn' n' kind at t o u h ek ea et ec hn ef ey ll ly =
       record {
         under = omega arith;
         few = omega (arith, u.few);
         at = omega (arith, u.at);
         long = ll ∙ u.long;
-        long-dyn = ly ∙ u.long-dyn;
+        long_dyn = ly ∙ u.long_dyn;
         left = λ most τ is a m p q r.
             let g : k < length is = omega arith in
-            let i = headed b s facts (first + k) row (get_or is k noInstruction) kind at t u.at ek ea et (p k g) in
-            left-more τ is l n dyn₀ dyn k l' n' dyn' g o (ec most τ _ a m i) (λ cs z w. ef cs z w (u.long ∙ ap length r ∙ length-replicate {A = ℕ} tableSize 0)) (ey _ i) (u.left most τ is a m p q r);
+            let i = headed b s facts (first + k) row (get_or is k no_instruction) kind at t u.at ek ea et (p k g) in
+            left_more τ is l n dyn₀ dyn k l' n' dyn' g o (ec most τ _ a m i) (λ cs z w. ef cs z w (u.long ∙ ap length r ∙ length-replicate {A = ℕ} table_size 0)) (ey _ i) (u.left most τ is a m p q r);
       }
 
   -- all are behind
-  pub scan-done : (l : List ℕ) (dyn : Marks) (n k row : ℕ) → Scanning l dyn n k row → count ≤ k → ScanCopies s b facts first count l₀ l dyn₀ dyn
+  pub scan_done : (l : List ℕ) (dyn : Marks) (n k row : ℕ) → Scanning l dyn n k row → count ≤ k → ScanCopies s b facts first count l₀ l dyn₀ dyn
   unfolding copies dynamics
-  scan-done l dyn n k row u h most τ is a m p q w r =
+  scan_done l dyn n k row u h most τ is a m p q w r =
       let f = u.left most τ is a m p q r in
       let z : k ≡ length is = omega (arith, u.under) in
       let e : drop k is ≡ [] = rw z (drop-length is) in
       let g : copies τ is ≡ f.done = f.rest ∙ ap (λ y. f.done ++ copies τ y) e ∙ append-nil f.done in
       record {
         copied_all = rw g f.noted;
-        dynamic-all = sym (f.dynamic ∙ ap (λ y. dynamics dyn y) e);
+        dynamic_all = sym (f.dynamic ∙ ap (λ y. dynamics dyn y) e);
       }

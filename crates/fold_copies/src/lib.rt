@@ -3,11 +3,11 @@
 #![tactic(auto)]
 
 ghost use Rattle.std.specs.Prelude.{◌≡◌, cond, ◌+◌, ◌≤◌, ◌<◌, eqb};
-ghost use Rattle.bytes_operands.specs.Fields.{asStep};
-ghost use Rattle.mir.specs.Lookup.{isInteger};
-ghost use Rattle.mir.specs.Most.{mostInstructions};
-ghost use Rattle.fold_family.specs.Copies.{dynamicStep};
-ghost use Rattle.fold_copies.specs.Found.{asCopy, ValueCopy, AssignCopy, CopyFound, CopyNoted, DynamicNoted, ScanCopies};
+ghost use Rattle.bytes_operands.specs.Fields.{as_step};
+ghost use Rattle.mir.specs.Lookup.{is_integer};
+ghost use Rattle.mir.specs.Most.{most_instructions};
+ghost use Rattle.fold_family.specs.Copies.{dynamic_step};
+ghost use Rattle.fold_copies.specs.Found.{as_copy, ValueCopy, AssignCopy, CopyFound, CopyNoted, DynamicNoted, ScanCopies};
 
 use bytes_field::Bounds;
 use bytes_operands::Step;
@@ -27,7 +27,7 @@ pub enum CopyRead {
 
 // The copy of a value that was read.
 fn copied(x: ReadValue, dest: ValueId, asked: u8) -> CopyRead
-    ensures { ValueCopy x dest asked (asCopy result) }
+    ensures { ValueCopy x dest asked (as_copy result) }
 {
     match x {
         ReadValue::Refused(_, _) => CopyRead::Nothing,
@@ -45,7 +45,7 @@ fn copied(x: ReadValue, dest: ValueId, asked: u8) -> CopyRead
 
 // The copy that an Assign makes, whose fields are `u` and whose value is `x`: its type stands behind the value.
 fn assigned(s: &[u8], types: &[u16], many: u16, u: &[u8], x: ReadValue, dest: ValueId) -> CopyRead
-    ensures { AssignCopy s.now types.now many u.now x dest (asCopy result) }
+    ensures { AssignCopy s.now types.now many u.now x dest (as_copy result) }
 {
     match x {
         ReadValue::Refused(_, _) => CopyRead::Nothing,
@@ -62,7 +62,7 @@ fn assigned(s: &[u8], types: &[u16], many: u16, u: &[u8], x: ReadValue, dest: Va
 
 // The copy that the instruction at the head of `t` makes, whose kind is `kind`.
 fn copy_at(s: &[u8], b: Bounds, types: &[u16], t: &[u8], kind: u16) -> CopyRead
-    ensures { CopyFound s.now b types.now t.now kind (asCopy result) }
+    ensures { CopyFound s.now b types.now t.now kind (as_copy result) }
 {
     match kind {
         kind::ASSIGN | kind::INSERT_FIELD | kind::INSERT_TUPLE => {
@@ -80,9 +80,9 @@ fn copy_at(s: &[u8], b: Bounds, types: &[u16], t: &[u8], kind: u16) -> CopyRead
 
 // Notes a copy behind `n` others: its row goes in front of the last one of the same source. How many copies there are then.
 fn note_copy(c: CopyRead, n: u16, copies: &mut [u16]) -> u16
-    requires { n < mostInstructions }
+    requires { n < most_instructions }
     ensures few { result ≤ n + 1 }
-    ensures noted { CopyNoted (asCopy c) n result copies.old copies.new }
+    ensures noted { CopyNoted (as_copy c) n result copies.old copies.new }
 {
     match c {
         CopyRead::Nothing => n,
@@ -103,7 +103,7 @@ fn note_copy(c: CopyRead, n: u16, copies: &mut [u16]) -> u16
 }
 
 fn is_integer(x: Value) -> bool
-    ensures { result ≡ isInteger x }
+    ensures { result ≡ is_integer x }
 {
     match x {
         Value::Literal(l) => match l {
@@ -118,7 +118,7 @@ fn is_integer(x: Value) -> bool
 
 // The step is an Index that is no Integer literal.
 fn is_dynamic(p: Step) -> bool
-    ensures { result ≡ dynamicStep (asStep p) }
+    ensures { result ≡ dynamic_step (as_step p) }
 {
     match p {
         Step::Index(x) => !is_integer(x),

@@ -8,81 +8,81 @@ use mathlib.Core.Option.{Option, none, some}
 use native.Mathlib.Omega.{arith}
 use lib.ListN.{length, get_or, drop, replicate, length-replicate}
 use Rattle.table.proofs.Elements.{clear_at}
-use Rattle.bytes_wire.specs.Parse.{ok, and_then, mapParse}
+use Rattle.bytes_wire.specs.Parse.{ok, and_then, map_parse}
 use Rattle.bytes_wire.specs.Number.{below, at16}
-use Rattle.bytes_wire.specs.Value.{value_of, valueIdOf}
+use Rattle.bytes_wire.specs.Value.{value_of, value_id_of}
 use Rattle.bytes_wire.specs.declared.Cause.{Cause}
 use Rattle.mir.specs.declared.ValueId.{ValueId}
-use Rattle.bytes_wire.proofs.Inv.{both, image, and-inv, map-inv, checked-inv, below-inv}
+use Rattle.bytes_wire.proofs.Inv.{both, image, and_inv, map_inv, checked_inv, below_inv}
 use Rattle.mir.specs.Syntax.{Instruction, InstructionKind, Block}
 use Rattle.mir.specs.Syntax.{Assign, UnaryOp, BinaryOp, Call, Cast, Load, Store, Debug, Nop, Phi}
 use Rattle.mir.specs.Syntax.{MakeTuple, ExtractTupleElement, MakeStruct, ExtractStructField, InsertField, InsertTuple, MakeFixedArray, AssertEq, HeapAllocCells}
-use Rattle.mir.specs.Reads.{kindNumber}
-use Rattle.bytes_field.specs.Decode.{definedOf, typeIdOf, list_of, fieldInitOf, makeTupleOf, makeStructOf, makeArrayOf, bit}
+use Rattle.mir.specs.Reads.{kind_number}
+use Rattle.bytes_field.specs.Decode.{defined_of, type_id_of, list_of, field_init_of, make_tuple_of, make_struct_of, make_array_of, bit}
 use Rattle.bytes_field.specs.declared.Bounds.{Bounds}
-use Rattle.bytes_operands.specs.Fields.{fieldsPlace}
-use Rattle.mir.specs.Lookup.{Types, valueRow}
-use Rattle.fold.specs.Scalarizable.{isScalarizable}
+use Rattle.bytes_operands.specs.Fields.{fields_place}
+use Rattle.mir.specs.Lookup.{Types, value_row}
+use Rattle.fold.specs.Scalarizable.{is_scalarizable}
 use Rattle.fold.specs.Tables.{ShapesAt}
-use Rattle.fold.specs.Family.{Marks, family, buildDest, union, readElsewhere, crossFamily, crossBuild}
+use Rattle.fold.specs.Family.{Marks, family, build_dest, union, read_elsewhere, cross_family, cross_build}
 use Rattle.fold.specs.declared.Settings.{Settings}
-use Rattle.fold_family.proofs.Sweeps.{family-length}
+use Rattle.fold_family.proofs.Sweeps.{family_length}
 use Rattle.fold_family.specs.Search.{FindsFamily}
 use Rattle.fold_family.specs.declared.Found.{Found}
-use Rattle.fold_family.proofs.Closed.{copies-few}
-use Rattle.fold_family.proofs.Finding.{size-clear}
+use Rattle.fold_family.proofs.Closed.{copies_few}
+use Rattle.fold_family.proofs.Finding.{size_clear}
 use Rattle.fold_copies.specs.Found.{Headed}
-use Rattle.fold_copies.proofs.Fields.{dest-at, fields-of}
+use Rattle.fold_copies.proofs.Fields.{dest_at, fields_of}
 use Rattle.fold_cross.specs.declared.BuildRead.{BuildRead}
-use Rattle.fold_cross.specs.Cross.{Root, Idle, Built, familyRead, FamilyRead}
-use Rattle.fold_cross.proofs.Uniting.{union-clear}
+use Rattle.fold_cross.specs.Cross.{Root, Idle, Built, family_read, FamilyRead}
+use Rattle.fold_cross.proofs.Uniting.{union_clear}
 
 -- a dest that is defined is one of the values
-dest-below : (next : ℕ) (seen : List Bool) (u : List ℕ) {d : ValueId} {m : ℕ} → definedOf next seen u ≡ ok d m → d.0 < next
-dest-below next seen u e =
-    elim (map-inv (λ x. record { 0 = x }) (below next u) (checked-inv Cause.Redefined (λ d. not (get_or seen d.0 false)) (valueIdOf next u) e).0) [
-      | image x f g ↦ omega (arith, ap (λ y. y.0) g, (below-inv next u f).1)
+dest_below : (next : ℕ) (seen : List Bool) (u : List ℕ) {d : ValueId} {m : ℕ} → defined_of next seen u ≡ ok d m → d.0 < next
+dest_below next seen u e =
+    elim (map_inv (λ x. record { 0 = x }) (below next u) (checked_inv Cause.Redefined (λ d. not (get_or seen d.0 false)) (value_id_of next u) e).0) [
+      | image x f g ↦ omega (arith, ap (λ y. y.0) g, (below_inv next u f).1)
     ]
 
 -- a build whose fields are u
 pub record BuildAt (next : ℕ) (u : List ℕ) (k : InstructionKind) : Type 0 where
-  pub dest : buildDest k ≡ some (record { 0 = at16 u 0 })
+  pub dest : build_dest k ≡ some (record { 0 = at16 u 0 })
   pub low : at16 u 0 < next
 
-tuple_at : (b : Bounds) (u : List ℕ) {k : InstructionKind} {n : ℕ} → makeTupleOf b [] u ≡ ok k n → BuildAt b.next u k
-unfolding makeTupleOf buildDest
+tuple_at : (b : Bounds) (u : List ℕ) {k : InstructionKind} {n : ℕ} → make_tuple_of b [] u ≡ ok k n → BuildAt b.next u k
+unfolding make_tuple_of build_dest
 tuple_at b u e =
-    elim (and-inv u (definedOf b.next [] u) (λ d s. mapParse (λ xs. MakeTuple d xs) (list_of b.list (value_of b.next) s)) e) [
+    elim (and_inv u (defined_of b.next [] u) (λ d s. map_parse (λ xs. MakeTuple d xs) (list_of b.list (value_of b.next) s)) e) [
       | both d m j p q r ↦
-          elim (map-inv (λ xs. MakeTuple d xs) (list_of b.list (value_of b.next) (drop m u)) q) [
-            | image xs f g ↦ let z = (dest-at b.next [] u p).0 in rw g record { dest = rw (← z); low = omega (arith, dest-below b.next [] u p) }
+          elim (map_inv (λ xs. MakeTuple d xs) (list_of b.list (value_of b.next) (drop m u)) q) [
+            | image xs f g ↦ let z = (dest_at b.next [] u p).0 in rw g record { dest = rw (← z); low = omega (arith, dest_below b.next [] u p) }
           ]
     ]
 
-struct_at : (b : Bounds) (u : List ℕ) {k : InstructionKind} {n : ℕ} → makeStructOf b [] u ≡ ok k n → BuildAt b.next u k
-unfolding makeStructOf buildDest
+struct_at : (b : Bounds) (u : List ℕ) {k : InstructionKind} {n : ℕ} → make_struct_of b [] u ≡ ok k n → BuildAt b.next u k
+unfolding make_struct_of build_dest
 struct_at b u e =
-    elim (and-inv u (definedOf b.next [] u)
-    (λ d s. and_then s (list_of b.list (fieldInitOf b) s) (λ fs s. mapParse (λ t. MakeStruct d fs t) (typeIdOf b.types s))) e) [
+    elim (and_inv u (defined_of b.next [] u)
+    (λ d s. and_then s (list_of b.list (field_init_of b) s) (λ fs s. map_parse (λ t. MakeStruct d fs t) (type_id_of b.types s))) e) [
       | both d m j p q r ↦
-          elim (and-inv (drop m u) (list_of b.list (fieldInitOf b) (drop m u)) (λ fs s. mapParse (λ t. MakeStruct d fs t) (typeIdOf b.types s)) q) [
+          elim (and_inv (drop m u) (list_of b.list (field_init_of b) (drop m u)) (λ fs s. map_parse (λ t. MakeStruct d fs t) (type_id_of b.types s)) q) [
             | both fs m2 j2 p2 q2 r2 ↦
-                elim (map-inv (λ t. MakeStruct d fs t) (typeIdOf b.types (drop m2 (drop m u))) q2) [
-                  | image t f g ↦ let z = (dest-at b.next [] u p).0 in rw g record { dest = rw (← z); low = omega (arith, dest-below b.next [] u p) }
+                elim (map_inv (λ t. MakeStruct d fs t) (type_id_of b.types (drop m2 (drop m u))) q2) [
+                  | image t f g ↦ let z = (dest_at b.next [] u p).0 in rw g record { dest = rw (← z); low = omega (arith, dest_below b.next [] u p) }
                 ]
           ]
     ]
 
-array_at : (b : Bounds) (c : Bool) (u : List ℕ) {k : InstructionKind} {n : ℕ} → makeArrayOf b [] c u ≡ ok k n → BuildAt b.next u k
-unfolding makeArrayOf buildDest
+array_at : (b : Bounds) (c : Bool) (u : List ℕ) {k : InstructionKind} {n : ℕ} → make_array_of b [] c u ≡ ok k n → BuildAt b.next u k
+unfolding make_array_of build_dest
 array_at b c u e =
-    elim (and-inv u (definedOf b.next [] u)
-    (λ d s. and_then s (list_of b.list (value_of b.next) s) (λ xs s. mapParse (λ t. MakeFixedArray d xs t c) (typeIdOf b.types s))) e) [
+    elim (and_inv u (defined_of b.next [] u)
+    (λ d s. and_then s (list_of b.list (value_of b.next) s) (λ xs s. map_parse (λ t. MakeFixedArray d xs t c) (type_id_of b.types s))) e) [
       | both d m j p q r ↦
-          elim (and-inv (drop m u) (list_of b.list (value_of b.next) (drop m u)) (λ xs s. mapParse (λ t. MakeFixedArray d xs t c) (typeIdOf b.types s)) q) [
+          elim (and_inv (drop m u) (list_of b.list (value_of b.next) (drop m u)) (λ xs s. map_parse (λ t. MakeFixedArray d xs t c) (type_id_of b.types s)) q) [
             | both xs m2 j2 p2 q2 r2 ↦
-                elim (map-inv (λ t. MakeFixedArray d xs t c) (typeIdOf b.types (drop m2 (drop m u))) q2) [
-                  | image t f g ↦ let z = (dest-at b.next [] u p).0 in rw g record { dest = rw (← z); low = omega (arith, dest-below b.next [] u p) }
+                elim (map_inv (λ t. MakeFixedArray d xs t c) (type_id_of b.types (drop m2 (drop m u))) q2) [
+                  | image t f g ↦ let z = (dest_at b.next [] u p).0 in rw g record { dest = rw (← z); low = omega (arith, dest_below b.next [] u p) }
                 ]
           ]
     ]
@@ -91,27 +91,27 @@ array_at b c u e =
 abbrev BuildKind : ℕ → Type 0
 BuildKind k = (k ≡ 10) ⊎ ((k ≡ 12) ⊎ (k ≡ 16))
 
-other-build : (i : InstructionKind) → (BuildKind (kindNumber i) → ⊥) → buildDest i ≡ none
-unfolding buildDest
-other-build (MakeTuple e vs) f = absurd (f (inl refl))
-other-build (MakeStruct e fs t) f = absurd (f (inr (inl refl)))
-other-build (MakeFixedArray e vs t c) f = absurd (f (inr (inr refl)))
-other-build (Assign e v t) f = refl
-other-build (UnaryOp op e v) f = refl
-other-build (BinaryOp op e v w) f = refl
-other-build (Call es c vs ps rs) f = refl
-other-build (Cast e v t w) f = refl
-other-build (Load e p t) f = refl
-other-build (Store p v t) f = refl
-other-build (Debug m vs) f = refl
-other-build Nop f = refl
-other-build (Phi e t ss) f = refl
-other-build (ExtractTupleElement e v m t) f = refl
-other-build (ExtractStructField e v m t) f = refl
-other-build (InsertField e v m w t) f = refl
-other-build (InsertTuple e v m w t) f = refl
-other-build (AssertEq v w) f = refl
-other-build (HeapAllocCells e v) f = refl
+other_build : (i : InstructionKind) → (BuildKind (kind_number i) → ⊥) → build_dest i ≡ none
+unfolding build_dest
+other_build (MakeTuple e vs) f = absurd (f (inl refl))
+other_build (MakeStruct e fs t) f = absurd (f (inr (inl refl)))
+other_build (MakeFixedArray e vs t c) f = absurd (f (inr (inr refl)))
+other_build (Assign e v t) f = refl
+other_build (UnaryOp op e v) f = refl
+other_build (BinaryOp op e v w) f = refl
+other_build (Call es c vs ps rs) f = refl
+other_build (Cast e v t w) f = refl
+other_build (Load e p t) f = refl
+other_build (Store p v t) f = refl
+other_build (Debug m vs) f = refl
+other_build Nop f = refl
+other_build (Phi e t ss) f = refl
+other_build (ExtractTupleElement e v m t) f = refl
+other_build (ExtractStructField e v m t) f = refl
+other_build (InsertField e v m w t) f = refl
+other_build (InsertTuple e v m w t) f = refl
+other_build (AssertEq v w) f = refl
+other_build (HeapAllocCells e v) f = refl
 
 -- what eligible_build finds: another kind,
 pub found_none : (b : Bounds) (t : List ℕ) (kind : ℕ) (eligible : List Bool) → (BuildKind kind → ⊥) → (i : Instruction) → Headed b t kind i
@@ -121,31 +121,31 @@ found_none b t kind eligible f i a =
       dest = λ v e. absurd (let z : ◌≡◌ {A = ℕ} 0 1 = cc in omega arith);
       idle = λ e. record {
         each = λ v g.
-            let y : none ≡ some v = sym (other-build i.kind (λ k. f (rw a.numbered k))) ∙ g in
+            let y : none ≡ some v = sym (other_build i.kind (λ k. f (rw a.numbered k))) ∙ g in
             absurd (let z : ◌≡◌ {A = ℕ} 0 1 = cc in omega arith);
       };
     }
 
 -- or a build, whose fields are u
-module _ (b : Bounds) (t u : List ℕ) (fp kind : ℕ) (dest : ValueId) (eligible : List Bool) (on : Bool) (ef : fp ≡ fieldsPlace t) (eu : u ≡ drop fp t)
+module _ (b : Bounds) (t u : List ℕ) (fp kind : ℕ) (dest : ValueId) (eligible : List Bool) (on : Bool) (ef : fp ≡ fields_place t) (eu : u ≡ drop fp t)
     (ed : dest.0 ≡ at16 u 0) (eo : on ≡ get_or eligible dest.0 false) (k : BuildKind kind) (i : Instruction) (a : Headed b t kind i) where
-  build-at : BuildAt b.next u i.kind
-  build-at =
-      ⊎_elim (λ h. tuple_at b u (fields-of b t 10 ef eu i a h).read)
-      (⊎_elim (λ h. struct_at b u (fields-of b t 12 ef eu i a h).read) (λ h. array_at b (bit 3 (get_or t 0 0)) u (fields-of b t 16 ef eu i a h).read)) k
+  build_at : BuildAt b.next u i.kind
+  build_at =
+      ⊎_elim (λ h. tuple_at b u (fields_of b t 10 ef eu i a h).read)
+      (⊎_elim (λ h. struct_at b u (fields_of b t 12 ef eu i a h).read) (λ h. array_at b (bit 3 (get_or t 0 0)) u (fields_of b t 16 ef eu i a h).read)) k
 
   root : Root eligible b.next dest.0 on i.kind
-  root = record { dest = build-at.dest ∙ ap (λ x. some (record { 0 = x })) (sym ed); low = omega (arith, build-at.low); fits = sym eo }
+  root = record { dest = build_at.dest ∙ ap (λ x. some (record { 0 = x })) (sym ed); low = omega (arith, build_at.low); fits = sym eo }
 
-  pub found-root : on ≡ true → Built eligible b.next (BuildRead.Dest dest) i.kind
-  found-root h =
+  pub found_root : on ≡ true → Built eligible b.next (BuildRead.Dest dest) i.kind
+  found_root h =
       record {
         dest = λ v e. let z : dest ≡ v = cc in rw (← z, ← h) root;
         idle = λ e. absurd (let z : ◌≡◌ {A = ℕ} 0 1 = cc in omega arith);
       }
 
-  pub found-idle : on ≡ false → Built eligible b.next BuildRead.Nothing i.kind
-  found-idle h =
+  pub found_idle : on ≡ false → Built eligible b.next BuildRead.Nothing i.kind
+  found_idle h =
       record {
         dest = λ v e. absurd (let z : ◌≡◌ {A = ℕ} 0 1 = cc in omega arith);
         idle = λ e.
@@ -161,63 +161,63 @@ module _ (b : Bounds) (t u : List ℕ) (fp kind : ℕ) (dest : ValueId) (eligibl
 -- what was read of an instruction: no root, or one, whose family is held to the readers
 module _ (σ : Settings) (τ : Types) (shapes : List ℕ) (eligible : List Bool) (next : ℕ) (a : ShapesAt σ τ shapes eligible)
     (m : length τ.recorded ≡ next) (ks : List Block) (own : ℕ) (x : Block) (c : Marks) where
-  pub idle-build : (i : InstructionKind) → Idle eligible next i → crossBuild σ τ ks own x (buildDest i) c ≡ c
-  unfolding crossBuild
-  idle-build i h = go (buildDest i) (λ v e. let r = h.each v e in sym (a.fits v.0 (omega (arith, r.low))) ∙ r.fits)
+  pub idle_build : (i : InstructionKind) → Idle eligible next i → cross_build σ τ ks own x (build_dest i) c ≡ c
+  unfolding cross_build
+  idle_build i h = go (build_dest i) (λ v e. let r = h.each v e in sym (a.fits v.0 (omega (arith, r.low))) ∙ r.fits)
     where
-      go : (d : Option ValueId) → ((v : ValueId) → d ≡ some v → isScalarizable σ (valueRow τ v) ≡ false) → crossBuild σ τ ks own x d c ≡ c
+      go : (d : Option ValueId) → ((v : ValueId) → d ≡ some v → is_scalarizable σ (value_row τ v) ≡ false) → cross_build σ τ ks own x d c ≡ c
       go none f = refl
       go (some v) f = rw (f v refl)
 
   -- what the family adds, where another block reads it
   abbrev added : Marks → Marks
-  added f = cond (readElsewhere f own 0 ks) (union f c) c
+  added f = cond (read_elsewhere f own 0 ks) (union f c) c
 
-  root-crossed : (i : InstructionKind) (v : ValueId) → Root eligible next v.0 true i
-      → added (family τ v x.instructions) ≡ crossBuild σ τ ks own x (buildDest i) c
-  unfolding crossBuild crossFamily
-  root-crossed i v r =
-      let e : isScalarizable σ (valueRow τ v) ≡ true = sym (a.fits v.0 (omega (arith, r.low))) ∙ r.fits in
-      let z : crossBuild σ τ ks own x (some v) c ≡ crossFamily τ ks own x v c = rw e in
-      sym (ap (λ q. crossBuild σ τ ks own x q c) r.dest ∙ z)
+  root_crossed : (i : InstructionKind) (v : ValueId) → Root eligible next v.0 true i
+      → added (family τ v x.instructions) ≡ cross_build σ τ ks own x (build_dest i) c
+  unfolding cross_build cross_family
+  root_crossed i v r =
+      let e : is_scalarizable σ (value_row τ v) ≡ true = sym (a.fits v.0 (omega (arith, r.low))) ∙ r.fits in
+      let z : cross_build σ τ ks own x (some v) c ≡ cross_family τ ks own x v c = rw e in
+      sym (ap (λ q. cross_build σ τ ks own x q c) r.dest ∙ z)
 
-  pub read-crossed : (i : InstructionKind) (d : BuildRead) → Built eligible next d i → length c ≡ next
-      → added (familyRead τ x.instructions d) ≡ crossBuild σ τ ks own x (buildDest i) c
-  read-crossed i (BuildRead.Dest v) b l = root-crossed i v (b.dest v refl)
-  read-crossed i BuildRead.Nothing b l = go (readElsewhere none-marked own 0 ks) ∙ sym (idle-build i (b.idle refl))
+  pub read_crossed : (i : InstructionKind) (d : BuildRead) → Built eligible next d i → length c ≡ next
+      → added (family_read τ x.instructions d) ≡ cross_build σ τ ks own x (build_dest i) c
+  read_crossed i (BuildRead.Dest v) b l = root_crossed i v (b.dest v refl)
+  read_crossed i BuildRead.Nothing b l = go (read_elsewhere none_marked own 0 ks) ∙ sym (idle_build i (b.idle refl))
     where
-      none-marked : Marks
-      none-marked = replicate (length τ.recorded) false
+      none_marked : Marks
+      none_marked = replicate (length τ.recorded) false
 
-      go : (b : Bool) → cond b (union none-marked c) c ≡ c
-      go true = union-clear (length τ.recorded) c (l ∙ sym m)
+      go : (b : Bool) → cond b (union none_marked c) c ≡ c
+      go true = union_clear (length τ.recorded) c (l ∙ sym m)
       go false = refl
 
 -- a mark for each value
-pub read-length : (τ : Types) (is : List Instruction) (d : BuildRead) → length (familyRead τ is d) ≡ length τ.recorded
-read-length τ is (BuildRead.Dest v) = family-length τ v is
-read-length τ is BuildRead.Nothing = length-replicate (length τ.recorded) false
+pub read_length : (τ : Types) (is : List Instruction) (d : BuildRead) → length (family_read τ is d) ≡ length τ.recorded
+read_length τ is (BuildRead.Dest v) = family_length τ v is
+read_length τ is BuildRead.Nothing = length-replicate (length τ.recorded) false
 
 -- the family that is found: of no build,
-pub found-nothing : (d : BuildRead) (copies shapes : List ℕ) (clear : Marks) (members : List ℕ) → d ≡ BuildRead.Nothing
+pub found_nothing : (d : BuildRead) (copies shapes : List ℕ) (clear : Marks) (members : List ℕ) → d ≡ BuildRead.Nothing
     → FamilyRead d copies shapes clear clear members members 0
-found-nothing d copies shapes clear members e σ τ is i eligible next rows few a b n most wide ec =
+found_nothing d copies shapes clear members e σ τ is i eligible next rows few a b n most wide ec =
     let z : clear ≡ replicate (length τ.recorded) false = ec ∙ ap (λ y. replicate y false) n in (
-      z ∙ sym (ap (λ y. familyRead τ is y) e),
+      z ∙ sym (ap (λ y. family_read τ is y) e),
       rw z record {
-        many = sym (size-clear (length τ.recorded));
+        many = sym (size_clear (length τ.recorded));
         marked = λ j h. absurd (omega arith);
         only = λ x h. absurd (true≢false (sym h ∙ clear_at (length τ.recorded) x));
       },
     )
 
 -- and of a root
-pub found-dest : (d : BuildRead) (v : ValueId) (copies shapes : List ℕ) (clear m : Marks) (room members : List ℕ) {q : ℕ} (r : Found)
+pub found_dest : (d : BuildRead) (v : ValueId) (copies shapes : List ℕ) (clear m : Marks) (room members : List ℕ) {q : ℕ} (r : Found)
     → d ≡ BuildRead.Dest v
     → q ≡ get_or shapes v.0 0
     → FindsFamily copies q v clear m room members r
     → FamilyRead d copies shapes clear m room members r.members
-found-dest d v copies shapes clear m room members r e eq f σ τ is i eligible next rows few a b n most wide ec =
+found_dest d v copies shapes clear m room members r e eq f σ τ is i eligible next rows few a b n most wide ec =
     let low : v.0 < length τ.recorded = omega (arith, (b.dest v e).low) in
-    let z = f τ is rows (omega (arith, copies-few τ is)) (eq ∙ a.shaped v.0 low) low (omega arith) wide (ec ∙ ap (λ y. replicate y false) n) in
-    (z.same ∙ sym (ap (λ y. familyRead τ is y) e), z.listed)
+    let z = f τ is rows (omega (arith, copies_few τ is)) (eq ∙ a.shaped v.0 low) low (omega arith) wide (ec ∙ ap (λ y. replicate y false) n) in
+    (z.same ∙ sym (ap (λ y. family_read τ is y) e), z.listed)

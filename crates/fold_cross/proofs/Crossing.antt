@@ -9,20 +9,20 @@ use lib.ListN.{length, get_or, drop, replicate, length-replicate}
 use lib.Seq.{drop-cons, drop-length}
 use Rattle.mir.specs.Syntax.{Instruction, Block}
 use Rattle.bytes_field.specs.declared.Bounds.{Bounds}
-use Rattle.bytes_index.specs.Table.{startsIn}
-use Rattle.bytes_index.specs.Code.{noInstruction, no_block, InstructionIn, InstructionsIn, CodeIn}
+use Rattle.bytes_index.specs.Table.{starts_in}
+use Rattle.bytes_index.specs.Code.{no_instruction, no_block, InstructionIn, InstructionsIn, CodeIn}
 use Rattle.mir.specs.Lookup.{Types}
-use Rattle.mir.specs.Most.{mostValues}
-use Rattle.fold.specs.Family.{Marks, union, buildDest, readElsewhere, crossBuild, crossBuilds, crossBlocks, crossBlockAggregates}
+use Rattle.mir.specs.Most.{most_values}
+use Rattle.fold.specs.Family.{Marks, union, build_dest, read_elsewhere, cross_build, cross_builds, cross_blocks, cross_block_aggregates}
 use Rattle.fold.specs.declared.Settings.{Settings}
-use Rattle.fold_family.specs.Copies.{copies, tableSize, RowsAt}
+use Rattle.fold_family.specs.Copies.{copies, table_size, RowsAt}
 use Rattle.fold_family.specs.Search.{Members, ClearsMembers}
 use Rattle.fold_copies.specs.Found.{ScanCopies}
-use Rattle.fold_readers.specs.Readers.{readBlocks}
+use Rattle.fold_readers.specs.Readers.{read_blocks}
 use Rattle.fold_cross.specs.declared.BuildRead.{BuildRead}
-use Rattle.fold_cross.specs.Cross.{Ready, Built, IdleAll, crossBlock, familyRead, MembersCrossed, FamilyRead, CrossMarks}
-use Rattle.fold_cross.proofs.Builds.{read-crossed, read-length}
-use Rattle.fold_cross.proofs.Idle.{idle-builds}
+use Rattle.fold_cross.specs.Cross.{Ready, Built, IdleAll, cross_block, family_read, MembersCrossed, FamilyRead, CrossMarks}
+use Rattle.fold_cross.proofs.Builds.{read_crossed, read_length}
+use Rattle.fold_cross.proofs.Idle.{idle_builds}
 
 module _ (b : Bounds) (s facts shapes : List ℕ) (eligible : List Bool) (reader : List ℕ) where
   -- the number of block k's instructions, in whatever code the table of facts tells of
@@ -30,25 +30,25 @@ module _ (b : Bounds) (s facts shapes : List ℕ) (eligible : List Bool) (reader
   Counts k count = (b : Bounds) (s : List ℕ) (ks : List Block) → CodeIn b s facts ks → k < length ks → count ≡ length (get_or ks k no_block).instructions
 
   -- block k: where its instructions stand, and how many there are
-  module _ (k first count : ℕ) (ef : first ≡ get_or (startsIn facts) k 0) (ec : Counts k count) where
+  module _ (k first count : ℕ) (ef : first ≡ get_or (starts_in facts) k 0) (ec : Counts k count) where
     standing : (σ : Settings) (τ : Types) (ks : List Block) → Ready b s facts σ τ ks shapes eligible reader → k < length ks
         → InstructionsIn b s facts first (get_or ks k no_block).instructions
     standing σ τ ks a h = rw ef (a.coded.code.each k h).instructions
 
     -- it has no root
-    pub block-idle : (c : Marks)
+    pub block_idle : (c : Marks)
         → ((b : Bounds) (is : List Instruction) → InstructionsIn b s facts first is → length is ≡ count → IdleAll eligible b.next is)
-        → (σ : Settings) (τ : Types) (ks : List Block) → Ready b s facts σ τ ks shapes eligible reader → k < length ks → c ≡ crossBlock σ τ ks k c
-    block-idle c f σ τ ks a h =
+        → (σ : Settings) (τ : Types) (ks : List Block) → Ready b s facts σ τ ks shapes eligible reader → k < length ks → c ≡ cross_block σ τ ks k c
+    block_idle c f σ τ ks a h =
         let x = get_or ks k no_block in
-        sym (idle-builds σ τ shapes eligible b.next a.given a.coded.ground.values ks k x c x.instructions
+        sym (idle_builds σ τ shapes eligible b.next a.given a.coded.ground.values ks k x c x.instructions
         (f b x.instructions (standing σ τ ks a h) (sym (ec b s ks a.coded.code h))))
 
     -- its copies
-    pub block-copies : (room table : List ℕ) (before after : Marks) → ScanCopies s b facts first count room table before after → room ≡ replicate tableSize 0
+    pub block_copies : (room table : List ℕ) (before after : Marks) → ScanCopies s b facts first count room table before after → room ≡ replicate table_size 0
         → (σ : Settings) (τ : Types) (ks : List Block) → Ready b s facts σ τ ks shapes eligible reader → k < length ks
         → RowsAt table (copies τ (get_or ks k no_block).instructions)
-    block-copies room table before after f clear σ τ ks a h =
+    block_copies room table before after f clear σ τ ks a h =
         let e = ec b s ks a.coded.code h in
         let g = a.coded.ground in
         (f b.list τ (get_or ks k no_block).instructions g.known.rows g.rows (standing σ τ ks a h) (sym e) (omega (arith, a.coded.small k h)) clear).copied_all
@@ -66,14 +66,14 @@ module _ (b : Bounds) (s facts shapes : List ℕ) (eligible : List Bool) (reader
     pub record Building (f₀ f c₀ c : Marks) (members : List ℕ) (j : ℕ) : Type 0 where
       pub under : j ≤ count
       pub long : length c ≡ length c₀
-      pub wide : mostValues ≤ length members
+      pub wide : most_values ≤ length members
       pub left :
           (σ : Settings) (τ : Types) (ks : List Block)
           → Given f₀ c₀ σ τ ks
-          → crossBlock σ τ ks k c₀ ≡ crossBuilds σ τ ks k (get_or ks k no_block) (drop j (get_or ks k no_block).instructions) c
+          → cross_block σ τ ks k c₀ ≡ cross_builds σ τ ks k (get_or ks k no_block) (drop j (get_or ks k no_block).instructions) c
       pub clear : (σ : Settings) (τ : Types) (ks : List Block) → Given f₀ c₀ σ τ ks → f ≡ replicate b.next false
 
-    module _ (own first rows : ℕ) (eo : k < 254 → own ≡ k) (ef : first ≡ get_or (startsIn facts) k 0) (er : rows ≡ 387 + 20 * first + 0)
+    module _ (own first rows : ℕ) (eo : k < 254 → own ≡ k) (ef : first ≡ get_or (starts_in facts) k 0) (er : rows ≡ 387 + 20 * first + 0)
         (ec : Counts k count) (f₀ c₀ : Marks) where
       -- one more: its build d, the family f' of that, and its n members
       module _ (f c : Marks) (members : List ℕ) (j : ℕ) (u : Building f₀ f c₀ c members j) (h : j < count) (d : BuildRead)
@@ -88,7 +88,7 @@ module _ (b : Bounds) (s facts shapes : List ℕ) (eligible : List Bool) (reader
           many = ec b s ks a.ready.coded.code a.inside
 
           abbrev i : Instruction
-          i = get_or x.instructions j noInstruction
+          i = get_or x.instructions j no_instruction
 
           values : length τ.recorded ≡ b.next
           values = a.ready.coded.ground.values
@@ -96,48 +96,48 @@ module _ (b : Bounds) (s facts shapes : List ℕ) (eligible : List Bool) (reader
           built : Built eligible b.next d i.kind
           built = eb b (first + j) i (omega arith) (standing k first count ef ec σ τ ks a.ready a.inside j (omega (arith, many)))
 
-          found : (f' ≡ familyRead τ x.instructions d) × Members members' n f'
+          found : (f' ≡ family_read τ x.instructions d) × Members members' n f'
           found =
               em σ τ x.instructions i.kind eligible b.next a.rows (a.ready.coded.small k a.inside) a.ready.given built (sym values)
               a.ready.coded.ground.few u.wide (u.clear σ τ ks a)
 
           sized : length f' ≡ b.next
-          sized = ap (λ y. length y) found.0 ∙ read-length τ x.instructions d ∙ values
+          sized = ap (λ y. length y) found.0 ∙ read_length τ x.instructions d ∙ values
 
-          step : {c' : Marks} → MembersCrossed own members' n reader c c' → c' ≡ crossBuild σ τ ks k x (buildDest i.kind) c
+          step : {c' : Marks} → MembersCrossed own members' n reader c c' → c' ≡ cross_build σ τ ks k x (build_dest i.kind) c
           step g =
               let o : own ≡ k = eo (omega (arith, a.ready.coded.many, a.ready.coded.few)) in
               let l : length c ≡ b.next = u.long ∙ a.each in
-              g f' ks found.1 (sized ∙ sym l) (a.ready.readers ∙ ap (λ y. readBlocks 0 (replicate y 0) ks) (sym sized))
-              ∙ ap (λ y. cond (readElsewhere y own 0 ks) (union y c) c) found.0
-              ∙ read-crossed σ τ shapes eligible b.next a.ready.given values ks own x c i.kind d built l
-              ∙ ap (λ y. crossBuild σ τ ks y x (buildDest i.kind) c) o
+              g f' ks found.1 (sized ∙ sym l) (a.ready.readers ∙ ap (λ y. read_blocks 0 (replicate y 0) ks) (sym sized))
+              ∙ ap (λ y. cond (read_elsewhere y own 0 ks) (union y c) c) found.0
+              ∙ read_crossed σ τ shapes eligible b.next a.ready.given values ks own x c i.kind d built l
+              ∙ ap (λ y. cross_build σ τ ks y x (build_dest i.kind) c) o
 
-        pub building-again : (c' f'' : Marks) → MembersCrossed own members' n reader c c' → length c' ≡ length c → ClearsMembers members' n f' f''
+        pub building_again : (c' f'' : Marks) → MembersCrossed own members' n reader c c' → length c' ≡ length c → ClearsMembers members' n f' f''
             → length members' ≡ length members → Building f₀ f'' c₀ c' members' (j + 1)
-        unfolding crossBuilds
-        building-again c' f'' g lc w lm =
+        unfolding cross_builds
+        building_again c' f'' g lc w lm =
             record {
               under = omega arith;
               long = lc ∙ u.long;
               wide = omega (arith, u.wide);
               left = λ σ τ ks a.
                   let is = (x σ τ ks a).instructions in
-                  let z : drop j is ≡ i σ τ ks a ∷ drop (j + 1) is = rw (add-one j) (drop-cons is j noInstruction (omega (arith, many σ τ ks a))) in
+                  let z : drop j is ≡ i σ τ ks a ∷ drop (j + 1) is = rw (add-one j) (drop-cons is j no_instruction (omega (arith, many σ τ ks a))) in
                   u.left σ τ ks a
-                  ∙ ap (λ y. crossBuilds σ τ ks k (x σ τ ks a) y c) z
-                  ∙ ap (λ y. crossBuilds σ τ ks k (x σ τ ks a) (drop (j + 1) is) y) (sym (step σ τ ks a g));
+                  ∙ ap (λ y. cross_builds σ τ ks k (x σ τ ks a) y c) z
+                  ∙ ap (λ y. cross_builds σ τ ks k (x σ τ ks a) (drop (j + 1) is) y) (sym (step σ τ ks a g));
               clear = λ σ τ ks a. w (found σ τ ks a).1 ∙ ap (λ y. replicate y false) (sized σ τ ks a);
             }
 
-      pub building-done : (f c : Marks) (members : List ℕ) (j : ℕ) → Building f₀ f c₀ c members j → count ≤ j
-          → (σ : Settings) (τ : Types) (ks : List Block) → Given f₀ c₀ σ τ ks → c ≡ crossBlock σ τ ks k c₀
-      unfolding crossBuilds
-      building-done f c members j u h σ τ ks a =
+      pub building_done : (f c : Marks) (members : List ℕ) (j : ℕ) → Building f₀ f c₀ c members j → count ≤ j
+          → (σ : Settings) (τ : Types) (ks : List Block) → Given f₀ c₀ σ τ ks → c ≡ cross_block σ τ ks k c₀
+      unfolding cross_builds
+      building_done f c members j u h σ τ ks a =
           let x = get_or ks k no_block in
           let is = x.instructions in
           let q : j ≡ length is = omega (arith, u.under, ec b s ks a.ready.coded.code a.inside) in
-          sym (u.left σ τ ks a ∙ ap (λ y. crossBuilds σ τ ks k x (drop y is) c) q ∙ ap (λ y. crossBuilds σ τ ks k x y c) (drop-length is))
+          sym (u.left σ τ ks a ∙ ap (λ y. cross_builds σ τ ks k x (drop y is) c) q ∙ ap (λ y. cross_builds σ τ ks k x y c) (drop-length is))
 
   -- k blocks are behind
   pub record Crossing (c₀ c : Marks) (k : ℕ) : Type 0 where
@@ -147,17 +147,17 @@ module _ (b : Bounds) (s facts shapes : List ℕ) (eligible : List Bool) (reader
         (σ : Settings) (τ : Types) (ks : List Block)
         → Ready b s facts σ τ ks shapes eligible reader
         → length c₀ ≡ b.next
-        → crossBlocks σ τ ks 0 ks c₀ ≡ crossBlocks σ τ ks k (drop k ks) c
+        → cross_blocks σ τ ks 0 ks c₀ ≡ cross_blocks σ τ ks k (drop k ks) c
 
-  pub crossing-again : (c₀ c c' : Marks) (k : ℕ)
+  pub crossing_again : (c₀ c c' : Marks) (k : ℕ)
       → Crossing c₀ c k
       → k < b.blocks
       → ((σ : Settings) (τ : Types) (ks : List Block) → Ready b s facts σ τ ks shapes eligible reader → k < length ks → length c ≡ b.next
-      → c' ≡ crossBlock σ τ ks k c)
+      → c' ≡ cross_block σ τ ks k c)
       → length c' ≡ length c
       → Crossing c₀ c' (k + 1)
-  unfolding crossBlocks
-  crossing-again c₀ c c' k u h f lc =
+  unfolding cross_blocks
+  crossing_again c₀ c c' k u h f lc =
       record {
         under = omega arith;
         long = lc ∙ u.long;
@@ -166,26 +166,26 @@ module _ (b : Bounds) (s facts shapes : List ℕ) (eligible : List Bool) (reader
             let p : k < length ks = omega (arith, a.coded.many) in
             let q : drop k ks ≡ x ∷ drop (k + 1) ks = rw (add-one k) (drop-cons ks k no_block p) in
             u.left σ τ ks a l
-            ∙ ap (λ y. crossBlocks σ τ ks k y c) q
-            ∙ ap (λ y. crossBlocks σ τ ks (suc k) (drop (k + 1) ks) y) (sym (f σ τ ks a p (u.long ∙ l)))
-            ∙ ap (λ y. crossBlocks σ τ ks y (drop (k + 1) ks) c') (sym (add-one k));
+            ∙ ap (λ y. cross_blocks σ τ ks k y c) q
+            ∙ ap (λ y. cross_blocks σ τ ks (suc k) (drop (k + 1) ks) y) (sym (f σ τ ks a p (u.long ∙ l)))
+            ∙ ap (λ y. cross_blocks σ τ ks y (drop (k + 1) ks) c') (sym (add-one k));
       }
 
-  pub crossing-done : (c₀ c : Marks) (k : ℕ) → Crossing c₀ c k → b.blocks ≤ k
-      → (σ : Settings) (τ : Types) (ks : List Block) → Ready b s facts σ τ ks shapes eligible reader → length c₀ ≡ b.next → c ≡ crossBlocks σ τ ks 0 ks c₀
-  unfolding crossBlocks
-  crossing-done c₀ c k u h σ τ ks a l =
+  pub crossing_done : (c₀ c : Marks) (k : ℕ) → Crossing c₀ c k → b.blocks ≤ k
+      → (σ : Settings) (τ : Types) (ks : List Block) → Ready b s facts σ τ ks shapes eligible reader → length c₀ ≡ b.next → c ≡ cross_blocks σ τ ks 0 ks c₀
+  unfolding cross_blocks
+  crossing_done c₀ c k u h σ τ ks a l =
       let q : k ≡ length ks = omega (arith, u.under, a.coded.many) in
-      sym (u.left σ τ ks a l ∙ ap (λ y. crossBlocks σ τ ks k (drop y ks) c) q ∙ ap (λ y. crossBlocks σ τ ks k y c) (drop-length ks))
+      sym (u.left σ τ ks a l ∙ ap (λ y. cross_blocks σ τ ks k (drop y ks) c) q ∙ ap (λ y. cross_blocks σ τ ks k y c) (drop-length ks))
 
   -- the whole: the readers are noted, then the builds of all blocks are held to them
-  pub crossed-all : (r₀ : List ℕ) (c₀ c : Marks)
+  pub crossed_all : (r₀ : List ℕ) (c₀ c : Marks)
       → r₀ ≡ replicate b.next 0
-      → ((b' : Bounds) (s : List ℕ) (ks : List Block) → CodeIn b' s facts ks → length ks ≡ b.blocks → b.blocks < 254 → reader ≡ readBlocks 0 r₀ ks)
-      → ((σ : Settings) (τ : Types) (ks : List Block) → Ready b s facts σ τ ks shapes eligible reader → length c₀ ≡ b.next → c ≡ crossBlocks σ τ ks 0 ks c₀)
+      → ((b' : Bounds) (s : List ℕ) (ks : List Block) → CodeIn b' s facts ks → length ks ≡ b.blocks → b.blocks < 254 → reader ≡ read_blocks 0 r₀ ks)
+      → ((σ : Settings) (τ : Types) (ks : List Block) → Ready b s facts σ τ ks shapes eligible reader → length c₀ ≡ b.next → c ≡ cross_blocks σ τ ks 0 ks c₀)
       → CrossMarks s b facts shapes eligible c₀ c
-  unfolding crossBlockAggregates
-  crossed-all r₀ c₀ c e0 er f σ τ ks a g ec =
+  unfolding cross_block_aggregates
+  crossed_all r₀ c₀ c e0 er f σ τ ks a g ec =
       let l : length c₀ ≡ b.next = ap (λ y. length y) ec ∙ length-replicate (length τ.recorded) false ∙ a.ground.values in
-      let r : reader ≡ readBlocks 0 (replicate b.next 0) ks = er b s ks a.code a.many (omega (arith, a.few)) ∙ ap (λ y. readBlocks 0 y ks) e0 in
-      f σ τ ks (record { coded = a; given = g; readers = r }) l ∙ ap (λ y. crossBlocks σ τ ks 0 ks y) ec
+      let r : reader ≡ read_blocks 0 (replicate b.next 0) ks = er b s ks a.code a.many (omega (arith, a.few)) ∙ ap (λ y. read_blocks 0 y ks) e0 in
+      f σ τ ks (record { coded = a; given = g; readers = r }) l ∙ ap (λ y. cross_blocks σ τ ks 0 ks y) ec

@@ -9,14 +9,14 @@ use native.Mathlib.Omega.{arith}
 use lib.ListN.{length, get_or}
 use Rattle.mir.specs.Syntax.{Instruction, Block}
 use Rattle.bytes_field.specs.declared.Bounds.{Bounds}
-use Rattle.bytes_index.specs.Code.{noInstruction, InstructionIn, InstructionsIn}
+use Rattle.bytes_index.specs.Code.{no_instruction, InstructionIn, InstructionsIn}
 use Rattle.mir.specs.Lookup.{Types}
 use Rattle.fold.specs.Tables.{ShapesAt}
-use Rattle.fold.specs.Family.{Marks, crossBuilds}
+use Rattle.fold.specs.Family.{Marks, cross_builds}
 use Rattle.fold.specs.declared.Settings.{Settings}
 use Rattle.fold_cross.specs.declared.BuildRead.{BuildRead}
 use Rattle.fold_cross.specs.Cross.{Built, Idle, IdleAll}
-use Rattle.fold_cross.proofs.Builds.{idle-build}
+use Rattle.fold_cross.proofs.Builds.{idle_build}
 
 module _ (s facts : List ℕ) (first count : ℕ) (eligible : List Bool) where
   -- k instructions are behind, and none of them is one
@@ -28,30 +28,30 @@ module _ (s facts : List ℕ) (first count : ℕ) (eligible : List Bool) where
         → length is ≡ count
         → (j : ℕ)
         → j < k
-        → Idle eligible b.next (get_or is j noInstruction).kind
+        → Idle eligible b.next (get_or is j no_instruction).kind
 
-  pub idling-again : (rows k : ℕ) (r : BuildRead)
+  pub idling_again : (rows k : ℕ) (r : BuildRead)
       → rows ≡ 387 + 20 * first + 0
       → Idling k
       → k < count
       → ((b : Bounds) (slot : ℕ) (i : Instruction) → rows + 20 * k ≡ 387 + 20 * slot → InstructionIn b s facts slot i → Built eligible b.next r i.kind)
       → r ≡ BuildRead.Nothing
       → Idling (k + 1)
-  idling-again rows k r er u h f e =
+  idling_again rows k r er u h f e =
       record {
         under = omega arith;
         each = λ b is a l j q.
             let y : j ≤ k = omega arith in
-            let i = get_or is k noInstruction in
+            let i = get_or is k no_instruction in
             let here : Idle eligible b.next i.kind = (f b (first + k) i (omega arith) (a k (omega arith))).idle e in
             ⊎_elim (λ z. rw z here) (λ z. u.each b is a l j z) (eq-or-lt_of_le y);
       }
 
 -- such instructions change nothing
-pub idle-builds : (σ : Settings) (τ : Types) (shapes : List ℕ) (eligible : List Bool) (next : ℕ) → ShapesAt σ τ shapes eligible → length τ.recorded ≡ next
-    → (ks : List Block) (own : ℕ) (x : Block) (c : Marks) (is : List Instruction) → IdleAll eligible next is → crossBuilds σ τ ks own x is c ≡ c
-unfolding crossBuilds
-idle-builds σ τ shapes eligible next a m ks own x c [] h = refl
-idle-builds σ τ shapes eligible next a m ks own x c (i ∷ is) h =
-    ap (λ y. crossBuilds σ τ ks own x is y) (idle-build σ τ shapes eligible next a m ks own x c i.kind (h.each 0 (omega arith)))
-    ∙ idle-builds σ τ shapes eligible next a m ks own x c is (record { each = λ k q. h.each (suc k) (omega arith) })
+pub idle_builds : (σ : Settings) (τ : Types) (shapes : List ℕ) (eligible : List Bool) (next : ℕ) → ShapesAt σ τ shapes eligible → length τ.recorded ≡ next
+    → (ks : List Block) (own : ℕ) (x : Block) (c : Marks) (is : List Instruction) → IdleAll eligible next is → cross_builds σ τ ks own x is c ≡ c
+unfolding cross_builds
+idle_builds σ τ shapes eligible next a m ks own x c [] h = refl
+idle_builds σ τ shapes eligible next a m ks own x c (i ∷ is) h =
+    ap (λ y. cross_builds σ τ ks own x is y) (idle_build σ τ shapes eligible next a m ks own x c i.kind (h.each 0 (omega arith)))
+    ∙ idle_builds σ τ shapes eligible next a m ks own x c is (record { each = λ k q. h.each (suc k) (omega arith) })

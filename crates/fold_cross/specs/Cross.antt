@@ -4,15 +4,15 @@ use Rattle.std.proofs.Math.Option.{some}
 use Rattle.mir.specs.declared.ValueId.{ValueId}
 use Rattle.mir.specs.Syntax.{InstructionKind, Instruction, Block}
 use Rattle.bytes_field.specs.declared.Bounds.{Bounds}
-use Rattle.bytes_index.specs.Code.{noInstruction, no_block}
+use Rattle.bytes_index.specs.Code.{no_instruction, no_block}
 use Rattle.mir.specs.Lookup.{Types}
-use Rattle.mir.specs.Most.{mostValues, mostInstructions}
+use Rattle.mir.specs.Most.{most_values, most_instructions}
 use Rattle.fold.specs.Tables.{ShapesAt, Coded}
-use Rattle.fold.specs.Family.{Marks, family, union, buildDest, readElsewhere, crossBuilds, crossBlockAggregates}
+use Rattle.fold.specs.Family.{Marks, family, union, build_dest, read_elsewhere, cross_builds, cross_block_aggregates}
 use Rattle.fold.specs.declared.Settings.{Settings}
 use Rattle.fold_family.specs.Copies.{copies, RowsAt}
 use Rattle.fold_family.specs.Search.{Members}
-use Rattle.fold_readers.specs.Readers.{readBlocks}
+use Rattle.fold_readers.specs.Readers.{read_blocks}
 use Rattle.fold_cross.specs.declared.BuildRead.{BuildRead}
 
 -- a routine's code, the shapes of its values, and the block that reads each
@@ -20,20 +20,20 @@ pub record Ready (b : Bounds) (s facts : List ℕ) (σ : Settings) (τ : Types) 
     (shapes : List ℕ) (eligible : List Bool) (reader : List ℕ) : Type 0 where
   pub coded : Coded b s facts τ ks
   pub given : ShapesAt σ τ shapes eligible
-  pub readers : reader ≡ readBlocks 0 (replicate b.next 0) ks
+  pub readers : reader ≡ read_blocks 0 (replicate b.next 0) ks
 
 -- a build of v, whether its type is eligible
 pub record Root (eligible : List Bool) (next v : ℕ) (on : Bool) (i : InstructionKind) : Type 0 where
-  pub dest : buildDest i ≡ some (record { 0 = v })
+  pub dest : build_dest i ≡ some (record { 0 = v })
   pub low : v < next
   pub fits : get_or eligible v false ≡ on
 
 -- no build of an eligible type
 pub record Idle (eligible : List Bool) (next : ℕ) (i : InstructionKind) : Type 0 where
-  pub each : (v : ValueId) → buildDest i ≡ some v → Root eligible next v.0 false i
+  pub each : (v : ValueId) → build_dest i ≡ some v → Root eligible next v.0 false i
 
 pub record IdleAll (eligible : List Bool) (next : ℕ) (is : List Instruction) : Type 0 where
-  pub each : (k : ℕ) → k < length is → Idle eligible next (get_or is k noInstruction).kind
+  pub each : (k : ℕ) → k < length is → Idle eligible next (get_or is k no_instruction).kind
 
 -- what a build's reader tells: the dest of a build of an eligible type, or that there is none
 pub record Built (eligible : List Bool) (next : ℕ) (r : BuildRead) (i : InstructionKind) : Type 0 where
@@ -41,13 +41,13 @@ pub record Built (eligible : List Bool) (next : ℕ) (r : BuildRead) (i : Instru
   pub idle : r ≡ BuildRead.Nothing → Idle eligible next i
 
 -- what the builds of block k add
-abbrev pub crossBlock : Settings → Types → List Block → ℕ → Marks → Marks
-crossBlock σ τ ks k m = crossBuilds σ τ ks k (get_or ks k no_block) (get_or ks k no_block).instructions m
+abbrev pub cross_block : Settings → Types → List Block → ℕ → Marks → Marks
+cross_block σ τ ks k m = cross_builds σ τ ks k (get_or ks k no_block) (get_or ks k no_block).instructions m
 
 -- the family of what was read of an instruction: none where no build was read
-abbrev pub familyRead : Types → List Instruction → BuildRead → Marks
-familyRead τ is (BuildRead.Dest v) = family τ v is
-familyRead τ is BuildRead.Nothing = replicate (length τ.recorded) false
+abbrev pub family_read : Types → List Instruction → BuildRead → Marks
+family_read τ is (BuildRead.Dest v) = family τ v is
+family_read τ is BuildRead.Nothing = replicate (length τ.recorded) false
 
 -- the promises: the n members of a family are marked,
 abbrev pub Unites : List ℕ → ℕ → Marks → Marks → Type 0
@@ -59,22 +59,22 @@ MembersCrossed own members n reader before after =
     (m : Marks) (ks : List Block)
     → Members members n m
     → length m ≡ length before
-    → reader ≡ readBlocks 0 (replicate (length m) 0) ks
-    → after ≡ cond (readElsewhere m own 0 ks) (union m before) before
+    → reader ≡ read_blocks 0 (replicate (length m) 0) ks
+    → after ≡ cond (read_elsewhere m own 0 ks) (union m before) before
 
 -- the family of what was read of an instruction of a block is found,
 abbrev pub FamilyRead : BuildRead → List ℕ → List ℕ → Marks → Marks → List ℕ → List ℕ → ℕ → Type 0
 FamilyRead d table shapes clear m room members n =
     (σ : Settings) (τ : Types) (is : List Instruction) (i : InstructionKind) (eligible : List Bool) (next : ℕ)
     → RowsAt table (copies τ is)
-    → length is ≤ mostInstructions
+    → length is ≤ most_instructions
     → ShapesAt σ τ shapes eligible
     → Built eligible next d i
     → next ≡ length τ.recorded
-    → next ≤ mostValues
-    → mostValues ≤ length room
+    → next ≤ most_values
+    → most_values ≤ length room
     → clear ≡ replicate next false
-    → (m ≡ familyRead τ is d) × Members members n m
+    → (m ≡ family_read τ is d) × Members members n m
 
 -- what f says of a routine's code,
 abbrev pub Crossed : Types → List Block → (Settings → Marks → Marks) → List ℕ → Bounds → List ℕ → List ℕ → List Bool → List ℕ → Marks → Marks → Type 0
@@ -91,4 +91,4 @@ CrossMarks s b facts shapes eligible clear marks =
     → Coded b s facts τ ks
     → ShapesAt σ τ shapes eligible
     → clear ≡ replicate (length τ.recorded) false
-    → marks ≡ crossBlockAggregates σ τ ks
+    → marks ≡ cross_block_aggregates σ τ ks

@@ -6,13 +6,13 @@ ghost use Rattle.mir.specs.Syntax.{Instruction, Block};
 ghost use Rattle.bytes_field.specs.declared.Bounds.{Bounds as DeclaredBounds};
 ghost use Rattle.bytes_index.specs.Code.{no_block, InstructionIn, InstructionsIn};
 ghost use Rattle.mir.specs.Lookup.{Types};
-ghost use Rattle.mir.specs.Most.{mostValues};
+ghost use Rattle.mir.specs.Most.{most_values};
 ghost use Rattle.bytes_index.specs.Table.{row_at};
-ghost use Rattle.fold.specs.Numbers.{mostPlace};
-ghost use Rattle.fold.specs.Family.{crossBlocks};
-ghost use Rattle.fold_family.specs.Copies.{copies as copiesOf, RowsAt};
-ghost use Rattle.fold_readers.specs.Readers.{blockLimit};
-ghost use Rattle.fold_cross.specs.Cross.{Built, IdleAll, crossBlock, Unites, MembersCrossed, FamilyRead, Crossed, CrossMarks};
+ghost use Rattle.fold.specs.Numbers.{most_place};
+ghost use Rattle.fold.specs.Family.{cross_blocks};
+ghost use Rattle.fold_family.specs.Copies.{copies as copies_of, RowsAt};
+ghost use Rattle.fold_readers.specs.Readers.{block_limit};
+ghost use Rattle.fold_cross.specs.Cross.{Built, IdleAll, cross_block, Unites, MembersCrossed, FamilyRead, Crossed, CrossMarks};
 
 use bytes_field::Bounds;
 use mir::{BlockId, ValueId, kind, most};
@@ -29,7 +29,7 @@ pub enum BuildRead {
 
 // The dest of the build in the slot whose row begins at `row`, where its type is eligible.
 fn eligible_build(s: &[u8], facts: &[u16], row: usize, eligible: &[bool]) -> BuildRead
-    requires { row < mostPlace }
+    requires { row < most_place }
     ensures { (b : DeclaredBounds) (slot : ℕ) (i : Instruction) → row ≡ row_at slot
         → InstructionIn b s.now facts.now slot i → Built eligible.now b.next result i.kind }
 {
@@ -81,7 +81,7 @@ fn unite(members: &[u16], n: u16, marks: &mut [bool])
 
 // Marks the `n` members of a family of block `own` where another block reads one.
 fn unite_abroad(own: u8, members: &[u16], n: u16, readers: &[u8], marks: &mut [bool])
-    requires { own < blockLimit }
+    requires { own < block_limit }
     ensures { MembersCrossed own members.now n readers.now marks.old marks.new }
 {
     if fold_readers::member_abroad(members, n, own, readers) {
@@ -125,9 +125,9 @@ fn cross_builds(
     marks: &mut [bool],
 )
     ensures { (τ : Types) (ks : List Block) → k.0 < length ks
-        → RowsAt copies.now (copiesOf τ (get_or ks k.0 no_block).instructions)
+        → RowsAt copies.now (copies_of τ (get_or ks k.0 no_block).instructions)
         → family.old ≡ replicate b.next false
-        → Crossed τ ks (λ σ m. crossBlock σ τ ks k.0 m) s.now b
+        → Crossed τ ks (λ σ m. cross_block σ τ ks k.0 m) s.now b
         facts.now shapes.now eligible.now readers.now marks.old marks.new }
 {
     let number = k.0;
@@ -157,8 +157,8 @@ fn cross_block(
     readers: &[u8],
     marks: &mut [bool],
 )
-    requires { b.next ≤ mostValues }
-    ensures { (τ : Types) (ks : List Block) → k.0 < length ks → Crossed τ ks (λ σ m. crossBlock σ τ ks k.0 m) s.now b
+    requires { b.next ≤ most_values }
+    ensures { (τ : Types) (ks : List Block) → k.0 < length ks → Crossed τ ks (λ σ m. cross_block σ τ ks k.0 m) s.now b
         facts.now shapes.now eligible.now readers.now marks.old marks.new }
 {
     let first = bytes_index::first_slot(facts, k);
@@ -194,8 +194,8 @@ fn cross_read(
     readers: &[u8],
     marks: &mut [bool],
 )
-    requires { b.next ≤ mostValues }
-    ensures { (τ : Types) (ks : List Block) → Crossed τ ks (λ σ m. crossBlocks σ τ ks 0 ks m) s.now b
+    requires { b.next ≤ most_values }
+    ensures { (τ : Types) (ks : List Block) → Crossed τ ks (λ σ m. cross_blocks σ τ ks 0 ks m) s.now b
         facts.now shapes.now eligible.now readers.now marks.old marks.new }
 {
     let many = b.blocks;
@@ -216,7 +216,7 @@ fn cross_blocks(
     readers: &mut [u8],
     marks: &mut [bool],
 )
-    requires { b.next ≤ mostValues }
+    requires { b.next ≤ most_values }
     ensures { readers.old ≡ replicate b.next 0 → CrossMarks s.now b facts.now
         shapes.now eligible.now marks.old marks.new }
 {

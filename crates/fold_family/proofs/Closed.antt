@@ -12,29 +12,29 @@ use lib.Seq.{get_or-set_same, get_or-set_other, set_out}
 use lib.Dec.{eqb, ltb}
 use Rattle.mir.specs.declared.ValueId.{ValueId}
 use Rattle.mir.specs.Syntax.{Instruction}
-use Rattle.mir.specs.Lookup.{Types, valueRow, shape}
+use Rattle.mir.specs.Lookup.{Types, value_row, shape}
 use Rattle.fold.specs.Family.{Marks, mark, family}
-use Rattle.fold_family.specs.Copies.{Copy, copy_of, before, copies, joining, joinAll, rounds}
-use Rattle.fold_family.proofs.Sweeps.{family-copies, rounds-still}
+use Rattle.fold_family.specs.Copies.{Copy, copy_of, before, copies, joining, join_all, rounds}
+use Rattle.fold_family.proofs.Sweeps.{family_copies, rounds_still}
 
 -- a mark that stands already
-pub set-still : (m : Marks) (v : ℕ) → get_or m v false ≡ true → set m v true ≡ m
-set-still [] v h = refl
-set-still (a ∷ m) zero h = ap (λ x. x ∷ m) (sym h)
-set-still (a ∷ m) (suc v) h = ap (λ x. a ∷ x) (set-still m v h)
+pub set_still : (m : Marks) (v : ℕ) → get_or m v false ≡ true → set m v true ≡ m
+set_still [] v h = refl
+set_still (a ∷ m) zero h = ap (λ x. x ∷ m) (sym h)
+set_still (a ∷ m) (suc v) h = ap (λ x. a ∷ x) (set_still m v h)
 
 -- marks only come
 pub record Below (m n : Marks) : Type 0 where
   pub each : (v : ℕ) → get_or m v false ≡ true → get_or n v false ≡ true
 
-pub below-refl : (m : Marks) → Below m m
-below-refl m = record { each = λ v h. h }
+pub below_refl : (m : Marks) → Below m m
+below_refl m = record { each = λ v h. h }
 
-pub below-trans : {l m n : Marks} → Below l m → Below m n → Below l n
-below-trans a b = record { each = λ v h. b.each v (a.each v h) }
+pub below_trans : {l m n : Marks} → Below l m → Below m n → Below l n
+below_trans a b = record { each = λ v h. b.each v (a.each v h) }
 
-pub below-set : (m : Marks) (d : ℕ) → Below m (set m d true)
-below-set m d = record { each = λ v h. go v h (eqb v d) refl }
+pub below_set : (m : Marks) (d : ℕ) → Below m (set m d true)
+below_set m d = record { each = λ v h. go v h (eqb v d) refl }
   where
     room : (v : ℕ) → get_or m v false ≡ true → (b : Bool) → ltb v (length m) ≡ b → get_or (set m v true) v false ≡ true
     room v h true e = get_or-set_same m v true false (ltb-true v (length m) e)
@@ -61,7 +61,7 @@ joins root m c = go (eqb c.asked 0 || eqb c.asked root) (get_or m c.source false
     room false e f = subst (Joins m c) (sym (set_out m d true (ltb-false d (length m) e))) still
 
     fresh : (b : Bool) → get_or m d false ≡ b → Joins m c (set m d true)
-    fresh true e = subst (Joins m c) (sym (set-still m d e)) still
+    fresh true e = subst (Joins m c) (sym (set_still m d e)) still
     fresh false e = room (ltb d (length m)) refl e
 
     go : (a b : Bool) → Joins m c (cond a (cond b (set m d true) m) m)
@@ -69,14 +69,14 @@ joins root m c = go (eqb c.asked 0 || eqb c.asked root) (get_or m c.source false
     go true false = still
     go false b = still
 
-pub joins-below : (m : Marks) (c : Copy) (n : Marks) → Joins m c n → Below m n
-joins-below m c n still = below-refl m
-joins-below m c n (new f t) = below-set m c.dest
+pub joins_below : (m : Marks) (c : Copy) (n : Marks) → Joins m c n → Below m n
+joins_below m c n still = below_refl m
+joins_below m c n (new f t) = below_set m c.dest
 
-pub all-below : (root : ℕ) (cs : List Copy) (m : Marks) → Below m (joinAll root m cs)
-unfolding joinAll
-all-below root [] m = below-refl m
-all-below root (c ∷ cs) m = below-trans (joins-below m c _ (joins root m c)) (all-below root cs (joining root m c))
+pub all_below : (root : ℕ) (cs : List Copy) (m : Marks) → Below m (join_all root m cs)
+unfolding join_all
+all_below root [] m = below_refl m
+all_below root (c ∷ cs) m = below_trans (joins_below m c _ (joins root m c)) (all_below root cs (joining root m c))
 
 -- how many copies have a dest that is not marked
 abbrev missing : Bool → ℕ
@@ -87,35 +87,35 @@ abbrev pub unmarked : Marks → List Copy → ℕ
 unmarked m [] = 0
 unmarked m (c ∷ cs) = missing (get_or m c.dest false) + unmarked m cs
 
-missing-le : (a b : Bool) → (a ≡ true → b ≡ true) → missing b ≤ missing a
-missing-le true b h = rw (h refl) (omega arith)
-missing-le false true h = omega arith
-missing-le false false h = omega arith
+missing_le : (a b : Bool) → (a ≡ true → b ≡ true) → missing b ≤ missing a
+missing_le true b h = rw (h refl) (omega arith)
+missing_le false true h = omega arith
+missing_le false false h = omega arith
 
-unmarked-below : (cs : List Copy) (m n : Marks) → Below m n → unmarked n cs ≤ unmarked m cs
-unmarked-below [] m n b = omega arith
-unmarked-below (c ∷ cs) m n b =
-    omega (arith, missing-le (get_or m c.dest false) (get_or n c.dest false) (b.each c.dest), unmarked-below cs m n b)
+unmarked_below : (cs : List Copy) (m n : Marks) → Below m n → unmarked n cs ≤ unmarked m cs
+unmarked_below [] m n b = omega arith
+unmarked_below (c ∷ cs) m n b =
+    omega (arith, missing_le (get_or m c.dest false) (get_or n c.dest false) (b.each c.dest), unmarked_below cs m n b)
 
-unmarked-least : (cs : List Copy) (m : Marks) → unmarked m cs ≤ length cs
-unmarked-least [] m = omega arith
-unmarked-least (c ∷ cs) m = omega (arith, go (get_or m c.dest false), unmarked-least cs m)
+unmarked_least : (cs : List Copy) (m : Marks) → unmarked m cs ≤ length cs
+unmarked_least [] m = omega arith
+unmarked_least (c ∷ cs) m = omega (arith, go (get_or m c.dest false), unmarked_least cs m)
   where
     go : (b : Bool) → missing b ≤ 1
     go true = omega arith
     go false = omega arith
 
 -- where a copy among others is new, there are fewer
-unmarked-new : (pre cs : List Copy) (c : Copy) (m n : Marks) → Below m n → get_or m c.dest false ≡ false → get_or n c.dest false ≡ true
+unmarked_new : (pre cs : List Copy) (c : Copy) (m n : Marks) → Below m n → get_or m c.dest false ≡ false → get_or n c.dest false ≡ true
     → unmarked n (pre ++ (c ∷ cs)) < unmarked m (pre ++ (c ∷ cs))
-unmarked-new [] cs c m n b f t =
+unmarked_new [] cs c m n b f t =
     let x : missing (get_or m c.dest false) ≡ 1 = ap missing f in
     let y : missing (get_or n c.dest false) ≡ 0 = ap missing t in
-    let z = unmarked-below cs m n b in
+    let z = unmarked_below cs m n b in
     omega arith
-unmarked-new (a ∷ pre) cs c m n b f t =
-    let x = missing-le (get_or m a.dest false) (get_or n a.dest false) (b.each a.dest) in
-    let y = unmarked-new pre cs c m n b f t in
+unmarked_new (a ∷ pre) cs c m n b f t =
+    let x = missing_le (get_or m a.dest false) (get_or n a.dest false) (b.each a.dest) in
+    let y = unmarked_new pre cs c m n b f t in
     omega arith
 
 -- a round over the rest of the copies changes nothing, or there are fewer
@@ -127,43 +127,43 @@ assoc : (pre cs : List Copy) (c : Copy) → (pre ++ (c ∷ [])) ++ cs ≡ pre ++
 assoc [] cs c = refl
 assoc (a ∷ pre) cs c = ap (λ r. a ∷ r) (assoc pre cs c)
 
-pub a-round : (root : ℕ) (pre cs : List Copy) (m : Marks) → Round (pre ++ cs) m (joinAll root m cs)
-unfolding joinAll
-a-round root pre [] m = same
-a-round root pre (c ∷ cs) m =
-    go (joining root m c) (joins root m c) (λ n. subst (λ all. Round all n (joinAll root n cs)) (assoc pre cs c) (a-round root (pre ++ (c ∷ [])) cs n))
+pub a_round : (root : ℕ) (pre cs : List Copy) (m : Marks) → Round (pre ++ cs) m (join_all root m cs)
+unfolding join_all
+a_round root pre [] m = same
+a_round root pre (c ∷ cs) m =
+    go (joining root m c) (joins root m c) (λ n. subst (λ all. Round all n (join_all root n cs)) (assoc pre cs c) (a_round root (pre ++ (c ∷ [])) cs n))
   where
-    go : (n : Marks) → Joins m c n → ((n : Marks) → Round (pre ++ (c ∷ cs)) n (joinAll root n cs))
-        → Round (pre ++ (c ∷ cs)) m (joinAll root n cs)
+    go : (n : Marks) → Joins m c n → ((n : Marks) → Round (pre ++ (c ∷ cs)) n (join_all root n cs))
+        → Round (pre ++ (c ∷ cs)) m (join_all root n cs)
     go n still r = r m
     go n (new f t) r =
-        let b = below-set m c.dest in
-        let x = unmarked-new pre cs c m (set m c.dest true) b f t in
-        let y = unmarked-below (pre ++ (c ∷ cs)) (set m c.dest true) (joinAll root (set m c.dest true) cs) (all-below root cs (set m c.dest true)) in
-        fewer (joinAll root (set m c.dest true) cs) (omega arith)
+        let b = below_set m c.dest in
+        let x = unmarked_new pre cs c m (set m c.dest true) b f t in
+        let y = unmarked_below (pre ++ (c ∷ cs)) (set m c.dest true) (join_all root (set m c.dest true) cs) (all_below root cs (set m c.dest true)) in
+        fewer (join_all root (set m c.dest true) cs) (omega arith)
 
 -- a further round over the copies changes nothing
 abbrev Still : ℕ → Marks → List Copy → Type 0
-Still root m cs = joinAll root m cs ≡ m
+Still root m cs = join_all root m cs ≡ m
 
 -- after k rounds nothing changes any more, or there are k fewer
-many-rounds : (root k : ℕ) (m : Marks) (cs : List Copy) → Still root (rounds root k m cs) cs ⊎ (unmarked (rounds root k m cs) cs + k ≤ unmarked m cs)
+many_rounds : (root k : ℕ) (m : Marks) (cs : List Copy) → Still root (rounds root k m cs) cs ⊎ (unmarked (rounds root k m cs) cs + k ≤ unmarked m cs)
 unfolding rounds
-many-rounds root zero m cs = inr (omega arith)
-many-rounds root (suc k) m cs = go (joinAll root m cs) refl (a-round root [] cs m) (many-rounds root k (joinAll root m cs) cs)
+many_rounds root zero m cs = inr (omega arith)
+many_rounds root (suc k) m cs = go (join_all root m cs) refl (a_round root [] cs m) (many_rounds root k (join_all root m cs) cs)
   where
-    go : (n : Marks) → joinAll root m cs ≡ n → Round cs m n → Still root (rounds root k n cs) cs ⊎ (unmarked (rounds root k n cs) cs + k ≤ unmarked n cs)
+    go : (n : Marks) → join_all root m cs ≡ n → Round cs m n → Still root (rounds root k n cs) cs ⊎ (unmarked (rounds root k n cs) cs + k ≤ unmarked n cs)
         → Still root (rounds root k n cs) cs ⊎ (unmarked (rounds root k n cs) cs + suc k ≤ unmarked m cs)
     go n e r (inl h) = inl h
-    go n e same (inr h) = inl (let z = rounds-still root k m cs e in ap (λ x. joinAll root x cs) z ∙ e ∙ sym z)
+    go n e same (inr h) = inl (let z = rounds_still root k m cs e in ap (λ x. join_all root x cs) z ∙ e ∙ sym z)
     go n e (fewer l f) (inr h) = inr (omega arith)
 
 -- the rounds that the definition makes are enough
-pub closed : (root k : ℕ) (m : Marks) (cs : List Copy) → length cs ≤ k → joinAll root (rounds root k m cs) cs ≡ rounds root k m cs
-closed root k m cs l = go (many-rounds root k m cs)
+pub closed : (root k : ℕ) (m : Marks) (cs : List Copy) → length cs ≤ k → join_all root (rounds root k m cs) cs ≡ rounds root k m cs
+closed root k m cs l = go (many_rounds root k m cs)
   where
-    none-left : (n : Marks) → unmarked n cs ≡ 0 → Still root n cs
-    none-left n z = end (joinAll root n cs) (a-round root [] cs n)
+    none_left : (n : Marks) → unmarked n cs ≡ 0 → Still root n cs
+    none_left n z = end (join_all root n cs) (a_round root [] cs n)
       where
         end : (x : Marks) → Round cs n x → x ≡ n
         end x same = refl
@@ -171,19 +171,19 @@ closed root k m cs l = go (many-rounds root k m cs)
 
     go : Still root (rounds root k m cs) cs ⊎ (unmarked (rounds root k m cs) cs + k ≤ unmarked m cs) → Still root (rounds root k m cs) cs
     go (inl h) = h
-    go (inr h) = none-left (rounds root k m cs) (omega (arith, unmarked-least cs m))
+    go (inr h) = none_left (rounds root k m cs) (omega (arith, unmarked_least cs m))
 
 -- there are no more copies than instructions
-before-few : (o : Option Copy) (cs : List Copy) → length (before o cs) ≤ suc (length cs)
-before-few none cs = omega arith
-before-few (some c) cs = omega arith
+before_few : (o : Option Copy) (cs : List Copy) → length (before o cs) ≤ suc (length cs)
+before_few none cs = omega arith
+before_few (some c) cs = omega arith
 
-pub copies-few : (τ : Types) (is : List Instruction) → length (copies τ is) ≤ length is
+pub copies_few : (τ : Types) (is : List Instruction) → length (copies τ is) ≤ length is
 unfolding copies
-copies-few τ [] = omega arith
-copies-few τ (i ∷ is) = omega (arith, before-few (copy_of τ i.kind) (copies τ is), copies-few τ is)
+copies_few τ [] = omega arith
+copies_few τ (i ∷ is) = omega (arith, before_few (copy_of τ i.kind) (copies τ is), copies_few τ is)
 
 -- one more sweep over the copies changes nothing of a family
-pub family-closed : (τ : Types) (v : ValueId) (is : List Instruction) → joinAll (shape (valueRow τ v)) (family τ v is) (copies τ is) ≡ family τ v is
-family-closed τ v is =
-    rw (family-copies τ v is) (closed (shape (valueRow τ v)) (length is) (mark (replicate (length τ.recorded) false) v) (copies τ is) (copies-few τ is))
+pub family_closed : (τ : Types) (v : ValueId) (is : List Instruction) → join_all (shape (value_row τ v)) (family τ v is) (copies τ is) ≡ family τ v is
+family_closed τ v is =
+    rw (family_copies τ v is) (closed (shape (value_row τ v)) (length is) (mark (replicate (length τ.recorded) false) v) (copies τ is) (copies_few τ is))

@@ -9,23 +9,23 @@ use lib.Seq.{ext_get_or}
 use Rattle.table.proofs.Elements.{clear_at}
 use Rattle.fold.specs.Family.{Marks}
 use Rattle.fold_family.specs.Copies.{meets}
-use Rattle.fold_family.specs.Search.{Listed, listed-at, Members, ClearsMembers, DynamicIndex}
-use Rattle.fold_family.proofs.Dynamic.{dynamic-family}
+use Rattle.fold_family.specs.Search.{Listed, listed_at, Members, ClearsMembers, DynamicIndex}
+use Rattle.fold_family.proofs.Dynamic.{dynamic_family}
 
 -- a value that has both marks
-meets-at : (m d : Marks) (x : ℕ) → get_or m x false ≡ true → get_or d x false ≡ true → meets m d ≡ true
+meets_at : (m d : Marks) (x : ℕ) → get_or m x false ≡ true → get_or d x false ≡ true → meets m d ≡ true
 unfolding meets
-meets-at [] d x h g = absurd (true≢false (sym h))
-meets-at (a ∷ m) [] x h g = absurd (true≢false (sym g))
-meets-at (a ∷ m) (b ∷ d) zero h g = rw (h, g) refl
-meets-at (a ∷ m) (b ∷ d) (suc x) h g = rw (meets-at m d x h g) (or-true (a && b))
+meets_at [] d x h g = absurd (true≢false (sym h))
+meets_at (a ∷ m) [] x h g = absurd (true≢false (sym g))
+meets_at (a ∷ m) (b ∷ d) zero h g = rw (h, g) refl
+meets_at (a ∷ m) (b ∷ d) (suc x) h g = rw (meets_at m d x h g) (or-true (a && b))
 
 -- none has
-meets-none : (m d : Marks) → ((x : ℕ) → get_or m x false ≡ true → get_or d x false ≡ false) → meets m d ≡ false
+meets_none : (m d : Marks) → ((x : ℕ) → get_or m x false ≡ true → get_or d x false ≡ false) → meets m d ≡ false
 unfolding meets
-meets-none [] d f = refl
-meets-none (a ∷ m) [] f = refl
-meets-none (a ∷ m) (b ∷ d) f = go a refl (meets-none m d (λ x. f (suc x)))
+meets_none [] d f = refl
+meets_none (a ∷ m) [] f = refl
+meets_none (a ∷ m) (b ∷ d) f = go a refl (meets_none m d (λ x. f (suc x)))
   where
     go : (c : Bool) → a ≡ c → meets m d ≡ false → ((c && b) || meets m d) ≡ false
     go true e r = rw (f 0 e) r
@@ -35,19 +35,19 @@ meets-none (a ∷ m) (b ∷ d) f = go a refl (meets-none m d (λ x. f (suc x)))
 pub record NoneMet (members : List ℕ) (d : Marks) (k : ℕ) : Type 0 where
   pub each : (i : ℕ) → i < k → get_or d (get_or members i 0) false ≡ false
 
-pub met-at : (members : List ℕ) (n : ℕ) (m d : Marks) (k : ℕ) {r : Bool}
+pub met_at : (members : List ℕ) (n : ℕ) (m d : Marks) (k : ℕ) {r : Bool}
     → Members members n m → k < n → r ≡ get_or d (get_or members k 0) false → r ≡ true → true ≡ meets m d
-met-at members n m d k a h e f = sym (meets-at m d (get_or members k 0) (a.marked k h) (sym e ∙ f))
+met_at members n m d k a h e f = sym (meets_at m d (get_or members k 0) (a.marked k h) (sym e ∙ f))
 
-pub none-met : (members : List ℕ) (n : ℕ) (m d : Marks) (k : ℕ) → Members members n m → n ≤ k → NoneMet members d k → false ≡ meets m d
-none-met members n m d k a h u = sym (meets-none m d (λ x y. go x (a.only x y)))
+pub none_met : (members : List ℕ) (n : ℕ) (m d : Marks) (k : ℕ) → Members members n m → n ≤ k → NoneMet members d k → false ≡ meets m d
+none_met members n m d k a h u = sym (meets_none m d (λ x y. go x (a.only x y)))
   where
     go : (x : ℕ) → Listed members n x → get_or d x false ≡ false
-    go x (listed-at i l z) = ap (λ y. get_or d y false) (sym z) ∙ u.each i (omega arith)
+    go x (listed_at i l z) = ap (λ y. get_or d y false) (sym z) ∙ u.each i (omega arith)
 
 -- and so the code's answer is the definition's
-pub dynamic-found : (members : List ℕ) (n : ℕ) (d : Marks) {r : Bool} → ((m : Marks) → Members members n m → r ≡ meets m d) → DynamicIndex members n d r
-dynamic-found members n d f τ v is a e = f _ a ∙ rw e (dynamic-family τ v is)
+pub dynamic_found : (members : List ℕ) (n : ℕ) (d : Marks) {r : Bool} → ((m : Marks) → Members members n m → r ≡ meets m d) → DynamicIndex members n d r
+dynamic_found members n d f τ v is a e = f _ a ∙ rw e (dynamic_family τ v is)
 
 -- the marks of k members are cleared
 pub record Clearing (members : List ℕ) (m₀ m : Marks) (k : ℕ) : Type 0 where
@@ -65,4 +65,4 @@ cleared members n m₀ m k u h a =
     go x true e = listed (a.only x (u.old x e))
       where
         listed : Listed members n x → get_or m x false ≡ false
-        listed (listed-at i l z) = ap (λ y. get_or m y false) (sym z) ∙ u.gone i (omega arith)
+        listed (listed_at i l z) = ap (λ y. get_or m y false) (sym z) ∙ u.gone i (omega arith)

@@ -9,10 +9,10 @@ use lib.ListN.{length, get_or, set}
 use lib.Seq.{get_or-set_same, get_or-set_other, set_out, ext_get_or}
 use lib.Dec.{eqb, ltb}
 use Rattle.fold.specs.Family.{Marks}
-use Rattle.fold_family.specs.Copies.{Copy, joining, joinAll, rounds}
-use Rattle.fold_family.proofs.Sweeps.{joining-length, join-length}
-use Rattle.fold_family.proofs.Closed.{Below, below-refl, below-trans, joins, joins-below, all-below}
-use Rattle.fold_family.proofs.Rows.{copyAt}
+use Rattle.fold_family.specs.Copies.{Copy, joining, join_all, rounds}
+use Rattle.fold_family.proofs.Sweeps.{joining_length, join_length}
+use Rattle.fold_family.proofs.Closed.{Below, below_refl, below_trans, joins, joins_below, all_below}
+use Rattle.fold_family.proofs.Rows.{copy_at}
 
 -- a copy asks for the root's shape, or for any
 abbrev pub asks : ℕ → Copy → Bool
@@ -24,13 +24,13 @@ Idle m c = set m c.dest true ≡ m
 
 -- a set that the copies add nothing to
 pub record Shut (root : ℕ) (cs : List Copy) (F : Marks) : Type 0 where
-  pub each : (j : ℕ) → j < length cs → get_or F (copyAt cs j).source false ≡ true → asks root (copyAt cs j) ≡ true → Idle F (copyAt cs j)
+  pub each : (j : ℕ) → j < length cs → get_or F (copy_at cs j).source false ≡ true → asks root (copy_at cs j) ≡ true → Idle F (copy_at cs j)
 
 -- copies of a set that is shut add nothing to what lies within it
-copy-within : (root : ℕ) (m F : Marks) (c : Copy) → length m ≡ length F → Below m F → (get_or F c.source false ≡ true → asks root c ≡ true → Idle F c)
+copy_within : (root : ℕ) (m F : Marks) (c : Copy) → length m ≡ length F → Below m F → (get_or F c.source false ≡ true → asks root c ≡ true → Idle F c)
     → Below (joining root m c) F
 unfolding joining
-copy-within root m F c l b h = go (asks root c) refl (get_or m c.source false) refl
+copy_within root m F c l b h = go (asks root c) refl (get_or m c.source false) refl
   where
     put : (x : ℕ) → get_or (set m c.dest true) x false ≡ true → Idle F c → (b : Bool) → eqb x c.dest ≡ b → get_or F x false ≡ true
     put x y e true z = room (ltb x (length F)) refl
@@ -50,17 +50,17 @@ copy-within root m F c l b h = go (asks root c) refl (get_or m c.source false) r
     go true ea false eg = b
     go false ea g eg = b
 
-all-within : (root : ℕ) (cs : List Copy) (m F : Marks) → length m ≡ length F → Below m F → Shut root cs F → Below (joinAll root m cs) F
-unfolding joinAll
-all-within root [] m F l b h = b
-all-within root (c ∷ cs) m F l b h =
-    all-within root cs (joining root m c) F (joining-length root m c ∙ l) (copy-within root m F c l b (h.each 0 (omega arith)))
+all_within : (root : ℕ) (cs : List Copy) (m F : Marks) → length m ≡ length F → Below m F → Shut root cs F → Below (join_all root m cs) F
+unfolding join_all
+all_within root [] m F l b h = b
+all_within root (c ∷ cs) m F l b h =
+    all_within root cs (joining root m c) F (joining_length root m c ∙ l) (copy_within root m F c l b (h.each 0 (omega arith)))
     (record { each = λ j x. h.each (suc j) (omega arith) })
 
-pub rounds-within : (root k : ℕ) (cs : List Copy) (m F : Marks) → length m ≡ length F → Below m F → Shut root cs F → Below (rounds root k m cs) F
+pub rounds_within : (root k : ℕ) (cs : List Copy) (m F : Marks) → length m ≡ length F → Below m F → Shut root cs F → Below (rounds root k m cs) F
 unfolding rounds
-rounds-within root zero cs m F l b h = b
-rounds-within root (suc k) cs m F l b h = rounds-within root k cs (joinAll root m cs) F (join-length root m cs ∙ l) (all-within root cs m F l b h) h
+rounds_within root zero cs m F l b h = b
+rounds_within root (suc k) cs m F l b h = rounds_within root k cs (join_all root m cs) F (join_length root m cs ∙ l) (all_within root cs m F l b h) h
 
 -- equal where each lies within the other
 pub between : (m n : Marks) → length m ≡ length n → Below m n → Below n m → m ≡ n
@@ -71,34 +71,34 @@ between m n l a b = ext_get_or false m n l (λ i h. go i (get_or m i false) (get
     go i false true e f = absurd (true≢false (sym (b.each i f) ∙ e))
     go i false false e f = e ∙ sym f
 
-pub rounds-below : (root k : ℕ) (cs : List Copy) (m : Marks) → Below m (rounds root k m cs)
+pub rounds_below : (root k : ℕ) (cs : List Copy) (m : Marks) → Below m (rounds root k m cs)
 unfolding rounds
-rounds-below root zero cs m = below-refl m
-rounds-below root (suc k) cs m = below-trans (all-below root cs m) (rounds-below root k cs (joinAll root m cs))
+rounds_below root zero cs m = below_refl m
+rounds_below root (suc k) cs m = below_trans (all_below root cs m) (rounds_below root k cs (join_all root m cs))
 
 -- a copy that asks for the root's shape and whose source is marked
-open-join : (root : ℕ) (n : Marks) (c : Copy) → asks root c ≡ true → get_or n c.source false ≡ true → joining root n c ≡ set n c.dest true
+open_join : (root : ℕ) (n : Marks) (c : Copy) → asks root c ≡ true → get_or n c.source false ≡ true → joining root n c ≡ set n c.dest true
 unfolding joining
-open-join root n c a f = rw (a, f)
+open_join root n c a f = rw (a, f)
 
 -- a set that a round leaves is shut
-pub still-shut : (root : ℕ) (cs : List Copy) (n : Marks) → joinAll root n cs ≡ n → Shut root cs n
-unfolding joinAll
-still-shut root [] n e = record { each = λ j l. absurd (omega arith) }
-still-shut root (c ∷ cs) n e = record { each = λ j. go j (still-shut root cs n rest) }
+pub still_shut : (root : ℕ) (cs : List Copy) (n : Marks) → join_all root n cs ≡ n → Shut root cs n
+unfolding join_all
+still_shut root [] n e = record { each = λ j l. absurd (omega arith) }
+still_shut root (c ∷ cs) n e = record { each = λ j. go j (still_shut root cs n rest) }
   where
-    one-still : joining root n c ≡ n
-    one-still =
-        between (joining root n c) n (joining-length root n c) (subst (λ x. Below (joining root n c) x) e (all-below root cs (joining root n c)))
-        (joins-below n c _ (joins root n c))
+    one_still : joining root n c ≡ n
+    one_still =
+        between (joining root n c) n (joining_length root n c) (subst (λ x. Below (joining root n c) x) e (all_below root cs (joining root n c)))
+        (joins_below n c _ (joins root n c))
 
-    rest : joinAll root n cs ≡ n
-    rest = ap (λ x. joinAll root x cs) (sym one-still) ∙ e
+    rest : join_all root n cs ≡ n
+    rest = ap (λ x. join_all root x cs) (sym one_still) ∙ e
 
     put : asks root c ≡ true → get_or n c.source false ≡ true → Idle n c
-    put a f = sym (open-join root n c a f) ∙ one-still
+    put a f = sym (open_join root n c a f) ∙ one_still
 
-    go : (j : ℕ) → Shut root cs n → j < length (c ∷ cs) → get_or n (copyAt (c ∷ cs) j).source false ≡ true → asks root (copyAt (c ∷ cs) j) ≡ true
-        → Idle n (copyAt (c ∷ cs) j)
+    go : (j : ℕ) → Shut root cs n → j < length (c ∷ cs) → get_or n (copy_at (c ∷ cs) j).source false ≡ true → asks root (copy_at (c ∷ cs) j) ≡ true
+        → Idle n (copy_at (c ∷ cs) j)
     go zero r l f a = put a f
     go (suc j) r l f a = r.each j (omega arith) f a

@@ -2,32 +2,32 @@
 use Rattle.std.specs.Prelude.{ℕ, suc, ◌+◌, ◌≤◌, ◌<◌, ◌≡◌, List, Bool, true, false, not, ◌&&◌, ◌||◌, length, get_or, set, replicate, eqb, ltb}
 use Rattle.mir.specs.declared.ValueId.{ValueId}
 use Rattle.mir.specs.Syntax.{Instruction}
-use Rattle.mir.specs.Lookup.{Types, valueRow, shape}
-use Rattle.mir.specs.Most.{mostValues, mostInstructions}
-use Rattle.fold.specs.Family.{Marks, family, hasDynamicIndex}
-use Rattle.fold_family.specs.Copies.{anyShape, copies, rowAt, firstsAt, RowsAt, dynamics}
-use Rattle.fold_family.specs.Turns.{size, turnsOf}
+use Rattle.mir.specs.Lookup.{Types, value_row, shape}
+use Rattle.mir.specs.Most.{most_values, most_instructions}
+use Rattle.fold.specs.Family.{Marks, family, has_dynamic_index}
+use Rattle.fold_family.specs.Copies.{any_shape, copies, row_at, firsts_at, RowsAt, dynamics}
+use Rattle.fold_family.specs.Turns.{size, turns_of}
 use Rattle.fold_family.specs.declared.Search.{Search}
 use Rattle.fold_family.specs.declared.Found.{Found}
 
 -- as many turns as a search can take: one for each value, and one for each copy of a block (src/lib.rt has the same)
-abbrev pub mostTurns : ℕ
-mostTurns = mostValues + mostInstructions
+abbrev pub most_turns : ℕ
+most_turns = most_values + most_instructions
 
 -- whether copy k of the table joins: it asks for the root's shape, or for any, and its dest is a value that is not marked yet
-abbrev pub joinsAt : List ℕ → ℕ → ℕ → Marks → Bool
-joinsAt table k root m =
-    let d = get_or table (rowAt k) 0 in
-    let asked = get_or table (rowAt k + 1) 0 in
-    (eqb asked anyShape || eqb asked root) && (ltb d (length m) && not (get_or m d false))
+abbrev pub joins_at : List ℕ → ℕ → ℕ → Marks → Bool
+joins_at table k root m =
+    let d = get_or table (row_at k) 0 in
+    let asked = get_or table (row_at k + 1) 0 in
+    (eqb asked any_shape || eqb asked root) && (ltb d (length m) && not (get_or m d false))
 
 -- what looking at copy k does to the marks and to the members, of which `found` are found: it passes, or its dest joins
 pub data Join (table : List ℕ) (k root found : ℕ) (m after : Marks) (members behind : List ℕ) (r : ℕ) : Type 0 where
-  passes : joinsAt table k root m ≡ false → after ≡ m → behind ≡ members → r ≡ found → Join table k root found m after members behind r
+  passes : joins_at table k root m ≡ false → after ≡ m → behind ≡ members → r ≡ found → Join table k root found m after members behind r
   joins :
-      joinsAt table k root m ≡ true
-      → after ≡ set m (get_or table (rowAt k) 0) true
-      → behind ≡ set members found (get_or table (rowAt k) 0)
+      joins_at table k root m ≡ true
+      → after ≡ set m (get_or table (row_at k) 0) true
+      → behind ≡ set members found (get_or table (row_at k) 0)
       → r ≡ found + 1
       → Join table k root found m after members behind r
 
@@ -36,7 +36,7 @@ pub data Join (table : List ℕ) (k root found : ℕ) (m after : Marks) (members
 pub data Turn (table : List ℕ) (root : ℕ) (q r : Search) (m after : Marks) (members behind : List ℕ) : Type 0 where
   takes :
       q.row ≡ 0
-      → r ≡ record { found = q.found; taken = q.taken + 1; row = get_or table (firstsAt + get_or members q.taken 0) 0 }
+      → r ≡ record { found = q.found; taken = q.taken + 1; row = get_or table (firsts_at + get_or members q.taken 0) 0 }
       → after ≡ m
       → behind ≡ members
       → Turn table root q r m after members behind
@@ -44,17 +44,17 @@ pub data Turn (table : List ℕ) (root : ℕ) (q r : Search) (m after : Marks) (
       (k : ℕ)
       → q.row ≡ suc k
       → r.taken ≡ q.taken
-      → r.row ≡ get_or table (rowAt k + 2) 0
+      → r.row ≡ get_or table (row_at k + 2) 0
       → Join table k root q.found m after members behind r.found
       → Turn table root q r m after members behind
 
 -- a search goes on while a copy is to be looked at, or a member to be taken
-abbrev pub isOpen : Search → Bool
-isOpen q = not (eqb q.row 0) || ltb q.taken q.found
+abbrev pub is_open : Search → Bool
+is_open q = not (eqb q.row 0) || ltb q.taken q.found
 
 -- x is among the first n of a table
 pub data Listed (table : List ℕ) (n x : ℕ) : Type 0 where
-  listed-at : (i : ℕ) → i < n → get_or table i 0 ≡ x → Listed table n x
+  listed_at : (i : ℕ) → i < n → get_or table i 0 ≡ x → Listed table n x
 
 -- the marked values are the first n of a table, each once
 pub record Members (table : List ℕ) (n : ℕ) (m : Marks) : Type 0 where
@@ -65,7 +65,7 @@ pub record Members (table : List ℕ) (n : ℕ) (m : Marks) : Type 0 where
 -- the family of v: its marks, its members, and one turn for each of them and for each of their copies
 pub record FamilyFound (τ : Types) (is : List Instruction) (v : ValueId) (m : Marks) (members : List ℕ) (r : Found) : Type 0 where
   pub same : m ≡ family τ v is
-  pub turned : r.turns ≡ turnsOf τ v is
+  pub turned : r.turns ≡ turns_of τ v is
   pub listed : Members members r.members m
 
 -- the promises: of a search, whose marks are clear before,
@@ -73,11 +73,11 @@ abbrev pub FindsFamily : List ℕ → ℕ → ValueId → Marks → Marks → Li
 FindsFamily table root v clear m room members r =
     (τ : Types) (is : List Instruction)
     → RowsAt table (copies τ is)
-    → length (copies τ is) ≤ mostInstructions
-    → root ≡ shape (valueRow τ v)
+    → length (copies τ is) ≤ most_instructions
+    → root ≡ shape (value_row τ v)
     → v.0 < length τ.recorded
-    → length τ.recorded ≤ mostValues
-    → mostValues ≤ length room
+    → length τ.recorded ≤ most_values
+    → most_values ≤ length room
     → clear ≡ replicate (length τ.recorded) false
     → FamilyFound τ is v m members r
 
@@ -91,4 +91,4 @@ DynamicIndex members n d r =
     (τ : Types) (v : ValueId) (is : List Instruction)
     → Members members n (family τ v is)
     → d ≡ dynamics (replicate (length τ.recorded) false) is
-    → r ≡ hasDynamicIndex τ v is
+    → r ≡ has_dynamic_index τ v is

@@ -4,7 +4,7 @@ use Rattle.mir.specs.declared.ValueId.{ValueId}
 use Rattle.mir.specs.Syntax.{Instruction}
 use Rattle.mir.specs.Lookup.{Types}
 use Rattle.fold.specs.Family.{Marks, family}
-use Rattle.fold_family.specs.Copies.{Copy, noCopy, copies}
+use Rattle.fold_family.specs.Copies.{Copy, no_copy, copies}
 
 -- one for a mark
 abbrev pub one : Bool → ℕ
@@ -17,10 +17,10 @@ size [] = 0
 size (b ∷ m) = one b + size m
 
 -- how many of the first e copies have a marked source
-unfoldable pub copiedFrom : Marks → List Copy → ℕ → ℕ
-copiedFrom m cs zero = 0
-copiedFrom m cs (suc j) = one (get_or m (get_or cs j noCopy).source false) + copiedFrom m cs j
+unfoldable pub copied_from : Marks → List Copy → ℕ → ℕ
+copied_from m cs zero = 0
+copied_from m cs (suc j) = one (get_or m (get_or cs j no_copy).source false) + copied_from m cs j
 
 -- one turn for each member of a value's family, and one for each of the members' copies
-unfoldable pub turnsOf : Types → ValueId → List Instruction → ℕ
-turnsOf τ v is = let m = family τ v is in size m + copiedFrom m (copies τ is) (length (copies τ is))
+unfoldable pub turns_of : Types → ValueId → List Instruction → ℕ
+turns_of τ v is = let m = family τ v is in size m + copied_from m (copies τ is) (length (copies τ is))

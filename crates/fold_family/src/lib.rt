@@ -3,8 +3,8 @@
 #![tactic(auto)]
 
 ghost use Rattle.std.specs.Prelude.{◌≡◌, ◌+◌, ◌≤◌, ◌<◌, ◌||◌, ℕ, suc, eqb};
-ghost use Rattle.fold_family.specs.Copies.{anyShape, rowAt, firstsAt};
-ghost use Rattle.fold_family.specs.Search.{mostTurns, joinsAt, Join, Turn, isOpen, FindsFamily, ClearsMembers, DynamicIndex};
+ghost use Rattle.fold_family.specs.Copies.{any_shape, row_at, firsts_at};
+ghost use Rattle.fold_family.specs.Search.{most_turns, joins_at, Join, Turn, is_open, FindsFamily, ClearsMembers, DynamicIndex};
 
 use mir::{ValueId, most};
 
@@ -47,7 +47,7 @@ pub struct Found {
 
 // The shape asked for is the root's, or none is asked for.
 fn asks(wanted: u16, shape: u8) -> bool
-    ensures { result ≡ (eqb wanted anyShape || eqb wanted shape) }
+    ensures { result ≡ (eqb wanted any_shape || eqb wanted shape) }
 {
     if wanted == ANY as u16 {
         true
@@ -58,7 +58,7 @@ fn asks(wanted: u16, shape: u8) -> bool
 
 // Copy `k` joins where it asks for the root's shape, and its dest is a value that is not marked yet.
 fn joins(copies: &[u16], k: u16, shape: u8, marks: &[bool]) -> bool
-    ensures { result ≡ joinsAt copies.now k shape marks.now }
+    ensures { result ≡ joins_at copies.now k shape marks.now }
 {
     let at = WIDTH * k as usize;
     if !asks(table::number(copies, at + ASKED), shape) {
@@ -80,7 +80,7 @@ fn join(
     marks: &mut [bool],
     members: &mut [u16],
 ) -> u16
-    requires { found ≤ mostTurns + 1 }
+    requires { found ≤ most_turns + 1 }
     ensures { Join copies.now k shape found marks.old marks.new members.old members.new result }
 {
     if !joins(copies, k, shape, marks) {
@@ -94,7 +94,7 @@ fn join(
 
 // One turn of a search: takes a member, or looks at a copy of the member taken last.
 fn turn(q: Search, copies: &[u16], shape: u8, marks: &mut [bool], members: &mut [u16]) -> Search
-    requires { (q.found ≤ mostTurns + 1) × (q.taken ≤ mostTurns) }
+    requires { (q.found ≤ most_turns + 1) × (q.taken ≤ most_turns) }
     ensures { Turn copies.now shape q result marks.old marks.new members.old members.new }
 {
     if q.row == 0 {
@@ -116,7 +116,7 @@ fn turn(q: Search, copies: &[u16], shape: u8, marks: &mut [bool], members: &mut 
 
 // A copy is to be looked at, or a member to be taken.
 fn is_open(q: Search) -> bool
-    ensures { result ≡ isOpen q }
+    ensures { result ≡ is_open q }
 {
     if q.row != 0 {
         return true;

@@ -11,42 +11,42 @@ use lib.ListN.{length, get_or, set, replicate, drop, length-set, length-replicat
 use lib.Seq.{get_or-set_same, get_or-set_other}
 use Rattle.mir.specs.declared.ValueId.{ValueId}
 use Rattle.mir.specs.Syntax.{Instruction}
-use Rattle.mir.specs.Reads.{kindNumber}
+use Rattle.mir.specs.Reads.{kind_number}
 use Rattle.mir.specs.Lookup.{Types}
-use Rattle.mir.specs.Phis.{behindPhis}
+use Rattle.mir.specs.Phis.{behind_phis}
 use Rattle.bytes_field.specs.declared.Bounds.{Bounds}
-use Rattle.bytes_index.specs.Table.{place_in, kindIn}
-use Rattle.bytes_index.specs.Code.{noInstruction, InstructionsIn}
+use Rattle.bytes_index.specs.Table.{place_in, kind_in}
+use Rattle.bytes_index.specs.Code.{no_instruction, InstructionsIn}
 use Rattle.fold.specs.declared.Settings.{Settings}
-use Rattle.fold.specs.Family.{Marks, buildDest, hasDynamicIndex}
+use Rattle.fold.specs.Family.{Marks, build_dest, has_dynamic_index}
 use Rattle.fold.specs.Tables.{ShapesAt}
 use Rattle.fold_family.specs.Copies.{RowsAt}
 use Rattle.fold_family.specs.Search.{Members, FindsFamily, ClearsMembers, DynamicIndex}
 use Rattle.fold_family.specs.declared.Found.{Found}
-use Rattle.fold_family.proofs.Closed.{copies-few}
+use Rattle.fold_family.proofs.Closed.{copies_few}
 use Rattle.fold_family.proofs.Rows.{newest}
-use Rattle.fold_family.proofs.Sweeps.{family-length}
+use Rattle.fold_family.proofs.Sweeps.{family_length}
 use Rattle.fold_copies.specs.Found.{ScanCopies}
-use Rattle.fold_climb.proofs.Found.{dest, array-place}
-use Rattle.fold_scan.specs.Noted.{destIn}
+use Rattle.fold_climb.proofs.Found.{dest, array_place}
+use Rattle.fold_scan.specs.Noted.{dest_in}
 use Rattle.fold_looked.specs.Looked.{Looking, LooksInto, LooksAt, LooksAll, LooksCopies}
-use Rattle.fold_looked.proofs.Behind.{copies-behind, dynamics-behind, behind-few}
+use Rattle.fold_looked.proofs.Behind.{copies_behind, dynamics_behind, behind_few}
 
 -- a family is found, its marks are cleared, its members are held against the dynamic marks
-pub looks-into : (table : List ℕ) (shp : ℕ) (v : ValueId) (dynamic clear marks after : Marks) (room members : List ℕ) (found : Found) (r : Bool)
+pub looks_into : (table : List ℕ) (shp : ℕ) (v : ValueId) (dynamic clear marks after : Marks) (room members : List ℕ) (found : Found) (r : Bool)
     → FindsFamily table shp v clear marks room members found → ClearsMembers members found.members marks after → DynamicIndex members found.members dynamic r
     → LooksInto table shp v dynamic clear after room r
-looks-into table shp v dynamic clear marks after room members found r finds clears index τ is k ss h =
-    let f = finds τ is k.rows (le_trans (copies-few τ is) k.short) ss h k.few k.wide k.cleared in
-    let again : after ≡ clear = clears f.listed ∙ ap (λ n. replicate n false) (ap length f.same ∙ family-length τ v is) ∙ sym k.cleared in
-    (again, index τ v is (subst (Members members found.members) f.same f.listed) k.dynamic-all)
+looks_into table shp v dynamic clear marks after room members found r finds clears index τ is k ss h =
+    let f = finds τ is k.rows (le_trans (copies_few τ is) k.short) ss h k.few k.wide k.cleared in
+    let again : after ≡ clear = clears f.listed ∙ ap (λ n. replicate n false) (ap length f.same ∙ family_length τ v is) ∙ sym k.cleared in
+    (again, index τ v is (subst (Members members found.members) f.same f.listed) k.dynamic_all)
 
 -- the dest of the array in a slot is its first field
-pub looks-at : (s facts : List ℕ) (slot : ℕ) (shapes table : List ℕ) (dynamic clear after : Marks) (room : List ℕ) (r : Bool) (v : ValueId) (kind shp : ℕ)
-    → kind ≡ kindIn facts slot → kind ≡ 16 → v.0 ≡ destIn s facts slot → shp ≡ get_or shapes v.0 0 → LooksInto table shp v dynamic clear after room r
+pub looks_at : (s facts : List ℕ) (slot : ℕ) (shapes table : List ℕ) (dynamic clear after : Marks) (room : List ℕ) (r : Bool) (v : ValueId) (kind shp : ℕ)
+    → kind ≡ kind_in facts slot → kind ≡ 16 → v.0 ≡ dest_in s facts slot → shp ≡ get_or shapes v.0 0 → LooksInto table shp v dynamic clear after room r
     → LooksAt s facts slot shapes table dynamic clear after room r
-looks-at s facts slot shapes table dynamic clear after room r v kind shp ks ka ds ss looks σ τ is b i eligible k sh l at =
-    elim (array-place b [] false (drop (place_in facts slot) s) i _ at.read (sym at.kind ∙ sym ks ∙ ka)) [
+looks_at s facts slot shapes table dynamic clear after room r v kind shp ks ka ds ss looks σ τ is b i eligible k sh l at =
+    elim (array_place b [] false (drop (place_in facts slot) s) i _ at.read (sym at.kind ∙ sym ks ∙ ka)) [
       | dest w g a low ↦
           let z : v ≡ w = ap (λ (x : ℕ). record { 0 = x }) (ds ∙ sym a) in
           let h : v.0 < length τ.recorded = rw (z, l) low in
@@ -58,9 +58,9 @@ looks-at s facts slot shapes table dynamic clear after room r v kind shp ks ka d
 abbrev pub FlagAt : Types → List Instruction → List Bool → ℕ → Type 0
 FlagAt τ all looked k =
     (d : ValueId)
-    → kindNumber (get_or all k noInstruction).kind ≡ 16
-    → buildDest (get_or all k noInstruction).kind ≡ some d
-    → get_or looked k false ≡ hasDynamicIndex τ d (behindPhis all)
+    → kind_number (get_or all k no_instruction).kind ≡ 16
+    → build_dest (get_or all k no_instruction).kind ≡ some d
+    → get_or looked k false ≡ has_dynamic_index τ d (behind_phis all)
 
 module _ (s facts : List ℕ) (first count : ℕ) (shapes table : List ℕ) (dynamic clear : Marks) (before : List Bool) where
   -- a block whose copies and dynamic marks stand
@@ -71,7 +71,7 @@ module _ (s facts : List ℕ) (first count : ℕ) (shapes table : List ℕ) (dyn
     pub bounds : Bounds
     pub eligible : List Bool
     pub room : List ℕ
-    pub looking : Looking types (behindPhis all) table dynamic clear room
+    pub looking : Looking types (behind_phis all) table dynamic clear room
     pub shaped : ShapesAt settings types shapes eligible
     pub values : length types.recorded ≡ bounds.next
     pub code : InstructionsIn bounds s facts first all
@@ -88,7 +88,7 @@ module _ (s facts : List ℕ) (first count : ℕ) (shapes table : List ℕ) (dyn
 
   module _ (family : Marks) (looked : List Bool) (members : List ℕ) (j : ℕ) (inv : Flagging family looked members j) where
     -- what is known of the block is so where the next array is looked at
-    known : (x : Standing) → Looking x.types (behindPhis x.all) table dynamic family members
+    known : (x : Standing) → Looking x.types (behind_phis x.all) table dynamic family members
     known x =
         let k = x.looking in
         record {
@@ -97,14 +97,14 @@ module _ (s facts : List ℕ) (first count : ℕ) (shapes table : List ℕ) (dyn
           few = k.few;
           wide = omega (arith, inv.room);
           cleared = inv.cleared x ∙ k.cleared;
-          dynamic-all = k.dynamic-all;
+          dynamic_all = k.dynamic_all;
         }
 
     -- the next flag
-    pub flag-on : j < count → (after : Marks) (behind : List ℕ) (r : Bool) (flags : List Bool)
+    pub flag_on : j < count → (after : Marks) (behind : List ℕ) (r : Bool) (flags : List Bool)
         → LooksAt s facts (first + j) shapes table dynamic family after members r → length behind ≡ length members → flags ≡ set looked j r
         → Flagging after flags behind (j + 1)
-    flag-on h after behind r flags looks lm e =
+    flag_on h after behind r flags looks lm e =
         record {
           long = ap length e ∙ length-set looked j r ∙ inv.long;
           room = lm ∙ inv.room;
@@ -113,11 +113,11 @@ module _ (s facts : List ℕ) (first count : ℕ) (shapes table : List ℕ) (dyn
         }
       where
         found : (x : Standing)
-            → (after ≡ family) × ((d : ValueId) → kindNumber (get_or x.all j noInstruction).kind ≡ 16 → buildDest (get_or x.all j noInstruction).kind ≡ some d
-            → r ≡ hasDynamicIndex x.types d (behindPhis x.all))
+            → (after ≡ family) × ((d : ValueId) → kind_number (get_or x.all j no_instruction).kind ≡ 16 → build_dest (get_or x.all j no_instruction).kind ≡ some d
+            → r ≡ has_dynamic_index x.types d (behind_phis x.all))
         found x =
             let code = x.code j (omega (arith, x.counted)) in
-            looks x.settings x.types (behindPhis x.all) x.bounds (get_or x.all j noInstruction) x.eligible (known x) x.shaped x.values code
+            looks x.settings x.types (behind_phis x.all) x.bounds (get_or x.all j no_instruction) x.eligible (known x) x.shaped x.values code
 
         here : (x : Standing) (k : ℕ) → k ≡ j → FlagAt x.types x.all flags k
         here x k z d a o = rw (e, z, get_or-set_same looked j r false (omega (arith, inv.long, x.few, x.wide))) ((found x).1 d (rw z at a) (rw z at o))
@@ -126,8 +126,8 @@ module _ (s facts : List ℕ) (first count : ℕ) (shapes table : List ℕ) (dyn
         there x k z d a o = rw (e, get_or-set_other looked j k r false (λ y. omega arith)) (inv.each x k z d a o)
 
     -- all of them
-    pub flags-all : count ≤ j → LooksAll s facts first count shapes table dynamic clear before looked
-    flags-all h σ τ all b eligible room k sh v code c few wide = record { each = λ i d l. inv.each block i (omega arith) d }
+    pub flags_all : count ≤ j → LooksAll s facts first count shapes table dynamic clear before looked
+    flags_all h σ τ all b eligible room k sh v code c few wide = record { each = λ i d l. inv.each block i (omega arith) d }
       where
         block : Standing
         block =
@@ -148,20 +148,20 @@ module _ (s facts : List ℕ) (first count : ℕ) (shapes table : List ℕ) (dyn
             }
 
 -- a block is scanned for its copies first
-pub looks-copies : (s : List ℕ) (b : Bounds) (facts : List ℕ) (first count : ℕ) (shapes zeros table : List ℕ)
+pub looks_copies : (s : List ℕ) (b : Bounds) (facts : List ℕ) (first count : ℕ) (shapes zeros table : List ℕ)
     → (none dynamic clear : Marks) (before after : List Bool)
     → ScanCopies s b facts first count zeros table none dynamic → zeros ≡ replicate 640 0 → (b.next ≤ 256 → clear ≡ replicate b.next false)
     → LooksAll s facts first count shapes table dynamic clear before after
     → LooksCopies s b facts first count shapes none before after
-looks-copies s b facts first count shapes zeros table none dynamic clear before after scans z cl looks σ τ all eligible g sh code c few wide e =
+looks_copies s b facts first count shapes zeros table none dynamic clear before after scans z cl looks σ τ all eligible g sh code c few wide e =
     let x = scans b.list τ all g.known.rows g.rows code c few z in
     looks σ τ all b eligible (replicate 256 0)
     (record {
-      rows = subst (RowsAt table) (copies-behind τ all) x.copied_all;
-      short = le_trans (behind-few all) (omega arith);
+      rows = subst (RowsAt table) (copies_behind τ all) x.copied_all;
+      short = le_trans (behind_few all) (omega arith);
       few = omega (arith, g.values, g.few);
       wide = omega (arith, length-replicate {A = ℕ} 256 0);
       cleared = cl g.few ∙ ap (λ (m : ℕ). replicate m false) (sym g.values);
-      dynamic-all = x.dynamic-all ∙ rw e (dynamics-behind τ (replicate (length τ.recorded) false) all);
+      dynamic_all = x.dynamic_all ∙ rw e (dynamics_behind τ (replicate (length τ.recorded) false) all);
     })
     sh g.values code c few wide

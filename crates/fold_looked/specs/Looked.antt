@@ -3,40 +3,40 @@ use Rattle.std.specs.Prelude.{ℕ, ◌≤◌, ◌<◌, ◌≡◌, List, Bool, fa
 use Rattle.std.proofs.Math.Option.{some}
 use Rattle.mir.specs.declared.ValueId.{ValueId}
 use Rattle.mir.specs.Syntax.{Instruction}
-use Rattle.mir.specs.Reads.{kindNumber}
-use Rattle.mir.specs.Lookup.{Types, valueRow, shape}
-use Rattle.mir.specs.Most.{mostValues, mostInstructions}
-use Rattle.mir.specs.Phis.{behindPhis}
+use Rattle.mir.specs.Reads.{kind_number}
+use Rattle.mir.specs.Lookup.{Types, value_row, shape}
+use Rattle.mir.specs.Most.{most_values, most_instructions}
+use Rattle.mir.specs.Phis.{behind_phis}
 use Rattle.bytes_field.specs.declared.Bounds.{Bounds}
-use Rattle.bytes_index.specs.Table.{recordedIn, kindIn}
-use Rattle.bytes_index.specs.Code.{noInstruction, InstructionIn, InstructionsIn}
+use Rattle.bytes_index.specs.Table.{recorded_in, kind_in}
+use Rattle.bytes_index.specs.Code.{no_instruction, InstructionIn, InstructionsIn}
 use Rattle.fold.specs.declared.Settings.{Settings}
-use Rattle.fold.specs.Numbers.{arrayKind}
-use Rattle.fold.specs.Family.{Marks, buildDest, hasDynamicIndex}
+use Rattle.fold.specs.Numbers.{array_kind}
+use Rattle.fold.specs.Family.{Marks, build_dest, has_dynamic_index}
 use Rattle.fold.specs.Tables.{ShapesAt, Ground}
 use Rattle.fold_family.specs.Copies.{copies, RowsAt, dynamics}
 
 -- none of the slots from one to another holds a MakeFixedArray
 abbrev pub NoneArrays : List ℕ → ℕ → ℕ → Type 0
-NoneArrays facts from to = (slot : ℕ) → from ≤ slot → slot < to → kindIn facts slot ≡ arrayKind → ⊥
+NoneArrays facts from to = (slot : ℕ) → from ≤ slot → slot < to → kind_in facts slot ≡ array_kind → ⊥
 
 -- what is known of a block where its families are found: its instructions, its copies in their table, and its dynamic marks
 pub record Looking (τ : Types) (is : List Instruction) (table : List ℕ) (dynamic clear : Marks) (room : List ℕ) : Type 0 where
   pub rows : RowsAt table (copies τ is)
-  pub short : length is ≤ mostInstructions
-  pub few : length τ.recorded ≤ mostValues
-  pub wide : mostValues ≤ length room
+  pub short : length is ≤ most_instructions
+  pub few : length τ.recorded ≤ most_values
+  pub wide : most_values ≤ length room
   pub cleared : clear ≡ replicate (length τ.recorded) false
-  pub dynamic-all : dynamic ≡ dynamics (replicate (length τ.recorded) false) is
+  pub dynamic_all : dynamic ≡ dynamics (replicate (length τ.recorded) false) is
 
 -- the promises: of the answer that the family of v is looked into so, whose marks are clear again behind it,
 abbrev pub LooksInto : List ℕ → ℕ → ValueId → Marks → Marks → Marks → List ℕ → Bool → Type 0
 LooksInto table shp v dynamic clear after room r =
     (τ : Types) (is : List Instruction)
     → Looking τ is table dynamic clear room
-    → shp ≡ shape (valueRow τ v)
+    → shp ≡ shape (value_row τ v)
     → v.0 < length τ.recorded
-    → (after ≡ clear) × (r ≡ hasDynamicIndex τ v is)
+    → (after ≡ clear) × (r ≡ has_dynamic_index τ v is)
 
 -- of the same for the build in a slot, where that is an array,
 abbrev pub LooksAt : List ℕ → List ℕ → ℕ → List ℕ → List ℕ → Marks → Marks → Marks → List ℕ → Bool → Type 0
@@ -46,40 +46,40 @@ LooksAt s facts slot shapes table dynamic clear after room r =
     → ShapesAt σ τ shapes eligible
     → length τ.recorded ≡ b.next
     → InstructionIn b s facts slot i
-    → (after ≡ clear) × ((d : ValueId) → kindNumber i.kind ≡ arrayKind → buildDest i.kind ≡ some d → r ≡ hasDynamicIndex τ d is)
+    → (after ≡ clear) × ((d : ValueId) → kind_number i.kind ≡ array_kind → build_dest i.kind ≡ some d → r ≡ has_dynamic_index τ d is)
 
 -- each array that is built among some instructions has its flag, by what stands behind their phis
 pub record ArraysLooked (τ : Types) (all : List Instruction) (looked : List Bool) : Type 0 where
   pub each :
       (j : ℕ) (d : ValueId)
       → j < length all
-      → kindNumber (get_or all j noInstruction).kind ≡ arrayKind
-      → buildDest (get_or all j noInstruction).kind ≡ some d
-      → get_or looked j false ≡ hasDynamicIndex τ d (behindPhis all)
+      → kind_number (get_or all j no_instruction).kind ≡ array_kind
+      → build_dest (get_or all j no_instruction).kind ≡ some d
+      → get_or looked j false ≡ has_dynamic_index τ d (behind_phis all)
 
 -- of the flags of a block whose copies and dynamic marks stand,
 abbrev pub LooksAll : List ℕ → List ℕ → ℕ → ℕ → List ℕ → List ℕ → Marks → Marks → List Bool → List Bool → Type 0
 LooksAll s facts first count shapes table dynamic clear before after =
     (σ : Settings) (τ : Types) (all : List Instruction) (b : Bounds) (eligible : List Bool) (room : List ℕ)
-    → Looking τ (behindPhis all) table dynamic clear room
+    → Looking τ (behind_phis all) table dynamic clear room
     → ShapesAt σ τ shapes eligible
     → length τ.recorded ≡ b.next
     → InstructionsIn b s facts first all
     → length all ≡ count
-    → count ≤ mostInstructions
-    → mostInstructions ≤ length before
+    → count ≤ most_instructions
+    → most_instructions ≤ length before
     → ArraysLooked τ all after
 
 -- of the flags of a block that is scanned, where the dynamic marks are clear before,
 abbrev pub LooksCopies : List ℕ → Bounds → List ℕ → ℕ → ℕ → List ℕ → Marks → List Bool → List Bool → Type 0
 LooksCopies s b facts first count shapes dynamic before after =
     (σ : Settings) (τ : Types) (all : List Instruction) (eligible : List Bool)
-    → Ground b s facts (recordedIn facts) τ
+    → Ground b s facts (recorded_in facts) τ
     → ShapesAt σ τ shapes eligible
     → InstructionsIn b s facts first all
     → length all ≡ count
-    → count ≤ mostInstructions
-    → mostInstructions ≤ length before
+    → count ≤ most_instructions
+    → most_instructions ≤ length before
     → dynamic ≡ replicate (length τ.recorded) false
     → ArraysLooked τ all after
 
@@ -87,10 +87,10 @@ LooksCopies s b facts first count shapes dynamic before after =
 abbrev pub FillsLooked : List ℕ → Bounds → List ℕ → ℕ → ℕ → List ℕ → List Bool → List Bool → Type 0
 FillsLooked s b facts first count shapes before after =
     (σ : Settings) (τ : Types) (all : List Instruction) (eligible : List Bool)
-    → Ground b s facts (recordedIn facts) τ
+    → Ground b s facts (recorded_in facts) τ
     → ShapesAt σ τ shapes eligible
     → InstructionsIn b s facts first all
     → length all ≡ count
-    → count ≤ mostInstructions
-    → mostInstructions ≤ length before
+    → count ≤ most_instructions
+    → most_instructions ≤ length before
     → ArraysLooked τ all after

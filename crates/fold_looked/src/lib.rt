@@ -2,7 +2,7 @@
 #![tactic(auto)]
 
 ghost use Rattle.std.specs.Prelude.{◌≡◌, false, ◌+◌, ◌≤◌};
-ghost use Rattle.mir.specs.Most.{mostSlots, mostValues};
+ghost use Rattle.mir.specs.Most.{most_slots, most_values};
 ghost use Rattle.fold_looked.specs.Looked.{NoneArrays, LooksInto, LooksAt, LooksAll, LooksCopies, FillsLooked};
 
 use bytes_field::Bounds;
@@ -74,7 +74,7 @@ fn look_all(
     family: &mut [bool],
     looked: &mut [bool],
 )
-    requires { first + count ≤ mostSlots }
+    requires { first + count ≤ most_slots }
     ensures { LooksAll s.now facts.now first count shapes.now copies.now dynamic.now
         family.old looked.old looked.new }
 {
@@ -107,7 +107,7 @@ fn look_copies(
     dynamic: &mut [bool],
     looked: &mut [bool],
 )
-    requires { (first + count ≤ mostSlots) × (b.next ≤ mostValues) }
+    requires { (first + count ≤ most_slots) × (b.next ≤ most_values) }
     ensures { LooksCopies s.now b facts.now first count shapes.now dynamic.old looked.old looked.new }
 {
     let mut copies: [u16; fold_family::SIZE] = [0; fold_family::SIZE];
@@ -137,7 +137,7 @@ pub fn fill_looked(
     shapes: &[u8],
     looked: &mut [bool],
 )
-    requires { first + count ≤ mostSlots }
+    requires { first + count ≤ most_slots }
     ensures { FillsLooked s.now b facts.now first count shapes.now looked.old looked.new }
 {
     let n = b.next as usize;

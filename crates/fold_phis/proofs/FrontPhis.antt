@@ -11,45 +11,45 @@ use Rattle.bytes_wire.specs.Parse.{ok}
 use Rattle.bytes_wire.specs.Number.{at16}
 use Rattle.mir.specs.declared.ValueId.{ValueId}
 use Rattle.mir.specs.declared.TypeId.{TypeId}
-use Rattle.bytes_wire.proofs.Inv.{both, image, and-inv, map-inv}
+use Rattle.bytes_wire.proofs.Inv.{both, image, and_inv, map_inv}
 use Rattle.mir.specs.Syntax.{Source, Instruction, InstructionKind}
 use Rattle.mir.specs.Syntax.{Assign, UnaryOp, BinaryOp, Call, Cast, Load, Store, Debug, Nop, Phi}
 use Rattle.mir.specs.Syntax.{MakeTuple, ExtractTupleElement, MakeStruct, ExtractStructField, InsertField, InsertTuple, MakeFixedArray, AssertEq, HeapAllocCells}
-use Rattle.mir.specs.Reads.{kindNumber}
-use Rattle.bytes_field.specs.Decode.{definedOf, typeIdOf, list_of, source_of, phi_of}
+use Rattle.mir.specs.Reads.{kind_number}
+use Rattle.bytes_field.specs.Decode.{defined_of, type_id_of, list_of, source_of, phi_of}
 use Rattle.bytes_field.specs.declared.Bounds.{Bounds}
-use Rattle.bytes_operands.specs.Fields.{fieldsPlace}
-use Rattle.bytes_operands.proofs.Instruction.{instruction-fields}
-use Rattle.bytes_index.specs.Table.{place_in, end_in, kindIn}
-use Rattle.bytes_index.specs.Code.{noInstruction, InstructionsIn}
+use Rattle.bytes_operands.specs.Fields.{fields_place}
+use Rattle.bytes_operands.proofs.Instruction.{instruction_fields}
+use Rattle.bytes_index.specs.Table.{place_in, end_in, kind_in}
+use Rattle.bytes_index.specs.Code.{no_instruction, InstructionsIn}
 use Rattle.fold.specs.declared.Settings.{Settings}
-use Rattle.mir.specs.Lookup.{Types, valueRow, shape, isTuple, isStruct, any}
+use Rattle.mir.specs.Lookup.{Types, value_row, shape, is_tuple, is_struct, any}
 use Rattle.fold.specs.Tables.{ShapesAt}
-use Rattle.fold.specs.Fold.{aggregatePhi, skipped}
-use Rattle.fold_climb.proofs.Found.{dest-at}
-use Rattle.fold_scan.specs.Noted.{destIn}
+use Rattle.fold.specs.Fold.{aggregate_phi, skipped}
+use Rattle.fold_climb.proofs.Found.{dest_at}
+use Rattle.fold_scan.specs.Noted.{dest_in}
 use Rattle.fold_phis.specs.Skipped.{TellsPhi, Skips}
 
 -- a phi's dest is its first field
 data PhiAt (next : ℕ) (t : List ℕ) (i : InstructionKind) : Type 0 where
-  phi-at : (d : ValueId) (y : TypeId) (ss : List Source) → i ≡ Phi d y ss → d.0 ≡ at16 t 0 → d.0 < next → PhiAt next t i
+  phi_at : (d : ValueId) (y : TypeId) (ss : List Source) → i ≡ Phi d y ss → d.0 ≡ at16 t 0 → d.0 < next → PhiAt next t i
 
-phi-dest : (b : Bounds) (seen : List Bool) (t : List ℕ) (i : InstructionKind) (n : ℕ) → phi_of b seen t ≡ ok i n → PhiAt b.next t i
+phi_dest : (b : Bounds) (seen : List Bool) (t : List ℕ) (i : InstructionKind) (n : ℕ) → phi_of b seen t ≡ ok i n → PhiAt b.next t i
 unfolding phi_of
-phi-dest b seen t i n e =
-    elim (and-inv t (definedOf b.next seen t) _ e) [
+phi_dest b seen t i n e =
+    elim (and_inv t (defined_of b.next seen t) _ e) [
       | both d m k p q r ↦
-          elim (and-inv (drop m t) (typeIdOf b.types (drop m t)) _ q) [
+          elim (and_inv (drop m t) (type_id_of b.types (drop m t)) _ q) [
             | both y m' k' p' q' r' ↦
-                elim (map-inv (λ ss. Phi d y ss) (list_of b.list (source_of b) (drop m' (drop m t))) q') [
-                  | image ss f g ↦ let h = dest-at b.next seen t p in phi-at d y ss g h.0 h.1
+                elim (map_inv (λ ss. Phi d y ss) (list_of b.list (source_of b) (drop m' (drop m t))) q') [
+                  | image ss f g ↦ let h = dest_at b.next seen t p in phi_at d y ss g h.0 h.1
                 ]
           ]
     ]
 
 -- no phi
-no_phi : (τ : Types) (i : InstructionKind) → (kindNumber i ≡ 9 → ⊥) → false ≡ aggregatePhi τ i
-unfolding aggregatePhi
+no_phi : (τ : Types) (i : InstructionKind) → (kind_number i ≡ 9 → ⊥) → false ≡ aggregate_phi τ i
+unfolding aggregate_phi
 no_phi τ (Assign d x t) h = refl
 no_phi τ (UnaryOp op d x) h = refl
 no_phi τ (BinaryOp op d x y) h = refl
@@ -71,20 +71,20 @@ no_phi τ (AssertEq x y) h = refl
 no_phi τ (HeapAllocCells d x) h = refl
 
 -- what the code says of the instruction in a slot
-module _ (s facts : List ℕ) (slot : ℕ) (shapes : List ℕ) (k : ℕ) (same : k ≡ kindIn facts slot) where
+module _ (s facts : List ℕ) (slot : ℕ) (shapes : List ℕ) (k : ℕ) (same : k ≡ kind_in facts slot) where
   pub tells_none : (k ≡ 9 → ⊥) → TellsPhi s facts slot shapes false
   tells_none l b σ τ eligible i f m at = no_phi τ i.kind (λ z. l (same ∙ at.kind ∙ z))
 
-  pub tells-phi : k ≡ 9 → (d x : ℕ) → d ≡ destIn s facts slot → x ≡ get_or shapes d 0 → (r : Bool) → r ≡ (eqb x 1 || eqb x 2) → TellsPhi s facts slot shapes r
-  unfolding aggregatePhi isTuple isStruct
-  tells-phi z d x p q r rs b σ τ eligible i f m at =
+  pub tells_phi : k ≡ 9 → (d x : ℕ) → d ≡ dest_in s facts slot → x ≡ get_or shapes d 0 → (r : Bool) → r ≡ (eqb x 1 || eqb x 2) → TellsPhi s facts slot shapes r
+  unfolding aggregate_phi is_tuple is_struct
+  tells_phi z d x p q r rs b σ τ eligible i f m at =
       let t = drop (place_in facts slot) s in
-      let w = instruction-fields b [] false t i (end_in facts slot - place_in facts slot) at.read in
+      let w = instruction_fields b [] false t i (end_in facts slot - place_in facts slot) at.read in
       let nine : get_or t 1 0 ≡ 9 = sym w.numbered ∙ sym (same ∙ at.kind) ∙ z in
-      elim (phi-dest b [] (drop (fieldsPlace t) t) i.kind w.size (rw nine at w.read)) [
-        | phi-at v y ss g a l ↦
+      elim (phi_dest b [] (drop (fields_place t) t) i.kind w.size (rw nine at w.read)) [
+        | phi_at v y ss g a l ↦
             let o : d ≡ v.0 = p ∙ sym a in
-            let h : x ≡ shape (valueRow τ v) = q ∙ ap (λ c. get_or shapes c 0) o ∙ f.shaped v.0 (rw m l) in
+            let h : x ≡ shape (value_row τ v) = q ∙ ap (λ c. get_or shapes c 0) o ∙ f.shaped v.0 (rw m l) in
             rs ∙ rw (g, h) refl
       ]
 
@@ -108,19 +108,19 @@ module _ {s facts : List ℕ} {first count : ℕ} {shapes : List ℕ} where
     unfolding skipped any
     head h r tell b σ τ eligible is f m a l =
         let g : k < length is = omega (arith, l) in
-        let e = tell b σ τ eligible (get_or is k noInstruction) f m (a k g) in
-        inv.left b σ τ eligible is f m a l ∙ rw (drop-cons is k noInstruction g) (ap (λ (x : Bool). x || skipped τ (drop (suc k) is)) (sym e))
+        let e = tell b σ τ eligible (get_or is k no_instruction) f m (a k g) in
+        inv.left b σ τ eligible is f m a l ∙ rw (drop-cons is k no_instruction g) (ap (λ (x : Bool). x || skipped τ (drop (suc k) is)) (sym e))
 
-    pub skip-on : k < count → (r : Bool) → TellsPhi s facts (first + k) shapes r → r ≡ false → Skipping s facts first count shapes (k + 1)
-    skip-on h r tell n =
+    pub skip_on : k < count → (r : Bool) → TellsPhi s facts (first + k) shapes r → r ≡ false → Skipping s facts first count shapes (k + 1)
+    skip_on h r tell n =
         let z : suc k ≡ k + 1 = omega arith in
         record { low = omega arith; small = inv.small; left = λ b σ τ eligible is f m a l. rw (n, z) at (head h r tell b σ τ eligible is f m a l) }
 
-    pub skip-found : k < count → (r : Bool) → TellsPhi s facts (first + k) shapes r → r ≡ true → Skips s facts first count shapes true
-    skip-found h r tell n b σ τ eligible is f m a l = sym (rw n at (head h r tell b σ τ eligible is f m a l))
+    pub skip_found : k < count → (r : Bool) → TellsPhi s facts (first + k) shapes r → r ≡ true → Skips s facts first count shapes true
+    skip_found h r tell n b σ τ eligible is f m a l = sym (rw n at (head h r tell b σ τ eligible is f m a l))
 
-    pub skip-none : count ≤ k → Skips s facts first count shapes false
+    pub skip_none : count ≤ k → Skips s facts first count shapes false
     unfolding skipped any
-    skip-none h b σ τ eligible is f m a l =
+    skip_none h b σ τ eligible is f m a l =
         let g : length is ≤ k = omega (arith, l) in
         sym (rw (drop_of_length-le is g) at (inv.left b σ τ eligible is f m a l))

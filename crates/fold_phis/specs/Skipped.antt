@@ -5,7 +5,7 @@ use Rattle.bytes_field.specs.declared.Bounds.{Bounds}
 use Rattle.bytes_index.specs.Code.{InstructionIn, InstructionsIn}
 use Rattle.fold.specs.declared.Settings.{Settings}
 use Rattle.mir.specs.Lookup.{Types}
-use Rattle.fold.specs.Fold.{aggregatePhi, skipped}
+use Rattle.fold.specs.Fold.{aggregate_phi, skipped}
 use Rattle.fold.specs.Tables.{ShapesAt}
 
 -- whether the instruction in a slot is a phi of a tuple or struct
@@ -15,7 +15,7 @@ TellsPhi s facts slot shapes answer =
     → ShapesAt σ τ shapes eligible
     → length τ.recorded ≡ b.next
     → InstructionIn b s facts slot i
-    → answer ≡ aggregatePhi τ i.kind
+    → answer ≡ aggregate_phi τ i.kind
 
 -- whether a block is skipped
 abbrev pub Skips : List ℕ → List ℕ → ℕ → ℕ → List ℕ → Bool → Type 0

@@ -2,7 +2,7 @@
 #![tactic(auto)]
 
 ghost use Rattle.std.specs.Prelude.{◌+◌, ◌≤◌};
-ghost use Rattle.mir.specs.Most.{mostSlots};
+ghost use Rattle.mir.specs.Most.{most_slots};
 ghost use Rattle.fold_phis.specs.Skipped.{TellsPhi, Skips};
 
 use mir::{kind, shape};
@@ -25,7 +25,7 @@ fn aggregate_phi(s: &[u8], facts: &[u16], slot: u16, shapes: &[u8]) -> bool
 
 // Whether a block is skipped: one of its phis is a tuple or struct.
 pub fn is_skipped(s: &[u8], facts: &[u16], first: u16, count: u16, shapes: &[u8]) -> bool
-    requires { first + count ≤ mostSlots }
+    requires { first + count ≤ most_slots }
     ensures { Skips s.now facts.now first count shapes.now result }
 {
     let mut k: u16 = 0;

@@ -9,17 +9,17 @@ use lib.ListN.{length, get_or, set, replicate, length-set, length-replicate}
 use lib.Dec.{eqb}
 use Rattle.mir.specs.declared.ValueId.{ValueId}
 use Rattle.mir.specs.Syntax.{InstructionKind, Instruction, Block}
-use Rattle.mir.specs.Reads.{reads, counted, terminatorReads}
+use Rattle.mir.specs.Reads.{reads, counted, terminator_reads}
 use Rattle.mir.specs.Lookup.{any}
-use Rattle.fold.specs.Family.{Marks, marked, readsOne, readElsewhere}
+use Rattle.fold.specs.Family.{Marks, marked, reads_one, read_elsewhere}
 use Rattle.fold_family.specs.Copies.{meets}
 use Rattle.fold_family.specs.Search.{Members}
-use Rattle.fold_family.proofs.Dynamic.{meets-clear, meets-set}
-use Rattle.fold_readers.specs.Readers.{seenBy, noteReader, readVia, readInstruction, readInstructions, readBlock, readBlocks, foreign, foreigners, ReadElsewhere}
+use Rattle.fold_family.proofs.Dynamic.{meets_clear, meets_set}
+use Rattle.fold_readers.specs.Readers.{seen_by, note_reader, read_via, read_instruction, read_instructions, read_block, read_blocks, foreign, foreigners, ReadElsewhere}
 
 -- what a read in block k makes of a number, as block own sees it
-seen-foreign : (own k x : ℕ) → own < 254 → foreign own (seenBy k x) ≡ cond (eqb k own) (foreign own x) true
-seen-foreign own k x l = zeros (eqb x 0) refl
+seen_foreign : (own k x : ℕ) → own < 254 → foreign own (seen_by k x) ≡ cond (eqb k own) (foreign own x) true
+seen_foreign own k x l = zeros (eqb x 0) refl
   where
     next : (k ≡ own → ⊥) → foreign own (k + 1) ≡ true
     next h = let a : (k + 1 ≡ 0 → ⊥) = λ z. omega arith in let b : (k + 1 ≡ own + 1 → ⊥) = λ z. h (omega arith) in rw (ne_eqb (k + 1) 0 a, ne_eqb (k + 1) (own + 1) b)
@@ -48,44 +48,44 @@ seen-foreign own k x l = zeros (eqb x 0) refl
             many false g = several
 
 -- what it makes of the table
-note-foreign : (own k : ℕ) (r : List ℕ) (v : ℕ) → own < 254 → foreigners own (noteReader k r v) ≡ cond (eqb k own) (foreigners own r) (set (foreigners own r) v true)
-note-foreign own k [] v l = go (eqb k own)
+note_foreign : (own k : ℕ) (r : List ℕ) (v : ℕ) → own < 254 → foreigners own (note_reader k r v) ≡ cond (eqb k own) (foreigners own r) (set (foreigners own r) v true)
+note_foreign own k [] v l = go (eqb k own)
   where
     go : (b : Bool) → ◌≡◌ {A = List Bool} [] (cond b [] [])
     go true = refl
     go false = refl
-note-foreign own k (x ∷ r) zero l = ap (λ y. y ∷ foreigners own r) (seen-foreign own k x l) ∙ go (eqb k own)
+note_foreign own k (x ∷ r) zero l = ap (λ y. y ∷ foreigners own r) (seen_foreign own k x l) ∙ go (eqb k own)
   where
     go : (b : Bool) → cond b (foreign own x) true ∷ foreigners own r ≡ cond b (foreigners own (x ∷ r)) (true ∷ foreigners own r)
     go true = refl
     go false = refl
-note-foreign own k (x ∷ r) (suc v) l = ap (λ y. foreign own x ∷ y) (note-foreign own k r v l) ∙ go (eqb k own)
+note_foreign own k (x ∷ r) (suc v) l = ap (λ y. foreign own x ∷ y) (note_foreign own k r v l) ∙ go (eqb k own)
   where
     go : (b : Bool) → foreign own x ∷ cond b (foreigners own r) (set (foreigners own r) v true) ≡ cond b (foreigners own (x ∷ r)) (foreign own x ∷ set (foreigners own r) v true)
     go true = refl
     go false = refl
 
 -- reads keep the table's length
-via-length : (own : ℕ) (r : List ℕ) (vs : List ValueId) → length (readVia own r vs) ≡ length r
-unfolding readVia
-via-length own r [] = refl
-via-length own r (v ∷ vs) = via-length own (noteReader own r v.0) vs ∙ length-set r v.0 (seenBy own (get_or r v.0 0))
+via_length : (own : ℕ) (r : List ℕ) (vs : List ValueId) → length (read_via own r vs) ≡ length r
+unfolding read_via
+via_length own r [] = refl
+via_length own r (v ∷ vs) = via_length own (note_reader own r v.0) vs ∙ length-set r v.0 (seen_by own (get_or r v.0 0))
 
-instruction-length : (own : ℕ) (r : List ℕ) (i : InstructionKind) → length (readInstruction own r i) ≡ length r
-instruction-length own r i = go (counted false i)
+instruction_length : (own : ℕ) (r : List ℕ) (i : InstructionKind) → length (read_instruction own r i) ≡ length r
+instruction_length own r i = go (counted false i)
   where
-    go : (b : Bool) → length (cond b (readVia own r (reads i)) r) ≡ length r
-    go true = via-length own r (reads i)
+    go : (b : Bool) → length (cond b (read_via own r (reads i)) r) ≡ length r
+    go true = via_length own r (reads i)
     go false = refl
 
-instructions-length : (own : ℕ) (r : List ℕ) (is : List Instruction) → length (readInstructions own r is) ≡ length r
-unfolding readInstructions
-instructions-length own r [] = refl
-instructions-length own r (i ∷ is) = instructions-length own (readInstruction own r i.kind) is ∙ instruction-length own r i.kind
+instructions_length : (own : ℕ) (r : List ℕ) (is : List Instruction) → length (read_instructions own r is) ≡ length r
+unfolding read_instructions
+instructions_length own r [] = refl
+instructions_length own r (i ∷ is) = instructions_length own (read_instruction own r i.kind) is ∙ instruction_length own r i.kind
 
-foreign-length : (own : ℕ) (r : List ℕ) → length (foreigners own r) ≡ length r
-foreign-length own [] = refl
-foreign-length own (x ∷ r) = ap suc (foreign-length own r)
+foreign_length : (own : ℕ) (r : List ℕ) → length (foreigners own r) ≡ length r
+foreign_length own [] = refl
+foreign_length own (x ∷ r) = ap suc (foreign_length own r)
 
 -- a law of and, or
 spread : (x g a b : Bool) → ((x || (g && a)) || (g && b)) ≡ (x || (g && (a || b)))
@@ -97,29 +97,29 @@ module _ (m : Marks) (own : ℕ) (l : own < 254) where
   abbrev seen : List ℕ → Bool
   seen r = meets m (foreigners own r)
 
-  one-read : (k : ℕ) (r : List ℕ) (v : ValueId) → length r ≡ length m → seen (noteReader k r v.0) ≡ (seen r || (not (eqb k own) && marked m v))
-  one-read k r v h = ap (λ d. meets m d) (note-foreign own k r v.0 l) ∙ go (eqb k own)
+  one_read : (k : ℕ) (r : List ℕ) (v : ValueId) → length r ≡ length m → seen (note_reader k r v.0) ≡ (seen r || (not (eqb k own) && marked m v))
+  one_read k r v h = ap (λ d. meets m d) (note_foreign own k r v.0 l) ∙ go (eqb k own)
     where
       go : (b : Bool) → meets m (cond b (foreigners own r) (set (foreigners own r) v.0 true)) ≡ (seen r || (not b && marked m v))
       go true = sym (or-false (seen r))
-      go false = meets-set m (foreigners own r) v.0 (foreign-length own r ∙ h)
+      go false = meets_set m (foreigners own r) v.0 (foreign_length own r ∙ h)
 
-  via-read : (k : ℕ) (r : List ℕ) (vs : List ValueId) → length r ≡ length m → seen (readVia k r vs) ≡ (seen r || (not (eqb k own) && any (marked m) vs))
-  unfolding readVia any
-  via-read k r [] h = go (not (eqb k own))
+  via_read : (k : ℕ) (r : List ℕ) (vs : List ValueId) → length r ≡ length m → seen (read_via k r vs) ≡ (seen r || (not (eqb k own) && any (marked m) vs))
+  unfolding read_via any
+  via_read k r [] h = go (not (eqb k own))
     where
       go : (b : Bool) → seen r ≡ (seen r || (b && false))
       go true = sym (or-false (seen r))
       go false = sym (or-false (seen r))
-  via-read k r (v ∷ vs) h =
-      via-read k (noteReader k r v.0) vs (length-set r v.0 (seenBy k (get_or r v.0 0)) ∙ h)
-      ∙ ap (λ x. x || (not (eqb k own) && any (marked m) vs)) (one-read k r v h)
+  via_read k r (v ∷ vs) h =
+      via_read k (note_reader k r v.0) vs (length-set r v.0 (seen_by k (get_or r v.0 0)) ∙ h)
+      ∙ ap (λ x. x || (not (eqb k own) && any (marked m) vs)) (one_read k r v h)
       ∙ spread (seen r) (not (eqb k own)) (marked m v) (any (marked m) vs)
 
-  instruction-read : (k : ℕ) (r : List ℕ) (i : InstructionKind) → length r ≡ length m → seen (readInstruction k r i) ≡ (seen r || (not (eqb k own) && (counted false i && any (marked m) (reads i))))
-  instruction-read k r i h = go (counted false i) (via-read k r (reads i) h)
+  instruction_read : (k : ℕ) (r : List ℕ) (i : InstructionKind) → length r ≡ length m → seen (read_instruction k r i) ≡ (seen r || (not (eqb k own) && (counted false i && any (marked m) (reads i))))
+  instruction_read k r i h = go (counted false i) (via_read k r (reads i) h)
     where
-      go : (b : Bool) → seen (readVia k r (reads i)) ≡ (seen r || (not (eqb k own) && any (marked m) (reads i))) → seen (cond b (readVia k r (reads i)) r) ≡ (seen r || (not (eqb k own) && (b && any (marked m) (reads i))))
+      go : (b : Bool) → seen (read_via k r (reads i)) ≡ (seen r || (not (eqb k own) && any (marked m) (reads i))) → seen (cond b (read_via k r (reads i)) r) ≡ (seen r || (not (eqb k own) && (b && any (marked m) (reads i))))
       go true e = e
       go false e = side (not (eqb k own))
         where
@@ -127,58 +127,58 @@ module _ (m : Marks) (own : ℕ) (l : own < 254) where
           side true = sym (or-false (seen r))
           side false = sym (or-false (seen r))
 
-  instructions-read : (k : ℕ) (r : List ℕ) (is : List Instruction) → length r ≡ length m → seen (readInstructions k r is) ≡ (seen r || (not (eqb k own) && any (λ i. counted false i.kind && any (marked m) (reads i.kind)) is))
-  unfolding readInstructions any
-  instructions-read k r [] h = go (not (eqb k own))
+  instructions_read : (k : ℕ) (r : List ℕ) (is : List Instruction) → length r ≡ length m → seen (read_instructions k r is) ≡ (seen r || (not (eqb k own) && any (λ i. counted false i.kind && any (marked m) (reads i.kind)) is))
+  unfolding read_instructions any
+  instructions_read k r [] h = go (not (eqb k own))
     where
       go : (b : Bool) → seen r ≡ (seen r || (b && false))
       go true = sym (or-false (seen r))
       go false = sym (or-false (seen r))
-  instructions-read k r (i ∷ is) h =
-      instructions-read k (readInstruction k r i.kind) is (instruction-length k r i.kind ∙ h)
-      ∙ ap (λ x. x || (not (eqb k own) && any (λ i. counted false i.kind && any (marked m) (reads i.kind)) is)) (instruction-read k r i.kind h)
+  instructions_read k r (i ∷ is) h =
+      instructions_read k (read_instruction k r i.kind) is (instruction_length k r i.kind ∙ h)
+      ∙ ap (λ x. x || (not (eqb k own) && any (λ i. counted false i.kind && any (marked m) (reads i.kind)) is)) (instruction_read k r i.kind h)
       ∙ spread (seen r) (not (eqb k own)) (counted false i.kind && any (marked m) (reads i.kind)) (any (λ i. counted false i.kind && any (marked m) (reads i.kind)) is)
 
-  block_read : (k : ℕ) (r : List ℕ) (x : Block) → length r ≡ length m → seen (readBlock k r x) ≡ (seen r || (not (eqb k own) && readsOne m x))
-  unfolding readsOne
+  block_read : (k : ℕ) (r : List ℕ) (x : Block) → length r ≡ length m → seen (read_block k r x) ≡ (seen r || (not (eqb k own) && reads_one m x))
+  unfolding reads_one
   block_read k r x h =
-      via-read k (readInstructions k r x.instructions) (terminatorReads x.terminator) (instructions-length k r x.instructions ∙ h)
-      ∙ ap (λ y. y || (not (eqb k own) && any (marked m) (terminatorReads x.terminator))) (instructions-read k r x.instructions h)
-      ∙ spread (seen r) (not (eqb k own)) (any (λ i. counted false i.kind && any (marked m) (reads i.kind)) x.instructions) (any (marked m) (terminatorReads x.terminator))
+      via_read k (read_instructions k r x.instructions) (terminator_reads x.terminator) (instructions_length k r x.instructions ∙ h)
+      ∙ ap (λ y. y || (not (eqb k own) && any (marked m) (terminator_reads x.terminator))) (instructions_read k r x.instructions h)
+      ∙ spread (seen r) (not (eqb k own)) (any (λ i. counted false i.kind && any (marked m) (reads i.kind)) x.instructions) (any (marked m) (terminator_reads x.terminator))
 
-  blocks-read : (at : ℕ) (r : List ℕ) (ks : List Block) → length r ≡ length m → seen (readBlocks at r ks) ≡ (seen r || readElsewhere m own at ks)
-  unfolding readBlocks readElsewhere
-  blocks-read at r [] h = sym (or-false (seen r))
-  blocks-read at r (x ∷ ks) h =
-      blocks-read (suc at) (readBlock at r x) ks (via-length at (readInstructions at r x.instructions) (terminatorReads x.terminator) ∙ instructions-length at r x.instructions ∙ h)
-      ∙ ap (λ y. y || readElsewhere m own (suc at) ks) (block_read at r x h)
-      ∙ or_assoc (seen r) (not (eqb at own) && readsOne m x) (readElsewhere m own (suc at) ks)
+  blocks_read : (at : ℕ) (r : List ℕ) (ks : List Block) → length r ≡ length m → seen (read_blocks at r ks) ≡ (seen r || read_elsewhere m own at ks)
+  unfolding read_blocks read_elsewhere
+  blocks_read at r [] h = sym (or-false (seen r))
+  blocks_read at r (x ∷ ks) h =
+      blocks_read (suc at) (read_block at r x) ks (via_length at (read_instructions at r x.instructions) (terminator_reads x.terminator) ∙ instructions_length at r x.instructions ∙ h)
+      ∙ ap (λ y. y || read_elsewhere m own (suc at) ks) (block_read at r x h)
+      ∙ or_assoc (seen r) (not (eqb at own) && reads_one m x) (read_elsewhere m own (suc at) ks)
 
 -- at first no value is read
-foreign-none : (own n : ℕ) → foreigners own (replicate n 0) ≡ replicate n false
-foreign-none own zero = refl
-foreign-none own (suc n) = ap (λ y. false ∷ y) (foreign-none own n)
+foreign_none : (own n : ℕ) → foreigners own (replicate n 0) ≡ replicate n false
+foreign_none own zero = refl
+foreign_none own (suc n) = ap (λ y. false ∷ y) (foreign_none own n)
 
 -- the table of all blocks says where a family is read
-elsewhere : (m : Marks) (own n : ℕ) (ks : List Block) → own < 254 → length m ≡ n → meets m (foreigners own (readBlocks 0 (replicate n 0) ks)) ≡ readElsewhere m own 0 ks
+elsewhere : (m : Marks) (own n : ℕ) (ks : List Block) → own < 254 → length m ≡ n → meets m (foreigners own (read_blocks 0 (replicate n 0) ks)) ≡ read_elsewhere m own 0 ks
 elsewhere m own n ks l h =
-    blocks-read m own l 0 (replicate n 0) ks (length-replicate n 0 ∙ sym h)
-    ∙ ap (λ d. meets m d || readElsewhere m own 0 ks) (foreign-none own n)
-    ∙ ap (λ b. b || readElsewhere m own 0 ks) (meets-clear m n)
+    blocks_read m own l 0 (replicate n 0) ks (length-replicate n 0 ∙ sym h)
+    ∙ ap (λ d. meets m d || read_elsewhere m own 0 ks) (foreign_none own n)
+    ∙ ap (λ b. b || read_elsewhere m own 0 ks) (meets_clear m n)
 
 -- a stand-in for what there is no number for
-foreign-of : (own : ℕ) (r : List ℕ) (k : ℕ) → get_or (foreigners own r) k false ≡ foreign own (get_or r k 0)
-foreign-of own [] k = refl
-foreign-of own (x ∷ r) zero = refl
-foreign-of own (x ∷ r) (suc k) = foreign-of own r k
+foreign_of : (own : ℕ) (r : List ℕ) (k : ℕ) → get_or (foreigners own r) k false ≡ foreign own (get_or r k 0)
+foreign_of own [] k = refl
+foreign_of own (x ∷ r) zero = refl
+foreign_of own (x ∷ r) (suc k) = foreign_of own r k
 
 -- what the code looks up for member k: its number, and what it says
-pub foreign-at : (own : ℕ) (members reader : List ℕ) (k : ℕ) {p x : ℕ} {r : Bool}
+pub foreign_at : (own : ℕ) (members reader : List ℕ) (k : ℕ) {p x : ℕ} {r : Bool}
     → p ≡ get_or members k 0 → x ≡ get_or reader p 0 → r ≡ foreign own x → r ≡ get_or (foreigners own reader) (get_or members k 0) false
-foreign-at own members reader k ep ex er =
-    er ∙ ap (λ y. foreign own y) (ex ∙ ap (λ y. get_or reader y 0) ep) ∙ sym (foreign-of own reader (get_or members k 0))
+foreign_at own members reader k ep ex er =
+    er ∙ ap (λ y. foreign own y) (ex ∙ ap (λ y. get_or reader y 0) ep) ∙ sym (foreign_of own reader (get_or members k 0))
 
 -- and so the code's answer is the definition's
-pub elsewhere-found : (members : List ℕ) (n own : ℕ) (reader : List ℕ) {r : Bool}
+pub elsewhere_found : (members : List ℕ) (n own : ℕ) (reader : List ℕ) {r : Bool}
     → own < 254 → ((m : Marks) → Members members n m → r ≡ meets m (foreigners own reader)) → ReadElsewhere members n own reader r
-elsewhere-found members n own reader l f m ks a e = f m a ∙ ap (λ q. meets m (foreigners own q)) e ∙ elsewhere m own (length m) ks l refl
+elsewhere_found members n own reader l f m ks a e = f m a ∙ ap (λ q. meets m (foreigners own q)) e ∙ elsewhere m own (length m) ks l refl

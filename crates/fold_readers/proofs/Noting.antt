@@ -8,10 +8,10 @@ use lib.ListN.{length, get_or, drop}
 use lib.Seq.{drop-cons, drop-length}
 use Rattle.mir.specs.declared.ValueId.{ValueId}
 use Rattle.bytes_index.specs.Table.{ReadsIn}
-use Rattle.fold_readers.specs.Readers.{noteReader, readVia}
+use Rattle.fold_readers.specs.Readers.{note_reader, read_via}
 
-abbrev noValue : ValueId
-noValue = record { 0 = 0 }
+abbrev no_value : ValueId
+no_value = record { 0 = 0 }
 
 module _ (own : ℕ) (facts : List ℕ) (row n : ℕ) where
   -- k reads of the slot whose row begins at `row` are behind
@@ -19,14 +19,14 @@ module _ (own : ℕ) (facts : List ℕ) (row n : ℕ) where
     pub under : k ≤ n
     pub count : n ≡ get_or facts (row + 3) 0
     pub long : length r ≡ length r₀
-    pub left : (slot : ℕ) (vs : List ValueId) → row ≡ 387 + 20 * slot → ReadsIn facts slot vs → readVia own r₀ vs ≡ readVia own r (drop k vs)
+    pub left : (slot : ℕ) (vs : List ValueId) → row ≡ 387 + 20 * slot → ReadsIn facts slot vs → read_via own r₀ vs ≡ read_via own r (drop k vs)
 
   many : n ≡ get_or facts (row + 3) 0 → (slot : ℕ) (vs : List ValueId) → row ≡ 387 + 20 * slot → ReadsIn facts slot vs → n ≡ length vs
   many e slot vs q a = e ∙ ap (λ x. get_or facts (x + 3) 0) q ∙ a.many
 
-  pub via-again : (r₀ r r' : List ℕ) (k x : ℕ) → Via r₀ r k → k < n → x ≡ get_or facts (row + 4 + k) 0 → r' ≡ noteReader own r x → length r' ≡ length r → Via r₀ r' (k + 1)
-  unfolding readVia
-  via-again r₀ r r' k x u h ex f l =
+  pub via_again : (r₀ r r' : List ℕ) (k x : ℕ) → Via r₀ r k → k < n → x ≡ get_or facts (row + 4 + k) 0 → r' ≡ note_reader own r x → length r' ≡ length r → Via r₀ r' (k + 1)
+  unfolding read_via
+  via_again r₀ r r' k x u h ex f l =
       record {
         under = omega arith;
         count = u.count;
@@ -34,13 +34,13 @@ module _ (own : ℕ) (facts : List ℕ) (row n : ℕ) where
         left = λ slot vs q a.
             let p : k < length vs = omega (arith, many u.count slot vs q a) in
             let w : row + 4 + k ≡ 387 + 20 * slot + (4 + k) = omega arith in
-            let d : drop k vs ≡ get_or vs k noValue ∷ drop (k + 1) vs = rw (add-one k) (drop-cons vs k noValue p) in
-            let z : noteReader own r (get_or vs k noValue).0 ≡ r' = ap (λ y. noteReader own r y) (sym (ex ∙ ap (λ y. get_or facts y 0) w ∙ a.each k p)) ∙ sym f in
-            u.left slot vs q a ∙ ap (λ y. readVia own r y) d ∙ ap (λ y. readVia own y (drop (k + 1) vs)) z;
+            let d : drop k vs ≡ get_or vs k no_value ∷ drop (k + 1) vs = rw (add-one k) (drop-cons vs k no_value p) in
+            let z : note_reader own r (get_or vs k no_value).0 ≡ r' = ap (λ y. note_reader own r y) (sym (ex ∙ ap (λ y. get_or facts y 0) w ∙ a.each k p)) ∙ sym f in
+            u.left slot vs q a ∙ ap (λ y. read_via own r y) d ∙ ap (λ y. read_via own y (drop (k + 1) vs)) z;
       }
 
-  pub via-done : (r₀ r : List ℕ) (k : ℕ) → Via r₀ r k → n ≤ k → (slot : ℕ) (vs : List ValueId) → row ≡ 387 + 20 * slot → ReadsIn facts slot vs → r ≡ readVia own r₀ vs
-  unfolding readVia
-  via-done r₀ r k u h slot vs q a =
+  pub via_done : (r₀ r : List ℕ) (k : ℕ) → Via r₀ r k → n ≤ k → (slot : ℕ) (vs : List ValueId) → row ≡ 387 + 20 * slot → ReadsIn facts slot vs → r ≡ read_via own r₀ vs
+  unfolding read_via
+  via_done r₀ r k u h slot vs q a =
       let z : k ≡ length vs = omega (arith, u.under, many u.count slot vs q a) in
-      sym (u.left slot vs q a ∙ ap (λ y. readVia own r (drop y vs)) z ∙ ap (λ y. readVia own r y) (drop-length vs))
+      sym (u.left slot vs q a ∙ ap (λ y. read_via own r (drop y vs)) z ∙ ap (λ y. read_via own r y) (drop-length vs))

@@ -2,46 +2,46 @@
 use Rattle.std.specs.Prelude.{ℕ, suc, ◌+◌, ◌≡◌, List, [], ◌∷◌, map, Bool, false, cond, not, ◌&&◌, length, get_or, set, replicate, eqb}
 use Rattle.mir.specs.declared.ValueId.{ValueId}
 use Rattle.mir.specs.Syntax.{InstructionKind, Instruction, Block}
-use Rattle.mir.specs.Reads.{reads, counted, terminatorReads}
-use Rattle.fold.specs.Family.{Marks, readElsewhere}
+use Rattle.mir.specs.Reads.{reads, counted, terminator_reads}
+use Rattle.fold.specs.Family.{Marks, read_elsewhere}
 use Rattle.fold_family.specs.Search.{Members}
 
 -- the number of a value that several blocks read; blocks below the limit have one of their own
 abbrev pub several : ℕ
 several = 255
 
-abbrev pub blockLimit : ℕ
-blockLimit = 254
+abbrev pub block_limit : ℕ
+block_limit = 254
 
 -- a value's number in the table, behind a read in block own: 0 for none, k + 1 for block k alone
-abbrev pub seenBy : ℕ → ℕ → ℕ
-seenBy own x = cond (eqb x 0) (own + 1) (cond (eqb x (own + 1)) x several)
+abbrev pub seen_by : ℕ → ℕ → ℕ
+seen_by own x = cond (eqb x 0) (own + 1) (cond (eqb x (own + 1)) x several)
 
 -- a read of value v in block own
-abbrev pub noteReader : ℕ → List ℕ → ℕ → List ℕ
-noteReader own r v = set r v (seenBy own (get_or r v 0))
+abbrev pub note_reader : ℕ → List ℕ → ℕ → List ℕ
+note_reader own r v = set r v (seen_by own (get_or r v 0))
 
 -- some reads
-unfoldable pub readVia : ℕ → List ℕ → List ValueId → List ℕ
-readVia own r [] = r
-readVia own r (v ∷ vs) = readVia own (noteReader own r v.0) vs
+unfoldable pub read_via : ℕ → List ℕ → List ValueId → List ℕ
+read_via own r [] = r
+read_via own r (v ∷ vs) = read_via own (note_reader own r v.0) vs
 
 -- an instruction's, but not a Debug's
-abbrev pub readInstruction : ℕ → List ℕ → InstructionKind → List ℕ
-readInstruction own r i = cond (counted false i) (readVia own r (reads i)) r
+abbrev pub read_instruction : ℕ → List ℕ → InstructionKind → List ℕ
+read_instruction own r i = cond (counted false i) (read_via own r (reads i)) r
 
-unfoldable pub readInstructions : ℕ → List ℕ → List Instruction → List ℕ
-readInstructions own r [] = r
-readInstructions own r (i ∷ is) = readInstructions own (readInstruction own r i.kind) is
+unfoldable pub read_instructions : ℕ → List ℕ → List Instruction → List ℕ
+read_instructions own r [] = r
+read_instructions own r (i ∷ is) = read_instructions own (read_instruction own r i.kind) is
 
 -- a block's
-abbrev pub readBlock : ℕ → List ℕ → Block → List ℕ
-readBlock own r k = readVia own (readInstructions own r k.instructions) (terminatorReads k.terminator)
+abbrev pub read_block : ℕ → List ℕ → Block → List ℕ
+read_block own r k = read_via own (read_instructions own r k.instructions) (terminator_reads k.terminator)
 
 -- those of all blocks, counted from `at`
-unfoldable pub readBlocks : ℕ → List ℕ → List Block → List ℕ
-readBlocks at r [] = r
-readBlocks at r (k ∷ ks) = readBlocks (suc at) (readBlock at r k) ks
+unfoldable pub read_blocks : ℕ → List ℕ → List Block → List ℕ
+read_blocks at r [] = r
+read_blocks at r (k ∷ ks) = read_blocks (suc at) (read_block at r k) ks
 
 -- the number says that another block than own reads the value
 abbrev pub foreign : ℕ → ℕ → Bool
@@ -55,5 +55,5 @@ abbrev pub ReadElsewhere : List ℕ → ℕ → ℕ → List ℕ → Bool → Ty
 ReadElsewhere members n own reader r =
     (m : Marks) (ks : List Block)
     → Members members n m
-    → reader ≡ readBlocks 0 (replicate (length m) 0) ks
-    → r ≡ readElsewhere m own 0 ks
+    → reader ≡ read_blocks 0 (replicate (length m) 0) ks
+    → r ≡ read_elsewhere m own 0 ks

@@ -7,9 +7,9 @@ ghost use Rattle.mir.specs.Syntax.{Instruction, Block};
 ghost use Rattle.bytes_field.specs.declared.Bounds.{Bounds};
 ghost use Rattle.bytes_index.specs.Table.{ReadsIn, row_at};
 ghost use Rattle.bytes_index.specs.Code.{InstructionIn, BlockIn, CodeIn};
-ghost use Rattle.fold.specs.Numbers.{mostPlace};
-ghost use Rattle.fold_readers.specs.Readers.{blockLimit, seenBy, noteReader, readVia, readInstruction};
-ghost use Rattle.fold_readers.specs.Readers.{readBlock, readBlocks, foreign, ReadElsewhere};
+ghost use Rattle.fold.specs.Numbers.{most_place};
+ghost use Rattle.fold_readers.specs.Readers.{block_limit, seen_by, note_reader, read_via, read_instruction};
+ghost use Rattle.fold_readers.specs.Readers.{read_block, read_blocks, foreign, ReadElsewhere};
 
 use mir::{BlockId, ValueId, kind};
 
@@ -21,8 +21,8 @@ const BLOCKS: u16 = 254;
 
 // A value's number in the table, behind a read in block `own`.
 fn seen_by(own: u8, x: u8) -> u8
-    requires { own < blockLimit }
-    ensures { result ≡ seenBy own x }
+    requires { own < block_limit }
+    ensures { result ≡ seen_by own x }
 {
     if x == 0 {
         return own + 1;
@@ -35,8 +35,8 @@ fn seen_by(own: u8, x: u8) -> u8
 
 // Notes a read of `v` in block `own`.
 fn note_reader(own: u8, readers: &mut [u8], v: ValueId)
-    requires { own < blockLimit }
-    ensures { readers.new ≡ noteReader own readers.old v.0 }
+    requires { own < block_limit }
+    ensures { readers.new ≡ note_reader own readers.old v.0 }
 {
     let i = v.0 as usize;
     if i < readers.len() {
@@ -47,9 +47,9 @@ fn note_reader(own: u8, readers: &mut [u8], v: ValueId)
 
 // Notes the reads of the slot whose row begins at `row` as reads in block `own`.
 fn note_reads(own: u8, facts: &[u16], row: usize, readers: &mut [u8])
-    requires { (own < blockLimit) × (row < mostPlace) }
+    requires { (own < block_limit) × (row < most_place) }
     ensures { (slot : ℕ) (vs : List DeclaredValueId) → row ≡ row_at slot → ReadsIn facts.now slot vs
-        → readers.new ≡ readVia own readers.old vs }
+        → readers.new ≡ read_via own readers.old vs }
 {
     let n = table::number(facts, row + bytes_index::COUNT);
     let mut k: u16 = 0;
@@ -65,9 +65,9 @@ fn note_reads(own: u8, facts: &[u16], row: usize, readers: &mut [u8])
 
 // Notes the reads of the instruction whose row begins at `row`; a Debug's do not count.
 fn note_instruction(own: u8, facts: &[u16], row: usize, readers: &mut [u8])
-    requires { (own < blockLimit) × (row < mostPlace) }
+    requires { (own < block_limit) × (row < most_place) }
     ensures { (b : Bounds) (s : List ℕ) (slot : ℕ) (i : Instruction) → row ≡ row_at slot
-        → InstructionIn b s facts.now slot i → readers.new ≡ readInstruction own readers.old i.kind }
+        → InstructionIn b s facts.now slot i → readers.new ≡ read_instruction own readers.old i.kind }
 {
     let kind = table::number(facts, row + bytes_index::KIND);
     if kind == kind::DEBUG {
@@ -78,9 +78,9 @@ fn note_instruction(own: u8, facts: &[u16], row: usize, readers: &mut [u8])
 
 // Notes the reads of a block, its `count` instructions standing in the slots from `first` on, and its terminator behind them.
 fn note_block(own: u8, facts: &[u16], first: u16, count: u16, readers: &mut [u8])
-    requires { own < blockLimit }
+    requires { own < block_limit }
     ensures { (b : Bounds) (s : List ℕ) (x : Block) → BlockIn b s facts.now first x → length x.instructions ≡ count
-        → readers.new ≡ readBlock own readers.old x }
+        → readers.new ≡ read_block own readers.old x }
 {
     let rows = bytes_index::row_place(first, 0);
     let mut k: u16 = 0;
@@ -98,7 +98,7 @@ fn note_block(own: u8, facts: &[u16], first: u16, count: u16, readers: &mut [u8]
 
 // A block's number as the table has it.
 pub fn block_number(k: BlockId) -> u8
-    ensures { (result < blockLimit) × (k.0 < blockLimit → result ≡ k.0) }
+    ensures { (result < block_limit) × (k.0 < block_limit → result ≡ k.0) }
 {
     if k.0 < BLOCKS {
         return k.0 as u8;
@@ -108,8 +108,8 @@ pub fn block_number(k: BlockId) -> u8
 
 // Notes in `readers`, for each value, which of the `many` blocks reads it.
 pub fn note_readers(facts: &[u16], many: u16, readers: &mut [u8])
-    ensures { (b : Bounds) (s : List ℕ) (ks : List Block) → CodeIn b s facts.now ks → length ks ≡ many → many < blockLimit
-        → readers.new ≡ readBlocks 0 readers.old ks }
+    ensures { (b : Bounds) (s : List ℕ) (ks : List Block) → CodeIn b s facts.now ks → length ks ≡ many → many < block_limit
+        → readers.new ≡ read_blocks 0 readers.old ks }
 {
     let mut k: u16 = 0;
     while k < many {
@@ -122,7 +122,7 @@ pub fn note_readers(facts: &[u16], many: u16, readers: &mut [u8])
 
 // The number says that another block than `own` reads the value.
 fn is_foreign(own: u8, x: u8) -> bool
-    requires { own < blockLimit }
+    requires { own < block_limit }
     ensures { result ≡ foreign own x }
 {
     if x == 0 {
@@ -133,7 +133,7 @@ fn is_foreign(own: u8, x: u8) -> bool
 
 // Whether some block other than `own` reads one of the `n` members of a family.
 pub fn member_abroad(members: &[u16], n: u16, own: u8, readers: &[u8]) -> bool
-    requires { own < blockLimit }
+    requires { own < block_limit }
     ensures { ReadElsewhere members.now n own readers.now result }
 {
     let mut k: u16 = 0;

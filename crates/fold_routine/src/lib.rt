@@ -3,7 +3,7 @@
 
 ghost use Rattle.std.specs.Prelude.{◌≡◌, false, ◌≤◌, replicate};
 ghost use Rattle.mir.specs.Routine.{Routine};
-ghost use Rattle.mir.specs.Most.{mostValues};
+ghost use Rattle.mir.specs.Most.{most_values};
 ghost use Rattle.fold.specs.Tables.{ShapesAt};
 ghost use Rattle.mir.specs.Lookup.{types_in};
 ghost use Rattle.fold_routine.specs.Folds.{Chooses};
@@ -32,7 +32,7 @@ fn choose_crossed(
 
 // Which builds are folded and which blocks are skipped.
 pub fn choose_folds(s: &[u8], setup: Setup, facts: &[u16], choice: &mut [bool])
-    requires { setup.bounds.next ≤ mostValues }
+    requires { setup.bounds.next ≤ most_values }
     ensures { (r : Routine) → Chooses setup s.now facts.now choice.old choice.new r }
 {
     let b = setup.bounds;

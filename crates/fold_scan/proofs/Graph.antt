@@ -14,16 +14,16 @@ use lib.Dec.{eqb, ltb}
 use Rattle.mir.specs.declared.ValueId.{ValueId}
 use Rattle.bytes_wire.specs.Parse.{ok}
 use Rattle.mir.specs.Syntax.{Projection, Index, Field, Tuple, Instruction}
-use Rattle.bytes_field.specs.Decode.{instructionOf}
+use Rattle.bytes_field.specs.Decode.{instruction_of}
 use Rattle.bytes_field.specs.declared.Bounds.{Bounds}
-use Rattle.bytes_index.specs.Table.{place_in, end_in, readCount, readIn, ReadsIn}
+use Rattle.bytes_index.specs.Table.{place_in, end_in, read_count, read_in, ReadsIn}
 use Rattle.bytes_index.specs.Code.{InstructionIn}
-use Rattle.bytes_operands.specs.Fields.{placeSteps}
+use Rattle.bytes_operands.specs.Fields.{place_steps}
 use Rattle.mir.specs.Lookup.{any}
-use Rattle.fold_climb.specs.Edges.{Edge, edge, partEdges, variesFirst}
-use Rattle.fold_climb.specs.Scanned.{manyIn, builtIn, barredIn, edgesDown, tuplesDown, Each}
-use Rattle.fold_climb.proofs.Depth.{both-arms}
-use Rattle.fold_scan.specs.Noted.{pushed, barring, notedRead, notedReads, variesFound, PlaceNoted}
+use Rattle.fold_climb.specs.Edges.{Edge, edge, part_edges, varies_first}
+use Rattle.fold_climb.specs.Scanned.{many_in, built_in, barred_in, edges_down, tuples_down, Each}
+use Rattle.fold_climb.proofs.Depth.{both_arms}
+use Rattle.fold_scan.specs.Noted.{pushed, barring, noted_read, noted_reads, varies_found, PlaceNoted}
 
 -- a flag as a number
 pub as_number : (b : Bool) → bool_byte b ≡ cond b 1 0
@@ -31,232 +31,232 @@ as_number true = refl
 as_number false = refl
 
 -- whether a build passes its conditions, at every value
-pub built-at : (g : List ℕ) (d v : ℕ) (good : Bool) → v < 256 → 513 ≤ length g → builtIn (set g (1 + d) (cond good 1 0)) v ≡ cond (eqb d v) good (builtIn g v)
-built-at g d v good l r = go (eqb d v) refl
+pub built_at : (g : List ℕ) (d v : ℕ) (good : Bool) → v < 256 → 513 ≤ length g → built_in (set g (1 + d) (cond good 1 0)) v ≡ cond (eqb d v) good (built_in g v)
+built_at g d v good l r = go (eqb d v) refl
   where
     on : (good : Bool) → eqb (cond good 1 0) 1 ≡ good
     on true = refl
     on false = refl
 
-    go : (b : Bool) → eqb d v ≡ b → builtIn (set g (1 + d) (cond good 1 0)) v ≡ cond b good (builtIn g v)
+    go : (b : Bool) → eqb d v ≡ b → built_in (set g (1 + d) (cond good 1 0)) v ≡ cond b good (built_in g v)
     go true e = let z : d ≡ v = eqb-true d v e in rw (z, get_or-set_same g (1 + v) (cond good 1 0) 0 (omega arith)) (on good)
     go false e = ap (λ (x : ℕ). eqb x 1) (get_or-set_other g (1 + d) (1 + v) (cond good 1 0) 0 (λ z. eqb-false d v e (omega arith)))
 
 -- graphs that agree on the edges
 module _ (g h : List ℕ) (m : ℕ) (same : (at : ℕ) → 513 ≤ at → at < 513 + 3 * m → get_or h at 0 ≡ get_or g at 0) where
-  pub edges-same : (k : ℕ) → k ≤ m → edgesDown h k ≡ edgesDown g k
-  unfolding edgesDown
-  edges-same zero l = refl
-  edges-same (suc k) l = rw (same (513 + 3 * k) (omega arith) (omega arith), same (513 + 3 * k + 1) (omega arith) (omega arith), edges-same k (omega arith))
+  pub edges_same : (k : ℕ) → k ≤ m → edges_down h k ≡ edges_down g k
+  unfolding edges_down
+  edges_same zero l = refl
+  edges_same (suc k) l = rw (same (513 + 3 * k) (omega arith) (omega arith), same (513 + 3 * k + 1) (omega arith) (omega arith), edges_same k (omega arith))
 
-  pub tuples-same : (k : ℕ) → k ≤ m → tuplesDown h k ≡ tuplesDown g k
-  unfolding tuplesDown
-  tuples-same zero l = refl
-  tuples-same (suc k) l =
-      rw (same (513 + 3 * k) (omega arith) (omega arith), same (513 + 3 * k + 1) (omega arith) (omega arith), same (513 + 3 * k + 2) (omega arith) (omega arith), tuples-same k (omega arith))
+  pub tuples_same : (k : ℕ) → k ≤ m → tuples_down h k ≡ tuples_down g k
+  unfolding tuples_down
+  tuples_same zero l = refl
+  tuples_same (suc k) l =
+      rw (same (513 + 3 * k) (omega arith) (omega arith), same (513 + 3 * k + 1) (omega arith) (omega arith), same (513 + 3 * k + 2) (omega arith) (omega arith), tuples_same k (omega arith))
 
-length-down : (g : List ℕ) (k : ℕ) → length (edgesDown g k) ≡ k
-unfolding edgesDown
-length-down g zero = refl
-length-down g (suc k) = ap suc (length-down g k)
+length_down : (g : List ℕ) (k : ℕ) → length (edges_down g k) ≡ k
+unfolding edges_down
+length_down g zero = refl
+length_down g (suc k) = ap suc (length_down g k)
 
 -- a value that is wanted whole
-pub bar-long : (v : ℕ) (g : List ℕ) → length (barring v g) ≡ length g
-bar-long v g = go (ltb v 256)
+pub bar_long : (v : ℕ) (g : List ℕ) → length (barring v g) ≡ length g
+bar_long v g = go (ltb v 256)
   where
     go : (b : Bool) → length (cond b (set g (257 + v) 1) g) ≡ length g
     go true = length-set g (257 + v) 1
     go false = refl
 
 -- only one of the places from 257 to 513 changes
-pub bar-other : (v : ℕ) (g : List ℕ) (at : ℕ) → ((w : ℕ) → w < 256 → at ≡ 257 + w → ⊥) → get_or (barring v g) at 0 ≡ get_or g at 0
-bar-other v g at f = go (ltb v 256) refl
+pub bar_other : (v : ℕ) (g : List ℕ) (at : ℕ) → ((w : ℕ) → w < 256 → at ≡ 257 + w → ⊥) → get_or (barring v g) at 0 ≡ get_or g at 0
+bar_other v g at f = go (ltb v 256) refl
   where
     go : (b : Bool) → ltb v 256 ≡ b → get_or (cond b (set g (257 + v) 1) g) at 0 ≡ get_or g at 0
     go true e = get_or-set_other g (257 + v) at 1 0 (f v (ltb-true v 256 e))
     go false e = refl
 
-pub bar-marked : (w : ℕ) (g : List ℕ) (v : ℕ) → v < 256 → 513 ≤ length g → barredIn (barring w g) v ≡ (eqb w v || barredIn g v)
-bar-marked w g v l r = go (ltb w 256) refl
+pub bar_marked : (w : ℕ) (g : List ℕ) (v : ℕ) → v < 256 → 513 ≤ length g → barred_in (barring w g) v ≡ (eqb w v || barred_in g v)
+bar_marked w g v l r = go (ltb w 256) refl
   where
-    on : (b : Bool) → eqb w v ≡ b → barredIn (set g (257 + w) 1) v ≡ (b || barredIn g v)
+    on : (b : Bool) → eqb w v ≡ b → barred_in (set g (257 + w) 1) v ≡ (b || barred_in g v)
     on true e = let z : w ≡ v = eqb-true w v e in rw (z, get_or-set_same g (257 + v) 1 0 (omega arith))
     on false e = ap (λ (x : ℕ). eqb x 1) (get_or-set_other g (257 + w) (257 + v) 1 0 (λ z. eqb-false w v e (omega arith)))
 
-    go : (b : Bool) → ltb w 256 ≡ b → barredIn (cond b (set g (257 + w) 1) g) v ≡ (eqb w v || barredIn g v)
+    go : (b : Bool) → ltb w 256 ≡ b → barred_in (cond b (set g (257 + w) 1) g) v ≡ (eqb w v || barred_in g v)
     go true e = on (eqb w v) refl
     go false e = let z : 256 ≤ w = ltb-false w 256 e in rw (ne_eqb w v (λ q. omega arith))
 
 -- one more edge
 module _ (c p kind : ℕ) (g : List ℕ) where
   abbrev place : ℕ
-  place = 513 + 3 * manyIn g
+  place = 513 + 3 * many_in g
 
   abbrev stored : List ℕ
   stored = set (set (set g place c) (place + 1) p) (place + 2) kind
 
-  stored-long : length stored ≡ length g
-  stored-long = length-set (set (set g place c) (place + 1) p) (place + 2) kind ∙ length-set (set g place c) (place + 1) p ∙ length-set g place c
+  stored_long : length stored ≡ length g
+  stored_long = length-set (set (set g place c) (place + 1) p) (place + 2) kind ∙ length-set (set g place c) (place + 1) p ∙ length-set g place c
 
   abbrev more : List ℕ
-  more = set stored 0 (manyIn g + 1)
+  more = set stored 0 (many_in g + 1)
 
-  more-old : (at : ℕ) → 1 ≤ at → at < place → get_or more at 0 ≡ get_or g at 0
-  more-old at l h =
-      get_or-set_other stored 0 at (manyIn g + 1) 0 (λ e. omega arith)
+  more_old : (at : ℕ) → 1 ≤ at → at < place → get_or more at 0 ≡ get_or g at 0
+  more_old at l h =
+      get_or-set_other stored 0 at (many_in g + 1) 0 (λ e. omega arith)
       ∙ get_or-set_other (set (set g place c) (place + 1) p) (place + 2) at kind 0 (λ e. omega arith)
       ∙ get_or-set_other (set g place c) (place + 1) at p 0 (λ e. omega arith)
       ∙ get_or-set_other g place at c 0 (λ e. omega arith)
 
-  pub push-long : length (pushed c p kind g) ≡ length g
-  push-long = go (ltb (manyIn g) 2048)
+  pub push_long : length (pushed c p kind g) ≡ length g
+  push_long = go (ltb (many_in g) 2048)
     where
       go : (b : Bool) → length (cond b more g) ≡ length g
-      go true = length-set stored 0 (manyIn g + 1) ∙ stored-long
+      go true = length-set stored 0 (many_in g + 1) ∙ stored_long
       go false = refl
 
-  pub push-other : (at : ℕ) → 1 ≤ at → at < 513 → get_or (pushed c p kind g) at 0 ≡ get_or g at 0
-  push-other at l h = go (ltb (manyIn g) 2048)
+  pub push_other : (at : ℕ) → 1 ≤ at → at < 513 → get_or (pushed c p kind g) at 0 ≡ get_or g at 0
+  push_other at l h = go (ltb (many_in g) 2048)
     where
       go : (b : Bool) → get_or (cond b more g) at 0 ≡ get_or g at 0
-      go true = more-old at l (omega arith)
+      go true = more_old at l (omega arith)
       go false = refl
 
-  module _ (few : manyIn g < 2048) (room : 6657 ≤ length g) where
+  module _ (few : many_in g < 2048) (room : 6657 ≤ length g) where
     abbrev q : ℕ
     q = place
 
-    new-many : manyIn more ≡ suc (manyIn g)
-    new-many = get_or-set_same stored 0 (manyIn g + 1) 0 (omega (arith, stored-long)) ∙ omega arith
+    new_many : many_in more ≡ suc (many_in g)
+    new_many = get_or-set_same stored 0 (many_in g + 1) 0 (omega (arith, stored_long)) ∙ omega arith
 
-    new-child : get_or more q 0 ≡ c
-    new-child =
-        get_or-set_other stored 0 q (manyIn g + 1) 0 (λ e. omega arith)
+    new_child : get_or more q 0 ≡ c
+    new_child =
+        get_or-set_other stored 0 q (many_in g + 1) 0 (λ e. omega arith)
         ∙ get_or-set_other (set (set g q c) (q + 1) p) (q + 2) q kind 0 (λ e. omega arith)
         ∙ get_or-set_other (set g q c) (q + 1) q p 0 (λ e. omega arith)
         ∙ get_or-set_same g q c 0 (omega arith)
 
-    new-parent : get_or more (q + 1) 0 ≡ p
-    new-parent =
-        get_or-set_other stored 0 (q + 1) (manyIn g + 1) 0 (λ e. omega arith)
+    new_parent : get_or more (q + 1) 0 ≡ p
+    new_parent =
+        get_or-set_other stored 0 (q + 1) (many_in g + 1) 0 (λ e. omega arith)
         ∙ get_or-set_other (set (set g q c) (q + 1) p) (q + 2) (q + 1) kind 0 (λ e. omega arith)
         ∙ get_or-set_same (set g q c) (q + 1) p 0 (omega (arith, length-set g q c))
 
-    new-kind : get_or more (q + 2) 0 ≡ kind
-    new-kind =
-        get_or-set_other stored 0 (q + 2) (manyIn g + 1) 0 (λ e. omega arith)
+    new_kind : get_or more (q + 2) 0 ≡ kind
+    new_kind =
+        get_or-set_other stored 0 (q + 2) (many_in g + 1) 0 (λ e. omega arith)
         ∙ get_or-set_same (set (set g q c) (q + 1) p) (q + 2) kind 0 (omega (arith, length-set (set g q c) (q + 1) p, length-set g q c))
 
-    pub push-edges : edgesDown (pushed c p kind g) (manyIn (pushed c p kind g)) ≡ edge c p ∷ edgesDown g (manyIn g)
-    unfolding edgesDown
-    push-edges = rw (lt-ltb (manyIn g) 2048 few, new-many, new-child, new-parent, edges-same g more (manyIn g) (λ at a b. more-old at (omega arith) b) (manyIn g) (le_refl _))
+    pub push_edges : edges_down (pushed c p kind g) (many_in (pushed c p kind g)) ≡ edge c p ∷ edges_down g (many_in g)
+    unfolding edges_down
+    push_edges = rw (lt-ltb (many_in g) 2048 few, new_many, new_child, new_parent, edges_same g more (many_in g) (λ at a b. more_old at (omega arith) b) (many_in g) (le_refl _))
 
-    pub push-tuples : tuplesDown (pushed c p kind g) (manyIn (pushed c p kind g)) ≡ cond (eqb kind 10) (edge c p ∷ tuplesDown g (manyIn g)) (tuplesDown g (manyIn g))
-    unfolding tuplesDown
-    push-tuples = rw (lt-ltb (manyIn g) 2048 few, new-many, new-child, new-parent, new-kind, tuples-same g more (manyIn g) (λ at a b. more-old at (omega arith) b) (manyIn g) (le_refl _))
+    pub push_tuples : tuples_down (pushed c p kind g) (many_in (pushed c p kind g)) ≡ cond (eqb kind 10) (edge c p ∷ tuples_down g (many_in g)) (tuples_down g (many_in g))
+    unfolding tuples_down
+    push_tuples = rw (lt-ltb (many_in g) 2048 few, new_many, new_child, new_parent, new_kind, tuples_same g more (many_in g) (λ at a b. more_old at (omega arith) b) (many_in g) (le_refl _))
 
 -- the graph holds these edges, and these of MakeTuples
 pub record Holds (g : List ℕ) (es ts : List Edge) : Type 0 where
-  pub edges : edgesDown g (manyIn g) ≡ es
-  pub tuple-edges : tuplesDown g (manyIn g) ≡ ts
+  pub edges : edges_down g (many_in g) ≡ es
+  pub tuple_edges : tuples_down g (many_in g) ≡ ts
   pub room : 6657 ≤ length g
 
 -- noting leaves the graph as long as it was
-pub read-long : (kind d : ℕ) (g : List ℕ) (w : ℕ) → length (notedRead kind d g w) ≡ length g
-read-long kind d g w = go (eqb kind 3) (eqb w d)
+pub read_long : (kind d : ℕ) (g : List ℕ) (w : ℕ) → length (noted_read kind d g w) ≡ length g
+read_long kind d g w = go (eqb kind 3) (eqb w d)
   where
     go : (a b : Bool) → length (cond a (barring w g) (cond b g (pushed w d kind g))) ≡ length g
-    go true b = bar-long w g
+    go true b = bar_long w g
     go false true = refl
-    go false false = push-long w d kind g
+    go false false = push_long w d kind g
 
-reads-long : (kind d : ℕ) (g : List ℕ) (ws : List ValueId) → length (notedReads kind d g ws) ≡ length g
-unfolding notedReads
-reads-long kind d g [] = refl
-reads-long kind d g (w ∷ ws) = read-long kind d (notedReads kind d g ws) w.0 ∙ reads-long kind d g ws
+reads_long : (kind d : ℕ) (g : List ℕ) (ws : List ValueId) → length (noted_reads kind d g ws) ≡ length g
+unfolding noted_reads
+reads_long kind d g [] = refl
+reads_long kind d g (w ∷ ws) = read_long kind d (noted_reads kind d g ws) w.0 ∙ reads_long kind d g ws
 
 -- what a Call reads is wanted whole, and nothing else changes
-pub call-other : (d : ℕ) (g : List ℕ) (at : ℕ) → ((w : ℕ) → w < 256 → at ≡ 257 + w → ⊥) → (ws : List ValueId) → get_or (notedReads 3 d g ws) at 0 ≡ get_or g at 0
-unfolding notedReads
-call-other d g at f [] = refl
-call-other d g at f (w ∷ ws) = bar-other w.0 (notedReads 3 d g ws) at f ∙ call-other d g at f ws
+pub call_other : (d : ℕ) (g : List ℕ) (at : ℕ) → ((w : ℕ) → w < 256 → at ≡ 257 + w → ⊥) → (ws : List ValueId) → get_or (noted_reads 3 d g ws) at 0 ≡ get_or g at 0
+unfolding noted_reads
+call_other d g at f [] = refl
+call_other d g at f (w ∷ ws) = bar_other w.0 (noted_reads 3 d g ws) at f ∙ call_other d g at f ws
 
-pub call-marked : (d : ℕ) (g : List ℕ) (v : ℕ) → v < 256 → 513 ≤ length g → (ws : List ValueId) → barredIn (notedReads 3 d g ws) v ≡ (any (λ (w : ValueId). eqb w.0 v) ws || barredIn g v)
-unfolding notedReads any
-call-marked d g v l r [] = refl
-call-marked d g v l r (w ∷ ws) =
-    bar-marked w.0 (notedReads 3 d g ws) v l (omega (arith, reads-long 3 d g ws)) ∙ go (eqb w.0 v) (call-marked d g v l r ws)
+pub call_marked : (d : ℕ) (g : List ℕ) (v : ℕ) → v < 256 → 513 ≤ length g → (ws : List ValueId) → barred_in (noted_reads 3 d g ws) v ≡ (any (λ (w : ValueId). eqb w.0 v) ws || barred_in g v)
+unfolding noted_reads any
+call_marked d g v l r [] = refl
+call_marked d g v l r (w ∷ ws) =
+    bar_marked w.0 (noted_reads 3 d g ws) v l (omega (arith, reads_long 3 d g ws)) ∙ go (eqb w.0 v) (call_marked d g v l r ws)
   where
-    go : (b : Bool) → barredIn (notedReads 3 d g ws) v ≡ (any (λ (w : ValueId). eqb w.0 v) ws || barredIn g v) → (b || barredIn (notedReads 3 d g ws) v) ≡ ((b || any (λ (w : ValueId). eqb w.0 v) ws) || barredIn g v)
+    go : (b : Bool) → barred_in (noted_reads 3 d g ws) v ≡ (any (λ (w : ValueId). eqb w.0 v) ws || barred_in g v) → (b || barred_in (noted_reads 3 d g ws) v) ≡ ((b || any (λ (w : ValueId). eqb w.0 v) ws) || barred_in g v)
     go true e = refl
     go false e = e
 
-pub parts_more : (d : ℕ) (ws : List ValueId) (es : List Edge) → length es ≤ length (partEdges d ws es)
-unfolding partEdges
+pub parts_more : (d : ℕ) (ws : List ValueId) (es : List Edge) → length es ≤ length (part_edges d ws es)
+unfolding part_edges
 parts_more d [] es = le_refl _
 parts_more d (w ∷ ws) es = go (eqb w.0 d) (parts_more d ws es)
   where
-    go : (b : Bool) → length es ≤ length (partEdges d ws es) → length es ≤ length (cond b (partEdges d ws es) (edge w.0 d ∷ partEdges d ws es))
+    go : (b : Bool) → length es ≤ length (part_edges d ws es) → length es ≤ length (cond b (part_edges d ws es) (edge w.0 d ∷ part_edges d ws es))
     go true h = h
     go false h = omega arith
 
 -- what a build d reads are its parts, and no flag changes
 module _ (kind d : ℕ) (build : eqb kind 3 ≡ false) (g : List ℕ) where
-  pub build-other : (at : ℕ) → 1 ≤ at → at < 513 → (ws : List ValueId) → get_or (notedReads kind d g ws) at 0 ≡ get_or g at 0
-  unfolding notedReads
-  build-other at l h [] = refl
-  build-other at l h (w ∷ ws) = rw build (go (eqb w.0 d)) ∙ build-other at l h ws
+  pub build_other : (at : ℕ) → 1 ≤ at → at < 513 → (ws : List ValueId) → get_or (noted_reads kind d g ws) at 0 ≡ get_or g at 0
+  unfolding noted_reads
+  build_other at l h [] = refl
+  build_other at l h (w ∷ ws) = rw build (go (eqb w.0 d)) ∙ build_other at l h ws
     where
-      go : (b : Bool) → get_or (cond b (notedReads kind d g ws) (pushed w.0 d kind (notedReads kind d g ws))) at 0 ≡ get_or (notedReads kind d g ws) at 0
+      go : (b : Bool) → get_or (cond b (noted_reads kind d g ws) (pushed w.0 d kind (noted_reads kind d g ws))) at 0 ≡ get_or (noted_reads kind d g ws) at 0
       go true = refl
-      go false = push-other w.0 d kind (notedReads kind d g ws) at l h
+      go false = push_other w.0 d kind (noted_reads kind d g ws) at l h
 
-  part-holds : (h : List ℕ) (es ts us : List Edge) (w : ℕ) (f : Bool) → eqb kind 10 ≡ f → Holds h es (cond f us ts) → (b : Bool) → length (cond b es (edge w d ∷ es)) ≤ 2048 → Holds (cond b h (pushed w d kind h)) (cond b es (edge w d ∷ es)) (cond f (cond b us (edge w d ∷ us)) ts)
-  part-holds h es ts us w f t k true l = k
-  part-holds h es ts us w f t k false l =
-      let n : manyIn h ≡ length es = sym (length-down h (manyIn h)) ∙ ap length k.edges in
+  part_holds : (h : List ℕ) (es ts us : List Edge) (w : ℕ) (f : Bool) → eqb kind 10 ≡ f → Holds h es (cond f us ts) → (b : Bool) → length (cond b es (edge w d ∷ es)) ≤ 2048 → Holds (cond b h (pushed w d kind h)) (cond b es (edge w d ∷ es)) (cond f (cond b us (edge w d ∷ us)) ts)
+  part_holds h es ts us w f t k true l = k
+  part_holds h es ts us w f t k false l =
+      let n : many_in h ≡ length es = sym (length_down h (many_in h)) ∙ ap length k.edges in
       record {
-        edges = push-edges w d kind h (omega arith) k.room ∙ ap (λ xs. edge w d ∷ xs) k.edges;
-        tuple-edges = push-tuples w d kind h (omega arith) k.room ∙ rw (t, k.tuple-edges) (go f);
-        room = omega (arith, k.room, push-long w d kind h);
+        edges = push_edges w d kind h (omega arith) k.room ∙ ap (λ xs. edge w d ∷ xs) k.edges;
+        tuple_edges = push_tuples w d kind h (omega arith) k.room ∙ rw (t, k.tuple_edges) (go f);
+        room = omega (arith, k.room, push_long w d kind h);
       }
     where
       go : (f : Bool) → cond f (edge w d ∷ cond f us ts) (cond f us ts) ≡ cond f (edge w d ∷ us) ts
       go true = refl
       go false = refl
 
-  pub parts-hold : (es ts : List Edge) (f : Bool) → eqb kind 10 ≡ f → Holds g es ts → (ws : List ValueId) → length (partEdges d ws es) ≤ 2048 → Holds (notedReads kind d g ws) (partEdges d ws es) (cond f (partEdges d ws ts) ts)
-  unfolding notedReads partEdges
-  parts-hold es ts f t h [] l = rw (both-arms f ts) h
-  parts-hold es ts f t h (w ∷ ws) l =
-      let ih = parts-hold es ts f t h ws (le_trans (one_more (eqb w.0 d)) l) in
-      rw build (part-holds (notedReads kind d g ws) (partEdges d ws es) ts (partEdges d ws ts) w.0 f t ih (eqb w.0 d) l)
+  pub parts_hold : (es ts : List Edge) (f : Bool) → eqb kind 10 ≡ f → Holds g es ts → (ws : List ValueId) → length (part_edges d ws es) ≤ 2048 → Holds (noted_reads kind d g ws) (part_edges d ws es) (cond f (part_edges d ws ts) ts)
+  unfolding noted_reads part_edges
+  parts_hold es ts f t h [] l = rw (both_arms f ts) h
+  parts_hold es ts f t h (w ∷ ws) l =
+      let ih = parts_hold es ts f t h ws (le_trans (one_more (eqb w.0 d)) l) in
+      rw build (part_holds (noted_reads kind d g ws) (part_edges d ws es) ts (part_edges d ws ts) w.0 f t ih (eqb w.0 d) l)
     where
-      one_more : (b : Bool) → length (partEdges d ws es) ≤ length (cond b (partEdges d ws es) (edge w.0 d ∷ partEdges d ws es))
+      one_more : (b : Bool) → length (part_edges d ws es) ≤ length (cond b (part_edges d ws es) (edge w.0 d ∷ part_edges d ws es))
       one_more true = le_refl _
       one_more false = omega arith
 
 -- the parent of each new edge is the build
-pub parts-each : (Q : ℕ → Type 0) (d : ℕ) → Q d → (ws : List ValueId) (es : List Edge) → Each Q es → Each Q (partEdges d ws es)
-unfolding partEdges
-parts-each Q d q [] es h = h
-parts-each Q d q (w ∷ ws) es h = go (eqb w.0 d) (parts-each Q d q ws es h)
+pub parts_each : (Q : ℕ → Type 0) (d : ℕ) → Q d → (ws : List ValueId) (es : List Edge) → Each Q es → Each Q (part_edges d ws es)
+unfolding part_edges
+parts_each Q d q [] es h = h
+parts_each Q d q (w ∷ ws) es h = go (eqb w.0 d) (parts_each Q d q ws es h)
   where
-    go : (b : Bool) → Each Q (partEdges d ws es) → Each Q (cond b (partEdges d ws es) (edge w.0 d ∷ partEdges d ws es))
+    go : (b : Bool) → Each Q (part_edges d ws es) → Each Q (cond b (part_edges d ws es) (edge w.0 d ∷ part_edges d ws es))
     go true k = k
     go false k = (q, k)
 
 -- the loop: the reads from k on are noted
 pub record Noting (facts : List ℕ) (slot kind d : ℕ) (before : List ℕ) (k : ℕ) (here : List ℕ) : Type 0 where
   pub low : k < 65536
-  pub most : k ≤ readCount facts slot
-  pub noted : (ws : List ValueId) → ReadsIn facts slot ws → here ≡ notedReads kind d before (drop k ws)
+  pub most : k ≤ read_count facts slot
+  pub noted : (ws : List ValueId) → ReadsIn facts slot ws → here ≡ noted_reads kind d before (drop k ws)
   pub long : length here ≡ length before
 
 module _ (facts : List ℕ) (slot kind d : ℕ) (before : List ℕ) where
-  pub noting-start : (k : ℕ) → k < 65536 → k ≡ readCount facts slot → Noting facts slot kind d before k before
-  unfolding notedReads
-  noting-start k l e =
+  pub noting_start : (k : ℕ) → k < 65536 → k ≡ read_count facts slot → Noting facts slot kind d before k before
+  unfolding noted_reads
+  noting_start k l e =
       record {
         low = l;
         most = omega arith;
@@ -265,12 +265,12 @@ module _ (facts : List ℕ) (slot kind d : ℕ) (before : List ℕ) where
       }
 
   module _ (k : ℕ) (here : List ℕ) (inv : Noting facts slot kind d before k here) where
-    pub noting-done : k ≤ 0 → (ws : List ValueId) → ReadsIn facts slot ws → here ≡ notedReads kind d before ws
-    noting-done h ws r = let z : k ≡ 0 = omega arith in inv.noted ws r ∙ rw z refl
+    pub noting_done : k ≤ 0 → (ws : List ValueId) → ReadsIn facts slot ws → here ≡ noted_reads kind d before ws
+    noting_done h ws r = let z : k ≡ 0 = omega arith in inv.noted ws r ∙ rw z refl
 
-    pub noting-step : 0 < k → (w : ℕ) → w ≡ readIn facts slot (k - 1) → (u : List ℕ) → u ≡ notedRead kind d here w → Noting facts slot kind d before (k - 1) u
-    unfolding notedReads
-    noting-step more w e u f =
+    pub noting_step : 0 < k → (w : ℕ) → w ≡ read_in facts slot (k - 1) → (u : List ℕ) → u ≡ noted_read kind d here w → Noting facts slot kind d before (k - 1) u
+    unfolding noted_reads
+    noting_step more w e u f =
         record {
           low = omega (arith, inv.low);
           most = omega (arith, inv.most);
@@ -279,13 +279,13 @@ module _ (facts : List ℕ) (slot kind d : ℕ) (before : List ℕ) where
               let z : suc (k - 1) ≡ k = omega arith in
               let o : ValueId = record { 0 = 0 } in
               let s : drop (k - 1) ws ≡ get_or ws (k - 1) o ∷ drop k ws = drop-cons ws (k - 1) o h ∙ ap (λ (n : ℕ). get_or ws (k - 1) o ∷ drop n ws) z in
-              f ∙ ap (λ x. notedRead kind d x w) (inv.noted ws r) ∙ ap (notedRead kind d (notedReads kind d before (drop k ws))) (e ∙ r.each (k - 1) h) ∙ sym (ap (notedReads kind d before) s);
-          long = rw f (read-long kind d here w ∙ inv.long);
+              f ∙ ap (λ x. noted_read kind d x w) (inv.noted ws r) ∙ ap (noted_read kind d (noted_reads kind d before (drop k ws))) (e ∙ r.each (k - 1) h) ∙ sym (ap (noted_reads kind d before) s);
+          long = rw f (read_long kind d here w ∙ inv.long);
         }
 
 -- the first projection that was found
-first_step : (ps : List Projection) → variesFound (get_elem? ps 0) ≡ variesFirst ps
-unfolding variesFirst
+first_step : (ps : List Projection) → varies_found (get_elem? ps 0) ≡ varies_first ps
+unfolding varies_first
 first_step [] = refl
 first_step (Index x ∷ ps) = refl
 first_step (Field n ∷ ps) = refl
@@ -314,27 +314,27 @@ clear_step before i here inv more =
     go at l false e = let z : at ≡ i → ⊥ = eqb-false at i e in get_or-set_other here i at 0 0 z ∙ inv.clear at (omega arith)
 
 -- a read of a build, as the code notes it
-module _ (kind d w : ℕ) (g : List ℕ) (m : ℕ) (e : m ≡ manyIn g) (build : kind ≡ 3 → ⊥) (other : w ≡ d → ⊥) where
-  pub read-pushed : m < 2048 → (x y z u : List ℕ) → x ≡ set g (513 + 3 * m) w → y ≡ set x (513 + 3 * m + 1) d → z ≡ set y (513 + 3 * m + 2) kind → u ≡ set z 0 (m + 1) → u ≡ notedRead kind d g w
-  read-pushed l x y z u p q r s =
-      let n : manyIn g < 2048 = omega arith in
+module _ (kind d w : ℕ) (g : List ℕ) (m : ℕ) (e : m ≡ many_in g) (build : kind ≡ 3 → ⊥) (other : w ≡ d → ⊥) where
+  pub read_pushed : m < 2048 → (x y z u : List ℕ) → x ≡ set g (513 + 3 * m) w → y ≡ set x (513 + 3 * m + 1) d → z ≡ set y (513 + 3 * m + 2) kind → u ≡ set z 0 (m + 1) → u ≡ noted_read kind d g w
+  read_pushed l x y z u p q r s =
+      let n : many_in g < 2048 = omega arith in
       let t : u ≡ set (set (set (set g (513 + 3 * m) w) (513 + 3 * m + 1) d) (513 + 3 * m + 2) kind) 0 (m + 1) = rw (s, r, q, p) refl in
-      rw (ne_eqb kind 3 build, ne_eqb w d other, lt-ltb (manyIn g) 2048 n) (t ∙ ap (λ (n : ℕ). set (set (set (set g (513 + 3 * n) w) (513 + 3 * n + 1) d) (513 + 3 * n + 2) kind) 0 (n + 1)) e)
+      rw (ne_eqb kind 3 build, ne_eqb w d other, lt-ltb (many_in g) 2048 n) (t ∙ ap (λ (n : ℕ). set (set (set (set g (513 + 3 * n) w) (513 + 3 * n + 1) d) (513 + 3 * n + 2) kind) 0 (n + 1)) e)
 
-  pub read-full : 2048 ≤ m → g ≡ notedRead kind d g w
-  read-full l = let n : 2048 ≤ manyIn g = omega arith in rw (ne_eqb kind 3 build, ne_eqb w d other, le-ltb (manyIn g) 2048 n)
+  pub read_full : 2048 ≤ m → g ≡ noted_read kind d g w
+  read_full l = let n : 2048 ≤ many_in g = omega arith in rw (ne_eqb kind 3 build, ne_eqb w d other, le-ltb (many_in g) 2048 n)
 
 -- the place of a Load or Store, whose first projection was found
 module _ (s : List ℕ) (b : Bounds) (facts : List ℕ) (slot : ℕ) (g : List ℕ) (place : ℕ) (p : place ≡ place_in facts slot) (t : List ℕ) (q : t ≡ drop place s)
-    (x : Option Projection) (found : (seen : List Bool) (late : Bool) (i : Instruction) (n : ℕ) → instructionOf b seen late t ≡ ok i n → x ≡ get_elem? (placeSteps i.kind) 0)
+    (x : Option Projection) (found : (seen : List Bool) (late : Bool) (i : Instruction) (n : ℕ) → instruction_of b seen late t ≡ ok i n → x ≡ get_elem? (place_steps i.kind) 0)
   where
-    found_first : (i : Instruction) → InstructionIn b s facts slot i → variesFirst (placeSteps i.kind) ≡ variesFound x
+    found_first : (i : Instruction) → InstructionIn b s facts slot i → varies_first (place_steps i.kind) ≡ varies_found x
     found_first i h =
-        let r : instructionOf b [] false t ≡ ok i (end_in facts slot - place_in facts slot) = rw (q, p) h.read in
-        sym (first_step (placeSteps i.kind)) ∙ ap variesFound (sym (found [] false i _ r))
+        let r : instruction_of b [] false t ≡ ok i (end_in facts slot - place_in facts slot) = rw (q, p) h.read in
+        sym (first_step (place_steps i.kind)) ∙ ap varies_found (sym (found [] false i _ r))
 
-    pub place-barred : variesFound x ≡ true → (w : ℕ) → w ≡ readIn facts slot 0 → (u : List ℕ) → u ≡ barring w g → PlaceNoted s b facts slot g u
-    place-barred v w e u f i h = rw (found_first i h, v) (f ∙ ap (λ (n : ℕ). barring n g) e)
+    pub place_barred : varies_found x ≡ true → (w : ℕ) → w ≡ read_in facts slot 0 → (u : List ℕ) → u ≡ barring w g → PlaceNoted s b facts slot g u
+    place_barred v w e u f i h = rw (found_first i h, v) (f ∙ ap (λ (n : ℕ). barring n g) e)
 
-    pub place_kept : variesFound x ≡ false → PlaceNoted s b facts slot g g
+    pub place_kept : varies_found x ≡ false → PlaceNoted s b facts slot g g
     place_kept v i h = rw (found_first i h, v)

@@ -2,10 +2,10 @@
 #![tactic(auto)]
 
 ghost use Rattle.std.specs.Prelude.{◌≡◌, ℕ, ◌+◌, ◌≤◌, ◌<◌, get_or};
-ghost use Rattle.bytes_operands.specs.Fields.{asStep};
-ghost use Rattle.mir.specs.Most.{mostSlots};
-ghost use Rattle.fold_climb.specs.Scanned.{edgesFrom};
-ghost use Rattle.fold_scan.specs.Noted.{destIn, barring, notedRead, variesFound, passesBy};
+ghost use Rattle.bytes_operands.specs.Fields.{as_step};
+ghost use Rattle.mir.specs.Most.{most_slots};
+ghost use Rattle.fold_climb.specs.Scanned.{edges_from};
+ghost use Rattle.fold_scan.specs.Noted.{dest_in, barring, noted_read, varies_found, passes_by};
 ghost use Rattle.fold_scan.specs.Noted.{ReadsNoted, PlaceNoted, BuildNoted, OneScanned, BlockScanned};
 
 use bytes_field::Bounds;
@@ -14,7 +14,7 @@ use mir::{Literal, Value, ValueId, kind, most, shape};
 
 // The value that the instruction in a slot defines, where that is its first field.
 pub fn dest(s: &[u8], facts: &[u16], slot: u16) -> ValueId
-    ensures { result.0 ≡ destIn s.now facts.now slot }
+    ensures { result.0 ≡ dest_in s.now facts.now slot }
 {
     let t = bytes_field::tail(s, bytes_index::place(facts, slot));
     let u = bytes_field::tail(t, bytes_operands::fields_place(t));
@@ -34,7 +34,7 @@ fn bar(graph: &mut [u16], v: ValueId)
 // Notes a value that an instruction reads: a Call wants it whole, to a build `d` of the kind it is a part, if not the build
 // itself.
 fn note_read(graph: &mut [u16], kind: u16, d: ValueId, w: ValueId)
-    ensures { graph.new ≡ notedRead kind d.0 graph.old w.0 }
+    ensures { graph.new ≡ noted_read kind d.0 graph.old w.0 }
 {
     if kind == kind::CALL {
         bar(graph, w);
@@ -67,7 +67,7 @@ fn note_reads(graph: &mut [u16], facts: &[u16], slot: u16, kind: u16, d: ValueId
 
 // A first projection that is no Integer literal.
 fn varies(p: Step) -> bool
-    ensures { result ≡ variesFound (asStep p) }
+    ensures { result ≡ varies_found (as_step p) }
 {
     match p {
         Step::Nothing => false,
@@ -97,7 +97,7 @@ fn note_place(s: &[u8], b: Bounds, facts: &[u16], slot: u16, graph: &mut [u16])
 
 // Conditions 1 to 3 of a tuple's or an array's build: the shape, an eligible type, no use in another block.
 fn passes(d: ValueId, shape: u8, shapes: &[u8], eligible: &[bool], cross: &[bool]) -> bool
-    ensures { result ≡ passesBy shapes.now eligible.now cross.now d.0 shape }
+    ensures { result ≡ passes_by shapes.now eligible.now cross.now d.0 shape }
 {
     let at = d.0 as usize;
     if bytes_wire::byte_at(shapes, at) != shape {
@@ -157,7 +157,7 @@ fn scan_one(
 
 // Clears all of the graph but its edges.
 fn clear(graph: &mut [u16])
-    ensures { (at : ℕ) → at < edgesFrom → get_or graph.new at 0 ≡ 0 }
+    ensures { (at : ℕ) → at < edges_from → get_or graph.new at 0 ≡ 0 }
 {
     let mut i = 0;
     while i < fold_climb::EDGES {
@@ -180,7 +180,7 @@ pub fn scan_block(
     structs: &[bool],
     graph: &mut [u16],
 )
-    requires { first + count ≤ mostSlots }
+    requires { first + count ≤ most_slots }
     ensures { BlockScanned s.now b facts.now first count shapes.now eligible.now cross.now
         structs.now graph.old graph.new }
 {

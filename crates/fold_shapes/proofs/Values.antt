@@ -11,39 +11,39 @@ use lib.ListN.{length, get_or, get_elem?, set, length-set}
 use lib.Seq.{get_or-set_same, get_or-set_other}
 use Rattle.mir.specs.declared.TypeId.{TypeId}
 use Rattle.mir.specs.MirType.{MirType}
-use Rattle.bytes_sections.specs.Index.{recordedNumber}
+use Rattle.bytes_sections.specs.Index.{recorded_number}
 use Rattle.fold.specs.declared.Settings.{Settings}
-use Rattle.mir.specs.Lookup.{Types, row_of, recordedType, valueRow, shape}
-use Rattle.fold.specs.Scalarizable.{isScalarizable}
+use Rattle.mir.specs.Lookup.{Types, row_of, recorded_type, value_row, shape}
+use Rattle.fold.specs.Scalarizable.{is_scalarizable}
 use Rattle.fold.specs.Tables.{Known}
 use Rattle.fold_shapes.specs.Shapes.{OfRecorded, FillsShapes}
 
 -- a recorded type's number, taken apart again
-pub none-recorded : {A : Type 0} (f : Option MirType → A) (τ : Types) (o : Option TypeId) {number : ℕ} → number ≡ 0 → number ≡ recordedNumber o → f none ≡ f (row_of τ o)
+pub none_recorded : {A : Type 0} (f : Option MirType → A) (τ : Types) (o : Option TypeId) {number : ℕ} → number ≡ 0 → number ≡ recorded_number o → f none ≡ f (row_of τ o)
 unfolding row_of
-none-recorded f τ none e h = refl
-none-recorded f τ (some t) e h = absurd (omega arith)
+none_recorded f τ none e h = refl
+none_recorded f τ (some t) e h = absurd (omega arith)
 
-pub some-recorded : {A : Type 0} (f : Option MirType → A) (τ : Types) (o : Option TypeId) {number : ℕ} → (number ≡ 0 → ⊥) → number ≡ recordedNumber o → f (get_elem? τ.rows (number - 1)) ≡ f (row_of τ o)
+pub some_recorded : {A : Type 0} (f : Option MirType → A) (τ : Types) (o : Option TypeId) {number : ℕ} → (number ≡ 0 → ⊥) → number ≡ recorded_number o → f (get_elem? τ.rows (number - 1)) ≡ f (row_of τ o)
 unfolding row_of
-some-recorded f τ none e h = absurd (e h)
-some-recorded f τ (some t) {number} e h = let z : number - 1 ≡ t.0 = omega arith in rw z
+some_recorded f τ none e h = absurd (e h)
+some_recorded f τ (some t) {number} e h = let z : number - 1 ≡ t.0 = omega arith in rw z
 
 -- v values have their shapes
 pub record Filling (s types : List ℕ) (many : ℕ) (recorded : List ℕ) (next : ℕ) (σ : Settings) (shapes₀ : List ℕ) (eligible₀ : List Bool) (shapes : List ℕ) (eligible : List Bool) (v : ℕ) : Type 0 where
   pub under : v ≤ next
-  pub long-shapes : length shapes ≡ length shapes₀
-  pub long-eligible : length eligible ≡ length eligible₀
-  pub shaped : (most : ℕ) (τ : Types) → Known most s types recorded τ → length τ.rows ≡ many → length τ.recorded ≡ next → next ≤ length shapes₀ → (j : ℕ) → j < v → get_or shapes j 0 ≡ shape (valueRow τ (record { 0 = j }))
-  pub fits : (most : ℕ) (τ : Types) → Known most s types recorded τ → length τ.rows ≡ many → length τ.recorded ≡ next → next ≤ length eligible₀ → (j : ℕ) → j < v → get_or eligible j false ≡ isScalarizable σ (valueRow τ (record { 0 = j }))
+  pub long_shapes : length shapes ≡ length shapes₀
+  pub long_eligible : length eligible ≡ length eligible₀
+  pub shaped : (most : ℕ) (τ : Types) → Known most s types recorded τ → length τ.rows ≡ many → length τ.recorded ≡ next → next ≤ length shapes₀ → (j : ℕ) → j < v → get_or shapes j 0 ≡ shape (value_row τ (record { 0 = j }))
+  pub fits : (most : ℕ) (τ : Types) → Known most s types recorded τ → length τ.rows ≡ many → length τ.recorded ≡ next → next ≤ length eligible₀ → (j : ℕ) → j < v → get_or eligible j false ≡ is_scalarizable σ (value_row τ (record { 0 = j }))
 
 -- none has them yet
 pub fill_start : (s types : List ℕ) (many : ℕ) (recorded : List ℕ) (next : ℕ) (σ : Settings) (shapes : List ℕ) (eligible : List Bool) → Filling s types many recorded next σ shapes eligible shapes eligible 0
 fill_start s types many recorded next σ shapes eligible =
     record {
       under = zero-le;
-      long-shapes = refl;
-      long-eligible = refl;
+      long_shapes = refl;
+      long_eligible = refl;
       shaped = λ most τ k m l r j h. absurd (omega arith);
       fits = λ most τ k m l r j h. absurd (omega arith);
     }
@@ -55,28 +55,28 @@ one_more xs v a d f r e g j h =
     ⊎_elim (λ q. rw q (get_or-set_same xs v a d r ∙ e)) (λ q. get_or-set_other xs v j a d (λ z. omega arith) ∙ g j q) (eq-or-lt_of_le y)
 
 -- the next has them
-pub fill-again : (s types : List ℕ) (many : ℕ) (recorded : List ℕ) (next : ℕ) (σ : Settings) (shapes₀ : List ℕ) (eligible₀ : List Bool)
+pub fill_again : (s types : List ℕ) (many : ℕ) (recorded : List ℕ) (next : ℕ) (σ : Settings) (shapes₀ : List ℕ) (eligible₀ : List Bool)
     (shapes : List ℕ) (eligible : List Bool) (v : ℕ) (number a : ℕ) (b : Bool) (shapes₁ : List ℕ) (eligible₁ : List Bool)
     → Filling s types many recorded next σ shapes₀ eligible₀ shapes eligible v
     → v < next
     → number ≡ get_or recorded v 0
     → OfRecorded shape s types many (record { 0 = number }) a
-    → OfRecorded (isScalarizable σ) s types many (record { 0 = number }) b
+    → OfRecorded (is_scalarizable σ) s types many (record { 0 = number }) b
     → shapes₁ ≡ set shapes v a
     → eligible₁ ≡ set eligible v b
     → Filling s types many recorded next σ shapes₀ eligible₀ shapes₁ eligible₁ (v + 1)
-unfolding valueRow recordedType
-fill-again s types many recorded next σ shapes₀ eligible₀ shapes eligible v number a b shapes₁ eligible₁ u h e f g p q =
+unfolding value_row recorded_type
+fill_again s types many recorded next σ shapes₀ eligible₀ shapes eligible v number a b shapes₁ eligible₁ u h e f g p q =
     rw (p, q) record {
       under = omega arith;
-      long-shapes = length-set shapes v a ∙ u.long-shapes;
-      long-eligible = length-set eligible v b ∙ u.long-eligible;
+      long_shapes = length-set shapes v a ∙ u.long_shapes;
+      long_eligible = length-set eligible v b ∙ u.long_eligible;
       shaped = λ most τ k m l r.
-          let n : number ≡ recordedNumber (get_or τ.recorded v none) = e ∙ k.recorded-types v (omega arith) (omega (arith, k.long)) in
-          one_more shapes v a 0 (λ j. shape (valueRow τ (record { 0 = j }))) (omega (arith, u.long-shapes)) (f most τ (get_or τ.recorded v none) k.rows m n) (u.shaped most τ k m l r);
+          let n : number ≡ recorded_number (get_or τ.recorded v none) = e ∙ k.recorded_types v (omega arith) (omega (arith, k.long)) in
+          one_more shapes v a 0 (λ j. shape (value_row τ (record { 0 = j }))) (omega (arith, u.long_shapes)) (f most τ (get_or τ.recorded v none) k.rows m n) (u.shaped most τ k m l r);
       fits = λ most τ k m l r.
-          let n : number ≡ recordedNumber (get_or τ.recorded v none) = e ∙ k.recorded-types v (omega arith) (omega (arith, k.long)) in
-          one_more eligible v b false (λ j. isScalarizable σ (valueRow τ (record { 0 = j }))) (omega (arith, u.long-eligible)) (g most τ (get_or τ.recorded v none) k.rows m n) (u.fits most τ k m l r);
+          let n : number ≡ recorded_number (get_or τ.recorded v none) = e ∙ k.recorded_types v (omega arith) (omega (arith, k.long)) in
+          one_more eligible v b false (λ j. is_scalarizable σ (value_row τ (record { 0 = j }))) (omega (arith, u.long_eligible)) (g most τ (get_or τ.recorded v none) k.rows m n) (u.fits most τ k m l r);
     }
 
 -- all have them

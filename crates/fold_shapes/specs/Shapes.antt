@@ -8,18 +8,18 @@ use Rattle.mir.specs.declared.Recorded.{Recorded}
 use Rattle.mir.specs.MirType.{MirType}
 use Rattle.mir.specs.Lookup.{Types, row_of}
 use Rattle.bytes_types.specs.Index.{TypesAt}
-use Rattle.bytes_sections.specs.Index.{recordedNumber}
+use Rattle.bytes_sections.specs.Index.{recorded_number}
 use Rattle.fold.specs.declared.Settings.{Settings}
-use Rattle.fold.specs.Numbers.{tupleShape, structShape, arrayShape}
+use Rattle.fold.specs.Numbers.{tuple_shape, struct_shape, array_shape}
 use Rattle.fold.specs.Tables.{Known, ShapesAt}
 
 -- the shape by the kind byte
-abbrev pub rowShape : List ℕ → ℕ
-rowShape t = get_or (0 ∷ 0 ∷ 0 ∷ tupleShape ∷ structShape ∷ arrayShape ∷ []) (get_or t 0 0) 0
+abbrev pub row_shape : List ℕ → ℕ
+row_shape t = get_or (0 ∷ 0 ∷ 0 ∷ tuple_shape ∷ struct_shape ∷ array_shape ∷ []) (get_or t 0 0) 0
 
 -- the parts of a Tuple are counted at 1, those of a Struct at 3, an array's elements at 3
-abbrev pub rowEligible : Settings → List ℕ → Bool
-rowEligible σ t =
+abbrev pub row_eligible : Settings → List ℕ → Bool
+row_eligible σ t =
     get_or
     (false
     ∷ false
@@ -45,7 +45,7 @@ OfRecorded f s types many recorded answer =
     (most : ℕ) (τ : Types) (o : Option TypeId)
     → TypesAt most s types τ.rows
     → length τ.rows ≡ many
-    → recorded.0 ≡ recordedNumber o
+    → recorded.0 ≡ recorded_number o
     → answer ≡ f (row_of τ o)
 
 -- and the tables of the `next` values: what stood in them, and what stands in them

@@ -3,8 +3,8 @@
 
 ghost use Rattle.std.specs.Prelude.{◌≡◌, cond, ◌&&◌, length, get_or, leb, ltb};
 ghost use Rattle.mir.specs.Lookup.{shape};
-ghost use Rattle.fold.specs.Scalarizable.{isScalarizable};
-ghost use Rattle.fold_shapes.specs.Shapes.{rowShape, rowEligible, OfType, OfRecorded, FillsShapes};
+ghost use Rattle.fold.specs.Scalarizable.{is_scalarizable};
+ghost use Rattle.fold_shapes.specs.Shapes.{row_shape, row_eligible, OfType, OfRecorded, FillsShapes};
 
 use bytes_types::layout;
 use fold::Settings;
@@ -12,7 +12,7 @@ use mir::{Recorded, TypeId, shape, type_kind};
 
 // The shape of the type whose bytes begin here.
 fn row_shape(t: &[u8]) -> u8
-    ensures { result ≡ rowShape t.now }
+    ensures { result ≡ row_shape t.now }
 {
     let kind = bytes_wire::byte_at(t, 0);
     match kind {
@@ -32,7 +32,7 @@ fn within(on: bool, size: u32, most: u8) -> bool
 
 // Whether the type whose bytes begin here is eligible.
 fn row_eligible(t: &[u8], settings: Settings) -> bool
-    ensures { result ≡ rowEligible settings t.now }
+    ensures { result ≡ row_eligible settings t.now }
 {
     let kind = bytes_wire::byte_at(t, 0);
     match kind {
@@ -74,7 +74,7 @@ pub fn type_shape(s: &[u8], types: &[u16], many: u16, t: TypeId) -> u8
 
 // Whether type `t` of `many` is eligible under the settings.
 pub fn type_eligible(s: &[u8], types: &[u16], many: u16, t: TypeId, settings: Settings) -> bool
-    ensures { OfType (isScalarizable settings) s.now types.now many t result }
+    ensures { OfType (is_scalarizable settings) s.now types.now many t result }
 {
     row_eligible(bytes_field::tail(s, row_place(s, types, many, t)), settings)
 }
@@ -98,7 +98,7 @@ fn recorded_eligible(
     recorded: Recorded,
     settings: Settings,
 ) -> bool
-    ensures { OfRecorded (isScalarizable settings) s.now types.now many recorded result }
+    ensures { OfRecorded (is_scalarizable settings) s.now types.now many recorded result }
 {
     if recorded.0 == 0 {
         return false;

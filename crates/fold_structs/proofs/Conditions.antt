@@ -14,64 +14,64 @@ use Rattle.bytes_wire.specs.Parse.{ok}
 use Rattle.bytes_wire.specs.Number.{at16, below}
 use Rattle.mir.specs.declared.ValueId.{ValueId}
 use Rattle.mir.specs.declared.TypeId.{TypeId}
-use Rattle.bytes_wire.proofs.Laws.{from-16}
-use Rattle.bytes_wire.proofs.Inv.{both, image, and-inv, map-inv, number-inv, below-inv}
+use Rattle.bytes_wire.proofs.Laws.{from_16}
+use Rattle.bytes_wire.proofs.Inv.{both, image, and_inv, map_inv, number_inv, below_inv}
 use Rattle.mir.specs.MirType.{StructField, MirType}
 use Rattle.mir.specs.Syntax.{FieldInit, Instruction, InstructionKind, MakeStruct}
-use Rattle.mir.specs.Reads.{kindNumber}
-use Rattle.bytes_field.specs.Decode.{definedOf, typeIdOf, list_of, fieldInitOf, makeStructOf, instructionOf}
+use Rattle.mir.specs.Reads.{kind_number}
+use Rattle.bytes_field.specs.Decode.{defined_of, type_id_of, list_of, field_init_of, make_struct_of, instruction_of}
 use Rattle.bytes_field.specs.declared.Bounds.{Bounds}
-use Rattle.bytes_operands.specs.Fields.{fieldsPlace}
-use Rattle.bytes_operands.proofs.Instruction.{instruction-fields}
-use Rattle.bytes_sections.specs.Index.{recordedNumber}
+use Rattle.bytes_operands.specs.Fields.{fields_place}
+use Rattle.bytes_operands.proofs.Instruction.{instruction_fields}
+use Rattle.bytes_sections.specs.Index.{recorded_number}
 use Rattle.fold_shapes.specs.Shapes.{OfType}
 use Rattle.fold.specs.declared.Settings.{Settings}
-use Rattle.mir.specs.Lookup.{Types, row_of, recordedType, valueRow, shape, isStruct, structFieldsOf, is_some}
-use Rattle.fold.specs.Scalarizable.{isScalarizable}
+use Rattle.mir.specs.Lookup.{Types, row_of, recorded_type, value_row, shape, is_struct, struct_fields_of, is_some}
+use Rattle.fold.specs.Scalarizable.{is_scalarizable}
 use Rattle.fold.specs.Family.{Marks}
-use Rattle.mir.specs.Parts.{or_else, structRow, fromStructFields, structParts}
+use Rattle.mir.specs.Parts.{or_else, struct_row, from_struct_fields, struct_parts}
 use Rattle.fold.specs.Climb.{buildable}
-use Rattle.bytes_index.specs.Table.{recordedIn, place_in, end_in, kindIn}
-use Rattle.bytes_index.specs.Code.{noInstruction}
-use Rattle.rewrite_parts.proofs.Builds.{build-inits}
-use Rattle.bytes_struct.proofs.Placed.{type-fields}
+use Rattle.bytes_index.specs.Table.{recorded_in, place_in, end_in, kind_in}
+use Rattle.bytes_index.specs.Code.{no_instruction}
+use Rattle.rewrite_parts.proofs.Builds.{build_inits}
+use Rattle.bytes_struct.proofs.Placed.{type_fields}
 use Rattle.fold.specs.Tables.{Ground}
-use Rattle.fold_structs.specs.Told.{goesBy, AllGiven, TellsRow, Passes, StructTold, StructsTold}
-use Rattle.fold_climb.proofs.Found.{dest-at}
+use Rattle.fold_structs.specs.Told.{goes_by, AllGiven, TellsRow, Passes, StructTold, StructsTold}
+use Rattle.fold_climb.proofs.Found.{dest_at}
 
 -- a type's number at a place
-type_at : (types : ℕ) (t : List ℕ) (p : ℕ) {y : TypeId} {n : ℕ} → typeIdOf types (drop p t) ≡ ok y n → (y.0 ≡ at16 t p) × (y.0 < types) × (n ≡ 2)
+type_at : (types : ℕ) (t : List ℕ) (p : ℕ) {y : TypeId} {n : ℕ} → type_id_of types (drop p t) ≡ ok y n → (y.0 ≡ at16 t p) × (y.0 < types) × (n ≡ 2)
 type_at types t p e =
-    elim (map-inv (λ x. record { 0 = x }) (below types (drop p t)) e) [
+    elim (map_inv (λ x. record { 0 = x }) (below types (drop p t)) e) [
       | image x f g ↦
-          let h = below-inv types (drop p t) f in
-          let k = number-inv 2 (drop p t) h.0 in
+          let h = below_inv types (drop p t) f in
+          let k = number_inv 2 (drop p t) h.0 in
           let i = ap (λ (a : TypeId). a.0) g in
-          (i ∙ k.1 ∙ from-16 t p, rw i h.1, k.2)
+          (i ∙ k.1 ∙ from_16 t p, rw i h.1, k.2)
     ]
 
 -- the type of a number
 abbrev pub typed : ℕ → TypeId
 typed n = record { 0 = n }
 
-pub goes_on : (n : ℕ) (y : TypeId) → (n ≡ 0 → ⊥) → typed (n - 1) ≡ goesBy n y
+pub goes_on : (n : ℕ) (y : TypeId) → (n ≡ 0 → ⊥) → typed (n - 1) ≡ goes_by n y
 goes_on zero y h = absurd (h refl)
 goes_on (suc n) y h = let z : suc n - 1 ≡ n = omega arith in ap (λ (x : ℕ). typed x) z
 
-goes-suc : (t : ℕ) (y : TypeId) → goesBy (t + 1) y ≡ typed t
-goes-suc t y = let z : t + 1 - 1 ≡ t = omega arith in sym (goes_on (t + 1) y (λ e. omega arith)) ∙ ap (λ (x : ℕ). typed x) z
+goes_suc : (t : ℕ) (y : TypeId) → goes_by (t + 1) y ≡ typed t
+goes_suc t y = let z : t + 1 - 1 ≡ t = omega arith in sym (goes_on (t + 1) y (λ e. omega arith)) ∙ ap (λ (x : ℕ). typed x) z
 
 -- a number behind some bytes
-behind-16 : (o : ℕ) (t : List ℕ) (p : ℕ) → at16 (drop o t) p ≡ at16 t (o + p)
-behind-16 o t p = sym (from-16 (drop o t) p) ∙ rw (drop-drop p o t) (from-16 t (o + p))
+behind_16 : (o : ℕ) (t : List ℕ) (p : ℕ) → at16 (drop o t) p ≡ at16 t (o + p)
+behind_16 o t p = sym (from_16 (drop o t) p) ∙ rw (drop-drop p o t) (from_16 t (o + p))
 
 -- where the fields begin is near
 few : (b : Bool) (x y : ℕ) → x ≤ y → cond b x 0 ≤ y
 few true x y h = h
 few false x y h = omega arith
 
-pub fields-low : (t : List ℕ) → fieldsPlace t < 64
-fields-low t =
+pub fields_low : (t : List ℕ) → fields_place t < 64
+fields_low t =
     let x = get_or t 0 0 in
     omega (arith, few (eqb (x / 2 ^ 0 % 2) 1) 8 8 (omega arith), few (eqb (x / 2 ^ 1 % 2) 1) 12 12 (omega arith), few (eqb (x / 2 ^ 2 % 2) 1) 4 4 (omega arith))
 
@@ -79,16 +79,16 @@ fields-low t =
 data StructAt (next types : ℕ) (t : List ℕ) (i : InstructionKind) (n : ℕ) : Type 0 where
   struct_at : (d : ValueId) (fs : List FieldInit) (y : TypeId) → i ≡ MakeStruct d fs y → d.0 ≡ at16 t 0 → d.0 < next → y.0 < types → y.0 ≡ at16 t (n - 2) → 2 ≤ n → StructAt next types t i n
 
-struct_fields : (b : Bounds) (seen : List Bool) (t : List ℕ) (i : InstructionKind) (n : ℕ) → makeStructOf b seen t ≡ ok i n → StructAt b.next b.types t i n
-unfolding makeStructOf
+struct_fields : (b : Bounds) (seen : List Bool) (t : List ℕ) (i : InstructionKind) (n : ℕ) → make_struct_of b seen t ≡ ok i n → StructAt b.next b.types t i n
+unfolding make_struct_of
 struct_fields b seen t i n e =
-    elim (and-inv t (definedOf b.next seen t) _ e) [
+    elim (and_inv t (defined_of b.next seen t) _ e) [
       | both d m k p q r ↦
-          elim (and-inv (drop m t) (list_of b.list (fieldInitOf b) (drop m t)) _ q) [
+          elim (and_inv (drop m t) (list_of b.list (field_init_of b) (drop m t)) _ q) [
             | both fs m' k' p' q' r' ↦
-                elim (map-inv (λ t. MakeStruct d fs t) (typeIdOf b.types (drop m' (drop m t))) q') [
+                elim (map_inv (λ t. MakeStruct d fs t) (type_id_of b.types (drop m' (drop m t))) q') [
                   | image y f g ↦
-                      let h = dest-at b.next seen t p in
+                      let h = dest_at b.next seen t p in
                       let o = type_at b.types t (m + m') (rw (drop-drop m' m t) at f) in
                       let z : m + m' ≡ n - 2 = omega (arith, o.2) in
                       let w : 2 ≤ n = omega (arith, o.2) in
@@ -99,17 +99,17 @@ struct_fields b seen t i n e =
 
 -- the same of a whole instruction
 pub data StructFound (b : Bounds) (t : List ℕ) (i : Instruction) (n : ℕ) : Type 0 where
-  struct-found : (d : ValueId) (fs : List FieldInit) (y : TypeId) → i.kind ≡ MakeStruct d fs y → d.0 ≡ at16 (drop (fieldsPlace t) t) 0 → d.0 < b.next → y.0 < b.types → y.0 ≡ at16 t (n - 2) → 2 ≤ n → StructFound b t i n
+  struct_found : (d : ValueId) (fs : List FieldInit) (y : TypeId) → i.kind ≡ MakeStruct d fs y → d.0 ≡ at16 (drop (fields_place t) t) 0 → d.0 < b.next → y.0 < b.types → y.0 ≡ at16 t (n - 2) → 2 ≤ n → StructFound b t i n
 
-pub find-struct : (b : Bounds) (t : List ℕ) (i : Instruction) (n : ℕ) → instructionOf b [] false t ≡ ok i n → kindNumber i.kind ≡ 12 → StructFound b t i n
-find-struct b t i n e h =
-    let w = instruction-fields b [] false t i n e in
+pub find_struct : (b : Bounds) (t : List ℕ) (i : Instruction) (n : ℕ) → instruction_of b [] false t ≡ ok i n → kind_number i.kind ≡ 12 → StructFound b t i n
+find_struct b t i n e h =
+    let w = instruction_fields b [] false t i n e in
     let j : get_or t 1 0 ≡ 12 = sym w.numbered ∙ h in
-    elim (struct_fields b [] (drop (fieldsPlace t) t) i.kind w.size (rw j at w.read)) [
+    elim (struct_fields b [] (drop (fields_place t) t) i.kind w.size (rw j at w.read)) [
       | struct_at d fs y g a l m u two ↦
-          let z : fieldsPlace t + (w.size - 2) ≡ n - 2 = omega (arith, w.whole) in
+          let z : fields_place t + (w.size - 2) ≡ n - 2 = omega (arith, w.whole) in
           let big : 2 ≤ n = omega (arith, w.whole) in
-          struct-found d fs y g a l m (u ∙ behind-16 (fieldsPlace t) t (w.size - 2) ∙ ap (at16 t) z) big
+          struct_found d fs y g a l m (u ∙ behind_16 (fields_place t) t (w.size - 2) ∙ ap (at16 t) z) big
     ]
 
 -- an element that is there
@@ -120,113 +120,113 @@ found (x ∷ xs) zero o h = refl
 found (x ∷ xs) (suc k) o h = found xs k o (omega arith)
 
 -- the row that a struct's parts go by
-struct_row : (b : Bounds) (s types recorded : List ℕ) (τ : Types) → Ground b s types recorded τ → (d : ValueId) (y : TypeId) → d.0 < b.next → structRow τ d y ≡ row_of τ (some (goesBy (get_or recorded d.0 0) y))
-unfolding structRow valueRow recordedType row_of or_else
-struct_row b s types recorded τ g d y l = go (get_or τ.recorded d.0 none) refl
+struct_row_lem : (b : Bounds) (s types recorded : List ℕ) (τ : Types) → Ground b s types recorded τ → (d : ValueId) (y : TypeId) → d.0 < b.next → struct_row τ d y ≡ row_of τ (some (goes_by (get_or recorded d.0 0) y))
+unfolding struct_row value_row recorded_type row_of or_else
+struct_row_lem b s types recorded τ g d y l = go (get_or τ.recorded d.0 none) refl
   where
-    n : get_or recorded d.0 0 ≡ recordedNumber (get_or τ.recorded d.0 none)
-    n = g.known.recorded-types d.0 (omega (arith, g.values)) (omega (arith, g.values, g.known.long))
+    n : get_or recorded d.0 0 ≡ recorded_number (get_or τ.recorded d.0 none)
+    n = g.known.recorded_types d.0 (omega (arith, g.values)) (omega (arith, g.values, g.known.long))
 
-    go : (o : Option TypeId) → get_or τ.recorded d.0 none ≡ o → or_else (row_of τ o) (row_of τ (some y)) ≡ row_of τ (some (goesBy (get_or recorded d.0 0) y))
+    go : (o : Option TypeId) → get_or τ.recorded d.0 none ≡ o → or_else (row_of τ o) (row_of τ (some y)) ≡ row_of τ (some (goes_by (get_or recorded d.0 0) y))
     go none e = rw (n, e) refl
     go (some t) e =
         let low : t.0 < length τ.rows = omega (arith, g.typed d.0 t e, g.rows) in
-        rw (n, e, goes-suc t.0 y) (found τ.rows t.0 (row_of τ (some y)) low)
+        rw (n, e, goes_suc t.0 y) (found τ.rows t.0 (row_of τ (some y)) low)
 
 -- the row of a struct's number is there
-row-there : (l : List MirType) (k : ℕ) → shape (get_elem? l k) ≡ 2 → (k < length l) × (get_elem? l k ≡ some (get_or l k MirType.Unit))
+row_there : (l : List MirType) (k : ℕ) → shape (get_elem? l k) ≡ 2 → (k < length l) × (get_elem? l k ≡ some (get_or l k MirType.Unit))
 unfolding shape
-row-there [] k e = absurd (omega arith)
-row-there (x ∷ l) zero e = (omega arith, refl)
-row-there (x ∷ l) (suc k) e = let h = row-there l k e in (omega (arith, h.0), h.1)
+row_there [] k e = absurd (omega arith)
+row_there (x ∷ l) zero e = (omega arith, refl)
+row_there (x ∷ l) (suc k) e = let h = row_there l k e in (omega (arith, h.0), h.1)
 
 data IsStruct (x : MirType) : Type 0 where
-  is-struct : (n : _) (ts : List StructField) → x ≡ MirType.Struct n ts → IsStruct x
+  is_struct_lem : (n : _) (ts : List StructField) → x ≡ MirType.Struct n ts → IsStruct x
 
-struct-row-of : (x : MirType) → shape (some x) ≡ 2 → IsStruct x
+struct_row_of : (x : MirType) → shape (some x) ≡ 2 → IsStruct x
 unfolding shape
-struct-row-of MirType.Felt e = absurd (omega arith)
-struct-row-of MirType.Bool e = absurd (omega arith)
-struct-row-of MirType.U32 e = absurd (omega arith)
-struct-row-of (MirType.Tuple ts) e = absurd (omega arith)
-struct-row-of (MirType.Struct n fs) e = is-struct n fs refl
-struct-row-of (MirType.FixedArray t size) e = absurd (omega arith)
-struct-row-of (MirType.Pointer t) e = absurd (omega arith)
-struct-row-of (MirType.Function ps r) e = absurd (omega arith)
-struct-row-of MirType.Unit e = absurd (omega arith)
-struct-row-of MirType.Error e = absurd (omega arith)
-struct-row-of MirType.Unknown e = absurd (omega arith)
+struct_row_of MirType.Felt e = absurd (omega arith)
+struct_row_of MirType.Bool e = absurd (omega arith)
+struct_row_of MirType.U32 e = absurd (omega arith)
+struct_row_of (MirType.Tuple ts) e = absurd (omega arith)
+struct_row_of (MirType.Struct n fs) e = is_struct_lem n fs refl
+struct_row_of (MirType.FixedArray t size) e = absurd (omega arith)
+struct_row_of (MirType.Pointer t) e = absurd (omega arith)
+struct_row_of (MirType.Function ps r) e = absurd (omega arith)
+struct_row_of MirType.Unit e = absurd (omega arith)
+struct_row_of MirType.Error e = absurd (omega arith)
+struct_row_of MirType.Unknown e = absurd (omega arith)
 
 module _ (s types : List ℕ) (many : ℕ) (y : TypeId) (t : List ℕ) (shp : ℕ) (tells : OfType shape s types many y shp) where
   pub told_none : (shp ≡ 2 → ⊥) → TellsRow s types many y t false
-  unfolding row_of isStruct is_some
+  unfolding row_of is_struct is_some
   told_none h b τ i n d fs x at l e k = let z = ne_eqb (shape (get_elem? τ.rows y.0)) 2 (λ q. h (tells b.list τ.rows at l ∙ q)) in rw z refl
 
-  pub told-all : shp ≡ 2 → (place : ℕ) → place ≡ get_or types y.0 0 → (u : List ℕ) → u ≡ drop place s → (off : ℕ) → off ≡ fieldsPlace t → (c : ℕ) → c ≡ get_or t (off + 2) 0 → (m : ℕ) → m ≡ get_or u 3 0 → (r : Bool) → AllGiven t (off + 3) c u 4 m r → TellsRow s types many y t r
-  unfolding row_of isStruct is_some structFieldsOf shape
-  told-all h place pl u us off os c cs m ms r all b τ i n d fs x at l e k =
+  pub told_all : shp ≡ 2 → (place : ℕ) → place ≡ get_or types y.0 0 → (u : List ℕ) → u ≡ drop place s → (off : ℕ) → off ≡ fields_place t → (c : ℕ) → c ≡ get_or t (off + 2) 0 → (m : ℕ) → m ≡ get_or u 3 0 → (r : Bool) → AllGiven t (off + 3) c u 4 m r → TellsRow s types many y t r
+  unfolding row_of is_struct is_some struct_fields_of shape
+  told_all h place pl u us off os c cs m ms r all b τ i n d fs x at l e k =
       let z : shape (get_elem? τ.rows y.0) ≡ 2 = sym (tells b.list τ.rows at l) ∙ h in
-      let w = row-there τ.rows y.0 z in
+      let w = row_there τ.rows y.0 z in
       let row = get_or τ.rows y.0 MirType.Unit in
       let q : shape (some row) ≡ 2 = sym (ap shape w.1) ∙ z in
       let v : drop (get_or types y.0 0) s ≡ u = sym (us ∙ ap (λ a. drop a s) pl) in
       let p = rw v at (at.each y.0 w.0) in
-      let f = build-inits b [] false t 0 i n {d = d} {fs = fs} {y = x} e k off (os ∙ sym (zero-add (fieldsPlace t))) in
-      elim (struct-row-of row q) [
-        | is-struct nm ts g ↦
-            let o = type-fields b.list y.0 u p g in
-            let a : r ≡ is_some (fromStructFields fs ts) = all b.next fs ts f.0 (f.1 ∙ sym cs) o.names (o.many ∙ sym ms) in
+      let f = build_inits b [] false t 0 i n {d = d} {fs = fs} {y = x} e k off (os ∙ sym (zero-add (fields_place t))) in
+      elim (struct_row_of row q) [
+        | is_struct_lem nm ts g ↦
+            let o = type_fields b.list y.0 u p g in
+            let a : r ≡ is_some (from_struct_fields fs ts) = all b.next fs ts f.0 (f.1 ∙ sym cs) o.names (o.many ∙ sym ms) in
             rw (w.1, g) a
       ]
 
 -- what the code says of a MakeStruct
 module _ (b : Bounds) (s facts : List ℕ) (σ : Settings) (cross : Marks) (t : List ℕ) (n : ℕ) where
-  pub passes-short : n < 2 → Passes b s facts σ cross t n false
-  passes-short h τ i g e k = elim (find-struct b t i n e k) [ struct-found d fs y p a l m u two ↦ absurd (omega arith) ]
+  pub passes_short : n < 2 → Passes b s facts σ cross t n false
+  passes_short h τ i g e k = elim (find_struct b t i n e k) [ struct_found d fs y p a l m u two ↦ absurd (omega arith) ]
 
-  module _ (named : TypeId) (ns : named.0 ≡ at16 t (n - 2)) (yes : Bool) (fits : OfType (isScalarizable σ) s facts b.types named yes) where
+  module _ (named : TypeId) (ns : named.0 ≡ at16 t (n - 2)) (yes : Bool) (fits : OfType (is_scalarizable σ) s facts b.types named yes) where
     -- the named type
-    eligible-named : (τ : Types) → Ground b s facts (recordedIn facts) τ → (y : TypeId) → y.0 ≡ at16 t (n - 2) → isScalarizable σ (row_of τ (some y)) ≡ yes
+    eligible_named : (τ : Types) → Ground b s facts (recorded_in facts) τ → (y : TypeId) → y.0 ≡ at16 t (n - 2) → is_scalarizable σ (row_of τ (some y)) ≡ yes
     unfolding row_of
-    eligible-named τ g y u = let z : y.0 ≡ named.0 = u ∙ sym ns in rw z (sym (fits b.list τ.rows g.known.rows g.rows))
+    eligible_named τ g y u = let z : y.0 ≡ named.0 = u ∙ sym ns in rw z (sym (fits b.list τ.rows g.known.rows g.rows))
 
-    pub passes-type : yes ≡ false → Passes b s facts σ cross t n false
+    pub passes_type : yes ≡ false → Passes b s facts σ cross t n false
     unfolding buildable
-    passes-type h τ i g e k = elim (find-struct b t i n e k) [ struct-found d fs y p a l m u two ↦ rw (p, eligible-named τ g y u, h) refl ]
+    passes_type h τ i g e k = elim (find_struct b t i n e k) [ struct_found d fs y p a l m u two ↦ rw (p, eligible_named τ g y u, h) refl ]
 
-    module _ (ok-type : yes ≡ true) (d : ℕ) (ds : d ≡ at16 (drop (fieldsPlace t) t) 0) (marked : Bool) (ms : marked ≡ get_or cross d false) where
-      pub passes-marked : marked ≡ true → Passes b s facts σ cross t n false
+    module _ (ok_type : yes ≡ true) (d : ℕ) (ds : d ≡ at16 (drop (fields_place t) t) 0) (marked : Bool) (ms : marked ≡ get_or cross d false) where
+      pub passes_marked : marked ≡ true → Passes b s facts σ cross t n false
       unfolding buildable
-      passes-marked h τ i g e k =
-          elim (find-struct b t i n e k) [
-            | struct-found v fs y p a l m u two ↦
+      passes_marked h τ i g e k =
+          elim (find_struct b t i n e k) [
+            | struct_found v fs y p a l m u two ↦
                 let z : get_or cross v.0 false ≡ true = ap (λ c. get_or cross c false) (a ∙ sym ds) ∙ sym ms ∙ h in
-                rw (p, eligible-named τ g y u, ok-type, z) refl
+                rw (p, eligible_named τ g y u, ok_type, z) refl
           ]
 
-      pub passes-told : marked ≡ false → (number : ℕ) → number ≡ get_or (recordedIn facts) d 0 → (w : TypeId) → w ≡ goesBy number named → (r : Bool) → TellsRow s facts b.types w t r → Passes b s facts σ cross t n r
-      unfolding buildable structParts
-      passes-told h number es w ws r tells τ i g e k =
-          elim (find-struct b t i n e k) [
-            | struct-found v fs y p a l m u two ↦
+      pub passes_told : marked ≡ false → (number : ℕ) → number ≡ get_or (recorded_in facts) d 0 → (w : TypeId) → w ≡ goes_by number named → (r : Bool) → TellsRow s facts b.types w t r → Passes b s facts σ cross t n r
+      unfolding buildable struct_parts
+      passes_told h number es w ws r tells τ i g e k =
+          elim (find_struct b t i n e k) [
+            | struct_found v fs y p a l m u two ↦
                 let same : v.0 ≡ d = a ∙ sym ds in
                 let z : get_or cross v.0 false ≡ false = ap (λ c. get_or cross c false) same ∙ sym ms ∙ h in
-                let o : w ≡ goesBy (get_or (recordedIn facts) v.0 0) y = ws ∙ ap (λ c. goesBy c named) (es ∙ ap (λ c. get_or (recordedIn facts) c 0) (sym same)) ∙ ap (λ x. goesBy (get_or (recordedIn facts) v.0 0) (typed x)) (ns ∙ sym u) in
+                let o : w ≡ goes_by (get_or (recorded_in facts) v.0 0) y = ws ∙ ap (λ c. goes_by c named) (es ∙ ap (λ c. get_or (recorded_in facts) c 0) (sym same)) ∙ ap (λ x. goes_by (get_or (recorded_in facts) v.0 0) (typed x)) (ns ∙ sym u) in
                 let q = tells b τ i n v fs y g.known.rows g.rows e p in
-                rw (p, eligible-named τ g y u, ok-type, z, struct_row b s facts (recordedIn facts) τ g v y l, ← o) q
+                rw (p, eligible_named τ g y u, ok_type, z, struct_row_lem b s facts (recorded_in facts) τ g v y l, ← o) q
           ]
 
 -- the instruction in a slot
 module _ (b : Bounds) (s facts : List ℕ) (σ : Settings) (cross : Marks) (slot : ℕ) where
-  pub told-other : (kind : ℕ) → kind ≡ kindIn facts slot → (kind ≡ 12 → ⊥) → StructTold b s facts σ cross slot false
-  told-other kind e h τ i g at z = absurd (h (e ∙ at.kind ∙ z))
+  pub told_other : (kind : ℕ) → kind ≡ kind_in facts slot → (kind ≡ 12 → ⊥) → StructTold b s facts σ cross slot false
+  told_other kind e h τ i g at z = absurd (h (e ∙ at.kind ∙ z))
 
   module _ (place end : ℕ) (ps : place ≡ place_in facts slot) (es : end ≡ end_in facts slot) where
-    pub told-short : end < place → StructTold b s facts σ cross slot false
-    told-short h τ i g at z = absurd (omega (arith, at.rises))
+    pub told_short : end < place → StructTold b s facts σ cross slot false
+    told_short h τ i g at z = absurd (omega (arith, at.rises))
 
-    pub told-struct : (t : List ℕ) → t ≡ drop place s → (r : Bool) → Passes b s facts σ cross t (end - place) r → StructTold b s facts σ cross slot r
-    told-struct t ts r passes τ i g at z = passes τ i g (rw (ts, ps, es) at.read) z
+    pub told_struct : (t : List ℕ) → t ≡ drop place s → (r : Bool) → Passes b s facts σ cross t (end - place) r → StructTold b s facts σ cross slot r
+    told_struct t ts r passes τ i g at z = passes τ i g (rw (ts, ps, es) at.read) z
 
 -- the first k flags stand
 pub record Filling (b : Bounds) (s facts : List ℕ) (first count : ℕ) (σ : Settings) (cross : Marks) (structs₀ : List Bool) (k : ℕ) (structs : List Bool) : Type 0 where
@@ -239,8 +239,8 @@ module _ {b : Bounds} {s facts : List ℕ} {first count : ℕ} {σ : Settings} {
   pub filling : first + count ≤ 288 → Filling b s facts first count σ cross structs₀ 0 structs₀
   filling h = record { low = omega arith; small = h; long = refl; told = λ r j h. absurd (omega arith) }
 
-  pub filling-on : {k : ℕ} {structs structs' : List Bool} → Filling b s facts first count σ cross structs₀ k structs → k < count → (r : Bool) → StructTold b s facts σ cross (first + k) r → structs' ≡ set structs k r → Filling b s facts first count σ cross structs₀ (k + 1) structs'
-  filling-on {k} {structs} {structs'} inv h r one e =
+  pub filling_on : {k : ℕ} {structs structs' : List Bool} → Filling b s facts first count σ cross structs₀ k structs → k < count → (r : Bool) → StructTold b s facts σ cross (first + k) r → structs' ≡ set structs k r → Filling b s facts first count σ cross structs₀ (k + 1) structs'
+  filling_on {k} {structs} {structs'} inv h r one e =
       record {
         low = omega arith;
         small = inv.small;
@@ -259,4 +259,4 @@ module _ {b : Bounds} {s facts : List ℕ} {first count : ℕ} {σ : Settings} {
           rw (e, get_or-set_other structs k j r false n) (inv.told room j m)
 
   pub filled : {k : ℕ} {structs : List Bool} → Filling b s facts first count σ cross structs₀ k structs → count ≤ k → StructsTold b s facts first count σ cross structs₀ structs
-  filled inv h τ all g at l room j m e = inv.told room j (omega (arith, l)) τ (get_or all j noInstruction) g (at j m) e
+  filled inv h τ all g at l room j m e = inv.told room j (omega (arith, l)) τ (get_or all j no_instruction) g (at j m) e

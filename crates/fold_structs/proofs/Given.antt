@@ -9,18 +9,18 @@ use lib.Seq.{drop-cons}
 use Rattle.bytes_wire.specs.Number.{at16}
 use Rattle.mir.specs.MirType.{StructField}
 use Rattle.mir.specs.Syntax.{FieldInit}
-use Rattle.mir.specs.Parts.{given, consPart, fromStructFields}
+use Rattle.mir.specs.Parts.{given, cons_part, from_struct_fields}
 use Rattle.mir.specs.Lookup.{is_some}
 use Rattle.fold_structs.specs.Told.{AllGiven}
 use Rattle.rewrite_parts.specs.Rows.{Inits, InitAt}
 use Rattle.bytes_struct.specs.Fields.{Names, no_field}
 use Rattle.rewrite_parts.specs.declared.Init.{Init}
-use Rattle.rewrite_parts.proofs.ByName.{part-given, part-missing}
+use Rattle.rewrite_parts.proofs.ByName.{part_given, part_missing}
 
 -- the first i names are given
 pub record Naming (t : List ℕ) (at n : ℕ) (u : List ℕ) (names m i : ℕ) : Type 0 where
   pub low : i ≤ m
-  pub left : (next : ℕ) (fs : List FieldInit) (ts : List StructField) → Inits next t at fs → length fs ≡ n → Names u names ts → length ts ≡ m → is_some (fromStructFields fs ts) ≡ is_some (fromStructFields fs (drop i ts))
+  pub left : (next : ℕ) (fs : List FieldInit) (ts : List StructField) → Inits next t at fs → length fs ≡ n → Names u names ts → length ts ≡ m → is_some (from_struct_fields fs ts) ≡ is_some (from_struct_fields fs (drop i ts))
 
 -- what the code says of one name
 abbrev pub FindsInit : List ℕ → ℕ → ℕ → ℕ → Init → Type 0
@@ -32,29 +32,29 @@ module _ {t : List ℕ} {at n : ℕ} {u : List ℕ} {names m : ℕ} where
 
   module _ {i : ℕ} (inv : Naming t at n u names m i) where
     front : i < m → (x : ℕ) → x ≡ at16 u (names + 4 * i) → (next : ℕ) (fs : List FieldInit) (ts : List StructField) → Inits next t at fs → length fs ≡ n → Names u names ts → length ts ≡ m
-        → is_some (fromStructFields fs ts) ≡ is_some (consPart (given (record { 0 = x }) fs) (fromStructFields fs (drop (suc i) ts)))
-    unfolding fromStructFields
+        → is_some (from_struct_fields fs ts) ≡ is_some (cons_part (given (record { 0 = x }) fs) (from_struct_fields fs (drop (suc i) ts)))
+    unfolding from_struct_fields
     front h x e next fs ts a l b k =
         let g : i < length ts = omega (arith, k) in
         let f = get_or ts i no_field in
         let z : f.name ≡ record { 0 = x } = ap (λ (y : ℕ). record { 0 = y }) (sym (e ∙ b.each i g)) in
         inv.left next fs ts a l b k ∙ rw (drop-cons ts i no_field g, z) refl
 
-    pub naming-on : i < m → (x : ℕ) → x ≡ at16 u (names + 4 * i) → (r : Init) → FindsInit t at n x r → r.given ≡ true → Naming t at n u names m (i + 1)
-    naming-on h x e r finds y =
+    pub naming_on : i < m → (x : ℕ) → x ≡ at16 u (names + 4 * i) → (r : Init) → FindsInit t at n x r → r.given ≡ true → Naming t at n u names m (i + 1)
+    naming_on h x e r finds y =
         let z : suc i ≡ i + 1 = omega arith in
         record {
           low = omega arith;
           left = λ next fs ts a l b k.
-              front h x e next fs ts a l b k ∙ part-given (given (record { 0 = x }) fs) (fromStructFields fs (drop (suc i) ts)) (sym (finds next fs a l).told ∙ y) ∙ ap (λ (o : ℕ). is_some (fromStructFields fs (drop o ts))) z;
+              front h x e next fs ts a l b k ∙ part_given (given (record { 0 = x }) fs) (from_struct_fields fs (drop (suc i) ts)) (sym (finds next fs a l).told ∙ y) ∙ ap (λ (o : ℕ). is_some (from_struct_fields fs (drop o ts))) z;
         }
 
-    pub naming-missing : i < m → (x : ℕ) → x ≡ at16 u (names + 4 * i) → (r : Init) → FindsInit t at n x r → r.given ≡ false → AllGiven t at n u names m false
-    naming-missing h x e r finds y next fs ts a l b k =
-        sym (front h x e next fs ts a l b k ∙ part-missing (given (record { 0 = x }) fs) (fromStructFields fs (drop (suc i) ts)) (sym (finds next fs a l).told ∙ y))
+    pub naming_missing : i < m → (x : ℕ) → x ≡ at16 u (names + 4 * i) → (r : Init) → FindsInit t at n x r → r.given ≡ false → AllGiven t at n u names m false
+    naming_missing h x e r finds y next fs ts a l b k =
+        sym (front h x e next fs ts a l b k ∙ part_missing (given (record { 0 = x }) fs) (from_struct_fields fs (drop (suc i) ts)) (sym (finds next fs a l).told ∙ y))
 
-    pub naming-all : m ≤ i → AllGiven t at n u names m true
-    unfolding fromStructFields is_some
-    naming-all h next fs ts a l b k =
+    pub naming_all : m ≤ i → AllGiven t at n u names m true
+    unfolding from_struct_fields is_some
+    naming_all h next fs ts a l b k =
         let g : length ts ≤ i = omega (arith, k) in
         sym (inv.left next fs ts a l b k ∙ rw (drop_of_length-le ts g) refl)

@@ -3,8 +3,8 @@
 #![tactic(auto)]
 
 ghost use Rattle.std.specs.Prelude.{◌≡◌, ◌+◌, ◌≤◌, ◌<◌};
-ghost use Rattle.mir.specs.Most.{mostSlots};
-ghost use Rattle.fold_structs.specs.Told.{farPlace, goesBy, AllGiven, TellsRow, Passes, StructTold, StructsTold};
+ghost use Rattle.mir.specs.Most.{most_slots};
+ghost use Rattle.fold_structs.specs.Told.{far_place, goes_by, AllGiven, TellsRow, Passes, StructTold, StructsTold};
 
 use bytes_field::Bounds;
 use bytes_types::layout;
@@ -18,7 +18,7 @@ const INITS: usize = 3;
 
 // Each of `m` names, which stand four bytes apart from `names` on, is given among the `n` inits from `at` on.
 fn all_given(t: &[u8], at: usize, n: u8, u: &[u8], names: usize, m: u8) -> bool
-    requires { (at < farPlace) × (names < farPlace) }
+    requires { (at < far_place) × (names < far_place) }
     ensures { AllGiven t.now at n u.now names m result }
 {
     let mut i: u8 = 0;
@@ -35,7 +35,7 @@ fn all_given(t: &[u8], at: usize, n: u8, u: &[u8], names: usize, m: u8) -> bool
 
 // The type that a struct's parts go by: its recorded type, or the named one where none is recorded.
 fn goes_by(recorded: Recorded, named: TypeId) -> TypeId
-    ensures { result ≡ goesBy recorded.0 named }
+    ensures { result ≡ goes_by recorded.0 named }
 {
     if recorded.0 == 0 {
         return named;
@@ -132,7 +132,7 @@ pub fn fill_structs(
     cross: &[bool],
     structs: &mut [bool],
 )
-    requires { first + count ≤ mostSlots }
+    requires { first + count ≤ most_slots }
     ensures { StructsTold b s.now facts.now first count settings cross.now
         structs.old structs.new }
 {

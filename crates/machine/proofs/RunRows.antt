@@ -15,7 +15,7 @@ use Rattle.bytes_wire.specs.Value.{integer, boolean}
 use Rattle.bytes_sections.proofs.Examples.{example}
 use Rattle.machine.specs.Values.{Val, scalar, aggregate, ends, then, equal}
 use Rattle.machine.specs.Meaning.{Meaning, Operated, gives, fails, asks, Verdict, says, balks}
-use Rattle.machine.specs.Records.{index, Trace, Event, called, allocated, loaded, stored, asserted, printed, returned, noValue, noSource, noReply, unwritten, missing, own, Standing, standsAt, ended, stopped, at_return, atUnreachable, unequalSides}
+use Rattle.machine.specs.Records.{index, Trace, Event, called, allocated, loaded, stored, asserted, printed, returned, no_value, no_source, no_reply, unwritten, missing, own, Standing, stands_at, ended, stopped, at_return, at_unreachable, unequal_sides}
 use Rattle.machine.specs.Run.{run}
 use Rattle.machine.specs.Document.{Operations, document01}
 use Rattle.machine.proofs.Words.{val, typ, blk, name, op, block, place, table, recorded, routine, vals, agg, pair, kind, Runs, machine, number, numbers, computes}
@@ -25,45 +25,45 @@ abbrev Goes : List Block → ℕ → List (Event ℕ) → Standing → Type 0
 Goes ks n es s = Runs numbers (routine (val 0 ∷ val 1 ∷ []) (recorded (0 ∷ 0 ∷ 0 ∷ 0 ∷ [])) ks) (scalar 10 ∷ scalar 11 ∷ []) n es s
 
 -- ---- document 01's input: a tuple of 7 and 8, part 1 returned
-pub example-runs : Runs numbers example [] 1 (returned (vals (scalar 8 ∷ [])) ∷ []) (ended at_return)
+pub example_runs : Runs numbers example [] 1 (returned (vals (scalar 8 ∷ [])) ∷ []) (ended at_return)
 unfolding computes
-example-runs = refl
+example_runs = refl
 
 -- ---- "AssertEq is recorded; unequal sides end the run"
 
 -- equal ones do not
-pub asserts-equal : Goes (block (AssertEq (op 0) (integer 10) ∷ []) (Return (op 1 ∷ [])) ∷ []) 1 (asserted (scalar 10) (scalar 10) ∷ returned (vals (scalar 11 ∷ [])) ∷ []) (ended at_return)
+pub asserts_equal : Goes (block (AssertEq (op 0) (integer 10) ∷ []) (Return (op 1 ∷ [])) ∷ []) 1 (asserted (scalar 10) (scalar 10) ∷ returned (vals (scalar 11 ∷ [])) ∷ []) (ended at_return)
 unfolding computes
-asserts-equal = refl
+asserts_equal = refl
 
 -- nothing behind it is run
-pub asserts-unequal : Goes (block (AssertEq (op 0) (op 1) ∷ AssertEq (op 0) (op 0) ∷ []) (Return (op 1 ∷ [])) ∷ []) 1 (asserted (scalar 10) (scalar 11) ∷ []) (ended unequalSides)
+pub asserts_unequal : Goes (block (AssertEq (op 0) (op 1) ∷ AssertEq (op 0) (op 0) ∷ []) (Return (op 1 ∷ [])) ∷ []) 1 (asserted (scalar 10) (scalar 11) ∷ []) (ended unequal_sides)
 unfolding computes
-asserts-unequal = refl
+asserts_unequal = refl
 
 -- aggregates part by part
 abbrev Asserts : Val ℕ → Val ℕ → List (Event ℕ) → Standing → Type 0
 Asserts x y es s = Runs numbers (routine (val 0 ∷ val 1 ∷ []) (recorded (13 ∷ 13 ∷ [])) (block (AssertEq (op 0) (op 1) ∷ []) Unreachable ∷ [])) (x ∷ y ∷ []) 1 es s
 
-pub asserts-parts : Asserts (agg (pair 1 2 ∷ scalar 3 ∷ [])) (agg (pair 1 2 ∷ scalar 3 ∷ [])) (asserted (agg (pair 1 2 ∷ scalar 3 ∷ [])) (agg (pair 1 2 ∷ scalar 3 ∷ [])) ∷ []) (ended atUnreachable)
+pub asserts_parts : Asserts (agg (pair 1 2 ∷ scalar 3 ∷ [])) (agg (pair 1 2 ∷ scalar 3 ∷ [])) (asserted (agg (pair 1 2 ∷ scalar 3 ∷ [])) (agg (pair 1 2 ∷ scalar 3 ∷ [])) ∷ []) (ended at_unreachable)
 unfolding computes
-asserts-parts = refl
+asserts_parts = refl
 
-pub asserts-other-part : Asserts (agg (pair 1 2 ∷ scalar 3 ∷ [])) (agg (pair 1 4 ∷ scalar 3 ∷ [])) (asserted (agg (pair 1 2 ∷ scalar 3 ∷ [])) (agg (pair 1 4 ∷ scalar 3 ∷ [])) ∷ []) (ended unequalSides)
+pub asserts_other_part : Asserts (agg (pair 1 2 ∷ scalar 3 ∷ [])) (agg (pair 1 4 ∷ scalar 3 ∷ [])) (asserted (agg (pair 1 2 ∷ scalar 3 ∷ [])) (agg (pair 1 4 ∷ scalar 3 ∷ [])) ∷ []) (ended unequal_sides)
 unfolding computes
-asserts-other-part = refl
+asserts_other_part = refl
 
 -- a part too many, a part too few, a scalar
 abbrev Unequal : ℕ → ℕ → Val ℕ → Val ℕ → Type 0
 Unequal s t x y =
-    Runs numbers (routine (val 0 ∷ val 1 ∷ []) (recorded (s ∷ t ∷ [])) (block (AssertEq (op 0) (op 1) ∷ []) Unreachable ∷ [])) (x ∷ y ∷ []) 1 (asserted x y ∷ []) (ended unequalSides)
+    Runs numbers (routine (val 0 ∷ val 1 ∷ []) (recorded (s ∷ t ∷ [])) (block (AssertEq (op 0) (op 1) ∷ []) Unreachable ∷ [])) (x ∷ y ∷ []) 1 (asserted x y ∷ []) (ended unequal_sides)
 
-pub asserts-other-shapes : Unequal 5 14 (pair 1 2) (agg (scalar 1 ∷ scalar 2 ∷ scalar 3 ∷ []))
+pub asserts_other_shapes : Unequal 5 14 (pair 1 2) (agg (scalar 1 ∷ scalar 2 ∷ scalar 3 ∷ []))
     × Unequal 14 5 (agg (scalar 1 ∷ scalar 2 ∷ scalar 3 ∷ [])) (pair 1 2)
     × Unequal 0 5 (scalar 1) (pair 1 2)
     × Unequal 5 0 (pair 1 2) (scalar 1)
 unfolding computes
-asserts-other-shapes = (refl, refl, refl, refl)
+asserts_other_shapes = (refl, refl, refl, refl)
 
 -- ---- "Phis read together, by the first source for the block just left; without one the machine stops"
 
@@ -72,7 +72,7 @@ abbrev from : ℕ → Value → Source
 from b x = record { block = blk b; value = x }
 
 -- two phis that exchange their values: three blocks, the second twice, and 1 and 2 come out exchanged
-pub phis-together : Runs numbers
+pub phis_together : Runs numbers
     (routine [] (recorded (0 ∷ 0 ∷ 0 ∷ 0 ∷ []))
     (block (Assign (val 0) (integer 1) (typ 0) ∷ Assign (val 1) (integer 2) (typ 0) ∷ []) (Jump (blk 1))
     ∷ block (Phi (val 2) (typ 0) (from 0 (op 0) ∷ from 1 (op 3) ∷ []) ∷ Phi (val 3) (typ 0) (from 0 (op 1) ∷ from 1 (op 2) ∷ []) ∷ []) (If (op 2) (blk 1) (blk 2))
@@ -80,29 +80,29 @@ pub phis-together : Runs numbers
     ∷ []))
     [] 4 (returned (vals (scalar 2 ∷ scalar 1 ∷ [])) ∷ []) (ended at_return)
 unfolding computes
-phis-together = refl
+phis_together = refl
 
 -- block 0 goes to block 1, which has one phi
 abbrev Joins : List Source → List (Event ℕ) → Standing → Type 0
 Joins ss es s = Goes (block [] (Jump (blk 1)) ∷ block (Phi (val 2) (typ 0) ss ∷ []) (Return (op 2 ∷ [])) ∷ []) 2 es s
 
-pub first-source : Joins (from 1 (integer 1) ∷ from 0 (integer 2) ∷ from 0 (integer 3) ∷ []) (returned (vals (scalar 2 ∷ [])) ∷ []) (ended at_return)
+pub first_source : Joins (from 1 (integer 1) ∷ from 0 (integer 2) ∷ from 0 (integer 3) ∷ []) (returned (vals (scalar 2 ∷ [])) ∷ []) (ended at_return)
 unfolding computes
-first-source = refl
+first_source = refl
 
-pub no_source : Joins (from 1 (integer 1) ∷ []) [] (stopped noSource)
+pub no_source_lem : Joins (from 1 (integer 1) ∷ []) [] (stopped no_source)
 unfolding computes
-no_source = refl
+no_source_lem = refl
 
 -- an unwritten source stops it too
-pub unwritten-source : Joins (from 0 (op 3) ∷ []) [] (stopped unwritten)
+pub unwritten_source : Joins (from 0 (op 3) ∷ []) [] (stopped unwritten)
 unfolding computes
-unwritten-source = refl
+unwritten_source = refl
 
 -- at the start no block was left
-pub entry-phi : Goes (block (Phi (val 2) (typ 0) (from 0 (integer 1) ∷ []) ∷ []) (Return (op 2 ∷ [])) ∷ []) 1 [] (stopped noSource)
+pub entry_phi : Goes (block (Phi (val 2) (typ 0) (from 0 (integer 1) ∷ []) ∷ []) (Return (op 2 ∷ [])) ∷ []) 1 [] (stopped no_source)
 unfolding computes
-entry-phi = refl
+entry_phi = refl
 
 -- ---- "Return records its values; it and Unreachable end the run"
 
@@ -111,11 +111,11 @@ unfolding computes
 returns = refl
 
 -- of none too
-pub returns-nothing : Goes (block [] (Return []) ∷ []) 1 (returned (vals []) ∷ []) (ended at_return)
+pub returns_nothing : Goes (block [] (Return []) ∷ []) 1 (returned (vals []) ∷ []) (ended at_return)
 unfolding computes
-returns-nothing = refl
+returns_nothing = refl
 
-pub unreachable : Goes (block [] Unreachable ∷ []) 1 [] (ended atUnreachable)
+pub unreachable : Goes (block [] Unreachable ∷ []) 1 [] (ended at_unreachable)
 unfolding computes
 unreachable = refl
 
@@ -128,22 +128,22 @@ answer_of zero y = fails 7
 answer_of (suc zero) y = asks
 answer_of (suc (suc k)) y = gives y
 
-unfoldable pub verdictOf : ℕ → Bool → Verdict
-verdictOf zero b = balks 8
-verdictOf (suc k) b = says b
+unfoldable pub verdict_of : ℕ → Bool → Verdict
+verdict_of zero b = balks 8
+verdict_of (suc k) b = says b
 
 unfoldable pub kind_of : Option MirType → ℕ
 kind_of none = 99
 kind_of (some row) = kind row
 
-unfoldable pub firstPart : Val ℕ → Option ℕ
-firstPart (scalar a) = none
-firstPart (aggregate ends) = none
-firstPart (aggregate (then (scalar k) xs)) = some k
-firstPart (aggregate (then (aggregate ys) xs)) = none
+unfoldable pub first_part : Val ℕ → Option ℕ
+first_part (scalar a) = none
+first_part (aggregate ends) = none
+first_part (aggregate (then (scalar k) xs)) = some k
+first_part (aggregate (then (aggregate ys) xs)) = none
 
 unfoldable pub echo : Meaning ℕ
-unfolding firstPart number
+unfolding first_part number
 echo =
     record {
       literal = λ l row. pair (number l) (kind_of row);
@@ -151,10 +151,10 @@ echo =
       binary = λ o row x y. answer_of o (agg (scalar o ∷ scalar (kind_of row) ∷ x ∷ y ∷ []));
       cast = λ t u x. gives (agg (scalar (kind_of t) ∷ scalar (kind_of u) ∷ x ∷ []));
       truth = λ x. equal eqb x (scalar 10) || equal eqb x (pair 10 99);
-      compare = λ o x y. verdictOf o (equal eqb x y);
+      compare = λ o x y. verdict_of o (equal eqb x y);
       same = eqb;
-      position = firstPart;
-      literal-position = λ k. refl;
+      position = first_part;
+      literal_position = λ k. refl;
       take = numbers.take;
       large = λ rows t. false;
       debug = true;
@@ -162,7 +162,7 @@ echo =
 
 -- that machine, opened
 unfoldable echoes : Unit {0}
-unfolding computes echo answer_of verdictOf kind_of kind firstPart
+unfolding computes echo answer_of verdict_of kind_of kind first_part
 echoes = tt
 
 -- one instruction, given values 0 (a Felt) and 1 (a Bool): its dest, value 2, of the type t
@@ -194,52 +194,52 @@ literals = (refl, refl, refl, refl, refl, refl, refl, refl, refl, refl, refl)
 -- and where it is recorded or compared: an argument at its parameter type, a stored value at the named type, a side of AssertEq at the other's; at none elsewhere.
 -- Given are a Pointer and a tuple, which is the literal 7 where tuples stand
 abbrev Tells : InstructionKind → List (Event ℕ) → Type 0
-Tells i es = Runs echo (routine (val 0 ∷ val 1 ∷ []) (recorded (6 ∷ 3 ∷ 0 ∷ [])) (block (i ∷ []) Unreachable ∷ [])) (scalar 100 ∷ pair 7 3 ∷ scalar 1 ∷ []) 1 es (ended atUnreachable)
+Tells i es = Runs echo (routine (val 0 ∷ val 1 ∷ []) (recorded (6 ∷ 3 ∷ 0 ∷ [])) (block (i ∷ []) Unreachable ∷ [])) (scalar 100 ∷ pair 7 3 ∷ scalar 1 ∷ []) 1 es (ended at_unreachable)
 
-pub literals-told : Tells (Call [] 77 (integer 7 ∷ []) (typ 2 ∷ []) []) (called 77 (vals (pair 7 2 ∷ [])) ∷ [])
+pub literals_told : Tells (Call [] 77 (integer 7 ∷ []) (typ 2 ∷ []) []) (called 77 (vals (pair 7 2 ∷ [])) ∷ [])
     × Tells (HeapAllocCells (val 2) (integer 7)) (allocated (pair 7 99) ∷ [])
     × Tells (Load (val 2) (place 0 (Index (integer 7) ∷ [])) (typ 0)) (loaded (scalar 100) (index (pair 7 99) ∷ []) ∷ [])
     × Tells (Store (place 0 (Index (integer 7) ∷ [])) (integer 8) (typ 2)) (stored (scalar 100) (index (pair 7 99) ∷ []) (pair 8 2) ∷ [])
     × Tells (AssertEq (integer 7) (op 1)) (asserted (pair 7 3) (pair 7 3) ∷ [])
     × Tells (AssertEq (op 1) (integer 7)) (asserted (pair 7 3) (pair 7 3) ∷ [])
 unfolding echoes
-literals-told = (refl, refl, refl, refl, refl, refl)
+literals_told = (refl, refl, refl, refl, refl, refl)
 
 -- a phi's at its named type, a returned one at none
-pub literals-between : Runs echo (routine [] (recorded (0 ∷ [])) (block [] (Jump (blk 1)) ∷ block (Phi (val 0) (typ 2) (from 0 (integer 7) ∷ []) ∷ []) (Return (op 0 ∷ integer 8 ∷ [])) ∷ [])) [] 2
+pub literals_between : Runs echo (routine [] (recorded (0 ∷ [])) (block [] (Jump (blk 1)) ∷ block (Phi (val 0) (typ 2) (from 0 (integer 7) ∷ []) ∷ []) (Return (op 0 ∷ integer 8 ∷ [])) ∷ [])) [] 2
     (returned (vals (pair 7 2 ∷ pair 8 99 ∷ [])) ∷ []) (ended at_return)
 unfolding echoes
-literals-between = refl
+literals_between = refl
 
 -- a result that is asked for is the next reply, and nothing is recorded
 abbrev Asks : List (Val ℕ) → List (Event ℕ) → Standing → Type 0
 Asks w es s = Runs echo (routine [] (recorded (0 ∷ [])) (block (UnaryOp 1 (val 0) (integer 7) ∷ []) (Return (op 0 ∷ [])) ∷ [])) w 1 es s
 
-pub operation-asks : Asks (scalar 3 ∷ []) (returned (vals (scalar 3 ∷ [])) ∷ []) (ended at_return) × Asks [] [] (stopped noReply) × Asks (agg [] ∷ []) [] (stopped noValue)
+pub operation_asks : Asks (scalar 3 ∷ []) (returned (vals (scalar 3 ∷ [])) ∷ []) (ended at_return) × Asks [] [] (stopped no_reply) × Asks (agg [] ∷ []) [] (stopped no_value)
 unfolding echoes
-operation-asks = (refl, refl, refl)
+operation_asks = (refl, refl, refl)
 
 -- an operation's own cause, a comparison's
-pub operation-fails : Runs echo (routine [] (recorded (0 ∷ [])) (block (BinaryOp 0 (val 0) (integer 7) (integer 8) ∷ []) (Return []) ∷ [])) [] 1 [] (stopped (own 7))
+pub operation_fails : Runs echo (routine [] (recorded (0 ∷ [])) (block (BinaryOp 0 (val 0) (integer 7) (integer 8) ∷ []) (Return []) ∷ [])) [] 1 [] (stopped (own 7))
 unfolding echoes
-operation-fails = refl
+operation_fails = refl
 
 -- to block 1 where the sides are equal, else to block 2; a literal stands at the other side's type
 abbrev Branches : Terminator → Standing → Type 0
 Branches t s = Runs echo (routine (val 0 ∷ val 1 ∷ []) (recorded (0 ∷ 3 ∷ [])) (block [] t ∷ [])) (scalar 10 ∷ pair 7 3 ∷ []) 1 [] s
 
-pub branches : Branches (BranchCmp 1 (op 0) (op 0) (blk 1) (blk 2)) (standsAt (blk 1))
-    × Branches (BranchCmp 1 (op 0) (op 1) (blk 1) (blk 2)) (standsAt (blk 2))
-    × Branches (BranchCmp 1 (integer 7) (op 1) (blk 1) (blk 2)) (standsAt (blk 1))
-    × Branches (BranchCmp 1 (op 1) (integer 7) (blk 1) (blk 2)) (standsAt (blk 1))
+pub branches : Branches (BranchCmp 1 (op 0) (op 0) (blk 1) (blk 2)) (stands_at (blk 1))
+    × Branches (BranchCmp 1 (op 0) (op 1) (blk 1) (blk 2)) (stands_at (blk 2))
+    × Branches (BranchCmp 1 (integer 7) (op 1) (blk 1) (blk 2)) (stands_at (blk 1))
+    × Branches (BranchCmp 1 (op 1) (integer 7) (blk 1) (blk 2)) (stands_at (blk 1))
     × Branches (BranchCmp 0 (op 0) (op 0) (blk 1) (blk 2)) (stopped (own 8))
 unfolding echoes
 branches = (refl, refl, refl, refl, refl)
 
 -- 10 is true on this machine, and so is the literal 10 at no type
-pub chooses : Branches (If (op 0) (blk 1) (blk 2)) (standsAt (blk 1))
-    × Branches (If (op 1) (blk 1) (blk 2)) (standsAt (blk 2))
-    × Branches (If (integer 10) (blk 1) (blk 2)) (standsAt (blk 1))
+pub chooses : Branches (If (op 0) (blk 1) (blk 2)) (stands_at (blk 1))
+    × Branches (If (op 1) (blk 1) (blk 2)) (stands_at (blk 2))
+    × Branches (If (integer 10) (blk 1) (blk 2)) (stands_at (blk 1))
 unfolding echoes
 chooses = (refl, refl, refl)
 
@@ -248,49 +248,49 @@ pub data Token : Type 0 where
   numeral : ℕ → Token
   truth : Bool → Token
 
-unfoldable pub tokenOf : Literal → Token
-tokenOf (Literal.Integer x) = numeral x
-tokenOf (Literal.Boolean b) = truth b
-tokenOf Literal.Unit = numeral 0
+unfoldable pub token_of : Literal → Token
+token_of (Literal.Integer x) = numeral x
+token_of (Literal.Boolean b) = truth b
+token_of Literal.Unit = numeral 0
 
-unfoldable pub tokenIndex : Val Token → Option ℕ
-tokenIndex (scalar (numeral k)) = some k
-tokenIndex (scalar (truth b)) = none
-tokenIndex (aggregate xs) = none
+unfoldable pub token_index : Val Token → Option ℕ
+token_index (scalar (numeral k)) = some k
+token_index (scalar (truth b)) = none
+token_index (aggregate xs) = none
 
 unfoldable pub tokens : Operations Token
-unfolding tokenOf tokenIndex
+unfolding token_of token_index
 tokens =
     record {
-      literal = λ l. scalar (tokenOf l);
+      literal = λ l. scalar (token_of l);
       unary = λ o x. x;
       binary = λ o x y. x;
       cast = λ t u x. x;
       truth = λ x. false;
       same = λ a b. false;
-      position = tokenIndex;
-      literal-position = λ k. refl;
+      position = token_index;
+      literal_position = λ k. refl;
       has = λ t a. true;
     }
 
 -- what part 1 of an array of 7 and 8 is to it, by an Index
-abbrev indexedBy : Value → Trace Token
-indexedBy x =
+abbrev indexed_by : Value → Trace Token
+indexed_by x =
     run (document01 tokens)
     (routine [] (recorded (5 ∷ 0 ∷ []))
     (block (MakeFixedArray (val 0) (integer 7 ∷ integer 8 ∷ []) (typ 0) false ∷ Load (val 1) (place 0 (Index x ∷ [])) (typ 0) ∷ []) (Return (op 1 ∷ [])) ∷ []))
     [] 1
 
-pub boolean-no-index : (indexedBy (integer 1) ≡ record { recorded = returned (then (scalar (numeral 8)) ends) ∷ []; standing = ended at_return })
-    × (indexedBy (boolean true) ≡ record { recorded = []; standing = stopped missing })
-unfolding machine tokens tokenOf tokenIndex
-boolean-no-index = (refl, refl)
+pub boolean_no_index : (indexed_by (integer 1) ≡ record { recorded = returned (then (scalar (numeral 8)) ends) ∷ []; standing = ended at_return })
+    × (indexed_by (boolean true) ≡ record { recorded = []; standing = stopped missing })
+unfolding machine tokens token_of token_index
+boolean_no_index = (refl, refl)
 
 -- ---- Nop does nothing
 
-pub does-nothing : Goes (block (Nop ∷ []) (Return (op 0 ∷ [])) ∷ []) 1 (returned (vals (scalar 10 ∷ [])) ∷ []) (ended at_return)
+pub does_nothing : Goes (block (Nop ∷ []) (Return (op 0 ∷ [])) ∷ []) 1 (returned (vals (scalar 10 ∷ [])) ∷ []) (ended at_return)
 unfolding computes
-does-nothing = refl
+does_nothing = refl
 
 -- ---- "Debug becomes a recorded event of the machine with its message and values" (document 02)
 
@@ -300,43 +300,43 @@ Prints M xs es s =
     Runs M (routine (val 0 ∷ val 1 ∷ []) (recorded (0 ∷ 5 ∷ 0 ∷ [])) (block (Debug 4 xs ∷ []) Unreachable ∷ [])) (scalar 10 ∷ pair 7 8 ∷ []) 1 es s
 
 -- its values in their order, an aggregate whole; of none too
-pub prints : Prints numbers (op 1 ∷ op 0 ∷ op 0 ∷ []) (printed 4 (vals (pair 7 8 ∷ scalar 10 ∷ scalar 10 ∷ [])) ∷ []) (ended atUnreachable)
-    × Prints numbers [] (printed 4 (vals []) ∷ []) (ended atUnreachable)
+pub prints : Prints numbers (op 1 ∷ op 0 ∷ op 0 ∷ []) (printed 4 (vals (pair 7 8 ∷ scalar 10 ∷ scalar 10 ∷ [])) ∷ []) (ended at_unreachable)
+    × Prints numbers [] (printed 4 (vals []) ∷ []) (ended at_unreachable)
 unfolding computes
 prints = (refl, refl)
 
 -- a literal stands at no type
-pub prints-literal : Prints echo (integer 5 ∷ op 0 ∷ []) (printed 4 (vals (pair 5 99 ∷ scalar 10 ∷ [])) ∷ []) (ended atUnreachable)
+pub prints_literal : Prints echo (integer 5 ∷ op 0 ∷ []) (printed 4 (vals (pair 5 99 ∷ scalar 10 ∷ [])) ∷ []) (ended at_unreachable)
 unfolding echoes
-prints-literal = refl
+prints_literal = refl
 
 -- it reads first: an unwritten value stops the run, and so does Error; then nothing of it is recorded
-pub prints-unwritten : Prints numbers (op 0 ∷ op 2 ∷ []) [] (stopped unwritten) × Prints numbers (op 0 ∷ Value.Error ∷ []) [] (stopped unwritten)
+pub prints_unwritten : Prints numbers (op 0 ∷ op 2 ∷ []) [] (stopped unwritten) × Prints numbers (op 0 ∷ Value.Error ∷ []) [] (stopped unwritten)
 unfolding computes
-prints-unwritten = (refl, refl)
+prints_unwritten = (refl, refl)
 
 -- it stands in the record where it is met
-pub prints-in-turn : Goes (block (AssertEq (op 0) (op 0) ∷ Debug 4 (op 1 ∷ []) ∷ []) (Jump (blk 1)) ∷ block (Debug 5 (op 0 ∷ []) ∷ []) (Return (op 1 ∷ [])) ∷ []) 2
+pub prints_in_turn : Goes (block (AssertEq (op 0) (op 0) ∷ Debug 4 (op 1 ∷ []) ∷ []) (Jump (blk 1)) ∷ block (Debug 5 (op 0 ∷ []) ∷ []) (Return (op 1 ∷ [])) ∷ []) 2
     (asserted (scalar 10) (scalar 10) ∷ printed 4 (vals (scalar 11 ∷ [])) ∷ printed 5 (vals (scalar 10 ∷ [])) ∷ returned (vals (scalar 11 ∷ [])) ∷ []) (ended at_return)
 unfolding computes
-prints-in-turn = refl
+prints_in_turn = refl
 
 -- ---- "A run starts at the entry block with nothing written but the parameters; each block takes over the values that the last one left"
 
 -- the entry block is any
-pub starts-at-entry : Runs numbers (record { types = table; next = 1; entry = blk 1; parameters = val 0 ∷ []; recorded = recorded (0 ∷ []); blocks = block [] Unreachable ∷ block [] (Return (op 0 ∷ [])) ∷ [] }) (scalar 10 ∷ []) 1
+pub starts_at_entry : Runs numbers (record { types = table; next = 1; entry = blk 1; parameters = val 0 ∷ []; recorded = recorded (0 ∷ []); blocks = block [] Unreachable ∷ block [] (Return (op 0 ∷ [])) ∷ [] }) (scalar 10 ∷ []) 1
     (returned (vals (scalar 10 ∷ [])) ∷ []) (ended at_return)
 unfolding computes
-starts-at-entry = refl
+starts_at_entry = refl
 
 -- a value with a recorded type is not written
 pub nothing_written : Goes (block [] (Return (op 2 ∷ [])) ∷ []) 1 [] (stopped unwritten)
 unfolding computes
 nothing_written = refl
 
-pub takes-over : Goes (block (Assign (val 2) (integer 5) (typ 0) ∷ []) (Jump (blk 1)) ∷ block [] (Return (op 2 ∷ op 0 ∷ [])) ∷ []) 2 (returned (vals (scalar 5 ∷ scalar 10 ∷ [])) ∷ []) (ended at_return)
+pub takes_over : Goes (block (Assign (val 2) (integer 5) (typ 0) ∷ []) (Jump (blk 1)) ∷ block [] (Return (op 2 ∷ op 0 ∷ [])) ∷ []) 2 (returned (vals (scalar 5 ∷ scalar 10 ∷ [])) ∷ []) (ended at_return)
 unfolding computes
-takes-over = refl
+takes_over = refl
 
 -- ---- "The record is the list of what is recorded, in order, with values; no value number, span, expression id or comment is in it"
 
@@ -350,10 +350,10 @@ in_order = refl
 abbrev dressed : InstructionKind → Instruction
 dressed k = record { meta = record { span = some (record { start = 3; stop = 9 }); expression = some (record { index = 4; file = 1 }); comment = some 6 }; kind = k }
 
-pub nothing-else : run numbers (routine (val 2 ∷ val 3 ∷ []) (recorded (0 ∷ 0 ∷ 0 ∷ 0 ∷ [])) (record { instructions = dressed (AssertEq (op 2) (op 2)) ∷ dressed (BinaryOp 0 (val 1) (op 3) (op 2)) ∷ []; terminator = Return (op 1 ∷ []) } ∷ [])) (scalar 10 ∷ scalar 11 ∷ []) 1
+pub nothing_else : run numbers (routine (val 2 ∷ val 3 ∷ []) (recorded (0 ∷ 0 ∷ 0 ∷ 0 ∷ [])) (record { instructions = dressed (AssertEq (op 2) (op 2)) ∷ dressed (BinaryOp 0 (val 1) (op 3) (op 2)) ∷ []; terminator = Return (op 1 ∷ []) } ∷ [])) (scalar 10 ∷ scalar 11 ∷ []) 1
     ≡ run numbers (routine (val 0 ∷ val 1 ∷ []) (recorded (0 ∷ 0 ∷ 0 ∷ 0 ∷ [])) (block (AssertEq (op 0) (op 0) ∷ BinaryOp 0 (val 2) (op 1) (op 0) ∷ []) (Return (op 2 ∷ [])) ∷ [])) (scalar 10 ∷ scalar 11 ∷ []) 1
 unfolding computes
-nothing-else = refl
+nothing_else = refl
 
 -- ---- "A run of n blocks makes fewer if it ends or stops. It then stands at its next block, or has ended (Return, Unreachable, unequal sides), or has
 -- stopped (no value of its type, no source, no reply left, unwritten value, missing part)"
@@ -363,16 +363,16 @@ abbrev two : List Block
 two = block [] (Jump (blk 1)) ∷ block [] (Return []) ∷ []
 
 -- after none it stands at the entry block, after one at the next, and it has ended after two and after any more
-pub stands : Goes two 0 [] (standsAt (blk 0)) × Goes two 1 [] (standsAt (blk 1)) × Goes two 2 (returned (vals []) ∷ []) (ended at_return) × Goes two 9 (returned (vals []) ∷ []) (ended at_return)
+pub stands : Goes two 0 [] (stands_at (blk 0)) × Goes two 1 [] (stands_at (blk 1)) × Goes two 2 (returned (vals []) ∷ []) (ended at_return) × Goes two 9 (returned (vals []) ∷ []) (ended at_return)
 unfolding computes
 stands = (refl, refl, refl, refl)
 
 -- a stop, too, is once
-pub stops-once : Goes (block [] (Jump (blk 1)) ∷ block [] (Return (op 3 ∷ [])) ∷ []) 9 [] (stopped unwritten)
+pub stops_once : Goes (block [] (Jump (blk 1)) ∷ block [] (Return (op 3 ∷ [])) ∷ []) 9 [] (stopped unwritten)
 unfolding computes
-stops-once = refl
+stops_once = refl
 
 -- a block that goes to itself is made n times: its record n times
-pub loops : Goes (block (AssertEq (op 0) (op 0) ∷ []) (Jump (blk 0)) ∷ []) 3 (asserted (scalar 10) (scalar 10) ∷ asserted (scalar 10) (scalar 10) ∷ asserted (scalar 10) (scalar 10) ∷ []) (standsAt (blk 0))
+pub loops : Goes (block (AssertEq (op 0) (op 0) ∷ []) (Jump (blk 0)) ∷ []) 3 (asserted (scalar 10) (scalar 10) ∷ asserted (scalar 10) (scalar 10) ∷ asserted (scalar 10) (scalar 10) ∷ []) (stands_at (blk 0))
 unfolding computes
 loops = refl

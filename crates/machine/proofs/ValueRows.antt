@@ -23,14 +23,14 @@ fields x y = record { name = name 11; value = y } ∷ record { name = name 10; v
 -- ---- "An aggregate is a list of parts, a struct's in its type's field order"
 
 -- the type has field 10 first, the build names it last
-pub struct-order : Gives (5 ∷ 4 ∷ []) (pair 1 2) (MakeStruct (val 1) (fields (integer 7) (op 0)) (typ 4) ∷ []) (op 1 ∷ []) (agg (scalar 7 ∷ pair 1 2 ∷ []) ∷ [])
+pub struct_order : Gives (5 ∷ 4 ∷ []) (pair 1 2) (MakeStruct (val 1) (fields (integer 7) (op 0)) (typ 4) ∷ []) (op 1 ∷ []) (agg (scalar 7 ∷ pair 1 2 ∷ []) ∷ [])
 unfolding computes
-struct-order = refl
+struct_order = refl
 
 -- no parts are an aggregate too
-pub empty-tuple : Gives (5 ∷ 11 ∷ []) (pair 1 2) (MakeTuple (val 1) [] ∷ []) (op 1 ∷ []) (agg [] ∷ [])
+pub empty_tuple : Gives (5 ∷ 11 ∷ []) (pair 1 2) (MakeTuple (val 1) [] ∷ []) (op 1 ∷ []) (agg [] ∷ [])
 unfolding computes
-empty-tuple = refl
+empty_tuple = refl
 
 -- ---- "Assign, Make, Insert, Extract, Phi and a Load from an aggregate base copy": what is stored into the source later is not in the copy
 
@@ -38,86 +38,86 @@ empty-tuple = refl
 abbrev change : ℕ → InstructionKind
 change x = Store (place 0 (Index (integer 1) ∷ [])) (integer x) (typ 0)
 
-pub assign-copies : Gives (5 ∷ 5 ∷ []) (pair 1 2) (Assign (val 1) (op 0) (typ 5) ∷ change 9 ∷ []) (op 0 ∷ op 1 ∷ []) (pair 1 9 ∷ pair 1 2 ∷ [])
+pub assign_copies : Gives (5 ∷ 5 ∷ []) (pair 1 2) (Assign (val 1) (op 0) (typ 5) ∷ change 9 ∷ []) (op 0 ∷ op 1 ∷ []) (pair 1 9 ∷ pair 1 2 ∷ [])
 unfolding computes
-assign-copies = refl
+assign_copies = refl
 
-pub tuple-copies : Gives (5 ∷ 13 ∷ []) (pair 1 2) (MakeTuple (val 1) (op 0 ∷ integer 7 ∷ []) ∷ change 9 ∷ []) (op 0 ∷ op 1 ∷ []) (pair 1 9 ∷ agg (pair 1 2 ∷ scalar 7 ∷ []) ∷ [])
+pub tuple_copies : Gives (5 ∷ 13 ∷ []) (pair 1 2) (MakeTuple (val 1) (op 0 ∷ integer 7 ∷ []) ∷ change 9 ∷ []) (op 0 ∷ op 1 ∷ []) (pair 1 9 ∷ agg (pair 1 2 ∷ scalar 7 ∷ []) ∷ [])
 unfolding computes
-tuple-copies = refl
+tuple_copies = refl
 
-pub struct-copies : Gives (5 ∷ 4 ∷ []) (pair 1 2) (MakeStruct (val 1) (fields (integer 7) (op 0)) (typ 4) ∷ change 9 ∷ []) (op 0 ∷ op 1 ∷ []) (pair 1 9 ∷ agg (scalar 7 ∷ pair 1 2 ∷ []) ∷ [])
+pub struct_copies : Gives (5 ∷ 4 ∷ []) (pair 1 2) (MakeStruct (val 1) (fields (integer 7) (op 0)) (typ 4) ∷ change 9 ∷ []) (op 0 ∷ op 1 ∷ []) (pair 1 9 ∷ agg (scalar 7 ∷ pair 1 2 ∷ []) ∷ [])
 unfolding computes
-struct-copies = refl
+struct_copies = refl
 
-pub array-copies : Gives (5 ∷ 12 ∷ []) (pair 1 2) (MakeFixedArray (val 1) (op 0 ∷ op 0 ∷ []) (typ 5) false ∷ change 9 ∷ []) (op 0 ∷ op 1 ∷ []) (pair 1 9 ∷ agg (pair 1 2 ∷ pair 1 2 ∷ []) ∷ [])
+pub array_copies : Gives (5 ∷ 12 ∷ []) (pair 1 2) (MakeFixedArray (val 1) (op 0 ∷ op 0 ∷ []) (typ 5) false ∷ change 9 ∷ []) (op 0 ∷ op 1 ∷ []) (pair 1 9 ∷ agg (pair 1 2 ∷ pair 1 2 ∷ []) ∷ [])
 unfolding computes
-array-copies = refl
+array_copies = refl
 
 -- an insert leaves its source as it was, and its new value is a copy
-pub insert-tuple-copies : Gives (5 ∷ 13 ∷ 13 ∷ []) (pair 1 2)
+pub insert_tuple_copies : Gives (5 ∷ 13 ∷ 13 ∷ []) (pair 1 2)
     (MakeTuple (val 1) (op 0 ∷ integer 7 ∷ []) ∷ change 9 ∷ InsertTuple (val 2) (op 1) 0 (op 0) (typ 13) ∷ change 5 ∷ []) (op 1 ∷ op 2 ∷ [])
     (agg (pair 1 2 ∷ scalar 7 ∷ []) ∷ agg (pair 1 9 ∷ scalar 7 ∷ []) ∷ [])
 unfolding computes
-insert-tuple-copies = refl
+insert_tuple_copies = refl
 
-pub insert-field-copies : Gives (5 ∷ 4 ∷ 4 ∷ []) (pair 1 2)
+pub insert_field_copies : Gives (5 ∷ 4 ∷ 4 ∷ []) (pair 1 2)
     (MakeStruct (val 1) (fields (integer 7) (op 0)) (typ 4) ∷ change 9 ∷ InsertField (val 2) (op 1) (name 11) (op 0) (typ 4) ∷ change 5 ∷ []) (op 1 ∷ op 2 ∷ [])
     (agg (scalar 7 ∷ pair 1 2 ∷ []) ∷ agg (scalar 7 ∷ pair 1 9 ∷ []) ∷ [])
 unfolding computes
-insert-field-copies = refl
+insert_field_copies = refl
 
-pub extract-tuple-copies : Gives (13 ∷ 5 ∷ []) (agg (pair 1 2 ∷ scalar 7 ∷ []))
+pub extract_tuple_copies : Gives (13 ∷ 5 ∷ []) (agg (pair 1 2 ∷ scalar 7 ∷ []))
     (ExtractTupleElement (val 1) (op 0) 0 (typ 5) ∷ Store (place 0 (Tuple 0 ∷ Index (integer 1) ∷ [])) (integer 9) (typ 0) ∷ []) (op 0 ∷ op 1 ∷ [])
     (agg (pair 1 9 ∷ scalar 7 ∷ []) ∷ pair 1 2 ∷ [])
 unfolding computes
-extract-tuple-copies = refl
+extract_tuple_copies = refl
 
-pub extract-field-copies : Gives (4 ∷ 5 ∷ []) (agg (scalar 7 ∷ pair 1 2 ∷ []))
+pub extract_field_copies : Gives (4 ∷ 5 ∷ []) (agg (scalar 7 ∷ pair 1 2 ∷ []))
     (ExtractStructField (val 1) (op 0) (name 11) (typ 5) ∷ Store (place 0 (Field (name 11) ∷ Index (integer 1) ∷ [])) (integer 9) (typ 0) ∷ []) (op 0 ∷ op 1 ∷ [])
     (agg (scalar 7 ∷ pair 1 9 ∷ []) ∷ pair 1 2 ∷ [])
 unfolding computes
-extract-field-copies = refl
+extract_field_copies = refl
 
-pub phi-copies : Runs numbers
+pub phi_copies : Runs numbers
     (routine (val 0 ∷ []) (recorded (5 ∷ 5 ∷ []))
     (block [] (Jump (blk 1)) ∷ block (Phi (val 1) (typ 5) (record { block = blk 0; value = op 0 } ∷ []) ∷ change 9 ∷ []) (Return (op 0 ∷ op 1 ∷ [])) ∷ []))
     (pair 1 2 ∷ []) 2 (returned (vals (pair 1 9 ∷ pair 1 2 ∷ [])) ∷ []) (ended at_return)
 unfolding computes
-phi-copies = refl
+phi_copies = refl
 
 -- a Load of a part, and of the whole
-pub load-copies : Gives (13 ∷ 5 ∷ 13 ∷ []) (agg (pair 1 2 ∷ scalar 7 ∷ []))
+pub load_copies : Gives (13 ∷ 5 ∷ 13 ∷ []) (agg (pair 1 2 ∷ scalar 7 ∷ []))
     (Load (val 1) (place 0 (Tuple 0 ∷ [])) (typ 5) ∷ Load (val 2) (place 0 []) (typ 13) ∷ Store (place 0 (Tuple 0 ∷ Index (integer 1) ∷ [])) (integer 9) (typ 0) ∷ [])
     (op 0 ∷ op 1 ∷ op 2 ∷ []) (agg (pair 1 9 ∷ scalar 7 ∷ []) ∷ pair 1 2 ∷ agg (pair 1 2 ∷ scalar 7 ∷ []) ∷ [])
 unfolding computes
-load-copies = refl
+load_copies = refl
 
 -- ---- "a Store into an aggregate base changes that value's part, or with no projection all of it, once it is written"
 
-pub store-index : Gives (5 ∷ []) (pair 1 2) (change 9 ∷ []) (op 0 ∷ []) (pair 1 9 ∷ [])
+pub store_index : Gives (5 ∷ []) (pair 1 2) (change 9 ∷ []) (op 0 ∷ []) (pair 1 9 ∷ [])
 unfolding computes
-store-index = refl
+store_index = refl
 
-pub store-tuple : Gives (13 ∷ []) (agg (pair 1 2 ∷ scalar 7 ∷ [])) (Store (place 0 (Tuple 1 ∷ [])) (integer 9) (typ 0) ∷ []) (op 0 ∷ []) (agg (pair 1 2 ∷ scalar 9 ∷ []) ∷ [])
+pub store_tuple : Gives (13 ∷ []) (agg (pair 1 2 ∷ scalar 7 ∷ [])) (Store (place 0 (Tuple 1 ∷ [])) (integer 9) (typ 0) ∷ []) (op 0 ∷ []) (agg (pair 1 2 ∷ scalar 9 ∷ []) ∷ [])
 unfolding computes
-store-tuple = refl
+store_tuple = refl
 
-pub store-field : Gives (4 ∷ []) (agg (scalar 7 ∷ pair 1 2 ∷ [])) (Store (place 0 (Field (name 10) ∷ [])) (integer 9) (typ 0) ∷ []) (op 0 ∷ []) (agg (scalar 9 ∷ pair 1 2 ∷ []) ∷ [])
+pub store_field : Gives (4 ∷ []) (agg (scalar 7 ∷ pair 1 2 ∷ [])) (Store (place 0 (Field (name 10) ∷ [])) (integer 9) (typ 0) ∷ []) (op 0 ∷ []) (agg (scalar 9 ∷ pair 1 2 ∷ []) ∷ [])
 unfolding computes
-store-field = refl
+store_field = refl
 
 -- by more than one step: a field goes by the type of the part that is walked
-pub store-deep : Gives (15 ∷ 5 ∷ []) (agg (agg (scalar 7 ∷ pair 1 2 ∷ []) ∷ []))
+pub store_deep : Gives (15 ∷ 5 ∷ []) (agg (agg (scalar 7 ∷ pair 1 2 ∷ []) ∷ []))
     (Store (place 0 (Index (integer 0) ∷ Field (name 11) ∷ Index (integer 0) ∷ [])) (integer 9) (typ 0) ∷ Load (val 1) (place 0 (Index (integer 0) ∷ Field (name 11) ∷ [])) (typ 5) ∷ [])
     (op 0 ∷ op 1 ∷ []) (agg (agg (scalar 7 ∷ pair 9 2 ∷ []) ∷ []) ∷ pair 9 2 ∷ [])
 unfolding computes
-store-deep = refl
+store_deep = refl
 
 -- all of it
-pub store-whole : Gives (5 ∷ 5 ∷ []) (pair 1 2) (MakeFixedArray (val 1) (integer 7 ∷ integer 8 ∷ []) (typ 0) false ∷ Store (place 0 []) (op 1) (typ 5) ∷ []) (op 0 ∷ []) (pair 7 8 ∷ [])
+pub store_whole : Gives (5 ∷ 5 ∷ []) (pair 1 2) (MakeFixedArray (val 1) (integer 7 ∷ integer 8 ∷ []) (typ 0) false ∷ Store (place 0 []) (op 1) (typ 5) ∷ []) (op 0 ∷ []) (pair 7 8 ∷ [])
 unfolding computes
-store-whole = refl
+store_whole = refl
 
 -- ---- "The machine stops at an unwritten value or missing part"
 
@@ -134,7 +134,7 @@ abbrev alone : InstructionKind → Block
 alone i = block (i ∷ []) (Return [])
 
 -- every kind that reads, each of its reads; "once it is written" of a Store's base; an Error met as a value
-pub unwritten-read : Each (λ i. goes (alone i)) (halt unwritten)
+pub unwritten_read : Each (λ i. goes (alone i)) (halt unwritten)
     (Assign (val 2) (op 1) (typ 13)
     ∷ UnaryOp 0 (val 2) (op 1)
     ∷ BinaryOp 0 (val 2) (op 1) (op 0)
@@ -162,16 +162,16 @@ pub unwritten-read : Each (λ i. goes (alone i)) (halt unwritten)
     ∷ Assign (val 2) Value.Error (typ 0)
     ∷ [])
 unfolding computes
-unwritten-read = refl
+unwritten_read = refl
 
 -- every terminator that reads
-pub unwritten-end : Each (λ t. goes (block [] t)) (halt unwritten)
+pub unwritten_end : Each (λ t. goes (block [] t)) (halt unwritten)
     (If (op 1) (blk 0) (blk 0) ∷ BranchCmp 0 (op 1) (op 0) (blk 0) (blk 0) ∷ BranchCmp 0 (op 0) (op 1) (blk 0) (blk 0) ∷ Return (op 0 ∷ op 1 ∷ []) ∷ [])
 unfolding computes
-unwritten-end = refl
+unwritten_end = refl
 
 -- past the end of a tuple and of an array, of a name that the type has not, of a field that a build does not give, of a scalar, by an Index that is no number
-pub missing-part : Each (λ i. goes (alone i)) (halt missing)
+pub missing_part : Each (λ i. goes (alone i)) (halt missing)
     (ExtractTupleElement (val 2) (op 0) 2 (typ 0)
     ∷ ExtractTupleElement (val 2) (integer 7) 0 (typ 0)
     ∷ ExtractStructField (val 2) (op 0) (name 10) (typ 0)
@@ -186,4 +186,4 @@ pub missing-part : Each (λ i. goes (alone i)) (halt missing)
     ∷ Store (place 0 (Tuple 0 ∷ Index (integer 2) ∷ [])) (integer 9) (typ 0)
     ∷ [])
 unfolding computes
-missing-part = refl
+missing_part = refl

@@ -20,7 +20,7 @@ use Rattle.bytes_struct.specs.FindField as Ff
 use Rattle.mir.specs.Parts as Pa
 use Rattle.mir.specs.Phis as Ph
 use Rattle.bytes_wire.specs.Value.{bool_byte}
-use Rattle.bytes_sections.proofs.Examples.{noMeta}
+use Rattle.bytes_sections.proofs.Examples.{no_meta}
 use Rattle.machine.specs.Values.{Val, Vals, scalar, aggregate, ends, then}
 use Rattle.machine.specs.Meaning.{Meaning}
 use Rattle.machine.specs.Records.{Event, Standing, Trace}
@@ -35,19 +35,19 @@ use Rattle.machine.specs.Document as D
 -- ---- every definition on a run's way, opened
 
 unfoldable lookups : Unit {0}
-unfolding Lk.row_of Lk.recordedType Lk.valueRow Lk.shape Lk.isStruct Lk.structFieldsOf Ff.findFrom Ff.findField Ff.fieldIndex Ff.fieldTypeOf Lk.onSome Ph.behindPhis Ph.phisOf Ph.phi_of
+unfolding Lk.row_of Lk.recorded_type Lk.value_row Lk.shape Lk.is_struct Lk.struct_fields_of Ff.find_from Ff.find_field Ff.field_index Ff.field_type_of Lk.on_some Ph.behind_phis Ph.phis_of Ph.phi_of
 lookups = tt
 
 unfoldable parts : Unit {0}
-unfolding Pa.fieldType Pa.part_type Pa.part_count Pa.counts Pa.operand_row Pa.isPointer Pa.given Pa.consPart Pa.fromStructFields Pa.or_else Pa.structRow Pa.structParts
+unfolding Pa.field_type Pa.part_type Pa.part_count Pa.counts Pa.operand_row Pa.is_pointer Pa.given Pa.cons_part Pa.from_struct_fields Pa.or_else Pa.struct_row Pa.struct_parts
 parts = tt
 
 unfoldable values : Unit {0}
-unfolding Vl.equal Vl.equals Vl.consVal Vl.nth Vl.put Vl.part_of Vl.asAggregate Vl.withPart D.scalarOf D.valsLength D.is_of D.areOf D.onRows D.takeFirst
+unfolding Vl.equal Vl.equals Vl.cons_val Vl.nth Vl.put Vl.part_of Vl.as_aggregate Vl.with_part D.scalar_of D.vals_length D.is_of D.are_of D.on_rows D.take_first
 values = tt
 
 unfoldable places : Unit {0}
-unfolding P.partRow P.argumentRow P.no_row P.stepPosition P.walked P.changed E.eval E.evalAll E.indexed E.evalStep E.consStep E.evalSteps
+unfolding P.part_row P.argument_row P.no_row P.step_position P.walked P.changed E.eval E.eval_all E.indexed E.eval_step E.cons_step E.eval_steps
 places = tt
 
 unfoldable instructions : Unit {0}
@@ -55,12 +55,12 @@ unfolding X.need X.choose X.received X.asserting X.replies X.answered X.built X.
 instructions = tt
 
 unfoldable blocks : Unit {0}
-unfolding N.onward N.needed N.branch N.judged N.source_for N.sourceFrom N.readPhi N.readPhis N.execTerminator N.execAll N.execBlock N.trace N.runBlock N.runBlocks
+unfolding N.onward N.needed N.branch N.judged N.source_for N.source_from N.read_phi N.read_phis N.exec_terminator N.exec_all N.exec_block N.trace N.run_block N.run_blocks
 blocks = tt
 
 -- all of them
 unfoldable pub machine : Unit {0}
-unfolding lookups parts values places instructions blocks N.taking N.takeAll N.noneWritten N.run
+unfolding lookups parts values places instructions blocks N.taking N.take_all N.none_written N.run
 machine = tt
 
 -- ---- routines
@@ -83,7 +83,7 @@ op v = Value.Operand (val v)
 
 -- an instruction with nothing beside it
 abbrev pub ins : InstructionKind → Instruction
-ins k = record { meta = noMeta; kind = k }
+ins k = record { meta = no_meta; kind = k }
 
 abbrev pub block : List InstructionKind → Terminator → Block
 block ks t = record { instructions = map ins ks; terminator = t }
@@ -170,13 +170,13 @@ index_of (scalar k) = some k
 index_of (aggregate xs) = none
 
 -- so an Integer literal names the part of its number
-pub number-position : (k : ℕ) → index_of (scalar (number (Literal.Integer k))) ≡ some k
+pub number_position : (k : ℕ) → index_of (scalar (number (Literal.Integer k))) ≡ some k
 unfolding index_of number
-number-position k = refl
+number_position k = refl
 
 -- every scalar is of every scalar type; an operation gives its first operand; 1 is true. A literal is the number that is given for it
-abbrev pub numbersBy : (f : Literal → ℕ) → ((k : ℕ) → index_of (scalar (f (Literal.Integer k))) ≡ some k) → Meaning ℕ
-numbersBy f h =
+abbrev pub numbers_by : (f : Literal → ℕ) → ((k : ℕ) → index_of (scalar (f (Literal.Integer k))) ≡ some k) → Meaning ℕ
+numbers_by f h =
     D.document01
     (record {
       literal = λ l. scalar (f l);
@@ -186,13 +186,13 @@ numbersBy f h =
       truth = λ x. Vl.equal eqb x (scalar 1);
       same = eqb;
       position = index_of;
-      literal-position = h;
+      literal_position = h;
       has = λ t a. true;
     })
 
 -- a literal's own
 unfoldable pub numbers : Meaning ℕ
-numbers = numbersBy number number-position
+numbers = numbers_by number number_position
 
 -- the machine on numbers, opened
 unfoldable pub computes : Unit {0}

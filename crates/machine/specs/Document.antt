@@ -20,47 +20,47 @@ pub record Operations (A : Type 0) : Type 0 where
   pub truth : Val A → B.Bool
   pub same : A → A → B.Bool
   pub position : Val A → Option ℕ
-  pub literal-position : (k : ℕ) → position (literal (Literal.Integer k)) ≡ some k
+  pub literal_position : (k : ℕ) → position (literal (Literal.Integer k)) ≡ some k
   pub has : MirType → A → B.Bool  -- the scalars of a scalar type
 
 -- the scalars of a type; an aggregate type has none, "Error, Unknown and no type have none"
-unfoldable pub scalarOf : {A : Type 0} → (MirType → A → B.Bool) → Option MirType → A → B.Bool
-scalarOf has none a = false
-scalarOf has (some Felt) a = has Felt a
-scalarOf has (some Bool) a = has Bool a
-scalarOf has (some U32) a = has U32 a
-scalarOf has (some (Tuple ts)) a = false
-scalarOf has (some (Struct n fs)) a = false
-scalarOf has (some (FixedArray t size)) a = false
-scalarOf has (some (Pointer t)) a = has (Pointer t) a
-scalarOf has (some (Function ps r)) a = has (Function ps r) a
-scalarOf has (some Unit) a = has Unit a
-scalarOf has (some Error) a = false
-scalarOf has (some Unknown) a = false
+unfoldable pub scalar_of : {A : Type 0} → (MirType → A → B.Bool) → Option MirType → A → B.Bool
+scalar_of has none a = false
+scalar_of has (some Felt) a = has Felt a
+scalar_of has (some Bool) a = has Bool a
+scalar_of has (some U32) a = has U32 a
+scalar_of has (some (Tuple ts)) a = false
+scalar_of has (some (Struct n fs)) a = false
+scalar_of has (some (FixedArray t size)) a = false
+scalar_of has (some (Pointer t)) a = has (Pointer t) a
+scalar_of has (some (Function ps r)) a = has (Function ps r) a
+scalar_of has (some Unit) a = has Unit a
+scalar_of has (some Error) a = false
+scalar_of has (some Unknown) a = false
 
 -- how many there are
-unfoldable pub valsLength : {A : Type 0} → Vals A → ℕ
-valsLength ends = 0
-valsLength (then x xs) = suc (valsLength xs)
+unfoldable pub vals_length : {A : Type 0} → Vals A → ℕ
+vals_length ends = 0
+vals_length (then x xs) = suc (vals_length xs)
 
 -- "value of its recorded type": an aggregate has its type's count of parts, each of its type
 unfoldable mutual
   pub is_of : {A : Type 0} → (MirType → A → B.Bool) → Types → Val A → Option TypeId → B.Bool
-  is_of has τ (scalar a) t = scalarOf has (row_of τ t) a
-  is_of has τ (aggregate xs) t = counts (part_count (row_of τ t)) (valsLength xs) && areOf has τ xs (part_type (row_of τ t))
+  is_of has τ (scalar a) t = scalar_of has (row_of τ t) a
+  is_of has τ (aggregate xs) t = counts (part_count (row_of τ t)) (vals_length xs) && are_of has τ xs (part_type (row_of τ t))
 
-  pub areOf : {A : Type 0} → (MirType → A → B.Bool) → Types → Vals A → (ℕ → Option TypeId) → B.Bool
-  areOf has τ ends ts = true
-  areOf has τ (then x xs) ts = is_of has τ x (ts zero) && areOf has τ xs (λ k. ts (suc k))
+  pub are_of : {A : Type 0} → (MirType → A → B.Bool) → Types → Vals A → (ℕ → Option TypeId) → B.Bool
+  are_of has τ ends ts = true
+  are_of has τ (then x xs) ts = is_of has τ x (ts zero) && are_of has τ xs (λ k. ts (suc k))
 
 -- a type table with nothing recorded
-unfoldable pub onRows : List MirType → Types
-onRows rows = record { rows = rows; recorded = [] }
+unfoldable pub on_rows : List MirType → Types
+on_rows rows = record { rows = rows; recorded = [] }
 
 -- "The outside world is any list of values": the first is taken where it is of the type
-unfoldable pub takeFirst : {A : Type 0} → (Val A → B.Bool) → List (Val A) → Taken A
-takeFirst is [] = exhausted
-takeFirst is (y ∷ w) = cond (is y) (took y w) refuses
+unfoldable pub take_first : {A : Type 0} → (Val A → B.Bool) → List (Val A) → Taken A
+take_first is [] = exhausted
+take_first is (y ∷ w) = cond (is y) (took y w) refuses
 
 -- the machine of document 01, for any operations; "Debug becomes a recorded event of the machine" (document 02)
 abbrev pub document01 : {A : Type 0} → Operations A → Meaning A
@@ -74,8 +74,8 @@ document01 O =
       compare = λ op x y. says (O.truth (O.binary op x y));
       same = O.same;
       position = O.position;
-      literal-position = O.literal-position;
-      take = λ rows t w. takeFirst (λ y. is_of O.has (onRows rows) y t) w;
+      literal_position = O.literal_position;
+      take = λ rows t w. take_first (λ y. is_of O.has (on_rows rows) y t) w;
       large = λ rows t. false;
       debug = true;
     }

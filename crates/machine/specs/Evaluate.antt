@@ -4,7 +4,7 @@ use Rattle.std.proofs.Math.Option.{Option, none, some}
 use Rattle.mir.specs.declared.Value.{Value}
 use Rattle.mir.specs.MirType.{MirType}
 use Rattle.mir.specs.Syntax.{Projection, Index, Field, Tuple}
-use Rattle.machine.specs.Values.{Val, Vals, ends, consVal}
+use Rattle.machine.specs.Values.{Val, Vals, ends, cons_val}
 use Rattle.machine.specs.Meaning.{Meaning}
 use Rattle.machine.specs.Records.{Env, Step, index, field, tuple}
 
@@ -15,9 +15,9 @@ eval M E row (Value.Operand v) = E v.0
 eval M E row Value.Error = none
 
 -- values in a list, value k at the row of k
-unfoldable pub evalAll : {A : Type 0} → Meaning A → Env A → (ℕ → Option MirType) → List Value → Option (Vals A)
-evalAll M E rows [] = some ends
-evalAll M E rows (x ∷ xs) = consVal (eval M E (rows zero) x) (evalAll M E (λ k. rows (suc k)) xs)
+unfoldable pub eval_all : {A : Type 0} → Meaning A → Env A → (ℕ → Option MirType) → List Value → Option (Vals A)
+eval_all M E rows [] = some ends
+eval_all M E rows (x ∷ xs) = cons_val (eval M E (rows zero) x) (eval_all M E (λ k. rows (suc k)) xs)
 
 -- an Index with its value
 unfoldable pub indexed : {A : Type 0} → Option (Val A) → Option (Step A)
@@ -25,18 +25,18 @@ indexed none = none
 indexed (some x) = some (index x)
 
 -- one step of a place; an Index value stands at no type
-unfoldable pub evalStep : {A : Type 0} → Meaning A → Env A → Projection → Option (Step A)
-evalStep M E (Index x) = indexed (eval M E none x)
-evalStep M E (Field n) = some (field n)
-evalStep M E (Tuple k) = some (tuple k)
+unfoldable pub eval_step : {A : Type 0} → Meaning A → Env A → Projection → Option (Step A)
+eval_step M E (Index x) = indexed (eval M E none x)
+eval_step M E (Field n) = some (field n)
+eval_step M E (Tuple k) = some (tuple k)
 
 -- a step in front of others, if all are read
-unfoldable pub consStep : {A : Type 0} → Option (Step A) → Option (List (Step A)) → Option (List (Step A))
-consStep none ss = none
-consStep (some s) none = none
-consStep (some s) (some ss) = some (s ∷ ss)
+unfoldable pub cons_step : {A : Type 0} → Option (Step A) → Option (List (Step A)) → Option (List (Step A))
+cons_step none ss = none
+cons_step (some s) none = none
+cons_step (some s) (some ss) = some (s ∷ ss)
 
 -- the steps of a place
-unfoldable pub evalSteps : {A : Type 0} → Meaning A → Env A → List Projection → Option (List (Step A))
-evalSteps M E [] = some []
-evalSteps M E (p ∷ ps) = consStep (evalStep M E p) (evalSteps M E ps)
+unfoldable pub eval_steps : {A : Type 0} → Meaning A → Env A → List Projection → Option (List (Step A))
+eval_steps M E [] = some []
+eval_steps M E (p ∷ ps) = cons_step (eval_step M E p) (eval_steps M E ps)

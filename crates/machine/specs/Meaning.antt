@@ -35,7 +35,7 @@ pub record Meaning (A : Type 0) : Type 0 where
   pub compare : ℕ → Val A → Val A → Verdict  -- of BranchCmp
   pub same : A → A → Bool  -- equal scalars
   pub position : Val A → Option ℕ  -- the part that an Index value names
-  pub literal-position : (k : ℕ) → position (literal (Literal.Integer k) none) ≡ some k
+  pub literal_position : (k : ℕ) → position (literal (Literal.Integer k) none) ≡ some k
   pub take : List MirType → Option TypeId → List (Val A) → Taken A  -- "a reply or parameter .. of its recorded type"
   pub large : List MirType → Option TypeId → Bool  -- whether the machine cannot hold an aggregate of that type; document 01's holds all
   pub debug : Bool  -- whether Debug is recorded

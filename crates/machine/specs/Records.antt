@@ -27,16 +27,16 @@ pub data Event (A : Type 0) : Type 0 where
 -- "has stopped (no value of its type, no source, no reply left, unwritten value, missing part)"; an aggregate too large for the
 -- machine, which document 01's never meets; an operation's own causes
 pub data Cause : Type 0 where
-  noValue noSource noReply unwritten missing tooLarge : Cause
+  no_value no_source no_reply unwritten missing too_large : Cause
   own : ℕ → Cause
 
 -- "has ended (Return, Unreachable, unequal sides)"
 pub data End : Type 0 where
-  at_return atUnreachable unequalSides : End
+  at_return at_unreachable unequal_sides : End
 
 -- "It then stands at its next block, or has ended .., or has stopped"
 pub data Standing : Type 0 where
-  standsAt : BlockId → Standing
+  stands_at : BlockId → Standing
   ended : End → Standing
   stopped : Cause → Standing
 

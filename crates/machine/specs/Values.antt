@@ -28,10 +28,10 @@ unfoldable mutual
   equals same (then x xs) (then y ys) = equal same x y && equals same xs ys
 
 -- a value in front of others, if all are there
-unfoldable pub consVal : {A : Type 0} → Option (Val A) → Option (Vals A) → Option (Vals A)
-consVal none ys = none
-consVal (some x) none = none
-consVal (some x) (some xs) = some (then x xs)
+unfoldable pub cons_val : {A : Type 0} → Option (Val A) → Option (Vals A) → Option (Vals A)
+cons_val none ys = none
+cons_val (some x) none = none
+cons_val (some x) (some xs) = some (then x xs)
 
 -- part k; none where it is missing
 unfoldable pub nth : {A : Type 0} → Vals A → ℕ → Option (Val A)
@@ -43,7 +43,7 @@ nth (then x xs) (suc k) = nth xs k
 unfoldable pub put : {A : Type 0} → Vals A → ℕ → Val A → Option (Vals A)
 put ends k y = none
 put (then x xs) zero y = some (then y xs)
-put (then x xs) (suc k) y = consVal (some x) (put xs k y)
+put (then x xs) (suc k) y = cons_val (some x) (put xs k y)
 
 -- a value's part; a scalar has none
 unfoldable pub part_of : {A : Type 0} → Val A → ℕ → Option (Val A)
@@ -51,11 +51,11 @@ part_of (scalar a) k = none
 part_of (aggregate xs) k = nth xs k
 
 -- parts that are there, as one value
-unfoldable pub asAggregate : {A : Type 0} → Option (Vals A) → Option (Val A)
-asAggregate none = none
-asAggregate (some xs) = some (aggregate xs)
+unfoldable pub as_aggregate : {A : Type 0} → Option (Vals A) → Option (Val A)
+as_aggregate none = none
+as_aggregate (some xs) = some (aggregate xs)
 
 -- a value with one part replaced
-unfoldable pub withPart : {A : Type 0} → Val A → ℕ → Val A → Option (Val A)
-withPart (scalar a) k y = none
-withPart (aggregate xs) k y = asAggregate (put xs k y)
+unfoldable pub with_part : {A : Type 0} → Val A → ℕ → Val A → Option (Val A)
+with_part (scalar a) k y = none
+with_part (aggregate xs) k y = as_aggregate (put xs k y)

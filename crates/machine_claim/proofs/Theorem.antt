@@ -12,20 +12,20 @@ use Rattle.mir.specs.Routine.{Routine}
 use Rattle.bytes_sections.specs.Decode.{mosts, whole_of}
 use Rattle.bytes_sections.specs.Encode.{encode}
 use Rattle.bytes_laws_whole.specs.WellFormed.{WellFormed}
-use Rattle.bytes_laws_whole.proofs.Whole.{whole-canon, whole-fit}
-use Rattle.bytes_laws_whole.proofs.Example.{mosts-wide}
+use Rattle.bytes_laws_whole.proofs.Whole.{whole_canon, whole_fit}
+use Rattle.bytes_laws_whole.proofs.Example.{mosts_wide}
 use Rattle.fold.specs.declared.Settings.{Settings}
 use Rattle.rewrite.specs.declared.Counts.{Counts}
-use Rattle.rewrite.specs.Run.{Rewritten, choice, rewrittenBy, rewrittenBlocks, rewriteWith, rewrite}
-use Rattle.rewrite.specs.Outcome.{Outcome, fittedIn, rewritten, ofInput, outcome}
-use Rattle.rewrite_laws.proofs.Whole.{output-decodes}
-use Rattle.shelf.specs.Reason.{shelfReason}
-use Rattle.shelf.specs.Answer.{Answer, refused, lowered, reasonOf, withReason, answer}
-use Rattle.shelf.proofs.Flag.{answered-under}
+use Rattle.rewrite.specs.Run.{Rewritten, choice, rewritten_by, rewritten_blocks, rewrite_with, rewrite}
+use Rattle.rewrite.specs.Outcome.{Outcome, fitted_in, rewritten, of_input, outcome}
+use Rattle.rewrite_laws.proofs.Whole.{output_decodes}
+use Rattle.shelf.specs.Reason.{shelf_reason}
+use Rattle.shelf.specs.Answer.{Answer, refused, lowered, reason_of, with_reason, answer}
+use Rattle.shelf.proofs.Flag.{answered_under}
 use Rattle.machine.specs.Meaning.{Meaning}
 use Rattle.machine.specs.Document.{Operations, document01}
 use Rattle.machine_simulation.specs.Statement.{RunsAlike}
-use Rattle.machine_simulation.proofs.Theorem.{pass-simulates}
+use Rattle.machine_simulation.proofs.Theorem.{pass_simulates}
 use Rattle.machine_claim.specs.Claim.{CannotTell}
 use Rattle.machine_claim.proofs.Facts.{static}
 
@@ -33,68 +33,68 @@ use Rattle.machine_claim.proofs.Facts.{static}
 
 -- the routine behind it, its rewriting's bytes, which have room, and its reason
 data From (σ : Settings) (room : ℕ) (p : Parse Routine) (k : ℕ) (bytes : List ℕ) : Type 0 where
-  from : (r : Routine) (n : ℕ) → p ≡ ok r n → bytes ≡ encode (rewrite σ r) → length bytes ≤ room → k ≡ reasonOf σ (ok r n) → From σ room p k bytes
+  from : (r : Routine) (n : ℕ) → p ≡ ok r n → bytes ≡ encode (rewrite σ r) → length bytes ≤ room → k ≡ reason_of σ (ok r n) → From σ room p k bytes
 
-no-refusal : {n o : ℕ} {w : Bool} {c : Counts} {k : ℕ} {bytes : List ℕ} → Answer.refused n o ≡ Answer.lowered w c k bytes → ⊥
-no-refusal {n} {o} {w} {c} {k} {bytes} e = let z : ◌≡◌ {A = ℕ} 0 1 = cc in omega arith
+no_refusal : {n o : ℕ} {w : Bool} {c : Counts} {k : ℕ} {bytes : List ℕ} → Answer.refused n o ≡ Answer.lowered w c k bytes → ⊥
+no_refusal {n} {o} {w} {c} {k} {bytes} e = let z : ◌≡◌ {A = ℕ} 0 1 = cc in omega arith
 
-of-fitted : (room : ℕ) (x v w : Bool) (c e : Counts) (k j : ℕ) (all bytes : List ℕ) → ltb room (length all) ≡ x → withReason j (cond x (Outcome.refused 11 0) (Outcome.lowered v e all)) ≡ Answer.lowered w c k bytes → (bytes ≡ all) × (length bytes ≤ room) × (k ≡ j)
-unfolding withReason
-of-fitted room true v w c e k j all bytes l h = absurd (no-refusal h)
-of-fitted room false v w c e k j all bytes l h = let same : bytes ≡ all = cc in (same, rw same (ltb-false room (length all) l), cc)
+of_fitted : (room : ℕ) (x v w : Bool) (c e : Counts) (k j : ℕ) (all bytes : List ℕ) → ltb room (length all) ≡ x → with_reason j (cond x (Outcome.refused 11 0) (Outcome.lowered v e all)) ≡ Answer.lowered w c k bytes → (bytes ≡ all) × (length bytes ≤ room) × (k ≡ j)
+unfolding with_reason
+of_fitted room true v w c e k j all bytes l h = absurd (no_refusal h)
+of_fitted room false v w c e k j all bytes l h = let same : bytes ≡ all = cc in (same, rw same (ltb-false room (length all) l), cc)
 
-of-clash : (room : ℕ) (v : Rewritten) (r : Routine) (x w : Bool) (c : Counts) (k j : ℕ) (bytes : List ℕ) → withReason j (cond x (Outcome.refused 10 0) (fittedIn room v (encode (rewriteWith v r)))) ≡ Answer.lowered w c k bytes → (bytes ≡ encode (rewriteWith v r)) × (length bytes ≤ room) × (k ≡ j)
-unfolding withReason fittedIn
-of-clash room v r true w c k j bytes h = absurd (no-refusal h)
-of-clash room v r false w c k j bytes h = of-fitted room (ltb room (length (encode (rewriteWith v r)))) v.changed w c v.counts k j (encode (rewriteWith v r)) bytes refl h
+of_clash : (room : ℕ) (v : Rewritten) (r : Routine) (x w : Bool) (c : Counts) (k j : ℕ) (bytes : List ℕ) → with_reason j (cond x (Outcome.refused 10 0) (fitted_in room v (encode (rewrite_with v r)))) ≡ Answer.lowered w c k bytes → (bytes ≡ encode (rewrite_with v r)) × (length bytes ≤ room) × (k ≡ j)
+unfolding with_reason fitted_in
+of_clash room v r true w c k j bytes h = absurd (no_refusal h)
+of_clash room v r false w c k j bytes h = of_fitted room (ltb room (length (encode (rewrite_with v r)))) v.changed w c v.counts k j (encode (rewrite_with v r)) bytes refl h
 
-of-input : (σ : Settings) (room : ℕ) (p : Parse Routine) (w : Bool) (c : Counts) (k : ℕ) (bytes : List ℕ) → withReason (reasonOf σ p) (ofInput σ room p) ≡ Answer.lowered w c k bytes → From σ room p k bytes
-unfolding reasonOf ofInput rewritten rewrite withReason
-of-input σ room (bad q o) w c k bytes h = absurd (no-refusal h)
-of-input σ room (ok r n) w c k bytes h =
-    let z = of-clash room (rewrittenBlocks σ r) r (rewrittenBlocks σ r).clash w c k (reasonOf σ (ok r n)) bytes h in
+of_input_lem : (σ : Settings) (room : ℕ) (p : Parse Routine) (w : Bool) (c : Counts) (k : ℕ) (bytes : List ℕ) → with_reason (reason_of σ p) (of_input σ room p) ≡ Answer.lowered w c k bytes → From σ room p k bytes
+unfolding reason_of of_input rewritten rewrite with_reason
+of_input_lem σ room (bad q o) w c k bytes h = absurd (no_refusal h)
+of_input_lem σ room (ok r n) w c k bytes h =
+    let z = of_clash room (rewritten_blocks σ r) r (rewritten_blocks σ r).clash w c k (reason_of σ (ok r n)) bytes h in
     From.from r n refl z.0 z.1 z.2
 
-of-settings : (σ : Settings) (room : ℕ) (p : Parse Routine) (x w : Bool) (c : Counts) (k : ℕ) (bytes : List ℕ) → withReason (reasonOf σ p) (cond x (Outcome.refused 12 0) (ofInput σ room p)) ≡ Answer.lowered w c k bytes → From σ room p k bytes
-unfolding withReason
-of-settings σ room p true w c k bytes h = absurd (no-refusal h)
-of-settings σ room p false w c k bytes h = of-input σ room p w c k bytes h
+of_settings : (σ : Settings) (room : ℕ) (p : Parse Routine) (x w : Bool) (c : Counts) (k : ℕ) (bytes : List ℕ) → with_reason (reason_of σ p) (cond x (Outcome.refused 12 0) (of_input σ room p)) ≡ Answer.lowered w c k bytes → From σ room p k bytes
+unfolding with_reason
+of_settings σ room p true w c k bytes h = absurd (no_refusal h)
+of_settings σ room p false w c k bytes h = of_input_lem σ room p w c k bytes h
 
-of-answer : (σ : Settings) (room : ℕ) (s : List ℕ) (w : Bool) (c : Counts) (k : ℕ) (bytes : List ℕ) → answer σ room s ≡ Answer.lowered w c k bytes → From σ room (whole_of mosts s) k bytes
+of_answer : (σ : Settings) (room : ℕ) (s : List ℕ) (w : Bool) (c : Counts) (k : ℕ) (bytes : List ℕ) → answer σ room s ≡ Answer.lowered w c k bytes → From σ room (whole_of mosts s) k bytes
 unfolding answer outcome
-of-answer σ room s w c k bytes h = of-settings σ room (whole_of mosts s) (ltb 16 σ.most) w c k bytes h
+of_answer σ room s w c k bytes h = of_settings σ room (whole_of mosts s) (ltb 16 σ.most) w c k bytes h
 
 -- the output has room for it
-pub with-room : (σ : Settings) (room : ℕ) (s : List ℕ) (w : Bool) (c : Counts) (k : ℕ) (bytes : List ℕ) → answer σ room s ≡ Answer.lowered w c k bytes → length bytes ≤ room
-with-room σ room s w c k bytes h = elim (of-answer σ room s w c k bytes h) [ from r n e f l g ↦ l ]
+pub with_room : (σ : Settings) (room : ℕ) (s : List ℕ) (w : Bool) (c : Counts) (k : ℕ) (bytes : List ℕ) → answer σ room s ≡ Answer.lowered w c k bytes → length bytes ≤ room
+with_room σ room s w c k bytes h = elim (of_answer σ room s w c k bytes h) [ from r n e f l g ↦ l ]
 
 -- ---- the theorem
 
 -- for every meaning, Debug recorded or not: whoever runs a routine whose reason, judged with the meaning's own flag, is 0 cannot tell
-pub shelved-alike : {A : Type 0} (M : Meaning A) (σ : Settings) (r : Routine) → WellFormed mosts r → shelfReason M.debug r (rewrittenBlocks σ r) ≡ 0 → RunsAlike M r (rewrite σ r)
-unfolding rewrittenBlocks
-shelved-alike M σ r h e = pass-simulates M σ r (static mosts M.debug σ (choice σ r) r h e)
+pub shelved_alike : {A : Type 0} (M : Meaning A) (σ : Settings) (r : Routine) → WellFormed mosts r → shelf_reason M.debug r (rewritten_blocks σ r) ≡ 0 → RunsAlike M r (rewrite σ r)
+unfolding rewritten_blocks
+shelved_alike M σ r h e = pass_simulates M σ r (static mosts M.debug σ (choice σ r) r h e)
 
 -- of bytes: for every meaning, whether it records Debug or not, settings, room and bytes
 pub indistinguishable : {A : Type 0} (M : Meaning A) → CannotTell M
-unfolding RunsAlike rewrite rewrittenBy rewrittenBlocks
+unfolding RunsAlike rewrite rewritten_by rewritten_blocks
 indistinguishable M σ room s w c k bytes b h q =
-    elim (of-answer σ room s w c k bytes h) [
+    elim (of_answer σ room s w c k bytes h) [
       | from r n e f l g ↦
-          let z : n ≡ length s = (whole-canon mosts s b e).1 in
-          let ok-all : whole_of mosts s ≡ ok r (length s) = e ∙ ap (λ q. ok r q) z in
-          let fit = whole-fit mosts s mosts-wide b e in
-          let runs = shelved-alike M σ r fit (answered-under M.debug σ r n (sym g ∙ q)) in
+          let z : n ≡ length s = (whole_canon mosts s b e).1 in
+          let ok_all : whole_of mosts s ≡ ok r (length s) = e ∙ ap (λ q. ok r q) z in
+          let fit = whole_fit mosts s mosts_wide b e in
+          let runs = shelved_alike M σ r fit (answered_under M.debug σ r n (sym g ∙ q)) in
           record {
             original = r;
             rewritten = rewrite σ r;
-            read = ok-all;
-            filed = rw f (output-decodes σ (choice σ r) r fit);
+            read = ok_all;
+            filed = rw f (output_decodes σ (choice σ r) r fit);
             same = runs;
             fine = λ v n p. rw (runs v n p) at p;
           }
     ]
 
 -- on document 01's own machine, with any operations
-pub cannot-tell : {A : Type 0} (O : Operations A) → CannotTell (document01 O)
-cannot-tell O = indistinguishable (document01 O)
+pub cannot_tell : {A : Type 0} (O : Operations A) → CannotTell (document01 O)
+cannot_tell O = indistinguishable (document01 O)

@@ -11,35 +11,35 @@ use Rattle.mir.specs.Syntax.{Projection, InstructionKind, Terminator}
 use Rattle.mir.specs.Routine.{Routine}
 use Rattle.bytes_sections.proofs.Examples.{example}
 use Rattle.rewrite.specs.Run.{Choice, choice, rewrite}
-use Rattle.shelf.specs.Reads.{withDebug}
+use Rattle.shelf.specs.Reads.{with_debug}
 use Rattle.machine.specs.Values.{Val, scalar, aggregate, ends, then}
-use Rattle.machine.specs.Records.{called, printed, returned, ended, at_return, stopped, unwritten, tooLarge, Trace}
+use Rattle.machine.specs.Records.{called, printed, returned, ended, at_return, stopped, unwritten, too_large, Trace}
 use Rattle.machine.specs.Run.{run}
 use Rattle.fold.specs.Scalarizable.{defaults}
 use Rattle.machine.proofs.OutsideRows.{long, cramped}
 use Rattle.machine.proofs.Words.{val, typ, op, ins, pair, numbers}
 use Rattle.machine_simulation.specs.Static.{Static}
 use Rattle.machine_simulation.specs.Statement.{RunsAlike, rewritten}
-use Rattle.machine_simulation.proofs.Theorem.{pass-simulates}
+use Rattle.machine_simulation.proofs.Theorem.{pass_simulates}
 use Rattle.machine_simulation.proofs.Open.{everything, shelf}
 
 -- document 01's routine: the tuple's build is left out, the extract is an Assign, the record is the same
-pub example-rewritten : run numbers (rewrite defaults example) [] 1 ≡ record { recorded = returned (then (scalar 8) ends) ∷ []; standing = ended at_return }
+pub example_rewritten : run numbers (rewrite defaults example) [] 1 ≡ record { recorded = returned (then (scalar 8) ends) ∷ []; standing = ended at_return }
 unfolding everything
-example-rewritten = refl
+example_rewritten = refl
 
-pub example-same : run numbers example [] 1 ≡ run numbers (rewrite defaults example) [] 1
+pub example_same : run numbers example [] 1 ≡ run numbers (rewrite defaults example) [] 1
 unfolding everything
-example-same = refl
+example_same = refl
 
 -- it has the static facts with Debug counted, so the theorem is of it, for every meaning that records Debug
-pub example-static : Static withDebug defaults (choice defaults example) example
+pub example_static : Static with_debug defaults (choice defaults example) example
 unfolding shelf
-example-static = record { recorded = refl; parameters = tt; below = tt; belowEnds = tt; fields = tt; once = tt; phisFirst = tt; typed = tt; ordered = tt; apart = tt; shallow = tt; clean = tt; cleanEnds = tt }
+example_static = record { recorded = refl; parameters = tt; below = tt; below_ends = tt; fields = tt; once = tt; phis_first = tt; typed = tt; ordered = tt; apart = tt; shallow = tt; clean = tt; clean_ends = tt }
 
-pub example-alike : RunsAlike numbers example (rewrite defaults example)
+pub example_alike : RunsAlike numbers example (rewrite defaults example)
 unfolding everything
-example-alike = pass-simulates numbers defaults example example-static
+example_alike = pass_simulates numbers defaults example example_static
 
 -- ---- a routine with an insert, a Store and a Load of an array, a struct, a hand-on and rebuilds for a Call and a Return
 
@@ -77,15 +77,15 @@ mixed =
           ∷ [];
     }
 
-abbrev mixedTrace : Trace ℕ
-mixedTrace =
+abbrev mixed_trace : Trace ℕ
+mixed_trace =
     record {
       recorded = called 99 (then (pair 5 8) (then (pair 3 6) (then (scalar 3) ends))) ∷ returned (then (pair 5 8) (then (scalar 70) ends)) ∷ [];
       standing = ended at_return;
     }
 
 -- what comes out: the Load is an Assign; the Call and the Return are behind their rebuilds
-pub mixed-out : (rewritten defaults all mixed).blocks ≡
+pub mixed_out : (rewritten defaults all mixed).blocks ≡
     record {
       instructions =
           ins (InstructionKind.Assign (val 4) (integer 6) (typ 0))
@@ -98,25 +98,25 @@ pub mixed-out : (rewritten defaults all mixed).blocks ≡
     }
     ∷ []
 unfolding everything
-mixed-out = refl
+mixed_out = refl
 
-pub mixed-original : run numbers mixed (scalar 3 ∷ scalar 70 ∷ []) 1 ≡ mixedTrace
+pub mixed_original : run numbers mixed (scalar 3 ∷ scalar 70 ∷ []) 1 ≡ mixed_trace
 unfolding everything
-mixed-original = refl
+mixed_original = refl
 
-pub mixed-rewritten : run numbers (rewritten defaults all mixed) (scalar 3 ∷ scalar 70 ∷ []) 1 ≡ mixedTrace
+pub mixed_rewritten : run numbers (rewritten defaults all mixed) (scalar 3 ∷ scalar 70 ∷ []) 1 ≡ mixed_trace
 unfolding everything
-mixed-rewritten = refl
+mixed_rewritten = refl
 
-pub mixed-static : Static withDebug defaults all mixed
+pub mixed_static : Static with_debug defaults all mixed
 unfolding shelf
-mixed-static = record { recorded = refl; parameters = tt; below = tt; belowEnds = tt; fields = tt; once = tt; phisFirst = tt; typed = tt; ordered = tt; apart = tt; shallow = tt; clean = tt; cleanEnds = tt }
+mixed_static = record { recorded = refl; parameters = tt; below = tt; below_ends = tt; fields = tt; once = tt; phis_first = tt; typed = tt; ordered = tt; apart = tt; shallow = tt; clean = tt; clean_ends = tt }
 
 -- ---- the premise is needed: this routine has every static fact; it stops at an unwritten part of a build
 -- that the rewritten routine no longer has
 
-abbrev pub unwrittenPart : Routine
-unwrittenPart =
+abbrev pub unwritten_part : Routine
+unwritten_part =
     record {
       types = MirType.Felt ∷ MirType.Tuple (typ 0 ∷ []) ∷ [];
       next = 2;
@@ -126,22 +126,22 @@ unwrittenPart =
       blocks = record { instructions = ins (InstructionKind.MakeTuple (val 1) (op 0 ∷ [])) ∷ []; terminator = Terminator.Return [] } ∷ [];
     }
 
-pub unwritten-static : Static withDebug defaults (choice defaults unwrittenPart) unwrittenPart
+pub unwritten_static : Static with_debug defaults (choice defaults unwritten_part) unwritten_part
 unfolding shelf
-unwritten-static = record { recorded = refl; parameters = tt; below = tt; belowEnds = tt; fields = tt; once = tt; phisFirst = tt; typed = tt; ordered = tt; apart = tt; shallow = tt; clean = tt; cleanEnds = tt }
+unwritten_static = record { recorded = refl; parameters = tt; below = tt; below_ends = tt; fields = tt; once = tt; phis_first = tt; typed = tt; ordered = tt; apart = tt; shallow = tt; clean = tt; clean_ends = tt }
 
-pub unwritten-original : run numbers unwrittenPart [] 1 ≡ record { recorded = []; standing = stopped unwritten }
+pub unwritten_original : run numbers unwritten_part [] 1 ≡ record { recorded = []; standing = stopped unwritten }
 unfolding everything
-unwritten-original = refl
+unwritten_original = refl
 
-pub unwritten-rewritten : run numbers (rewrite defaults unwrittenPart) [] 1 ≡ record { recorded = returned ends ∷ []; standing = ended at_return }
+pub unwritten_rewritten : run numbers (rewrite defaults unwritten_part) [] 1 ≡ record { recorded = returned ends ∷ []; standing = ended at_return }
 unfolding everything
-unwritten-rewritten = refl
+unwritten_rewritten = refl
 
 -- ---- and so is that it meets no aggregate too large for the machine: the build that stops the original is left out
 
-abbrev pub largeBuild : Routine
-largeBuild =
+abbrev pub large_build : Routine
+large_build =
     record {
       types = MirType.Felt ∷ MirType.Tuple (typ 0 ∷ typ 0 ∷ typ 0 ∷ []) ∷ [];
       next = 1;
@@ -151,17 +151,17 @@ largeBuild =
       blocks = record { instructions = ins (InstructionKind.MakeTuple (val 0) (integer 1 ∷ integer 2 ∷ integer 3 ∷ [])) ∷ []; terminator = Terminator.Return [] } ∷ [];
     }
 
-pub large-static : Static false defaults (choice defaults largeBuild) largeBuild
+pub large_static : Static false defaults (choice defaults large_build) large_build
 unfolding shelf
-large-static = record { recorded = refl; parameters = tt; below = tt; belowEnds = tt; fields = tt; once = tt; phisFirst = tt; typed = tt; ordered = tt; apart = tt; shallow = tt; clean = tt; cleanEnds = tt }
+large_static = record { recorded = refl; parameters = tt; below = tt; below_ends = tt; fields = tt; once = tt; phis_first = tt; typed = tt; ordered = tt; apart = tt; shallow = tt; clean = tt; clean_ends = tt }
 
-pub large-original : run cramped largeBuild [] 1 ≡ record { recorded = []; standing = stopped tooLarge }
+pub large_original : run cramped large_build [] 1 ≡ record { recorded = []; standing = stopped too_large }
 unfolding everything cramped long
-large-original = refl
+large_original = refl
 
-pub large-rewritten : run cramped (rewrite defaults largeBuild) [] 1 ≡ record { recorded = returned ends ∷ []; standing = ended at_return }
+pub large_rewritten : run cramped (rewrite defaults large_build) [] 1 ≡ record { recorded = returned ends ∷ []; standing = ended at_return }
 unfolding everything cramped long
-large-rewritten = refl
+large_rewritten = refl
 
 -- ---- "What a reader cannot tell apart includes the Debug record" (document 02)
 
@@ -187,16 +187,16 @@ printing x =
     }
 
 -- what it prints first is x
-abbrev printedFirst : Val ℕ → Trace ℕ
-printedFirst x = record { recorded = printed 4 (then x (then (scalar 9) ends)) ∷ returned ends ∷ []; standing = ended at_return }
+abbrev printed_first : Val ℕ → Trace ℕ
+printed_first x = record { recorded = printed 4 (then x (then (scalar 9) ends)) ∷ returned ends ∷ []; standing = ended at_return }
 
 -- of the part, both print it
-pub part-printed : (run numbers (printing (op 1)) [] 1 ≡ printedFirst (scalar 7)) × (run numbers (rewrite defaults (printing (op 1))) [] 1 ≡ printedFirst (scalar 7))
+pub part_printed : (run numbers (printing (op 1)) [] 1 ≡ printed_first (scalar 7)) × (run numbers (rewrite defaults (printing (op 1))) [] 1 ≡ printed_first (scalar 7))
 unfolding everything
-part-printed = (refl, refl)
+part_printed = (refl, refl)
 
 -- of the tuple, whose build is left out, only the original does: shelf reason 5 is needed for Debug too
-pub dropped-printed : (run numbers (printing (op 0)) [] 1 ≡ printedFirst (aggregate (then (scalar 7) ends)))
+pub dropped_printed : (run numbers (printing (op 0)) [] 1 ≡ printed_first (aggregate (then (scalar 7) ends)))
     × (run numbers (rewrite defaults (printing (op 0))) [] 1 ≡ record { recorded = []; standing = stopped unwritten })
 unfolding everything
-dropped-printed = (refl, refl)
+dropped_printed = (refl, refl)

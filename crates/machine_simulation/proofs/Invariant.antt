@@ -12,21 +12,21 @@ use Rattle.mir.specs.MirType.{MirType}
 use Rattle.mir.specs.Syntax.{Instruction}
 use Rattle.mir.specs.Reads.{operands, dests}
 use Rattle.fold.specs.declared.Settings.{Settings}
-use Rattle.mir.specs.Lookup.{Types, row_of, recordedType, valueRow, structFieldsOf}
+use Rattle.mir.specs.Lookup.{Types, row_of, recorded_type, value_row, struct_fields_of}
 use Rattle.rewrite.specs.State.{AggStates}
 use Rattle.machine.specs.Values.{Val, Vals, aggregate}
 use Rattle.machine.specs.Meaning.{Meaning}
 use Rattle.machine.specs.Records.{Env, Writes, write_all, Event, goes}
-use Rattle.machine.specs.Places.{partRow}
-use Rattle.machine.specs.Evaluate.{evalAll}
+use Rattle.machine.specs.Places.{part_row}
+use Rattle.machine.specs.Evaluate.{eval_all}
 use Rattle.machine.specs.Exec.{exec}
-use Rattle.shelf.proofs.Both.{every-imp}
+use Rattle.shelf.proofs.Both.{every_imp}
 use Rattle.shelf.specs.Lists.{every, among}
 use Rattle.machine_simulation.specs.Typing.{Whole}
-use Rattle.shelf.specs.Reads.{definedIn}
-use Rattle.machine_simulation.specs.Static.{fieldsOnce}
-use Rattle.machine_simulation.proofs.Tools.{every-two→Each, among-l, among-r, none_of}
-use Rattle.machine_simulation.proofs.Frame.{Same, evalAll-same, Keeps, changes, exec_keeps}
+use Rattle.shelf.specs.Reads.{defined_in}
+use Rattle.machine_simulation.specs.Static.{fields_once}
+use Rattle.machine_simulation.proofs.Tools.{every_two→Each, among_l, among_r, none_of}
+use Rattle.machine_simulation.proofs.Frame.{Same, eval_all_same, Keeps, changes, exec_keeps}
 use Rattle.machine_simulation.proofs.Retype.{Alike}
 
 -- the value of a number
@@ -44,12 +44,12 @@ pub record Ctx (A : Type 0) : Type 0 where
   pub dr : ℕ → Bool
   pub sb : ℕ → Bool
   pub alike : (v : ValueId) → T (ltb v.0 m) → Alike types later v
-  pub names : (t : TypeId) → T (fieldsOnce (structFieldsOf (row_of types (some t))))
+  pub names : (t : TypeId) → T (fields_once (struct_fields_of (row_of types (some t))))
 
 -- the tests that the parts of a tracked value pass, before the instructions `is`: none is defined there, none is a Store's
 -- base, none is fresh
 pub record Parts {A : Type 0} (κ : Ctx A) (is : List Instruction) (xs : List Value) : Type 0 where
-  pub calm : T (every (λ v. not (among v.0 (definedIn is))) (operands xs))
+  pub calm : T (every (λ v. not (among v.0 (defined_in is))) (operands xs))
   pub free : T (every (λ v. not (κ.sb v.0)) (operands xs))
   pub low : T (every (λ v. ltb v.0 κ.m) (operands xs))
 
@@ -57,12 +57,12 @@ pub record Parts {A : Type 0} (κ : Ctx A) (is : List Instruction) (xs : List Va
 pub record Tracked {A : Type 0} (κ : Ctx A) (E : Env A) (is : List Instruction) (v : ℕ) (xs : List Value) : Type 0 where
   pub vals : Vals A
   pub whole : E v ≡ some (aggregate vals)
-  pub each : evalAll κ.mean E (partRow κ.types (valueRow κ.types (numbered v))) xs ≡ some vals
+  pub each : eval_all κ.mean E (part_row κ.types (value_row κ.types (numbered v))) xs ≡ some vals
   pub gone : T (κ.dr v)
-  pub once : T (not (among v (definedIn is)))
+  pub once : T (not (among v (defined_in is)))
   pub parts : Parts κ is xs
-  pub shape : Whole κ.types (recordedType κ.types (numbered v)) xs
-  pub small : κ.mean.large κ.types.rows (recordedType κ.types (numbered v)) ≡ false
+  pub shape : Whole κ.types (recorded_type κ.types (numbered v)) xs
+  pub small : κ.mean.large κ.types.rows (recorded_type κ.types (numbered v)) ≡ false
 
 -- all that is tracked
 abbrev pub Tracks : {A : Type 0} → Ctx A → AggStates → Env A → List Instruction → Type 0
@@ -82,50 +82,50 @@ unfolding Keeps
 kept_at κ i E w w' ws ev e x s t = rw e at (exec_keeps κ.mean κ.types i.kind E w x s t)
 
 -- so do parts
-pub kept-values : {A : Type 0} (κ : Ctx A) (i : Instruction) (is : List Instruction) (E : Env A) (w w' : List (Val A)) (ws : Writes A)
+pub kept_values : {A : Type 0} (κ : Ctx A) (i : Instruction) (is : List Instruction) (E : Env A) (w w' : List (Val A)) (ws : Writes A)
     (ev : List (Event A)) → exec κ.mean κ.types i.kind E w ≡ goes ws w' ev
     → T (every (λ v. κ.sb v.0) (changes κ.types i.kind)) → (rows : ℕ → Option MirType) (xs : List Value) → Parts κ (i ∷ is) xs
-    → evalAll κ.mean (write_all ws E) rows xs ≡ evalAll κ.mean E rows xs
-unfolding definedIn
-kept-values κ i is E w w' ws ev e b rows xs p =
-    evalAll-same κ.mean (write_all ws E) E rows xs
-    (every-two→Each (λ v. not (among v.0 (definedIn (i ∷ is)))) (λ v. not (κ.sb v.0)) (Same (write_all ws E) E)
-    (λ v s t. kept_at κ i E w w' ws ev e v.0 (among-l v.0 (dests i.kind) (definedIn is) s) (none_of κ.sb v.0 (changes κ.types i.kind) b t))
+    → eval_all κ.mean (write_all ws E) rows xs ≡ eval_all κ.mean E rows xs
+unfolding defined_in
+kept_values κ i is E w w' ws ev e b rows xs p =
+    eval_all_same κ.mean (write_all ws E) E rows xs
+    (every_two→Each (λ v. not (among v.0 (defined_in (i ∷ is)))) (λ v. not (κ.sb v.0)) (Same (write_all ws E) E)
+    (λ v s t. kept_at κ i E w w' ws ev e v.0 (among_l v.0 (dests i.kind) (defined_in is) s) (none_of κ.sb v.0 (changes κ.types i.kind) b t))
     (operands xs) p.calm p.free)
 
 -- their tests, one instruction on
-pub parts-later : {A : Type 0} (κ : Ctx A) (i : Instruction) (is : List Instruction) (xs : List Value) → Parts κ (i ∷ is) xs → Parts κ is xs
-unfolding definedIn
-parts-later κ i is xs p =
+pub parts_later : {A : Type 0} (κ : Ctx A) (i : Instruction) (is : List Instruction) (xs : List Value) → Parts κ (i ∷ is) xs → Parts κ is xs
+unfolding defined_in
+parts_later κ i is xs p =
     record {
-      calm = every-imp (λ v. not (among v.0 (definedIn (i ∷ is)))) (λ v. not (among v.0 (definedIn is))) (λ v s. among-r v.0 (dests i.kind) (definedIn is) s) (operands xs) p.calm;
+      calm = every_imp (λ v. not (among v.0 (defined_in (i ∷ is)))) (λ v. not (among v.0 (defined_in is))) (λ v s. among_r v.0 (dests i.kind) (defined_in is) s) (operands xs) p.calm;
       free = p.free;
       low = p.low;
     }
 
 -- a value not defined here or later is not defined later
-pub once-later : (i : Instruction) (is : List Instruction) (v : ℕ) → T (not (among v (definedIn (i ∷ is)))) → T (not (among v (definedIn is)))
-unfolding definedIn
-once-later i is v t = among-r v (dests i.kind) (definedIn is) t
+pub once_later : (i : Instruction) (is : List Instruction) (v : ℕ) → T (not (among v (defined_in (i ∷ is)))) → T (not (among v (defined_in is)))
+unfolding defined_in
+once_later i is v t = among_r v (dests i.kind) (defined_in is) t
 
 -- nor here
-once-now : (i : Instruction) (is : List Instruction) (v : ℕ) → T (not (among v (definedIn (i ∷ is)))) → T (not (among v (dests i.kind)))
-unfolding definedIn
-once-now i is v t = among-l v (dests i.kind) (definedIn is) t
+once_now : (i : Instruction) (is : List Instruction) (v : ℕ) → T (not (among v (defined_in (i ∷ is)))) → T (not (among v (dests i.kind)))
+unfolding defined_in
+once_now i is v t = among_l v (dests i.kind) (defined_in is) t
 
 -- a tracked value that the step does not change stays so
-pub tracked-on : {A : Type 0} (κ : Ctx A) (i : Instruction) (is : List Instruction) (E : Env A) (w w' : List (Val A)) (ws : Writes A)
+pub tracked_on : {A : Type 0} (κ : Ctx A) (i : Instruction) (is : List Instruction) (E : Env A) (w w' : List (Val A)) (ws : Writes A)
     (ev : List (Event A)) → exec κ.mean κ.types i.kind E w ≡ goes ws w' ev
     → T (every (λ v. κ.sb v.0) (changes κ.types i.kind)) → (v : ℕ) (xs : List Value) → T (not (among v (changes κ.types i.kind)))
     → Tracked κ E (i ∷ is) v xs → Tracked κ (write_all ws E) is v xs
-tracked-on κ i is E w w' ws ev e b v xs nb h =
+tracked_on κ i is E w w' ws ev e b v xs nb h =
     record {
       vals = h.vals;
-      whole = kept_at κ i E w w' ws ev e v (once-now i is v h.once) nb ∙ h.whole;
-      each = kept-values κ i is E w w' ws ev e b _ xs h.parts ∙ h.each;
+      whole = kept_at κ i E w w' ws ev e v (once_now i is v h.once) nb ∙ h.whole;
+      each = kept_values κ i is E w w' ws ev e b _ xs h.parts ∙ h.each;
       gone = h.gone;
-      once = once-later i is v h.once;
-      parts = parts-later κ i is xs h.parts;
+      once = once_later i is v h.once;
+      parts = parts_later κ i is xs h.parts;
       shape = h.shape;
       small = h.small;
     }

@@ -15,10 +15,10 @@ use Rattle.mir.specs.Syntax.{Projection, Instruction, InstructionKind, Terminato
 use Rattle.mir.specs.Routine.{Routine}
 use Rattle.machine.specs.Meaning.{Meaning}
 use Rattle.machine.specs.Values.{Val, scalar, aggregate, ends, then}
-use Rattle.machine.specs.Records.{called, asserted, returned, ended, at_return, atUnreachable, unequalSides, stopped, unwritten, noSource, noValue, Trace}
+use Rattle.machine.specs.Records.{called, asserted, returned, ended, at_return, at_unreachable, unequal_sides, stopped, unwritten, no_source, no_value, Trace}
 use Rattle.machine.specs.Run.{run}
 use Rattle.fold.specs.Scalarizable.{defaults}
-use Rattle.machine.proofs.Words.{val, typ, op, ins, index_of, numbersBy, numbers}
+use Rattle.machine.proofs.Words.{val, typ, op, ins, index_of, numbers_by, numbers}
 use Rattle.machine_simulation.specs.Statement.{rewritten}
 use Rattle.machine_simulation.proofs.Open.{everything, shelf, facts}
 use Rattle.machine_simulation.proofs.Examples.{all}
@@ -41,24 +41,24 @@ abbrev one : Val ℕ → Val ℕ
 one y = aggregate (then y ends)
 
 -- reason 1: a tuple of one part recorded at a type of two is rebuilt with a Unit part
-abbrev pub wideTuple : Routine
-wideTuple = routine (MirType.Felt ∷ MirType.Tuple (typ 0 ∷ typ 0 ∷ []) ∷ []) (some (typ 1) ∷ []) (ins (InstructionKind.MakeTuple (val 0) (integer 7 ∷ [])) ∷ []) (op 0 ∷ [])
+abbrev pub wide_tuple : Routine
+wide_tuple = routine (MirType.Felt ∷ MirType.Tuple (typ 0 ∷ typ 0 ∷ []) ∷ []) (some (typ 1) ∷ []) (ins (InstructionKind.MakeTuple (val 0) (integer 7 ∷ [])) ∷ []) (op 0 ∷ [])
 
-pub wideTuple-facts : facts false defaults all wideTuple ≡ true ∷ true ∷ true ∷ true ∷ true ∷ true ∷ true ∷ false ∷ true ∷ true ∷ true ∷ true ∷ true ∷ []
+pub wide_tuple_facts : facts false defaults all wide_tuple ≡ true ∷ true ∷ true ∷ true ∷ true ∷ true ∷ true ∷ false ∷ true ∷ true ∷ true ∷ true ∷ true ∷ []
 unfolding shelf
-wideTuple-facts = refl
+wide_tuple_facts = refl
 
-pub wideTuple-original : run numbers wideTuple [] 1 ≡ gives (one (scalar 7))
+pub wide_tuple_original : run numbers wide_tuple [] 1 ≡ gives (one (scalar 7))
 unfolding everything
-wideTuple-original = refl
+wide_tuple_original = refl
 
-pub wideTuple-rewritten : run numbers (rewritten defaults all wideTuple) [] 1 ≡ gives (aggregate (then (scalar 7) (then (scalar 0) ends)))
+pub wide_tuple_rewritten : run numbers (rewritten defaults all wide_tuple) [] 1 ≡ gives (aggregate (then (scalar 7) (then (scalar 0) ends)))
 unfolding everything
-wideTuple-rewritten = refl
+wide_tuple_rewritten = refl
 
 -- reason 3: the Store changes the array, not its copy in the tuple
-abbrev pub sharedPart : Routine
-sharedPart =
+abbrev pub shared_part : Routine
+shared_part =
     routine (MirType.Felt ∷ MirType.FixedArray (typ 0) 1 ∷ MirType.Tuple (typ 1 ∷ []) ∷ []) (some (typ 1) ∷ some (typ 2) ∷ some (typ 1) ∷ some (typ 0) ∷ [])
     (ins (InstructionKind.MakeFixedArray (val 0) (integer 7 ∷ []) (typ 0) false)
     ∷ ins (InstructionKind.MakeTuple (val 1) (op 0 ∷ []))
@@ -67,21 +67,21 @@ sharedPart =
     ∷ ins (InstructionKind.Load (val 3) (number 2) (typ 0))
     ∷ []) (op 3 ∷ [])
 
-pub sharedPart-facts : facts false defaults all sharedPart ≡ true ∷ true ∷ true ∷ true ∷ true ∷ true ∷ true ∷ true ∷ true ∷ false ∷ true ∷ true ∷ true ∷ []
+pub shared_part_facts : facts false defaults all shared_part ≡ true ∷ true ∷ true ∷ true ∷ true ∷ true ∷ true ∷ true ∷ true ∷ false ∷ true ∷ true ∷ true ∷ []
 unfolding shelf
-sharedPart-facts = refl
+shared_part_facts = refl
 
-pub sharedPart-original : run numbers sharedPart [] 1 ≡ gives (scalar 7)
+pub shared_part_original : run numbers shared_part [] 1 ≡ gives (scalar 7)
 unfolding everything
-sharedPart-original = refl
+shared_part_original = refl
 
-pub sharedPart-rewritten : run numbers (rewritten defaults all sharedPart) [] 1 ≡ gives (scalar 9)
+pub shared_part_rewritten : run numbers (rewritten defaults all shared_part) [] 1 ≡ gives (scalar 9)
 unfolding everything
-sharedPart-rewritten = refl
+shared_part_rewritten = refl
 
 -- reason 4: a Store of two projections changes the parts of the array that stood in the base, and it should change the copy
-abbrev pub deepStore : Routine
-deepStore =
+abbrev pub deep_store : Routine
+deep_store =
     routine (MirType.Felt ∷ MirType.FixedArray (typ 0) 1 ∷ MirType.FixedArray (typ 1) 1 ∷ []) (some (typ 1) ∷ some (typ 2) ∷ some (typ 0) ∷ [])
     (ins (InstructionKind.MakeFixedArray (val 0) (integer 7 ∷ []) (typ 0) false)
     ∷ ins (InstructionKind.MakeFixedArray (val 1) (op 0 ∷ []) (typ 1) false)
@@ -89,39 +89,39 @@ deepStore =
     ∷ ins (InstructionKind.Load (val 2) (number 0) (typ 0))
     ∷ []) (op 2 ∷ [])
 
-pub deepStore-facts : facts false defaults all deepStore ≡ true ∷ true ∷ true ∷ true ∷ true ∷ true ∷ true ∷ true ∷ true ∷ true ∷ false ∷ true ∷ true ∷ []
+pub deep_store_facts : facts false defaults all deep_store ≡ true ∷ true ∷ true ∷ true ∷ true ∷ true ∷ true ∷ true ∷ true ∷ true ∷ false ∷ true ∷ true ∷ []
 unfolding shelf
-deepStore-facts = refl
+deep_store_facts = refl
 
-pub deepStore-original : run numbers deepStore [] 1 ≡ gives (scalar 7)
+pub deep_store_original : run numbers deep_store [] 1 ≡ gives (scalar 7)
 unfolding everything
-deepStore-original = refl
+deep_store_original = refl
 
-pub deepStore-rewritten : run numbers (rewritten defaults all deepStore) [] 1 ≡ gives (scalar 9)
+pub deep_store_rewritten : run numbers (rewritten defaults all deep_store) [] 1 ≡ gives (scalar 9)
 unfolding everything
-deepStore-rewritten = refl
+deep_store_rewritten = refl
 
 -- reason 5: rebuilding does not rebuild parts
-abbrev pub droppedRead : Routine
-droppedRead =
+abbrev pub dropped_read : Routine
+dropped_read =
     routine (MirType.Felt ∷ MirType.Tuple (typ 0 ∷ []) ∷ MirType.Tuple (typ 1 ∷ []) ∷ []) (some (typ 1) ∷ some (typ 2) ∷ [])
     (ins (InstructionKind.MakeTuple (val 0) (integer 7 ∷ [])) ∷ ins (InstructionKind.MakeTuple (val 1) (op 0 ∷ [])) ∷ []) (op 1 ∷ [])
 
-pub droppedRead-facts : facts false defaults all droppedRead ≡ true ∷ true ∷ true ∷ true ∷ true ∷ true ∷ true ∷ true ∷ true ∷ true ∷ true ∷ false ∷ true ∷ []
+pub dropped_read_facts : facts false defaults all dropped_read ≡ true ∷ true ∷ true ∷ true ∷ true ∷ true ∷ true ∷ true ∷ true ∷ true ∷ true ∷ false ∷ true ∷ []
 unfolding shelf
-droppedRead-facts = refl
+dropped_read_facts = refl
 
-pub droppedRead-original : run numbers droppedRead [] 1 ≡ gives (one (one (scalar 7)))
+pub dropped_read_original : run numbers dropped_read [] 1 ≡ gives (one (one (scalar 7)))
 unfolding everything
-droppedRead-original = refl
+dropped_read_original = refl
 
-pub droppedRead-rewritten : run numbers (rewritten defaults all droppedRead) [] 1 ≡ record { recorded = []; standing = stopped unwritten }
+pub dropped_read_rewritten : run numbers (rewritten defaults all dropped_read) [] 1 ≡ record { recorded = []; standing = stopped unwritten }
 unfolding everything
-droppedRead-rewritten = refl
+dropped_read_rewritten = refl
 
 -- reason 1, of an Index: where the literal true is 0, the Index true names part 0, and the pass reads it as 1
-abbrev pub booleanIndex : Routine
-booleanIndex =
+abbrev pub boolean_index : Routine
+boolean_index =
     routine (MirType.Felt ∷ MirType.FixedArray (typ 0) 2 ∷ MirType.FixedArray (typ 1) 1 ∷ []) (some (typ 1) ∷ some (typ 2) ∷ some (typ 0) ∷ [])
     (ins (InstructionKind.MakeFixedArray (val 0) (integer 7 ∷ integer 8 ∷ []) (typ 0) false)
     ∷ ins (InstructionKind.MakeFixedArray (val 1) (op 0 ∷ []) (typ 1) false)
@@ -134,64 +134,64 @@ turned (Literal.Boolean true) = 0
 turned (Literal.Boolean false) = 1
 turned Literal.Unit = 0
 
-unfoldable pub turnedNumbers : Meaning ℕ
+unfoldable pub turned_numbers : Meaning ℕ
 unfolding turned index_of
-turnedNumbers = numbersBy turned (λ k. refl)
+turned_numbers = numbers_by turned (λ k. refl)
 
-pub booleanIndex-facts : facts false defaults all booleanIndex ≡ true ∷ true ∷ true ∷ true ∷ true ∷ true ∷ true ∷ false ∷ true ∷ true ∷ true ∷ true ∷ true ∷ []
+pub boolean_index_facts : facts false defaults all boolean_index ≡ true ∷ true ∷ true ∷ true ∷ true ∷ true ∷ true ∷ false ∷ true ∷ true ∷ true ∷ true ∷ true ∷ []
 unfolding shelf
-booleanIndex-facts = refl
+boolean_index_facts = refl
 
-pub booleanIndex-original : run turnedNumbers booleanIndex [] 1 ≡ gives (scalar 7)
-unfolding everything turnedNumbers turned
-booleanIndex-original = refl
+pub boolean_index_original : run turned_numbers boolean_index [] 1 ≡ gives (scalar 7)
+unfolding everything turned_numbers turned
+boolean_index_original = refl
 
-pub booleanIndex-rewritten : run turnedNumbers (rewritten defaults all booleanIndex) [] 1 ≡ gives (scalar 8)
-unfolding everything turnedNumbers turned
-booleanIndex-rewritten = refl
+pub boolean_index_rewritten : run turned_numbers (rewritten defaults all boolean_index) [] 1 ≡ gives (scalar 8)
+unfolding everything turned_numbers turned
+boolean_index_rewritten = refl
 
 -- refusal 6: the second definition of value 0 is kept and the tracked parts are stale
-abbrev pub definedTwice : Routine
-definedTwice =
+abbrev pub defined_twice : Routine
+defined_twice =
     routine (MirType.Felt ∷ MirType.Tuple (typ 0 ∷ []) ∷ []) (some (typ 1) ∷ some (typ 0) ∷ [])
     (ins (InstructionKind.MakeTuple (val 0) (integer 7 ∷ [])) ∷ ins (InstructionKind.Call (val 0 ∷ []) 5 [] [] (typ 1 ∷ [])) ∷ ins (InstructionKind.ExtractTupleElement (val 1) (op 0) 0 (typ 0)) ∷ []) (op 1 ∷ [])
 
-pub definedTwice-facts : facts false defaults all definedTwice ≡ true ∷ true ∷ true ∷ true ∷ true ∷ false ∷ true ∷ true ∷ true ∷ true ∷ true ∷ true ∷ true ∷ []
+pub defined_twice_facts : facts false defaults all defined_twice ≡ true ∷ true ∷ true ∷ true ∷ true ∷ false ∷ true ∷ true ∷ true ∷ true ∷ true ∷ true ∷ true ∷ []
 unfolding shelf
-definedTwice-facts = refl
+defined_twice_facts = refl
 
-pub definedTwice-original : run numbers definedTwice (one (scalar 9) ∷ []) 1 ≡ record { recorded = called 5 ends ∷ returned (then (scalar 9) ends) ∷ []; standing = ended at_return }
+pub defined_twice_original : run numbers defined_twice (one (scalar 9) ∷ []) 1 ≡ record { recorded = called 5 ends ∷ returned (then (scalar 9) ends) ∷ []; standing = ended at_return }
 unfolding everything
-definedTwice-original = refl
+defined_twice_original = refl
 
-pub definedTwice-rewritten : run numbers (rewritten defaults all definedTwice)
+pub defined_twice_rewritten : run numbers (rewritten defaults all defined_twice)
     (one (scalar 9) ∷ []) 1 ≡ record { recorded = called 5 ends ∷ returned (then (scalar 7) ends) ∷ []; standing = ended at_return }
 unfolding everything
-definedTwice-rewritten = refl
+defined_twice_rewritten = refl
 
 -- refusal 5: a struct with one name twice is rebuilt with the first value twice
-abbrev pub sameNames : Routine
-sameNames =
+abbrev pub same_names : Routine
+same_names =
     routine (MirType.Felt ∷ MirType.Struct (record { 0 = 0 }) (record { name = record { 0 = 1 }; part = typ 0 } ∷ record { name = record { 0 = 1 }; part = typ 0 } ∷ []) ∷ []) (some (typ 1) ∷ some (typ 1) ∷ [])
     (ins (InstructionKind.MakeStruct (val 0) (record { name = record { 0 = 1 }; value = integer 7 } ∷ record { name = record { 0 = 1 }; value = integer 7 } ∷ []) (typ 1))
     ∷ ins (InstructionKind.InsertField (val 1) (op 0) (record { 0 = 1 }) (integer 9) (typ 1))
     ∷ []) (op 1 ∷ [])
 
-pub sameNames-facts : facts false defaults all sameNames ≡ true ∷ true ∷ true ∷ true ∷ false ∷ true ∷ true ∷ true ∷ true ∷ true ∷ true ∷ true ∷ true ∷ []
+pub same_names_facts : facts false defaults all same_names ≡ true ∷ true ∷ true ∷ true ∷ false ∷ true ∷ true ∷ true ∷ true ∷ true ∷ true ∷ true ∷ true ∷ []
 unfolding shelf
-sameNames-facts = refl
+same_names_facts = refl
 
-pub sameNames-original : run numbers sameNames [] 1 ≡ gives (aggregate (then (scalar 9) (then (scalar 7) ends)))
+pub same_names_original : run numbers same_names [] 1 ≡ gives (aggregate (then (scalar 9) (then (scalar 7) ends)))
 unfolding everything
-sameNames-original = refl
+same_names_original = refl
 
-pub sameNames-rewritten : run numbers (rewritten defaults all sameNames) [] 1 ≡ gives (aggregate (then (scalar 9) (then (scalar 9) ends)))
+pub same_names_rewritten : run numbers (rewritten defaults all same_names) [] 1 ≡ gives (aggregate (then (scalar 9) (then (scalar 9) ends)))
 unfolding everything
-sameNames-rewritten = refl
+same_names_rewritten = refl
 
 -- the map has next-value bits: a type recorded beyond next is taken for the fresh number
-abbrev pub lateField : Routine
-lateField =
+abbrev pub late_field : Routine
+late_field =
     record {
       types =
           MirType.Felt
@@ -210,21 +210,21 @@ lateField =
           ∷ [];
     }
 
-pub lateField-facts : facts false defaults all lateField ≡ false ∷ true ∷ true ∷ true ∷ true ∷ true ∷ true ∷ true ∷ true ∷ true ∷ true ∷ true ∷ true ∷ []
+pub late_field_facts : facts false defaults all late_field ≡ false ∷ true ∷ true ∷ true ∷ true ∷ true ∷ true ∷ true ∷ true ∷ true ∷ true ∷ true ∷ true ∷ []
 unfolding shelf
-lateField-facts = refl
+late_field_facts = refl
 
-pub lateField-original : run numbers lateField [] 1 ≡ gives (aggregate (then (scalar 7) (then (scalar 8) ends)))
+pub late_field_original : run numbers late_field [] 1 ≡ gives (aggregate (then (scalar 7) (then (scalar 8) ends)))
 unfolding everything
-lateField-original = refl
+late_field_original = refl
 
-pub lateField-rewritten : run numbers (rewritten defaults all lateField) [] 1 ≡ gives (aggregate (then (scalar 8) (then (scalar 7) ends)))
+pub late_field_rewritten : run numbers (rewritten defaults all late_field) [] 1 ≡ gives (aggregate (then (scalar 8) (then (scalar 7) ends)))
 unfolding everything
-lateField-rewritten = refl
+late_field_rewritten = refl
 
 -- refusal 4: value 1 is not below next, and the rebuild takes that number
-abbrev pub freshClash : Routine
-freshClash =
+abbrev pub fresh_clash : Routine
+fresh_clash =
     record {
       types = MirType.Felt ∷ MirType.Tuple (typ 0 ∷ []) ∷ [];
       next = 1;
@@ -244,21 +244,21 @@ freshClash =
           ∷ [];
     }
 
-pub freshClash-facts : facts false defaults all freshClash ≡ true ∷ true ∷ false ∷ true ∷ true ∷ true ∷ true ∷ true ∷ true ∷ true ∷ true ∷ true ∷ true ∷ []
+pub fresh_clash_facts : facts false defaults all fresh_clash ≡ true ∷ true ∷ false ∷ true ∷ true ∷ true ∷ true ∷ true ∷ true ∷ true ∷ true ∷ true ∷ true ∷ []
 unfolding shelf
-freshClash-facts = refl
+fresh_clash_facts = refl
 
-pub freshClash-original : run numbers freshClash [] 1 ≡ record { recorded = called 5 (then (one (scalar 7)) ends) ∷ asserted (scalar 5) (scalar 5) ∷ []; standing = ended atUnreachable }
+pub fresh_clash_original : run numbers fresh_clash [] 1 ≡ record { recorded = called 5 (then (one (scalar 7)) ends) ∷ asserted (scalar 5) (scalar 5) ∷ []; standing = ended at_unreachable }
 unfolding everything
-freshClash-original = refl
+fresh_clash_original = refl
 
-pub freshClash-rewritten : run numbers (rewritten defaults all freshClash) [] 1 ≡ record { recorded = called 5 (then (one (scalar 7)) ends) ∷ asserted (one (scalar 7)) (scalar 5) ∷ []; standing = ended unequalSides }
+pub fresh_clash_rewritten : run numbers (rewritten defaults all fresh_clash) [] 1 ≡ record { recorded = called 5 (then (one (scalar 7)) ends) ∷ asserted (one (scalar 7)) (scalar 5) ∷ []; standing = ended unequal_sides }
 unfolding everything
-freshClash-rewritten = refl
+fresh_clash_rewritten = refl
 
 -- refusal 4: a parameter that is not below next is recorded by the rewriting alone
-abbrev pub freshParameter : Routine
-freshParameter =
+abbrev pub fresh_parameter : Routine
+fresh_parameter =
     record {
       types = MirType.Felt ∷ MirType.Tuple (typ 0 ∷ []) ∷ [];
       next = 1;
@@ -268,21 +268,21 @@ freshParameter =
       blocks = record { instructions = ins (InstructionKind.MakeTuple (val 0) (integer 7 ∷ [])) ∷ []; terminator = Terminator.Return (op 0 ∷ []) } ∷ [];
     }
 
-pub freshParameter-facts : facts false defaults all freshParameter ≡ true ∷ false ∷ true ∷ true ∷ true ∷ true ∷ true ∷ true ∷ true ∷ true ∷ true ∷ true ∷ true ∷ []
+pub fresh_parameter_facts : facts false defaults all fresh_parameter ≡ true ∷ false ∷ true ∷ true ∷ true ∷ true ∷ true ∷ true ∷ true ∷ true ∷ true ∷ true ∷ true ∷ []
 unfolding shelf
-freshParameter-facts = refl
+fresh_parameter_facts = refl
 
-pub freshParameter-original : run numbers freshParameter (one (scalar 3) ∷ []) 1 ≡ record { recorded = []; standing = stopped noValue }
+pub fresh_parameter_original : run numbers fresh_parameter (one (scalar 3) ∷ []) 1 ≡ record { recorded = []; standing = stopped no_value }
 unfolding everything
-freshParameter-original = refl
+fresh_parameter_original = refl
 
-pub freshParameter-rewritten : run numbers (rewritten defaults all freshParameter) (one (scalar 3) ∷ []) 1 ≡ gives (one (scalar 7))
+pub fresh_parameter_rewritten : run numbers (rewritten defaults all fresh_parameter) (one (scalar 3) ∷ []) 1 ≡ gives (one (scalar 7))
 unfolding everything
-freshParameter-rewritten = refl
+fresh_parameter_rewritten = refl
 
 -- refusal 7: with the build left out, the phi behind it stands in front
-abbrev pub latePhi : Routine
-latePhi =
+abbrev pub late_phi : Routine
+late_phi =
     record {
       types = MirType.Felt ∷ MirType.Tuple (typ 0 ∷ []) ∷ [];
       next = 2;
@@ -298,21 +298,21 @@ latePhi =
           ∷ [];
     }
 
-pub latePhi-facts : facts false defaults all latePhi ≡ true ∷ true ∷ true ∷ true ∷ true ∷ true ∷ false ∷ true ∷ true ∷ true ∷ true ∷ true ∷ true ∷ []
+pub late_phi_facts : facts false defaults all late_phi ≡ true ∷ true ∷ true ∷ true ∷ true ∷ true ∷ false ∷ true ∷ true ∷ true ∷ true ∷ true ∷ true ∷ []
 unfolding shelf
-latePhi-facts = refl
+late_phi_facts = refl
 
-pub latePhi-original : run numbers latePhi [] 2 ≡ record { recorded = []; standing = stopped noSource }
+pub late_phi_original : run numbers late_phi [] 2 ≡ record { recorded = []; standing = stopped no_source }
 unfolding everything
-latePhi-original = refl
+late_phi_original = refl
 
-pub latePhi-rewritten : run numbers (rewritten defaults all latePhi) [] 2 ≡ gives (scalar 5)
+pub late_phi_rewritten : run numbers (rewritten defaults all late_phi) [] 2 ≡ gives (scalar 5)
 unfolding everything
-latePhi-rewritten = refl
+late_phi_rewritten = refl
 
 -- reason 2: the part that the build read is defined again behind it, in a second pass of that number
-abbrev pub readBefore : Routine
-readBefore =
+abbrev pub read_before : Routine
+read_before =
     record {
       types = MirType.Felt ∷ MirType.Tuple (typ 0 ∷ []) ∷ [];
       next = 3;
@@ -332,21 +332,21 @@ readBefore =
           ∷ [];
     }
 
-pub readBefore-facts : facts false defaults all readBefore ≡ true ∷ true ∷ true ∷ true ∷ true ∷ true ∷ true ∷ true ∷ false ∷ true ∷ true ∷ true ∷ true ∷ []
+pub read_before_facts : facts false defaults all read_before ≡ true ∷ true ∷ true ∷ true ∷ true ∷ true ∷ true ∷ true ∷ false ∷ true ∷ true ∷ true ∷ true ∷ []
 unfolding shelf
-readBefore-facts = refl
+read_before_facts = refl
 
-pub readBefore-original : run numbers readBefore [] 2 ≡ gives (scalar 5)
+pub read_before_original : run numbers read_before [] 2 ≡ gives (scalar 5)
 unfolding everything
-readBefore-original = refl
+read_before_original = refl
 
-pub readBefore-rewritten : run numbers (rewritten defaults all readBefore) [] 2 ≡ gives (scalar 9)
+pub read_before_rewritten : run numbers (rewritten defaults all read_before) [] 2 ≡ gives (scalar 9)
 unfolding everything
-readBefore-rewritten = refl
+read_before_rewritten = refl
 
 -- reason 5, of a terminator
-abbrev pub branchOnDropped : Routine
-branchOnDropped =
+abbrev pub branch_on_dropped : Routine
+branch_on_dropped =
     record {
       types = MirType.Felt ∷ MirType.Tuple (typ 0 ∷ []) ∷ [];
       next = 1;
@@ -359,14 +359,14 @@ branchOnDropped =
           ∷ [];
     }
 
-pub branchOnDropped-facts : facts false defaults all branchOnDropped ≡ true ∷ true ∷ true ∷ true ∷ true ∷ true ∷ true ∷ true ∷ true ∷ true ∷ true ∷ true ∷ false ∷ []
+pub branch_on_dropped_facts : facts false defaults all branch_on_dropped ≡ true ∷ true ∷ true ∷ true ∷ true ∷ true ∷ true ∷ true ∷ true ∷ true ∷ true ∷ true ∷ false ∷ []
 unfolding shelf
-branchOnDropped-facts = refl
+branch_on_dropped_facts = refl
 
-pub branchOnDropped-original : run numbers branchOnDropped [] 2 ≡ gives (scalar 1)
+pub branch_on_dropped_original : run numbers branch_on_dropped [] 2 ≡ gives (scalar 1)
 unfolding everything
-branchOnDropped-original = refl
+branch_on_dropped_original = refl
 
-pub branchOnDropped-rewritten : run numbers (rewritten defaults all branchOnDropped) [] 2 ≡ record { recorded = []; standing = stopped unwritten }
+pub branch_on_dropped_rewritten : run numbers (rewritten defaults all branch_on_dropped) [] 2 ≡ record { recorded = []; standing = stopped unwritten }
 unfolding everything
-branchOnDropped-rewritten = refl
+branch_on_dropped_rewritten = refl

@@ -13,236 +13,236 @@ use Rattle.mir.specs.MirType.{MirType}
 use Rattle.mir.specs.Syntax.{Meta, Place, Instruction, InstructionKind, Terminator, Assign, UnaryOp, BinaryOp, Call, Cast, Load, Store, Debug, Nop, Phi, plain}
 use Rattle.mir.specs.Syntax.{MakeTuple, ExtractTupleElement, MakeStruct, ExtractStructField, InsertField, InsertTuple, MakeFixedArray, AssertEq, HeapAllocCells}
 use Rattle.fold.specs.declared.Settings.{Settings}
-use Rattle.mir.specs.Lookup.{Types, row_of, onSome}
-use Rattle.bytes_struct.specs.FindField.{fieldIndex}
+use Rattle.mir.specs.Lookup.{Types, row_of, on_some}
+use Rattle.bytes_struct.specs.FindField.{field_index}
 use Rattle.mir.specs.MirType as Y
 use Rattle.mir.specs.Syntax.{Jump, If, BranchCmp, Return, Unreachable}
-use Rattle.mir.specs.Reads.{isPhi}
-use Rattle.mir.specs.Parts.{structParts}
-use Rattle.mir.specs.Phis.{behindPhis, phisOf}
-use Rattle.rewrite.specs.State.{AggStates, state_of, chain, firstInteger, forwardStore}
+use Rattle.mir.specs.Reads.{is_phi}
+use Rattle.mir.specs.Parts.{struct_parts}
+use Rattle.mir.specs.Phis.{behind_phis, phis_of}
+use Rattle.rewrite.specs.State.{AggStates, state_of, chain, first_integer, forward_store}
 use Rattle.rewrite.specs.State as St
-use Rattle.rewrite.specs.Rebuild.{Rebuilt, rebuildAt, keepValue, rebuildValue, oneValue, Wanted, rebuildAll, aggregateType, wantedArguments, wantedReturns}
+use Rattle.rewrite.specs.Rebuild.{Rebuilt, rebuild_at, keep_value, rebuild_value, one_value, Wanted, rebuild_all, aggregate_type, wanted_arguments, wanted_returns}
 use Rattle.rewrite.specs.declared.Counts.{Counts}
-use Rattle.rewrite.specs.Step.{Piece, kept, left, tracked, assigned, stepBuild, foldedParts, stepInsert, handOn, stepExtract, extractIndex, stepLoaded, stepLoad, storeRebuilt, storeKept, stepStore, stepAssign, stepCall, guarded, stepKind, step}
+use Rattle.rewrite.specs.Step.{Piece, kept, left, tracked, assigned, step_build, folded_parts, step_insert, hand_on, step_extract, extract_index, step_loaded, step_load, store_rebuilt, store_kept, step_store, step_assign, step_call, guarded, step_kind, step}
 use Rattle.rewrite.specs.Run.{ends, returned, finish, glue, walk}
 use Rattle.machine_simulation.specs.Static.{no_phi}
 use Rattle.machine_simulation.proofs.Tools.{both_l, both_r, both, split, passes, fails, cond_yes, cond_no}
 
 -- two lists without a phi
-append-noPhi : (a b : List Instruction) → T (no_phi a) → T (no_phi b) → T (no_phi (a ++ b))
+append_no_phi : (a b : List Instruction) → T (no_phi a) → T (no_phi b) → T (no_phi (a ++ b))
 unfolding no_phi
-append-noPhi [] b s t = t
-append-noPhi (i ∷ a) b s t = both (not (isPhi i.kind)) (no_phi (a ++ b)) (both_l (not (isPhi i.kind)) (no_phi a) s) (append-noPhi a b (both_r (not (isPhi i.kind)) (no_phi a) s) t)
+append_no_phi [] b s t = t
+append_no_phi (i ∷ a) b s t = both (not (is_phi i.kind)) (no_phi (a ++ b)) (both_l (not (is_phi i.kind)) (no_phi a) s) (append_no_phi a b (both_r (not (is_phi i.kind)) (no_phi a) s) t)
 
 -- an instruction that is kept
-kept-noPhi : (S : AggStates) (i : Instruction) → T (not (isPhi i.kind)) → T (no_phi (kept S i).out)
+kept_no_phi : (S : AggStates) (i : Instruction) → T (not (is_phi i.kind)) → T (no_phi (kept S i).out)
 unfolding kept no_phi
-kept-noPhi S i t = both (not (isPhi i.kind)) true t tt
+kept_no_phi S i t = both (not (is_phi i.kind)) true t tt
 
 -- one that is left out
-tracked-noPhi : (c : Counts) (S : AggStates) (d : ValueId) (xs : List Value) → T (no_phi (tracked c S d xs).out)
+tracked_no_phi : (c : Counts) (S : AggStates) (d : ValueId) (xs : List Value) → T (no_phi (tracked c S d xs).out)
 unfolding tracked left no_phi
-tracked-noPhi c S d xs = tt
+tracked_no_phi c S d xs = tt
 
 -- a build
-build-noPhi : (S : AggStates) (i : Instruction) (d : ValueId) (o : Option (List Value)) → T (not (isPhi i.kind)) → T (no_phi (stepBuild S i d o).out)
-unfolding stepBuild
-build-noPhi S i d none t = kept-noPhi S i t
-build-noPhi S i d (some xs) t = tracked-noPhi _ S d xs
+build_no_phi : (S : AggStates) (i : Instruction) (d : ValueId) (o : Option (List Value)) → T (not (is_phi i.kind)) → T (no_phi (step_build S i d o).out)
+unfolding step_build
+build_no_phi S i d none t = kept_no_phi S i t
+build_no_phi S i d (some xs) t = tracked_no_phi _ S d xs
 
 -- an insert
-insert-noPhi : (S : AggStates) (i : Instruction) (d : ValueId) (o : Option (List Value)) → T (not (isPhi i.kind)) → T (no_phi (stepInsert S i d o).out)
-unfolding stepInsert
-insert-noPhi S i d none t = kept-noPhi S i t
-insert-noPhi S i d (some xs) t = tracked-noPhi _ S d xs
+insert_no_phi : (S : AggStates) (i : Instruction) (d : ValueId) (o : Option (List Value)) → T (not (is_phi i.kind)) → T (no_phi (step_insert S i d o).out)
+unfolding step_insert
+insert_no_phi S i d none t = kept_no_phi S i t
+insert_no_phi S i d (some xs) t = tracked_no_phi _ S d xs
 
 -- an Assign
-assign-noPhi : (S : AggStates) (i : Instruction) (d : ValueId) (o : Option (List Value)) → T (not (isPhi i.kind)) → T (no_phi (stepAssign S i d o).out)
-unfolding stepAssign
-assign-noPhi S i d none t = kept-noPhi S i t
-assign-noPhi S i d (some xs) t = tracked-noPhi _ S d xs
+assign_no_phi : (S : AggStates) (i : Instruction) (d : ValueId) (o : Option (List Value)) → T (not (is_phi i.kind)) → T (no_phi (step_assign S i d o).out)
+unfolding step_assign
+assign_no_phi S i d none t = kept_no_phi S i t
+assign_no_phi S i d (some xs) t = tracked_no_phi _ S d xs
 
 -- a part handed on or assigned
-hand-noPhi : (S : AggStates) (d : ValueId) (u : TypeId) (x : Value) (o : Option (List Value)) → T (no_phi (handOn S d u x o).out)
-unfolding handOn assigned no_phi
-hand-noPhi S d u x none = tt
-hand-noPhi S d u x (some xs) = tracked-noPhi _ S d xs
+hand_no_phi : (S : AggStates) (d : ValueId) (u : TypeId) (x : Value) (o : Option (List Value)) → T (no_phi (hand_on S d u x o).out)
+unfolding hand_on assigned no_phi
+hand_no_phi S d u x none = tt
+hand_no_phi S d u x (some xs) = tracked_no_phi _ S d xs
 
 -- an extract
-extract-noPhi : (S : AggStates) (i : Instruction) (d : ValueId) (u : TypeId) (o : Option Value) → T (not (isPhi i.kind))
-    → T (no_phi (stepExtract S i d u o).out)
-unfolding stepExtract
-extract-noPhi S i d u none t = kept-noPhi S i t
-extract-noPhi S i d u (some x) t = hand-noPhi S d u x (state_of S x)
+extract_no_phi : (S : AggStates) (i : Instruction) (d : ValueId) (u : TypeId) (o : Option Value) → T (not (is_phi i.kind))
+    → T (no_phi (step_extract S i d u o).out)
+unfolding step_extract
+extract_no_phi S i d u none t = kept_no_phi S i t
+extract_no_phi S i d u (some x) t = hand_no_phi S d u x (state_of S x)
 
 -- a Load with its chain
-loaded-noPhi : (τ : Types) (S : AggStates) (i : Instruction) (d : ValueId) (u : TypeId) (o : Option Value) → T (not (isPhi i.kind))
-    → T (no_phi (stepLoaded τ S i d u o).out)
-unfolding stepLoaded
-loaded-noPhi τ S i d u none t = kept-noPhi S i t
-loaded-noPhi τ S i d u (some x) t = hand-noPhi S d u x (onSome (aggregateType τ u) (λ a. state_of S x))
+loaded_no_phi : (τ : Types) (S : AggStates) (i : Instruction) (d : ValueId) (u : TypeId) (o : Option Value) → T (not (is_phi i.kind))
+    → T (no_phi (step_loaded τ S i d u o).out)
+unfolding step_loaded
+loaded_no_phi τ S i d u none t = kept_no_phi S i t
+loaded_no_phi τ S i d u (some x) t = hand_no_phi S d u x (on_some (aggregate_type τ u) (λ a. state_of S x))
 
 -- a Load
-load-noPhi : (τ : Types) (S : AggStates) (i : Instruction) (d : ValueId) (p : Place) (u : TypeId) (o : Option ℕ) → T (not (isPhi i.kind))
-    → T (no_phi (stepLoad τ S i d p u o).out)
-unfolding stepLoad
-load-noPhi τ S i d p u none t = kept-noPhi S i t
-load-noPhi τ S i d p u (some k) t = loaded-noPhi τ S i d u (onSome (S p.base.0) (λ xs. chain τ S (Value.Operand p.base) p.projections)) t
+load_no_phi : (τ : Types) (S : AggStates) (i : Instruction) (d : ValueId) (p : Place) (u : TypeId) (o : Option ℕ) → T (not (is_phi i.kind))
+    → T (no_phi (step_load τ S i d p u o).out)
+unfolding step_load
+load_no_phi τ S i d p u none t = kept_no_phi S i t
+load_no_phi τ S i d p u (some k) t = loaded_no_phi τ S i d u (on_some (S p.base.0) (λ xs. chain τ S (Value.Operand p.base) p.projections)) t
 
 -- a rebuild
-rebuild-noPhi : (d : ValueId) (xs : List Value) (t : TypeId) (row : Option MirType) → T (no_phi (rebuildAt d xs t row))
-unfolding rebuildAt no_phi
-rebuild-noPhi d xs t none = tt
-rebuild-noPhi d xs t (some Y.Felt) = tt
-rebuild-noPhi d xs t (some Y.Bool) = tt
-rebuild-noPhi d xs t (some Y.U32) = tt
-rebuild-noPhi d xs t (some (Y.Tuple ts)) = tt
-rebuild-noPhi d xs t (some (Y.Struct n fs)) = tt
-rebuild-noPhi d xs t (some (Y.FixedArray q size)) = tt
-rebuild-noPhi d xs t (some (Y.Pointer q)) = tt
-rebuild-noPhi d xs t (some (Y.Function ps r)) = tt
-rebuild-noPhi d xs t (some Y.Unit) = tt
-rebuild-noPhi d xs t (some Y.Error) = tt
-rebuild-noPhi d xs t (some Y.Unknown) = tt
+rebuild_no_phi : (d : ValueId) (xs : List Value) (t : TypeId) (row : Option MirType) → T (no_phi (rebuild_at d xs t row))
+unfolding rebuild_at no_phi
+rebuild_no_phi d xs t none = tt
+rebuild_no_phi d xs t (some Y.Felt) = tt
+rebuild_no_phi d xs t (some Y.Bool) = tt
+rebuild_no_phi d xs t (some Y.U32) = tt
+rebuild_no_phi d xs t (some (Y.Tuple ts)) = tt
+rebuild_no_phi d xs t (some (Y.Struct n fs)) = tt
+rebuild_no_phi d xs t (some (Y.FixedArray q size)) = tt
+rebuild_no_phi d xs t (some (Y.Pointer q)) = tt
+rebuild_no_phi d xs t (some (Y.Function ps r)) = tt
+rebuild_no_phi d xs t (some Y.Unit) = tt
+rebuild_no_phi d xs t (some Y.Error) = tt
+rebuild_no_phi d xs t (some Y.Unknown) = tt
 
 -- one value, kept or rebuilt
-one-noPhi : (τ : Types) (n : ℕ) (x : Value) (k : ℕ → Rebuilt) → ((j : ℕ) → T (no_phi (k j).before)) → (o : Option TypeId) (s : Option (List Value))
-    → T (no_phi (oneValue τ n x k o s).before)
-unfolding oneValue keepValue rebuildValue
-one-noPhi τ n x k h none s = h n
-one-noPhi τ n x k h (some t) none = h n
-one-noPhi τ n x k h (some t) (some xs) = append-noPhi (rebuildAt (record { 0 = n }) xs t (row_of τ (some t))) (k (suc n)).before (rebuild-noPhi (record { 0 = n }) xs t (row_of τ (some t))) (h (suc n))
+one_no_phi : (τ : Types) (n : ℕ) (x : Value) (k : ℕ → Rebuilt) → ((j : ℕ) → T (no_phi (k j).before)) → (o : Option TypeId) (s : Option (List Value))
+    → T (no_phi (one_value τ n x k o s).before)
+unfolding one_value keep_value rebuild_value
+one_no_phi τ n x k h none s = h n
+one_no_phi τ n x k h (some t) none = h n
+one_no_phi τ n x k h (some t) (some xs) = append_no_phi (rebuild_at (record { 0 = n }) xs t (row_of τ (some t))) (k (suc n)).before (rebuild_no_phi (record { 0 = n }) xs t (row_of τ (some t))) (h (suc n))
 
 -- values in a list
-all-noPhi : (τ : Types) (S : AggStates) (n : ℕ) (ws : List Wanted) → T (no_phi (rebuildAll τ S n ws).before)
-unfolding rebuildAll no_phi
-all-noPhi τ S n [] = tt
-all-noPhi τ S n (x ∷ ws) = one-noPhi τ n x.value (λ j. rebuildAll τ S j ws) (λ j. all-noPhi τ S j ws) x.at (state_of S x.value)
+all_no_phi : (τ : Types) (S : AggStates) (n : ℕ) (ws : List Wanted) → T (no_phi (rebuild_all τ S n ws).before)
+unfolding rebuild_all no_phi
+all_no_phi τ S n [] = tt
+all_no_phi τ S n (x ∷ ws) = one_no_phi τ n x.value (λ j. rebuild_all τ S j ws) (λ j. all_no_phi τ S j ws) x.at (state_of S x.value)
 
 -- a Store behind its rebuild
-rebuilt-noPhi : (S : AggStates) (m : Meta) (p : Place) (u : TypeId) (r : Rebuilt) (xs : List Value) → T (no_phi r.before)
-    → T (no_phi (storeRebuilt S m p u r xs).out)
-unfolding storeRebuilt no_phi kept
-rebuilt-noPhi S m p u r [] h = tt
-rebuilt-noPhi S m p u r (x ∷ xs) h = append-noPhi r.before (record { meta = m; kind = Store p x u } ∷ []) h (one_store m p x u)
+rebuilt_no_phi : (S : AggStates) (m : Meta) (p : Place) (u : TypeId) (r : Rebuilt) (xs : List Value) → T (no_phi r.before)
+    → T (no_phi (store_rebuilt S m p u r xs).out)
+unfolding store_rebuilt no_phi kept
+rebuilt_no_phi S m p u r [] h = tt
+rebuilt_no_phi S m p u r (x ∷ xs) h = append_no_phi r.before (record { meta = m; kind = Store p x u } ∷ []) h (one_store m p x u)
   where
     one_store : (m : Meta) (p : Place) (x : Value) (u : TypeId) → T (no_phi (record { meta = m; kind = Store p x u } ∷ []))
     one_store m p x u = tt
 
 -- a Store that stays
-stay-noPhi : (τ : Types) (S : AggStates) (n : ℕ) (i : Instruction) (p : Place) (x : Value) (u : TypeId) (o : Option (List Value))
-    → T (not (isPhi i.kind)) → T (no_phi (storeKept τ S n i p x u o).out)
-unfolding storeKept
-stay-noPhi τ S n i p x u none t = kept-noPhi S i t
-stay-noPhi τ S n i p x u (some xs) t = rebuilt-noPhi S i.meta p u (rebuildAll τ S n (record { value = x; at = some u } ∷ [])) (rebuildAll τ S n (record { value = x; at = some u } ∷ [])).values (all-noPhi τ S n (record { value = x; at = some u } ∷ []))
+stay_no_phi : (τ : Types) (S : AggStates) (n : ℕ) (i : Instruction) (p : Place) (x : Value) (u : TypeId) (o : Option (List Value))
+    → T (not (is_phi i.kind)) → T (no_phi (store_kept τ S n i p x u o).out)
+unfolding store_kept
+stay_no_phi τ S n i p x u none t = kept_no_phi S i t
+stay_no_phi τ S n i p x u (some xs) t = rebuilt_no_phi S i.meta p u (rebuild_all τ S n (record { value = x; at = some u } ∷ [])) (rebuild_all τ S n (record { value = x; at = some u } ∷ [])).values (all_no_phi τ S n (record { value = x; at = some u } ∷ []))
 
 -- a Store
-store-noPhi : (τ : Types) (S : AggStates) (n : ℕ) (i : Instruction) (p : Place) (x : Value) (u : TypeId) (o : Option AggStates)
-    → T (not (isPhi i.kind)) → T (no_phi (stepStore τ S n i p x u o).out)
-unfolding stepStore left no_phi
-store-noPhi τ S n i p x u none t = stay-noPhi τ S n i p x u (onSome (aggregateType τ u) (λ a. state_of S x)) t
-store-noPhi τ S n i p x u (some S') t = tt
+store_no_phi : (τ : Types) (S : AggStates) (n : ℕ) (i : Instruction) (p : Place) (x : Value) (u : TypeId) (o : Option AggStates)
+    → T (not (is_phi i.kind)) → T (no_phi (step_store τ S n i p x u o).out)
+unfolding step_store left no_phi
+store_no_phi τ S n i p x u none t = stay_no_phi τ S n i p x u (on_some (aggregate_type τ u) (λ a. state_of S x)) t
+store_no_phi τ S n i p x u (some S') t = tt
 
 -- a Call
-call-noPhi : (S : AggStates) (i : Instruction) (ds : List ValueId) (f : ℕ) (ps rs : List TypeId) (r : Rebuilt) (us : List TypeId)
-    → T (not (isPhi i.kind)) → T (no_phi r.before) → T (no_phi (stepCall S i ds f ps rs r us).out)
-unfolding stepCall no_phi
-call-noPhi S i ds f ps rs r [] t h = kept-noPhi S i t
-call-noPhi S i ds f ps rs r (u ∷ us) t h = append-noPhi r.before (plain (Call ds f r.values ps rs) ∷ []) h (one-call ds f r.values ps rs)
+call_no_phi : (S : AggStates) (i : Instruction) (ds : List ValueId) (f : ℕ) (ps rs : List TypeId) (r : Rebuilt) (us : List TypeId)
+    → T (not (is_phi i.kind)) → T (no_phi r.before) → T (no_phi (step_call S i ds f ps rs r us).out)
+unfolding step_call no_phi
+call_no_phi S i ds f ps rs r [] t h = kept_no_phi S i t
+call_no_phi S i ds f ps rs r (u ∷ us) t h = append_no_phi r.before (plain (Call ds f r.values ps rs) ∷ []) h (one_call ds f r.values ps rs)
   where
-    one-call : (ds : List ValueId) (f : ℕ) (xs : List Value) (ps rs : List TypeId) → T (no_phi (plain (Call ds f xs ps rs) ∷ []))
-    one-call ds f xs ps rs = tt
+    one_call : (ds : List ValueId) (f : ℕ) (xs : List Value) (ps rs : List TypeId) → T (no_phi (plain (Call ds f xs ps rs) ∷ []))
+    one_call ds f xs ps rs = tt
 
 -- an arm that a setting turns off
-guard-noPhi : (b : Bool) (S : AggStates) (i : Instruction) (p : Piece) → T (not (isPhi i.kind)) → T (no_phi p.out) → T (no_phi (guarded b S i p).out)
+guard_no_phi : (b : Bool) (S : AggStates) (i : Instruction) (p : Piece) → T (not (is_phi i.kind)) → T (no_phi p.out) → T (no_phi (guarded b S i p).out)
 unfolding guarded
-guard-noPhi true S i p t h = h
-guard-noPhi false S i p t h = kept-noPhi S i t
+guard_no_phi true S i p t h = h
+guard_no_phi false S i p t h = kept_no_phi S i t
 
 -- every kind
-kind-noPhi : (σ : Settings) (τ : Types) (φ : ValueId → Bool) (S : AggStates) (n : ℕ) (i : Instruction) (k : InstructionKind)
-    → T (not (isPhi i.kind)) → T (no_phi (stepKind σ τ φ S n i k).out)
-unfolding stepKind
-kind-noPhi σ τ φ S n i (Assign d x u) t = assign-noPhi S i d (onSome (aggregateType τ u) (λ a. state_of S x)) t
-kind-noPhi σ τ φ S n i (UnaryOp op d x) t = kept-noPhi S i t
-kind-noPhi σ τ φ S n i (BinaryOp op d x y) t = kept-noPhi S i t
-kind-noPhi σ τ φ S n i (Call ds f xs ps rs) t = call-noPhi S i ds f ps rs (rebuildAll τ S n (wantedArguments τ xs ps)) (rebuildAll τ S n (wantedArguments τ xs ps)).fresh t (all-noPhi τ S n (wantedArguments τ xs ps))
-kind-noPhi σ τ φ S n i (Cast d x u v) t = kept-noPhi S i t
-kind-noPhi σ τ φ S n i (Load d p u) t = guard-noPhi σ.tuples S i _ t (load-noPhi τ S i d p u (firstInteger p.projections) t)
-kind-noPhi σ τ φ S n i (Store p x u) t = guard-noPhi σ.tuples S i _ t (store-noPhi τ S n i p x u (forwardStore τ S p x) t)
-kind-noPhi σ τ φ S n i (Debug m xs) t = kept-noPhi S i t
-kind-noPhi σ τ φ S n i Nop t = kept-noPhi S i t
-kind-noPhi σ τ φ S n i (Phi d u ss) t = kept-noPhi S i t
-kind-noPhi σ τ φ S n i (MakeTuple d xs) t = build-noPhi S i d (foldedParts (φ d) (some xs)) t
-kind-noPhi σ τ φ S n i (ExtractTupleElement d x k u) t = guard-noPhi σ.tuples S i _ t (extract-noPhi S i d u (onSome (state_of S x) (λ xs. get_elem? xs k)) t)
-kind-noPhi σ τ φ S n i (MakeStruct d fs u) t = build-noPhi S i d (foldedParts (φ d) (structParts τ d fs u)) t
-kind-noPhi σ τ φ S n i (ExtractStructField d x f u) t = guard-noPhi σ.structs S i _ t (extract-noPhi S i d u (onSome (extractIndex τ x f) (λ k. onSome (state_of S x) (λ xs. get_elem? xs k))) t)
-kind-noPhi σ τ φ S n i (InsertField d x f y u) t = guard-noPhi σ.structs S i _ t (insert-noPhi S i d (onSome (fieldIndex (row_of τ (some u)) f) (λ k. onSome (state_of S x) (λ xs. St.replaced xs k y))) t)
-kind-noPhi σ τ φ S n i (InsertTuple d x k y u) t = guard-noPhi σ.tuples S i _ t (insert-noPhi S i d (onSome (state_of S x) (λ xs. St.replaced xs k y)) t)
-kind-noPhi σ τ φ S n i (MakeFixedArray d xs u c) t = build-noPhi S i d (foldedParts (φ d) (some xs)) t
-kind-noPhi σ τ φ S n i (AssertEq x y) t = kept-noPhi S i t
-kind-noPhi σ τ φ S n i (HeapAllocCells d x) t = kept-noPhi S i t
+kind_no_phi : (σ : Settings) (τ : Types) (φ : ValueId → Bool) (S : AggStates) (n : ℕ) (i : Instruction) (k : InstructionKind)
+    → T (not (is_phi i.kind)) → T (no_phi (step_kind σ τ φ S n i k).out)
+unfolding step_kind
+kind_no_phi σ τ φ S n i (Assign d x u) t = assign_no_phi S i d (on_some (aggregate_type τ u) (λ a. state_of S x)) t
+kind_no_phi σ τ φ S n i (UnaryOp op d x) t = kept_no_phi S i t
+kind_no_phi σ τ φ S n i (BinaryOp op d x y) t = kept_no_phi S i t
+kind_no_phi σ τ φ S n i (Call ds f xs ps rs) t = call_no_phi S i ds f ps rs (rebuild_all τ S n (wanted_arguments τ xs ps)) (rebuild_all τ S n (wanted_arguments τ xs ps)).fresh t (all_no_phi τ S n (wanted_arguments τ xs ps))
+kind_no_phi σ τ φ S n i (Cast d x u v) t = kept_no_phi S i t
+kind_no_phi σ τ φ S n i (Load d p u) t = guard_no_phi σ.tuples S i _ t (load_no_phi τ S i d p u (first_integer p.projections) t)
+kind_no_phi σ τ φ S n i (Store p x u) t = guard_no_phi σ.tuples S i _ t (store_no_phi τ S n i p x u (forward_store τ S p x) t)
+kind_no_phi σ τ φ S n i (Debug m xs) t = kept_no_phi S i t
+kind_no_phi σ τ φ S n i Nop t = kept_no_phi S i t
+kind_no_phi σ τ φ S n i (Phi d u ss) t = kept_no_phi S i t
+kind_no_phi σ τ φ S n i (MakeTuple d xs) t = build_no_phi S i d (folded_parts (φ d) (some xs)) t
+kind_no_phi σ τ φ S n i (ExtractTupleElement d x k u) t = guard_no_phi σ.tuples S i _ t (extract_no_phi S i d u (on_some (state_of S x) (λ xs. get_elem? xs k)) t)
+kind_no_phi σ τ φ S n i (MakeStruct d fs u) t = build_no_phi S i d (folded_parts (φ d) (struct_parts τ d fs u)) t
+kind_no_phi σ τ φ S n i (ExtractStructField d x f u) t = guard_no_phi σ.structs S i _ t (extract_no_phi S i d u (on_some (extract_index τ x f) (λ k. on_some (state_of S x) (λ xs. get_elem? xs k))) t)
+kind_no_phi σ τ φ S n i (InsertField d x f y u) t = guard_no_phi σ.structs S i _ t (insert_no_phi S i d (on_some (field_index (row_of τ (some u)) f) (λ k. on_some (state_of S x) (λ xs. St.replaced xs k y))) t)
+kind_no_phi σ τ φ S n i (InsertTuple d x k y u) t = guard_no_phi σ.tuples S i _ t (insert_no_phi S i d (on_some (state_of S x) (λ xs. St.replaced xs k y)) t)
+kind_no_phi σ τ φ S n i (MakeFixedArray d xs u c) t = build_no_phi S i d (folded_parts (φ d) (some xs)) t
+kind_no_phi σ τ φ S n i (AssertEq x y) t = kept_no_phi S i t
+kind_no_phi σ τ φ S n i (HeapAllocCells d x) t = kept_no_phi S i t
 
 -- the terminator's rebuilds
-finish-noPhi : (τ : Types) (S : AggStates) (n : ℕ) (t : Terminator) → T (no_phi (finish τ S n t).out)
+finish_no_phi : (τ : Types) (S : AggStates) (n : ℕ) (t : Terminator) → T (no_phi (finish τ S n t).out)
 unfolding finish ends returned no_phi
-finish-noPhi τ S n (Jump b) = tt
-finish-noPhi τ S n (If x a b) = tt
-finish-noPhi τ S n (BranchCmp op x y a b) = tt
-finish-noPhi τ S n (Return xs) = all-noPhi τ S n (wantedReturns τ xs)
-finish-noPhi τ S n Unreachable = tt
+finish_no_phi τ S n (Jump b) = tt
+finish_no_phi τ S n (If x a b) = tt
+finish_no_phi τ S n (BranchCmp op x y a b) = tt
+finish_no_phi τ S n (Return xs) = all_no_phi τ S n (wanted_returns τ xs)
+finish_no_phi τ S n Unreachable = tt
 
 -- a walk puts out no phi
-pub walk-noPhi : (σ : Settings) (τ : Types) (φ : ValueId → Bool) (S : AggStates) (n : ℕ) (is : List Instruction) (t : Terminator) → T (no_phi is)
+pub walk_no_phi : (σ : Settings) (τ : Types) (φ : ValueId → Bool) (S : AggStates) (n : ℕ) (is : List Instruction) (t : Terminator) → T (no_phi is)
     → T (no_phi (walk σ τ φ S n is t).out)
 unfolding walk glue step no_phi
-walk-noPhi σ τ φ S n [] t h = finish-noPhi τ S n t
-walk-noPhi σ τ φ S n (i ∷ is) t h =
+walk_no_phi σ τ φ S n [] t h = finish_no_phi τ S n t
+walk_no_phi σ τ φ S n (i ∷ is) t h =
     let p = step σ τ φ S n i in
-    append-noPhi p.out (walk σ τ φ p.states (n + length p.fresh) is t).out (kind-noPhi σ τ φ S n i i.kind (both_l (not (isPhi i.kind)) (no_phi is) h))
-    (walk-noPhi σ τ φ p.states (n + length p.fresh) is t (both_r (not (isPhi i.kind)) (no_phi is) h))
+    append_no_phi p.out (walk σ τ φ p.states (n + length p.fresh) is t).out (kind_no_phi σ τ φ S n i i.kind (both_l (not (is_phi i.kind)) (no_phi is) h))
+    (walk_no_phi σ τ φ p.states (n + length p.fresh) is t (both_r (not (is_phi i.kind)) (no_phi is) h))
 
 -- ---- the phis in front, and what is behind them
 
 -- no phi in front
-front-none : (i : Instruction) (out : List Instruction) → T (no_phi (i ∷ out)) → phisOf (i ∷ out) ≡ []
-unfolding phisOf no_phi
-front-none i out h = cond_no (isPhi i.kind) (i ∷ phisOf out) [] (both_l (not (isPhi i.kind)) (no_phi out) h)
+front_none : (i : Instruction) (out : List Instruction) → T (no_phi (i ∷ out)) → phis_of (i ∷ out) ≡ []
+unfolding phis_of no_phi
+front_none i out h = cond_no (is_phi i.kind) (i ∷ phis_of out) [] (both_l (not (is_phi i.kind)) (no_phi out) h)
 
 -- all is behind
-behind-none : (i : Instruction) (out : List Instruction) → T (no_phi (i ∷ out)) → behindPhis (i ∷ out) ≡ i ∷ out
-unfolding behindPhis no_phi
-behind-none i out h = cond_no (isPhi i.kind) (behindPhis out) (i ∷ out) (both_l (not (isPhi i.kind)) (no_phi out) h)
+behind_none : (i : Instruction) (out : List Instruction) → T (no_phi (i ∷ out)) → behind_phis (i ∷ out) ≡ i ∷ out
+unfolding behind_phis no_phi
+behind_none i out h = cond_no (is_phi i.kind) (behind_phis out) (i ∷ out) (both_l (not (is_phi i.kind)) (no_phi out) h)
 
 -- no phis
-front_out : (out : List Instruction) → T (no_phi out) → phisOf out ≡ []
-unfolding phisOf
+front_out : (out : List Instruction) → T (no_phi out) → phis_of out ≡ []
+unfolding phis_of
 front_out [] h = refl
-front_out (i ∷ out) h = front-none i out h
+front_out (i ∷ out) h = front_none i out h
 
 -- all is behind
-behind-out : (out : List Instruction) → T (no_phi out) → behindPhis out ≡ out
-unfolding behindPhis
-behind-out [] h = refl
-behind-out (i ∷ out) h = behind-none i out h
+behind_out : (out : List Instruction) → T (no_phi out) → behind_phis out ≡ out
+unfolding behind_phis
+behind_out [] h = refl
+behind_out (i ∷ out) h = behind_none i out h
 
 -- the phis of the rewritten block are the block's
-pub front-phis : (is out : List Instruction) → T (no_phi out) → phisOf (phisOf is ++ out) ≡ phisOf is
-unfolding phisOf
-front-phis [] out h = front_out out h
-front-phis (i ∷ is) out h =
-    elim (split (isPhi i.kind)) [
-      | passes t ↦ rw (cond_yes (isPhi i.kind) (i ∷ phisOf is) [] t) (cond_yes (isPhi i.kind) (i ∷ phisOf (phisOf is ++ out)) [] t ∙ ap (λ (l : List Instruction). i ∷ l) (front-phis is out h))
-      | fails t ↦ rw (cond_no (isPhi i.kind) (i ∷ phisOf is) [] t) (front_out out h)
+pub front_phis : (is out : List Instruction) → T (no_phi out) → phis_of (phis_of is ++ out) ≡ phis_of is
+unfolding phis_of
+front_phis [] out h = front_out out h
+front_phis (i ∷ is) out h =
+    elim (split (is_phi i.kind)) [
+      | passes t ↦ rw (cond_yes (is_phi i.kind) (i ∷ phis_of is) [] t) (cond_yes (is_phi i.kind) (i ∷ phis_of (phis_of is ++ out)) [] t ∙ ap (λ (l : List Instruction). i ∷ l) (front_phis is out h))
+      | fails t ↦ rw (cond_no (is_phi i.kind) (i ∷ phis_of is) [] t) (front_out out h)
     ]
 
 -- and behind them stands what came out
-pub behind-phis : (is out : List Instruction) → T (no_phi out) → behindPhis (phisOf is ++ out) ≡ out
-unfolding phisOf behindPhis
-behind-phis [] out h = behind-out out h
-behind-phis (i ∷ is) out h =
-    elim (split (isPhi i.kind)) [
-      | passes t ↦ rw (cond_yes (isPhi i.kind) (i ∷ phisOf is) [] t) (cond_yes (isPhi i.kind) (behindPhis (phisOf is ++ out)) (i ∷ (phisOf is ++ out)) t ∙ behind-phis is out h)
-      | fails t ↦ rw (cond_no (isPhi i.kind) (i ∷ phisOf is) [] t) (behind-out out h)
+pub behind_phis_lem : (is out : List Instruction) → T (no_phi out) → behind_phis (phis_of is ++ out) ≡ out
+unfolding phis_of behind_phis
+behind_phis_lem [] out h = behind_out out h
+behind_phis_lem (i ∷ is) out h =
+    elim (split (is_phi i.kind)) [
+      | passes t ↦ rw (cond_yes (is_phi i.kind) (i ∷ phis_of is) [] t) (cond_yes (is_phi i.kind) (behind_phis (phis_of is ++ out)) (i ∷ (phis_of is ++ out)) t ∙ behind_phis_lem is out h)
+      | fails t ↦ rw (cond_no (is_phi i.kind) (i ∷ phis_of is) [] t) (behind_out out h)
     ]

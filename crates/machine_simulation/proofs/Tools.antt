@@ -12,19 +12,19 @@ use Rattle.shelf.specs.Lists.{every, among}
 pub use Rattle.shelf.proofs.Both.{both_l, both_r, both}
 
 -- neither
-pub nor-i : (a b : Bool) → T (not a) → T (not b) → T (not (a || b))
-nor-i true b s t = s
-nor-i false b s t = t
+pub nor_i : (a b : Bool) → T (not a) → T (not b) → T (not (a || b))
+nor_i true b s t = s
+nor_i false b s t = t
 
 -- neither, so not the first
-pub nor-l : (a b : Bool) → T (not (a || b)) → T (not a)
-nor-l true b t = t
-nor-l false b t = tt
+pub nor_l : (a b : Bool) → T (not (a || b)) → T (not a)
+nor_l true b t = t
+nor_l false b t = tt
 
 -- neither, so not the second
-pub nor-r : (a b : Bool) → T (not (a || b)) → T (not b)
-nor-r true b t = absurd t
-nor-r false b t = t
+pub nor_r : (a b : Bool) → T (not (a || b)) → T (not b)
+nor_r true b t = absurd t
+nor_r false b t = t
 
 -- the first, so one of them
 pub or_l : (a b : Bool) → T a → T (a || b)
@@ -37,13 +37,13 @@ or_r true b t = tt
 or_r false b t = t
 
 -- twice no
-pub not-not : (b : Bool) → T b → T (not (not b))
-not-not true t = tt
-not-not false t = absurd t
+pub not_not : (b : Bool) → T b → T (not (not b))
+not_not true t = tt
+not_not false t = absurd t
 
 -- nothing is not something
-pub none-some : {A : Type 0} {a : A} → none ≡ some a → ⊥
-none-some {a} e = none-ne-some a e
+pub none_some : {A : Type 0} {a : A} → none ≡ some a → ⊥
+none_some {a} e = none-ne-some a e
 
 -- ---- a test with its answer, an option with its equation
 
@@ -78,12 +78,12 @@ cond_no true p q t = absurd t
 cond_no false p q t = refl
 
 -- one entry changed: elsewhere and there
-pub change-other : {A : Type 0} (f : ℕ → Option A) (d : ℕ) (a : A) (x : ℕ) → T (not (eqb x d)) → cond (eqb x d) (some a) (f x) ≡ f x
-change-other f d a x t = cond_no (eqb x d) (some a) (f x) t
+pub change_other : {A : Type 0} (f : ℕ → Option A) (d : ℕ) (a : A) (x : ℕ) → T (not (eqb x d)) → cond (eqb x d) (some a) (f x) ≡ f x
+change_other f d a x t = cond_no (eqb x d) (some a) (f x) t
 
 -- there
-pub change-same : {A : Type 0} (f : ℕ → Option A) (d : ℕ) (a : A) → cond (eqb d d) (some a) (f d) ≡ some a
-change-same f d a = cond_yes (eqb d d) (some a) (f d) (eqb_refl d)
+pub change_same : {A : Type 0} (f : ℕ → Option A) (d : ℕ) (a : A) → cond (eqb d d) (some a) (f d) ≡ some a
+change_same f d a = cond_yes (eqb d d) (some a) (f d) (eqb_refl d)
 
 -- ---- tests over lists
 
@@ -93,49 +93,49 @@ every→Each p P f [] t = tt
 every→Each p P f (x ∷ xs) t = (f x (both_l (p x) (every p xs) t), every→Each p P f xs (both_r (p x) (every p xs) t))
 
 -- of the first of two lists
-pub every-l : {A : Type 0} (p : A → Bool) (a b : List A) → T (every p (a ++ b)) → T (every p a)
-every-l p [] b t = tt
-every-l p (x ∷ a) b t = both (p x) (every p a) (both_l (p x) (every p (a ++ b)) t) (every-l p a b (both_r (p x) (every p (a ++ b)) t))
+pub every_l : {A : Type 0} (p : A → Bool) (a b : List A) → T (every p (a ++ b)) → T (every p a)
+every_l p [] b t = tt
+every_l p (x ∷ a) b t = both (p x) (every p a) (both_l (p x) (every p (a ++ b)) t) (every_l p a b (both_r (p x) (every p (a ++ b)) t))
 
 -- of the second
-pub every-r : {A : Type 0} (p : A → Bool) (a b : List A) → T (every p (a ++ b)) → T (every p b)
-every-r p [] b t = t
-every-r p (x ∷ a) b t = every-r p a b (both_r (p x) (every p (a ++ b)) t)
+pub every_r : {A : Type 0} (p : A → Bool) (a b : List A) → T (every p (a ++ b)) → T (every p b)
+every_r p [] b t = t
+every_r p (x ∷ a) b t = every_r p a b (both_r (p x) (every p (a ++ b)) t)
 
 -- two tests, as a statement of each element
-pub every-two→Each : {A : Type 0} (p q : A → Bool) (P : A → Type 0) → ((x : A) → T (p x) → T (q x) → P x) → (xs : List A) → T (every p xs)
+pub every_two→Each : {A : Type 0} (p q : A → Bool) (P : A → Type 0) → ((x : A) → T (p x) → T (q x) → P x) → (xs : List A) → T (every p xs)
     → T (every q xs) → Each P xs
-every-two→Each p q P f [] s t = tt
-every-two→Each p q P f (x ∷ xs) s t =
-    (f x (both_l (p x) (every p xs) s) (both_l (q x) (every q xs) t), every-two→Each p q P f xs (both_r (p x) (every p xs) s) (both_r (q x) (every q xs) t))
+every_two→Each p q P f [] s t = tt
+every_two→Each p q P f (x ∷ xs) s t =
+    (f x (both_l (p x) (every p xs) s) (both_l (q x) (every q xs) t), every_two→Each p q P f xs (both_r (p x) (every p xs) s) (both_r (q x) (every q xs) t))
 
 -- of the element at k
-pub every-at : {A : Type 0} (p : A → Bool) (xs : List A) (k : ℕ) (x : A) → T (every p xs) → get_elem? xs k ≡ some x → T (p x)
-every-at p [] k x t h = absurd (none-some h)
-every-at p (y ∷ xs) zero x t h = let q : y ≡ x = cc in rw (← q) (both_l (p y) (every p xs) t)
-every-at p (y ∷ xs) (suc k) x t h = every-at p xs k x (both_r (p y) (every p xs) t) h
+pub every_at : {A : Type 0} (p : A → Bool) (xs : List A) (k : ℕ) (x : A) → T (every p xs) → get_elem? xs k ≡ some x → T (p x)
+every_at p [] k x t h = absurd (none_some h)
+every_at p (y ∷ xs) zero x t h = let q : y ≡ x = cc in rw (← q) (both_l (p y) (every p xs) t)
+every_at p (y ∷ xs) (suc k) x t h = every_at p xs k x (both_r (p y) (every p xs) t) h
 
 -- a statement of the first of two lists
-pub all-l : {A : Type 0} (P : A → Type 0) (a b : List A) → Each P (a ++ b) → Each P a
-all-l P [] b h = tt
-all-l P (x ∷ a) b h = (h.0, all-l P a b h.1)
+pub all_l : {A : Type 0} (P : A → Type 0) (a b : List A) → Each P (a ++ b) → Each P a
+all_l P [] b h = tt
+all_l P (x ∷ a) b h = (h.0, all_l P a b h.1)
 
 -- of the second
-pub all-r : {A : Type 0} (P : A → Type 0) (a b : List A) → Each P (a ++ b) → Each P b
-all-r P [] b h = h
-all-r P (x ∷ a) b h = all-r P a b h.1
+pub all_r : {A : Type 0} (P : A → Type 0) (a b : List A) → Each P (a ++ b) → Each P b
+all_r P [] b h = h
+all_r P (x ∷ a) b h = all_r P a b h.1
 
 -- ---- membership
 
 -- not in two lists, so not in the first
-pub among-l : (x : ℕ) (a b : List ValueId) → T (not (among x (a ++ b))) → T (not (among x a))
-among-l x [] b t = tt
-among-l x (y ∷ a) b t = nor-i (eqb x y.0) (among x a) (nor-l (eqb x y.0) (among x (a ++ b)) t) (among-l x a b (nor-r (eqb x y.0) (among x (a ++ b)) t))
+pub among_l : (x : ℕ) (a b : List ValueId) → T (not (among x (a ++ b))) → T (not (among x a))
+among_l x [] b t = tt
+among_l x (y ∷ a) b t = nor_i (eqb x y.0) (among x a) (nor_l (eqb x y.0) (among x (a ++ b)) t) (among_l x a b (nor_r (eqb x y.0) (among x (a ++ b)) t))
 
 -- nor in the second
-pub among-r : (x : ℕ) (a b : List ValueId) → T (not (among x (a ++ b))) → T (not (among x b))
-among-r x [] b t = t
-among-r x (y ∷ a) b t = among-r x a b (nor-r (eqb x y.0) (among x (a ++ b)) t)
+pub among_r : (x : ℕ) (a b : List ValueId) → T (not (among x (a ++ b))) → T (not (among x b))
+among_r x [] b t = t
+among_r x (y ∷ a) b t = among_r x a b (nor_r (eqb x y.0) (among x (a ++ b)) t)
 
 -- a number that a test tells from the members of a list is none of them
 pub differ : (p : ℕ → Bool) (x y : ℕ) → T (p y) → T (not (p x)) → T (not (eqb x y))
@@ -143,13 +143,13 @@ differ p x y t u = elim (split (eqb x y)) [ passes e ↦ absurd (T_not (p y) (rw
 
 -- the other way round
 pub differ' : (p : ℕ → Bool) (x y : ℕ) → T (not (p y)) → T (p x) → T (not (eqb x y))
-differ' p x y t u = differ (λ z. not (p z)) x y t (not-not (p x) u)
+differ' p x y t u = differ (λ z. not (p z)) x y t (not_not (p x) u)
 
 -- so it is not in the list
 pub none_of : (p : ℕ → Bool) (x : ℕ) (ys : List ValueId) → T (every (λ v. p v.0) ys) → T (not (p x)) → T (not (among x ys))
 none_of p x [] t u = tt
 none_of p x (y ∷ ys) t u =
-    nor-i (eqb x y.0) (among x ys) (differ p x y.0 (both_l (p y.0) (every (λ v. p v.0) ys) t) u) (none_of p x ys (both_r (p y.0) (every (λ v. p v.0) ys) t) u)
+    nor_i (eqb x y.0) (among x ys) (differ p x y.0 (both_l (p y.0) (every (λ v. p v.0) ys) t) u) (none_of p x ys (both_r (p y.0) (every (λ v. p v.0) ys) t) u)
 
 -- what holds of the members holds of each
 pub all_among : (q : ℕ → Bool) (l : List ValueId) → ((x : ℕ) → T (among x l) → T (q x)) → T (every (λ v. q v.0) l)

@@ -24,12 +24,12 @@ unfoldable pub row_of : Types → Option TypeId → Option MirType
 row_of τ none = none
 row_of τ (some t) = get_elem? τ.rows t.0
 
-unfoldable pub recordedType : Types → ValueId → Option TypeId
-recordedType τ v = get_or τ.recorded v.0 none
+unfoldable pub recorded_type : Types → ValueId → Option TypeId
+recorded_type τ v = get_or τ.recorded v.0 none
 
 -- function.rs, `get_value_type`
-unfoldable pub valueRow : Types → ValueId → Option MirType
-valueRow τ v = row_of τ (recordedType τ v)
+unfoldable pub value_row : Types → ValueId → Option MirType
+value_row τ v = row_of τ (recorded_type τ v)
 
 -- "only Tuple, Struct and FixedArray can be taken apart": 1, 2 and 3, and 0 for any other type or none
 unfoldable pub shape : Option MirType → ℕ
@@ -46,54 +46,54 @@ shape (some Unit) = 0
 shape (some Error) = 0
 shape (some Unknown) = 0
 
-unfoldable pub isTuple : Option MirType → B.Bool
-isTuple t = eqb (shape t) 1
+unfoldable pub is_tuple : Option MirType → B.Bool
+is_tuple t = eqb (shape t) 1
 
-unfoldable pub isStruct : Option MirType → B.Bool
-isStruct t = eqb (shape t) 2
+unfoldable pub is_struct : Option MirType → B.Bool
+is_struct t = eqb (shape t) 2
 
-unfoldable pub isArray : Option MirType → B.Bool
-isArray t = eqb (shape t) 3
+unfoldable pub is_array : Option MirType → B.Bool
+is_array t = eqb (shape t) 3
 
-unfoldable pub isAggregate : Option MirType → B.Bool
-isAggregate t = isTuple t || (isStruct t || isArray t)
+unfoldable pub is_aggregate : Option MirType → B.Bool
+is_aggregate t = is_tuple t || (is_struct t || is_array t)
 
 -- a struct's fields in its type's order; none of any other type
-unfoldable pub structFieldsOf : Option MirType → List StructField
-structFieldsOf none = []
-structFieldsOf (some Felt) = []
-structFieldsOf (some Bool) = []
-structFieldsOf (some U32) = []
-structFieldsOf (some (Tuple ts)) = []
-structFieldsOf (some (Struct n fs)) = fs
-structFieldsOf (some (FixedArray t size)) = []
-structFieldsOf (some (Pointer t)) = []
-structFieldsOf (some (Function ps r)) = []
-structFieldsOf (some Unit) = []
-structFieldsOf (some Error) = []
-structFieldsOf (some Unknown) = []
+unfoldable pub struct_fields_of : Option MirType → List StructField
+struct_fields_of none = []
+struct_fields_of (some Felt) = []
+struct_fields_of (some Bool) = []
+struct_fields_of (some U32) = []
+struct_fields_of (some (Tuple ts)) = []
+struct_fields_of (some (Struct n fs)) = fs
+struct_fields_of (some (FixedArray t size)) = []
+struct_fields_of (some (Pointer t)) = []
+struct_fields_of (some (Function ps r)) = []
+struct_fields_of (some Unit) = []
+struct_fields_of (some Error) = []
+struct_fields_of (some Unknown) = []
 
 -- the value is this operand
-unfoldable pub isOperand : ValueId → Value → B.Bool
-isOperand v (Value.Literal l) = false
-isOperand v (Value.Operand w) = eqb w.0 v.0
-isOperand v Value.Error = false
+unfoldable pub is_operand : ValueId → Value → B.Bool
+is_operand v (Value.Literal l) = false
+is_operand v (Value.Operand w) = eqb w.0 v.0
+is_operand v Value.Error = false
 
-unfoldable pub isInteger : Value → B.Bool
-isInteger (Value.Literal (Literal.Integer x)) = true
-isInteger (Value.Literal (Literal.Boolean b)) = false
-isInteger (Value.Literal Literal.Unit) = false
-isInteger (Value.Operand v) = false
-isInteger Value.Error = false
+unfoldable pub is_integer : Value → B.Bool
+is_integer (Value.Literal (Literal.Integer x)) = true
+is_integer (Value.Literal (Literal.Boolean b)) = false
+is_integer (Value.Literal Literal.Unit) = false
+is_integer (Value.Operand v) = false
+is_integer Value.Error = false
 
 -- value.rs, `as_const_integer`
-unfoldable pub asConstInteger : Value → Option ℕ
-asConstInteger (Value.Literal (Literal.Integer x)) = some x
-asConstInteger (Value.Literal (Literal.Boolean true)) = some 1
-asConstInteger (Value.Literal (Literal.Boolean false)) = some 0
-asConstInteger (Value.Literal Literal.Unit) = none
-asConstInteger (Value.Operand v) = none
-asConstInteger Value.Error = none
+unfoldable pub as_const_integer : Value → Option ℕ
+as_const_integer (Value.Literal (Literal.Integer x)) = some x
+as_const_integer (Value.Literal (Literal.Boolean true)) = some 1
+as_const_integer (Value.Literal (Literal.Boolean false)) = some 0
+as_const_integer (Value.Literal Literal.Unit) = none
+as_const_integer (Value.Operand v) = none
+as_const_integer Value.Error = none
 
 -- some element passes
 unfoldable pub any : {A : Type 0} → (A → B.Bool) → List A → B.Bool
@@ -106,6 +106,6 @@ is_some none = false
 is_some (some a) = true
 
 -- the next look-up, where the one before found something
-unfoldable pub onSome : {A B : Type 0} → Option A → (A → Option B) → Option B
-onSome none f = none
-onSome (some a) f = f a
+unfoldable pub on_some : {A B : Type 0} → Option A → (A → Option B) → Option B
+on_some none f = none
+on_some (some a) f = f a

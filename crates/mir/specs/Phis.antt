@@ -7,16 +7,16 @@ use Rattle.mir.specs.Syntax.{Source, Instruction, InstructionKind}
 use Rattle.mir.specs.Syntax.{Assign, UnaryOp, BinaryOp, Call, Cast, Load, Store, Debug, Nop, Phi}
 use Rattle.mir.specs.Syntax.{MakeTuple, ExtractTupleElement, MakeStruct, ExtractStructField}
 use Rattle.mir.specs.Syntax.{InsertField, InsertTuple, MakeFixedArray, AssertEq, HeapAllocCells}
-use Rattle.mir.specs.Reads.{isPhi}
+use Rattle.mir.specs.Reads.{is_phi}
 
 -- the phis of a block stand in front
-unfoldable pub behindPhis : List Instruction → List Instruction
-behindPhis [] = []
-behindPhis (i ∷ is) = cond (isPhi i.kind) (behindPhis is) (i ∷ is)
+unfoldable pub behind_phis : List Instruction → List Instruction
+behind_phis [] = []
+behind_phis (i ∷ is) = cond (is_phi i.kind) (behind_phis is) (i ∷ is)
 
-unfoldable pub phisOf : List Instruction → List Instruction
-phisOf [] = []
-phisOf (i ∷ is) = cond (isPhi i.kind) (i ∷ phisOf is) []
+unfoldable pub phis_of : List Instruction → List Instruction
+phis_of [] = []
+phis_of (i ∷ is) = cond (is_phi i.kind) (i ∷ phis_of is) []
 
 -- a Phi's fields
 pub record PhiOf : Type 0 where

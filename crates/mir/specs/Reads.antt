@@ -27,14 +27,14 @@ indices (Field n ∷ ps) = indices ps
 indices (Tuple k ∷ ps) = indices ps
 
 -- the base first, then the Index values in place order
-abbrev pub placeReads : Place → List ValueId
-placeReads p = p.base ∷ operands (indices p.projections)
+abbrev pub place_reads : Place → List ValueId
+place_reads p = p.base ∷ operands (indices p.projections)
 
-abbrev pub sourceValues : List Source → List Value
-sourceValues ss = map (λ s. s.value) ss
+abbrev pub source_values : List Source → List Value
+source_values ss = map (λ s. s.value) ss
 
-abbrev pub initValues : List FieldInit → List Value
-initValues fs = map (λ f. f.value) fs
+abbrev pub init_values : List FieldInit → List Value
+init_values fs = map (λ f. f.value) fs
 
 -- the values an instruction reads, in the order of its bytes; a Store's base counts as read
 abbrev pub reads : InstructionKind → List ValueId
@@ -43,14 +43,14 @@ reads (UnaryOp op d x) = operand x []
 reads (BinaryOp op d x y) = operand x (operand y [])
 reads (Call ds f xs ps rs) = operands xs
 reads (Cast d x t u) = operand x []
-reads (Load d p t) = placeReads p
-reads (Store p x t) = placeReads p ++ operand x []
+reads (Load d p t) = place_reads p
+reads (Store p x t) = place_reads p ++ operand x []
 reads (Debug m xs) = operands xs
 reads Nop = []
-reads (Phi d t ss) = operands (sourceValues ss)
+reads (Phi d t ss) = operands (source_values ss)
 reads (MakeTuple d xs) = operands xs
 reads (ExtractTupleElement d x k t) = operand x []
-reads (MakeStruct d fs t) = operands (initValues fs)
+reads (MakeStruct d fs t) = operands (init_values fs)
 reads (ExtractStructField d x n t) = operand x []
 reads (InsertField d x n y t) = operand x (operand y [])
 reads (InsertTuple d x k y t) = operand x (operand y [])
@@ -81,60 +81,60 @@ dests (AssertEq x y) = []
 dests (HeapAllocCells d x) = d ∷ []
 
 -- the value that a Store changes
-abbrev pub storeBase : InstructionKind → Option ValueId
-storeBase (Assign d x t) = none
-storeBase (UnaryOp op d x) = none
-storeBase (BinaryOp op d x y) = none
-storeBase (Call ds f xs ps rs) = none
-storeBase (Cast d x t u) = none
-storeBase (Load d p t) = none
-storeBase (Store p x t) = some p.base
-storeBase (Debug m xs) = none
-storeBase Nop = none
-storeBase (Phi d t ss) = none
-storeBase (MakeTuple d xs) = none
-storeBase (ExtractTupleElement d x k t) = none
-storeBase (MakeStruct d fs t) = none
-storeBase (ExtractStructField d x n t) = none
-storeBase (InsertField d x n y t) = none
-storeBase (InsertTuple d x k y t) = none
-storeBase (MakeFixedArray d xs t c) = none
-storeBase (AssertEq x y) = none
-storeBase (HeapAllocCells d x) = none
+abbrev pub store_base : InstructionKind → Option ValueId
+store_base (Assign d x t) = none
+store_base (UnaryOp op d x) = none
+store_base (BinaryOp op d x y) = none
+store_base (Call ds f xs ps rs) = none
+store_base (Cast d x t u) = none
+store_base (Load d p t) = none
+store_base (Store p x t) = some p.base
+store_base (Debug m xs) = none
+store_base Nop = none
+store_base (Phi d t ss) = none
+store_base (MakeTuple d xs) = none
+store_base (ExtractTupleElement d x k t) = none
+store_base (MakeStruct d fs t) = none
+store_base (ExtractStructField d x n t) = none
+store_base (InsertField d x n y t) = none
+store_base (InsertTuple d x k y t) = none
+store_base (MakeFixedArray d xs t c) = none
+store_base (AssertEq x y) = none
+store_base (HeapAllocCells d x) = none
 
 -- "u8 kind in `InstructionKind` order (0 to 18)"
-abbrev pub kindNumber : InstructionKind → ℕ
-kindNumber (Assign d x t) = 0
-kindNumber (UnaryOp op d x) = 1
-kindNumber (BinaryOp op d x y) = 2
-kindNumber (Call ds f xs ps rs) = 3
-kindNumber (Cast d x t u) = 4
-kindNumber (Load d p t) = 5
-kindNumber (Store p x t) = 6
-kindNumber (Debug m xs) = 7
-kindNumber Nop = 8
-kindNumber (Phi d t ss) = 9
-kindNumber (MakeTuple d xs) = 10
-kindNumber (ExtractTupleElement d x k t) = 11
-kindNumber (MakeStruct d fs t) = 12
-kindNumber (ExtractStructField d x n t) = 13
-kindNumber (InsertField d x n y t) = 14
-kindNumber (InsertTuple d x k y t) = 15
-kindNumber (MakeFixedArray d xs t c) = 16
-kindNumber (AssertEq x y) = 17
-kindNumber (HeapAllocCells d x) = 18
+abbrev pub kind_number : InstructionKind → ℕ
+kind_number (Assign d x t) = 0
+kind_number (UnaryOp op d x) = 1
+kind_number (BinaryOp op d x y) = 2
+kind_number (Call ds f xs ps rs) = 3
+kind_number (Cast d x t u) = 4
+kind_number (Load d p t) = 5
+kind_number (Store p x t) = 6
+kind_number (Debug m xs) = 7
+kind_number Nop = 8
+kind_number (Phi d t ss) = 9
+kind_number (MakeTuple d xs) = 10
+kind_number (ExtractTupleElement d x k t) = 11
+kind_number (MakeStruct d fs t) = 12
+kind_number (ExtractStructField d x n t) = 13
+kind_number (InsertField d x n y t) = 14
+kind_number (InsertTuple d x k y t) = 15
+kind_number (MakeFixedArray d xs t c) = 16
+kind_number (AssertEq x y) = 17
+kind_number (HeapAllocCells d x) = 18
 
-abbrev pub isPhi : InstructionKind → Bool
-isPhi i = eqb (kindNumber i) 9
+abbrev pub is_phi : InstructionKind → Bool
+is_phi i = eqb (kind_number i) 9
 
 -- whether an instruction's reads count: Debug's do only where the flag says so
 abbrev pub counted : Bool → InstructionKind → Bool
-counted debug i = debug || not (eqb (kindNumber i) 7)
+counted debug i = debug || not (eqb (kind_number i) 7)
 
 -- the values a terminator reads
-abbrev pub terminatorReads : Terminator → List ValueId
-terminatorReads (Jump b) = []
-terminatorReads (If x a b) = operand x []
-terminatorReads (BranchCmp op x y a b) = operand x (operand y [])
-terminatorReads (Return xs) = operands xs
-terminatorReads Unreachable = []
+abbrev pub terminator_reads : Terminator → List ValueId
+terminator_reads (Jump b) = []
+terminator_reads (If x a b) = operand x []
+terminator_reads (BranchCmp op x y a b) = operand x (operand y [])
+terminator_reads (Return xs) = operands xs
+terminator_reads Unreachable = []

@@ -1,4 +1,4 @@
-// The kinds of instructions: "u8 kind in `InstructionKind` order (0 to 18)" (`kindNumber` of specs/Reads).
+// The kinds of instructions: "u8 kind in `InstructionKind` order (0 to 18)" (`kind_number` of specs/Reads).
 pub const ASSIGN: u16 = 0;
 
 pub const UNARY_OP: u16 = 1;

@@ -11,40 +11,40 @@ use Rattle.rewrite.specs.declared.Counts.{Counts}
 use Rattle.shelf.specs.Answer.{lowered, answer as given}
 use Rattle.pass_numbers.specs.declared.Numbers.{Numbers}
 use Rattle.pass_numbers.specs.declared.Totals.{Totals}
-use Rattle.pass_numbers.specs.Ten.{tenNumbers}
+use Rattle.pass_numbers.specs.Ten.{ten_numbers}
 use Rattle.pass_numbers.proofs.Laws.{Fit}
 use Rattle.pass_answers.specs.declared.Answer.{Answer}
-use Rattle.pass_answers.specs.Numbers.{numbersOf, leaves, asAnswer, Answers}
-use Rattle.pass_answers.specs.Totals.{afterAnswer}
-use Rattle.pass_answers.proofs.Laws.{as-given}
-use Rattle.pass_input.proofs.Copied.{take-sets}
+use Rattle.pass_answers.specs.Numbers.{numbers_of, leaves, as_answer, Answers}
+use Rattle.pass_answers.specs.Totals.{after_answer}
+use Rattle.pass_answers.proofs.Laws.{as_given}
+use Rattle.pass_input.proofs.Copied.{take_sets}
 use Rattle.machine.specs.Meaning.{Meaning}
 use Rattle.machine_claim.specs.Claim.{Indistinguishable}
-use Rattle.machine_claim.proofs.Theorem.{indistinguishable, with-room}
+use Rattle.machine_claim.proofs.Theorem.{indistinguishable, with_room}
 use Rattle.pass.specs.Promise.{Lowers, Counted}
 
 -- the output begins with the rewritten routine
 stands : (σ : Settings) (s out out' : List ℕ) (w : Bool) (c : Counts) (k : ℕ) (bytes : List ℕ) → given σ (length out) s ≡ lowered w c k bytes → out' ≡ leaves (given σ (length out) s) out → take (length bytes) out' ≡ bytes
-stands σ s out out' w c k bytes e f = ap (take (length bytes)) (f ∙ ap (λ o. leaves o out) e) ∙ take-sets bytes out (with-room σ (length out) s w c k bytes e)
+stands σ s out out' w c k bytes e f = ap (take (length bytes)) (f ∙ ap (λ o. leaves o out) e) ∙ take_sets bytes out (with_room σ (length out) s w c k bytes e)
 
 -- demand 3, for scalars of any type
 unseen : {A : Type 0} (σ : Settings) (s out out' : List ℕ) → Bytes s → out' ≡ leaves (given σ (length out) s) out → (w : Bool) (c : Counts) (bytes : List ℕ) → given σ (length out) s ≡ lowered w c 0 bytes → (M : Meaning A) → Indistinguishable M s (take (length bytes) out')
 unseen σ s out out' b f w c bytes e M = rw (stands σ s out out' w c 0 bytes e f) (indistinguishable M σ (length out) s w c 0 bytes b e refl)
 
 -- so it follows from what the entries promise
-pub for-every-meaning : {A : Type 0} {σ : Settings} {input out out' numbers numbers' : List ℕ} → Bytes input → Lowers σ input out out' numbers numbers' → (w : Bool) (c : Counts) (bytes : List ℕ) → given σ (length out) input ≡ lowered w c 0 bytes → (M : Meaning A) → Indistinguishable M input (take (length bytes) out')
-for-every-meaning {A} {σ} {input} {out} {out'} b h = unseen σ input out out' b h.left
+pub for_every_meaning : {A : Type 0} {σ : Settings} {input out out' numbers numbers' : List ℕ} → Bytes input → Lowers σ input out out' numbers numbers' → (w : Bool) (c : Counts) (bytes : List ℕ) → given σ (length out) input ≡ lowered w c 0 bytes → (M : Meaning A) → Indistinguishable M input (take (length bytes) out')
+for_every_meaning {A} {σ} {input} {out} {out'} b h = unseen σ input out out' b h.left
 
 -- the answer's numbers are those that are given
-pub lowers : (σ σ' : Settings) (s out out' numbers numbers' : List ℕ) (r : Answer) (n : Numbers) → Bytes s → given σ' (length out) s ≡ given σ (length out) s → Answers (given σ' (length out) s) r out out' → n ≡ asAnswer r → numbers' ≡ sets numbers 0 (tenNumbers n) → Lowers σ s out out' numbers numbers'
+pub lowers : (σ σ' : Settings) (s out out' numbers numbers' : List ℕ) (r : Answer) (n : Numbers) → Bytes s → given σ' (length out) s ≡ given σ (length out) s → Answers (given σ' (length out) s) r out out' → n ≡ as_answer r → numbers' ≡ sets numbers 0 (ten_numbers n) → Lowers σ s out out' numbers numbers'
 lowers σ σ' s out out' numbers numbers' r n b e h q f =
     let left : out' ≡ leaves (given σ (length out) s) out = h.left ∙ ap (λ x. leaves x out) e in
     record {
-      says = f ∙ ap (λ n. sets numbers 0 (tenNumbers n)) (q ∙ h.says ∙ ap numbersOf e);
+      says = f ∙ ap (λ n. sets numbers 0 (ten_numbers n)) (q ∙ h.says ∙ ap numbers_of e);
       left = left;
       unseen = unseen σ s out out' b left;
     }
 
 -- and so are the totals
-pub counted : (σ : Settings) (s out out' : List ℕ) (r : Answer) (t t' : Totals) → Bytes s → Fit t → Answers (given σ (length out) s) r out out' → t' ≡ afterAnswer t r → Counted σ s out out' r t t'
-counted σ s out out' r t t' b f h e = record { answers = h; counted = as-given (given σ (length out) s) r out out' t t' f h e; unseen = unseen σ s out out' b h.left }
+pub counted : (σ : Settings) (s out out' : List ℕ) (r : Answer) (t t' : Totals) → Bytes s → Fit t → Answers (given σ (length out) s) r out out' → t' ≡ after_answer t r → Counted σ s out out' r t t'
+counted σ s out out' r t t' b f h e = record { answers = h; counted = as_given (given σ (length out) s) r out out' t t' f h e; unseen = unseen σ s out out' b h.left }

@@ -5,16 +5,16 @@ use Rattle.fold.specs.declared.Settings.{Settings}
 use Rattle.rewrite.specs.declared.Counts.{Counts}
 use Rattle.shelf.specs.Answer.{lowered, answer}
 use Rattle.pass_numbers.specs.declared.Totals.{Totals}
-use Rattle.pass_numbers.specs.Ten.{tenNumbers}
+use Rattle.pass_numbers.specs.Ten.{ten_numbers}
 use Rattle.pass_answers.specs.declared.Answer.{Answer}
-use Rattle.pass_answers.specs.Numbers.{numbersOf, leaves, Answers}
-use Rattle.pass_answers.specs.Totals.{totalsAfter}
+use Rattle.pass_answers.specs.Numbers.{numbers_of, leaves, Answers}
+use Rattle.pass_answers.specs.Totals.{totals_after}
 use Rattle.machine.specs.Meaning.{Meaning}
 use Rattle.machine_claim.specs.Claim.{Indistinguishable}
 
 -- demand 3: with shelf reason 0, whoever runs what now stands in the output cannot tell it from the input, by the Debug record either; the
 -- meaning is any, one that records Debug or one that does not. Scalars are numbered here, since a contract speaks of no collection of all
--- types; `for-every-meaning` (proofs/Entry.antt) has scalars of any type
+-- types; `for_every_meaning` (proofs/Entry.antt) has scalars of any type
 abbrev pub Unseen : Settings → List ℕ → List ℕ → List ℕ → Type 0
 Unseen σ input out out' =
     (w : Bool) (c : Counts) (bytes : List ℕ)
@@ -25,12 +25,12 @@ Unseen σ input out out' =
 -- a call for any caller: of the input, of the output before and after it, and of the caller's numbers before and after it
 pub record Lowers (σ : Settings) (input out out' numbers numbers' : List ℕ) : Type 0 where
   -- demands 1 and 2: numbers and output are those that the definition answers
-  pub says : numbers' ≡ sets numbers 0 (tenNumbers (numbersOf (answer σ (length out) input)))
+  pub says : numbers' ≡ sets numbers 0 (ten_numbers (numbers_of (answer σ (length out) input)))
   pub left : out' ≡ leaves (answer σ (length out) input) out
   pub unseen : Unseen σ input out out'
 
 -- a call that updates the totals of its caller: "the five counts are one record that the run updates for its caller"
 pub record Counted (σ : Settings) (input out out' : List ℕ) (r : Answer) (t t' : Totals) : Type 0 where
   pub answers : Answers (answer σ (length out) input) r out out'
-  pub counted : t' ≡ totalsAfter t (answer σ (length out) input)
+  pub counted : t' ≡ totals_after t (answer σ (length out) input)
   pub unseen : Unseen σ input out out'

@@ -1,7 +1,7 @@
 // The entries of the pass: for any caller, and for one that lends the totals of all its runs.
 #![tactic(auto)]
 
-ghost use Rattle.rewrite.specs.Outcome.{settingsOf};
+ghost use Rattle.rewrite.specs.Outcome.{settings_of};
 ghost use Rattle.pass.specs.Promise.{Lowers, Counted};
 
 use fold::Settings;
@@ -19,7 +19,7 @@ pub fn lower(
     most: u64,
     answer: &mut [u64],
 )
-    ensures { Lowers (settingsOf tuples structs most)
+    ensures { Lowers (settings_of tuples structs most)
         input.now output.old output.new answer.old answer.new }
 {
     let settings = pass_numbers::settings_of(tuples, structs, most);

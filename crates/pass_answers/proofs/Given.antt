@@ -4,30 +4,30 @@ use mathlib.Core.Path.{◌≡◌, refl}
 use mathlib.Core.List.{List}
 use mathlib.Core.Bool.{Bool}
 use lib.ListN.{length}
-use Rattle.bytes_wire.specs.Parse.{ok, bad, numberOfCause}
+use Rattle.bytes_wire.specs.Parse.{ok, bad, number_of_cause}
 use Rattle.bytes_wire.specs.declared.Cause.{Cause}
 use Rattle.mir.specs.Routine.{Routine}
 use Rattle.bytes_sections.specs.Decode.{mosts, whole_of}
 use Rattle.fold.specs.declared.Settings.{Settings}
 use Rattle.rewrite.specs.declared.Counts.{Counts}
-use Rattle.rewrite.specs.Run.{rewrittenBlocks}
+use Rattle.rewrite.specs.Run.{rewritten_blocks}
 use Rattle.rewrite.specs.Outcome.{outcome}
 use Rattle.rewrite.specs.Outcome as O
-use Rattle.rewrite.proofs.Outcomes.{too_large, refused-input}
-use Rattle.shelf.specs.Reads.{withDebug}
-use Rattle.shelf.specs.Reason.{shelfReason}
-use Rattle.shelf.specs.Answer.{refused, lowered, reasonOf, withReason, answer as given}
-use Rattle.pass_numbers.proofs.Laws.{given-refused}
+use Rattle.rewrite.proofs.Outcomes.{too_large, refused_input}
+use Rattle.shelf.specs.Reads.{with_debug}
+use Rattle.shelf.specs.Reason.{shelf_reason}
+use Rattle.shelf.specs.Answer.{refused, lowered, reason_of, with_reason, answer as given}
+use Rattle.pass_numbers.proofs.Laws.{given_refused}
 use Rattle.pass_answers.specs.declared.Answer.{Answer}
 use Rattle.pass_answers.specs.Numbers.{Answers}
 use Rattle.pass_answers.proofs.Laws.{answers}
 
-pub given-lowered : (σ : Settings) (room : ℕ) (s : List ℕ) (x : Routine) (n k : ℕ) (w : Bool) (c : Counts) (bytes : List ℕ) → whole_of mosts s ≡ ok x n → k ≡ shelfReason withDebug x (rewrittenBlocks σ x) → outcome σ room s ≡ O.lowered w c bytes → given σ room s ≡ lowered w c k bytes
-unfolding given withReason reasonOf
-given-lowered σ room s x n k w c bytes e f g = rw (e, g, f)
+pub given_lowered : (σ : Settings) (room : ℕ) (s : List ℕ) (x : Routine) (n k : ℕ) (w : Bool) (c : Counts) (bytes : List ℕ) → whole_of mosts s ≡ ok x n → k ≡ shelf_reason with_debug x (rewritten_blocks σ x) → outcome σ room s ≡ O.lowered w c bytes → given σ room s ≡ lowered w c k bytes
+unfolding given with_reason reason_of
+given_lowered σ room s x n k w c bytes e f g = rw (e, g, f)
 
-pub answers-large : (σ : Settings) (s out : List ℕ) → 16 < σ.most → Answers (given σ (length out) s) Answer.TooLarge out out
-answers-large σ s out h = answers _ (refused 12 0) _ out out (given-refused σ (length out) s 12 0 (too_large σ (length out) s h)) refl refl
+pub answers_large : (σ : Settings) (s out : List ℕ) → 16 < σ.most → Answers (given σ (length out) s) Answer.TooLarge out out
+answers_large σ s out h = answers _ (refused 12 0) _ out out (given_refused σ (length out) s 12 0 (too_large σ (length out) s h)) refl refl
 
-pub answers-input : (σ : Settings) (s out : List ℕ) (c : Cause) (o : ℕ) → σ.most ≤ 16 → whole_of mosts s ≡ bad c o → Answers (given σ (length out) s) (Answer.Malformed c o) out out
-answers-input σ s out c o h e = answers _ (refused (numberOfCause c) o) _ out out (given-refused σ (length out) s (numberOfCause c) o (refused-input σ (length out) s h c o e)) refl refl
+pub answers_input : (σ : Settings) (s out : List ℕ) (c : Cause) (o : ℕ) → σ.most ≤ 16 → whole_of mosts s ≡ bad c o → Answers (given σ (length out) s) (Answer.Malformed c o) out out
+answers_input σ s out c o h e = answers _ (refused (number_of_cause c) o) _ out out (given_refused σ (length out) s (number_of_cause c) o (refused_input σ (length out) s h c o e)) refl refl

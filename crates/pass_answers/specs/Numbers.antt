@@ -1,11 +1,11 @@
 -- What a call answers, as numbers, and what it leaves in the output.
 use Rattle.std.specs.Prelude.{ℕ, ◌≡◌, List, Bool, length}
 use Rattle.std.proofs.lemmas.List.Edits.{sets}
-use Rattle.bytes_wire.specs.Parse.{numberOfCause}
+use Rattle.bytes_wire.specs.Parse.{number_of_cause}
 use Rattle.bytes_wire.specs.Value.{bool_byte}
 use Rattle.rewrite.specs.declared.Counts.{Counts}
 use Rattle.shelf.specs.Answer.{Answer as Given, refused, lowered}
-use Rattle.shelf_test.specs.Number.{numberOfReason}
+use Rattle.shelf_test.specs.Number.{number_of_reason}
 use Rattle.pass_numbers.specs.declared.Numbers.{Numbers}
 use Rattle.pass_answers.specs.declared.Answer.{Answer}
 
@@ -29,9 +29,9 @@ acceptance w c k n =
       size = n;
     }
 
-abbrev pub numbersOf : Given → Numbers
-numbersOf (refused n o) = refusal n o
-numbersOf (lowered w c k bytes) = acceptance w c k (length bytes)
+abbrev pub numbers_of : Given → Numbers
+numbers_of (refused n o) = refusal n o
+numbers_of (lowered w c k bytes) = acceptance w c k (length bytes)
 
 -- a refusal leaves the output as it was; else the bytes stand from its first place on
 abbrev pub leaves : Given → List ℕ → List ℕ
@@ -39,14 +39,14 @@ leaves (refused n o) out = out
 leaves (lowered w c k bytes) out = sets out 0 bytes
 
 -- document 01's number and values of each answer of the code
-abbrev pub asAnswer : Answer → Numbers
-asAnswer (Answer.Malformed c o) = refusal (numberOfCause c) o
-asAnswer Answer.Clash = refusal 10 0
-asAnswer Answer.NoRoom = refusal 11 0
-asAnswer Answer.TooLarge = refusal 12 0
-asAnswer (Answer.Lowered w c k size) = acceptance w c (numberOfReason k) size
+abbrev pub as_answer : Answer → Numbers
+as_answer (Answer.Malformed c o) = refusal (number_of_cause c) o
+as_answer Answer.Clash = refusal 10 0
+as_answer Answer.NoRoom = refusal 11 0
+as_answer Answer.TooLarge = refusal 12 0
+as_answer (Answer.Lowered w c k size) = acceptance w c (number_of_reason k) size
 
 -- the code answers what is given, and leaves what it should
 pub record Answers (o : Given) (r : Answer) (out out' : List ℕ) : Type 0 where
-  pub says : asAnswer r ≡ numbersOf o
+  pub says : as_answer r ≡ numbers_of o
   pub left : out' ≡ leaves o out

@@ -3,9 +3,9 @@
 
 ghost use Rattle.std.specs.Prelude.{◌≡◌, not, eqb};
 ghost use Rattle.bytes_wire.specs.Value.{bool_byte};
-ghost use Rattle.shelf_test.specs.Number.{numberOfReason};
-ghost use Rattle.pass_answers.specs.Numbers.{refusal, acceptance, asAnswer};
-ghost use Rattle.pass_answers.specs.Totals.{afterAnswer};
+ghost use Rattle.shelf_test.specs.Number.{number_of_reason};
+ghost use Rattle.pass_answers.specs.Numbers.{refusal, acceptance, as_answer};
+ghost use Rattle.pass_answers.specs.Totals.{after_answer};
 
 use bytes_wire::Cause;
 use pass_numbers::{Numbers, Totals};
@@ -41,7 +41,7 @@ pub enum Answer {
 
 // What is not refused: the result goes by the builds.
 pub fn lowered(c: Counts, reason: ShelfReason, size: usize) -> Answer
-    ensures { asAnswer result ≡ acceptance (not (eqb c.builds 0)) c (numberOfReason reason) size }
+    ensures { as_answer result ≡ acceptance (not (eqb c.builds 0)) c (number_of_reason reason) size }
 {
     Answer::Lowered {
         result: 0 < c.builds,
@@ -76,7 +76,7 @@ fn refused(number: u8, offset: usize) -> Numbers
 
 // The number and values that document 01 gives an answer.
 pub fn numbers_of(a: Answer) -> Numbers
-    ensures { result ≡ asAnswer a }
+    ensures { result ≡ as_answer a }
 {
     match a {
         Answer::Malformed(c, o) => refused(bytes_wire::cause_number(c), o),
@@ -109,7 +109,7 @@ pub fn numbers_of(a: Answer) -> Numbers
 
 // The totals after an answer: a refusal counts nothing.
 pub fn totals_after(t: Totals, a: Answer) -> Totals
-    ensures { result ≡ afterAnswer t a }
+    ensures { result ≡ after_answer t a }
 {
     match a {
         Answer::Malformed(_, _) => t,

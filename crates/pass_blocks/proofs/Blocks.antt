@@ -7,21 +7,21 @@ use native.Mathlib.Omega.{arith}
 use lib.ListN.{length, take}
 use lib.Seq.{sets, length-sets}
 use Rattle.bytes_field.specs.declared.Bounds.{Bounds}
-use Rattle.bytes_laws.proofs.Bits.{true-false}
+use Rattle.bytes_laws.proofs.Bits.{true_false}
 use Rattle.mir.specs.Lookup.{types_in}
 use Rattle.fold.specs.declared.Settings.{Settings}
 use Rattle.fold.specs.Family.{Marks}
-use Rattle.rewrite.specs.Run.{Rewritten, choice, allBlocks, rewrittenBlocks}
-use Rattle.rewrite_progress.specs.Effect.{outputOf, Output, further, behind, rewrittenEffect, Puts, Low}
+use Rattle.rewrite.specs.Run.{Rewritten, choice, all_blocks, rewritten_blocks}
+use Rattle.rewrite_progress.specs.Effect.{output_of, Output, further, behind, rewritten_effect, Puts, Low}
 use Rattle.rewrite_progress.specs.declared.Put.{Put}
 use Rattle.pass_input.specs.Accepted.{Accepted}
-use Rattle.pass_input.proofs.Accepted.{next-is, next-few, few-fresh}
-use Rattle.pass_input.proofs.Copied.{take-sets}
-use Rattle.pass_blocks.specs.Runs.{body_of, start_at, highestStart, Runs, Begun}
+use Rattle.pass_input.proofs.Accepted.{next_is, next_few, few_fresh}
+use Rattle.pass_input.proofs.Copied.{take_sets}
+use Rattle.pass_blocks.specs.Runs.{body_of, start_at, highest_start, Runs, Begun}
 
-runs-from : (w : Rewritten) (to : ℕ) (out fresh out' fresh' : List ℕ) (dropped dropped' : Marks) (r : Put) → Puts (outputOf out fresh dropped (start_at to)) (rewrittenEffect w) w.clash out' fresh' dropped' r → Runs w to out fresh dropped out' fresh' dropped' r
-unfolding behind further rewrittenEffect
-runs-from w to out fresh out' fresh' dropped dropped' r h =
+runs_from_lem : (w : Rewritten) (to : ℕ) (out fresh out' fresh' : List ℕ) (dropped dropped' : Marks) (r : Put) → Puts (output_of out fresh dropped (start_at to)) (rewritten_effect w) w.clash out' fresh' dropped' r → Runs w to out fresh dropped out' fresh' dropped' r
+unfolding behind further rewritten_effect
+runs_from_lem w to out fresh out' fresh' dropped dropped' r h =
     record {
       clashed = h.clashed;
       went = λ p e.
@@ -40,30 +40,30 @@ runs-from w to out fresh out' fresh' dropped dropped' r h =
 module _ {s facts : List ℕ} {b : Bounds} (a : Accepted s facts b) (σ : Settings) where
   -- the blocks of an accepted routine, from its next value on
   abbrev run : Rewritten
-  run = allBlocks σ (types_in a.routine) (choice σ a.routine) (b.next + 0) a.routine.blocks
+  run = all_blocks σ (types_in a.routine) (choice σ a.routine) (b.next + 0) a.routine.blocks
 
-  same-run : run ≡ rewrittenBlocks σ a.routine
-  unfolding rewrittenBlocks
-  same-run =
-      let e : b.next + 0 ≡ a.routine.next = omega (arith, next-is a) in
-      ap (λ n. allBlocks σ (types_in a.routine) (choice σ a.routine) n a.routine.blocks) e
+  same_run : run ≡ rewritten_blocks σ a.routine
+  unfolding rewritten_blocks
+  same_run =
+      let e : b.next + 0 ≡ a.routine.next = omega (arith, next_is a) in
+      ap (λ n. all_blocks σ (types_in a.routine) (choice σ a.routine) n a.routine.blocks) e
 
-  pub run-bound : b.next + 0 + length run.fresh < 65536
-  run-bound = rw same-run (omega (arith, next-few a, few-fresh a σ))
+  pub run_bound : b.next + 0 + length run.fresh < 65536
+  run_bound = rw same_run (omega (arith, next_few a, few_fresh a σ))
 
-  pub runs-chosen : (to : ℕ) (out fresh out' fresh' : List ℕ) (dropped dropped' : Marks) (r : Put) → Puts (outputOf out fresh dropped (start_at to)) (rewrittenEffect run) run.clash out' fresh' dropped' r → Runs (rewrittenBlocks σ a.routine) to out fresh dropped out' fresh' dropped' r
-  runs-chosen to out fresh out' fresh' dropped dropped' r h = rw (← same-run) (runs-from run to out fresh out' fresh' dropped dropped' r h)
+  pub runs_chosen : (to : ℕ) (out fresh out' fresh' : List ℕ) (dropped dropped' : Marks) (r : Put) → Puts (output_of out fresh dropped (start_at to)) (rewritten_effect run) run.clash out' fresh' dropped' r → Runs (rewritten_blocks σ a.routine) to out fresh dropped out' fresh' dropped' r
+  runs_chosen to out fresh out' fresh' dropped dropped' r h = rw (← same_run) (runs_from_lem run to out fresh out' fresh' dropped dropped' r h)
 
 -- the numbers of a run that begins are low
-pub low-start : (to : ℕ) → to ≤ highestStart → Low 64 (start_at to)
-low-start to l =
+pub low_start : (to : ℕ) → to ≤ highest_start → Low 64 (start_at to)
+low_start to l =
     record { to = omega arith; lines = omega arith; fresh = omega arith; builds = omega arith; extracts = omega arith; inserts = omega arith; assigns = omega arith; materializations = omega arith }
 
 -- another run writes what the first began
-pub run-again : (w : Rewritten) (body : List ℕ) (size to : ℕ) (out fresh out' fresh' : List ℕ) (dropped dropped' : Marks) (r : Put) → Begun w body size → Runs w to out fresh dropped out' fresh' dropped' r → out' ≡ sets out to (body_of w)
-run-again w body size to out fresh out' fresh' dropped dropped' Put.Clash h q = absurd (true-false (sym (q.clashed refl) ∙ h.calm))
-run-again w body size to out fresh out' fresh' dropped dropped' (Put.Went p) h q = (q.went p refl).written
+pub run_again : (w : Rewritten) (body : List ℕ) (size to : ℕ) (out fresh out' fresh' : List ℕ) (dropped dropped' : Marks) (r : Put) → Begun w body size → Runs w to out fresh dropped out' fresh' dropped' r → out' ≡ sets out to (body_of w)
+run_again w body size to out fresh out' fresh' dropped dropped' Put.Clash h q = absurd (true_false (sym (q.clashed refl) ∙ h.calm))
+run_again w body size to out fresh out' fresh' dropped dropped' (Put.Went p) h q = (q.went p refl).written
 
 -- all of it stands in the buffer, where that is long enough
 pub begun_all : (w : Rewritten) (body : List ℕ) (size : ℕ) → Begun w body size → size ≤ length body → take size body ≡ body_of w
-begun_all w body size h l = ap (λ n. take n body) h.place ∙ ap (take (length (body_of w))) h.written ∙ take-sets (body_of w) h.buffer (omega (arith, h.place, ap length h.written, length-sets h.buffer 0 (body_of w)))
+begun_all w body size h l = ap (λ n. take n body) h.place ∙ ap (take (length (body_of w))) h.written ∙ take_sets (body_of w) h.buffer (omega (arith, h.place, ap length h.written, length-sets h.buffer 0 (body_of w)))

@@ -1,41 +1,41 @@
 -- What a run over the blocks of a routine gives.
 use Rattle.std.specs.Prelude.{ℕ, ◌+◌, ◌≡◌, List, true, false, length}
 use Rattle.std.proofs.lemmas.List.Edits.{sets}
-use Rattle.bytes_field.specs.Encode.{eachBytes}
-use Rattle.bytes_block.specs.Encode.{blockBytes}
+use Rattle.bytes_field.specs.Encode.{each_bytes}
+use Rattle.bytes_block.specs.Encode.{block_bytes}
 use Rattle.fold.specs.Family.{Marks}
-use Rattle.rewrite.specs.Step.{noCounts}
+use Rattle.rewrite.specs.Step.{no_counts}
 use Rattle.rewrite.specs.Run.{Rewritten}
-use Rattle.rewrite_progress.specs.Effect.{typeNumbers, markAll}
+use Rattle.rewrite_progress.specs.Effect.{type_numbers, mark_all}
 use Rattle.rewrite_progress.specs.declared.Progress.{Progress}
 use Rattle.rewrite_progress.specs.declared.Put.{Put}
 
 -- the last place at which a run may begin: far behind any head, and so that no place passes a number
-abbrev pub highestStart : ℕ
-highestStart = 67108864
+abbrev pub highest_start : ℕ
+highest_start = 67108864
 
 -- the places of the rows in the working table
-abbrev pub rowPlaces : ℕ
-rowPlaces = 2432
+abbrev pub row_places : ℕ
+row_places = 2432
 
 -- the bytes of rewritten blocks
 abbrev pub body_of : Rewritten → List ℕ
-body_of w = eachBytes blockBytes w.blocks
+body_of w = each_bytes block_bytes w.blocks
 
 -- where a run begins
 abbrev pub start_at : ℕ → Progress
-start_at to = record { to = to; lines = 0; fresh = 0; counts = noCounts }
+start_at to = record { to = to; lines = 0; fresh = 0; counts = no_counts }
 
 -- a run that met no clash: all blocks are written from `to` on
 pub record Ran (w : Rewritten) (to : ℕ) (out fresh : List ℕ) (dropped : Marks)
     (out' fresh' : List ℕ) (dropped' : Marks) (p : Progress) : Type 0 where
   pub calm : w.clash ≡ false
   pub written : out' ≡ sets out to (body_of w)
-  pub taken : fresh' ≡ sets fresh 0 (typeNumbers w.fresh)
+  pub taken : fresh' ≡ sets fresh 0 (type_numbers w.fresh)
   pub place : p.to ≡ to + length (body_of w)
   pub many : p.fresh ≡ length w.fresh
   pub counted : p.counts ≡ w.counts
-  pub marks : dropped' ≡ markAll dropped w.dropped
+  pub marks : dropped' ≡ mark_all dropped w.dropped
 
 -- a run's answer: Clash only where the rewriting has one, else all of it is written
 pub record Runs (w : Rewritten) (to : ℕ) (out fresh : List ℕ) (dropped : Marks)

@@ -4,12 +4,12 @@
 
 ghost use Rattle.std.specs.Prelude.{◌≡◌, ◌+◌, ◌≤◌, length};
 ghost use Rattle.std.proofs.lemmas.List.Edits.{sets};
-ghost use Rattle.rewrite.specs.Run.{rewrittenBlocks};
-ghost use Rattle.rewrite_parts.specs.Rows.{freshIn};
-ghost use Rattle.rewrite_progress.specs.Effect.{PutLow, routineLow};
+ghost use Rattle.rewrite.specs.Run.{rewritten_blocks};
+ghost use Rattle.rewrite_parts.specs.Rows.{fresh_in};
+ghost use Rattle.rewrite_progress.specs.Effect.{PutLow, routine_low};
 ghost use Rattle.pass_input.specs.Accepted.{Chosen};
-ghost use Rattle.pass_blocks.specs.Runs.{body_of, Runs, Begun, highestStart, rowPlaces};
-ghost use Rattle.mir.specs.Most.{mostBlocks};
+ghost use Rattle.pass_blocks.specs.Runs.{body_of, Runs, Begun, highest_start, row_places};
+ghost use Rattle.mir.specs.Most.{most_blocks};
 
 use mir::most;
 use rewrite::Counts;
@@ -32,11 +32,11 @@ pub fn run_blocks(
     work: &mut [u16],
     out: &mut [u8],
 ) -> Put
-    requires { (to ≤ highestStart) × ((setup.bounds.blocks ≤ mostBlocks) × (rowPlaces ≤ length work.old)) }
-    ensures put_low { PutLow routineLow result }
+    requires { (to ≤ highest_start) × ((setup.bounds.blocks ≤ most_blocks) × (row_places ≤ length work.old)) }
+    ensures put_low { PutLow routine_low result }
     ensures runs { (h : Chosen setup.settings s.now facts.now setup.bounds choice.now)
-        → Runs (rewrittenBlocks setup.settings h.accepted.routine) to out.old (freshIn work.old) dropped.old
-        out.new (freshIn work.new) dropped.new result }
+        → Runs (rewritten_blocks setup.settings h.accepted.routine) to out.old (fresh_in work.old) dropped.old
+        out.new (fresh_in work.new) dropped.new result }
 {
     let none = Counts {
         builds: 0,
@@ -77,10 +77,10 @@ pub fn put_body(
     out: &mut [u8],
     to: usize,
 )
-    requires { (to ≤ highestStart) × ((setup.bounds.blocks ≤ mostBlocks) × (to + size ≤ length out.old)) }
+    requires { (to ≤ highest_start) × ((setup.bounds.blocks ≤ most_blocks) × (to + size ≤ length out.old)) }
     ensures { (h : Chosen setup.settings s.now facts.now setup.bounds choice.now)
-        → Begun (rewrittenBlocks setup.settings h.accepted.routine) body.now size
-        → out.new ≡ sets out.old to (body_of (rewrittenBlocks setup.settings h.accepted.routine)) }
+        → Begun (rewritten_blocks setup.settings h.accepted.routine) body.now size
+        → out.new ≡ sets out.old to (body_of (rewritten_blocks setup.settings h.accepted.routine)) }
 {
     if size <= body.len() {
         bytes_emit::copy_whole(&body[..size], out, to);

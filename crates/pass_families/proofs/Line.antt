@@ -9,28 +9,28 @@ use lib.ListN.{length, take}
 use Rattle.fold.specs.Family.{Marks}
 use Rattle.fold_family.specs.Turns.{one}
 use Rattle.text.specs.Written.{Written}
-use Rattle.pass_input.proofs.Copied.{take-sets}
-use Rattle.pass_families.specs.Lines.{markedFrom}
-use Rattle.pass_families.specs.Shown.{foundNumbers}
+use Rattle.pass_input.proofs.Copied.{take_sets}
+use Rattle.pass_families.specs.Lines.{marked_from}
+use Rattle.pass_families.specs.Shown.{found_numbers}
 use Rattle.pass_families.specs.declared.BuildFamily.{BuildFamily}
 
 -- a flag as a number
-flag-number : (b : Bool) → bool_byte b ≡ one b
-flag-number true = refl
-flag-number false = refl
+flag_number : (b : Bool) → bool_byte b ≡ one b
+flag_number true = refl
+flag_number false = refl
 
 -- the members behind the six
-behind-six : (a b c d e f n : ℕ) (rest members : List ℕ) → take n rest ≡ members
+behind_six : (a b c d e f n : ℕ) (rest members : List ℕ) → take n rest ≡ members
     → take (6 + n) (a ∷ b ∷ c ∷ d ∷ e ∷ f ∷ (rest ++ [])) ≡ a ∷ b ∷ c ∷ d ∷ e ∷ f ∷ members
-behind-six a b c d e f n rest members t =
+behind_six a b c d e f n rest members t =
     let z : 6 + n ≡ suc (suc (suc (suc (suc (suc n))))) = omega arith in
     rw (z, append-nil rest, t) refl
 
 -- all numbers of a line, where the members are asked for
-pub with-members : (named : Bool) (k j : ℕ) (r : BuildFamily) (m : Marks) (room rest : List ℕ) (n : ℕ)
-    → named ≡ true → Written (markedFrom 0 m) 0 room rest n → n ≤ length m → length m ≤ 256 → length room ≡ 256
-    → take (6 + n) (k ∷ j ∷ r.dest.0 ∷ r.members ∷ r.turns ∷ bool_byte r.looked ∷ (rest ++ [])) ≡ foundNumbers named k j r m
-with-members named k j r m room rest n on w few low long =
-    let z : n ≡ length (markedFrom 0 m) = omega (arith, w.place) in
-    let t : take n rest ≡ markedFrom 0 m = rw (z, w.stored) (take-sets (markedFrom 0 m) room (omega (arith, z))) in
-    rw (on, flag-number r.looked) (behind-six k j r.dest.0 r.members r.turns (one r.looked) n rest (markedFrom 0 m) t)
+pub with_members : (named : Bool) (k j : ℕ) (r : BuildFamily) (m : Marks) (room rest : List ℕ) (n : ℕ)
+    → named ≡ true → Written (marked_from 0 m) 0 room rest n → n ≤ length m → length m ≤ 256 → length room ≡ 256
+    → take (6 + n) (k ∷ j ∷ r.dest.0 ∷ r.members ∷ r.turns ∷ bool_byte r.looked ∷ (rest ++ [])) ≡ found_numbers named k j r m
+with_members named k j r m room rest n on w few low long =
+    let z : n ≡ length (marked_from 0 m) = omega (arith, w.place) in
+    let t : take n rest ≡ marked_from 0 m = rw (z, w.stored) (take_sets (marked_from 0 m) room (omega (arith, z))) in
+    rw (on, flag_number r.looked) (behind_six k j r.dest.0 r.members r.turns (one r.looked) n rest (marked_from 0 m) t)

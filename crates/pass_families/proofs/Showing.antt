@@ -11,56 +11,56 @@ use Rattle.fold.specs.Family.{Marks}
 use Rattle.fold_family.specs.Turns.{size}
 use Rattle.fold_family.specs.Search.{Members, FindsFamily, DynamicIndex}
 use Rattle.fold_family.specs.declared.Found.{Found}
-use Rattle.fold_family.proofs.Closed.{copies-few}
-use Rattle.fold_family.proofs.Dynamic.{dynamics-length}
-use Rattle.fold_scan.specs.Noted.{destIn}
-use Rattle.fold_scan.proofs.Placed.{build-at, build-place}
+use Rattle.fold_family.proofs.Closed.{copies_few}
+use Rattle.fold_family.proofs.Dynamic.{dynamics_length}
+use Rattle.fold_scan.specs.Noted.{dest_in}
+use Rattle.fold_scan.proofs.Placed.{build_at, build_place}
 use Rattle.fold_looked.specs.Looked.{Looking}
 use Rattle.text.specs.Written.{Written}
 use Rattle.text.proofs.Writing.{written_as}
-use Rattle.text_lines.specs.Lines.{numbersLine}
-use Rattle.pass_families.specs.Shown.{foundNumbers, FindsBuild, PutsBuild}
+use Rattle.text_lines.specs.Lines.{numbers_line}
+use Rattle.pass_families.specs.Shown.{found_numbers, FindsBuild, PutsBuild}
 use Rattle.pass_families.specs.declared.BuildFamily.{BuildFamily}
 
 -- a build's dest is its first field; its family is found, whose members are held against the dynamic marks
-pub finds-build : (s facts : List ℕ) (slot : ℕ) (shapes table : List ℕ) (dynamic clear marks : Marks) (room members : List ℕ)
+pub finds_build : (s facts : List ℕ) (slot : ℕ) (shapes table : List ℕ) (dynamic clear marks : Marks) (room members : List ℕ)
     → (v : ValueId) (shp : ℕ) (found : Found) (looked : Bool)
-    → v.0 ≡ destIn s facts slot → shp ≡ get_or shapes v.0 0
+    → v.0 ≡ dest_in s facts slot → shp ≡ get_or shapes v.0 0
     → FindsFamily table shp v clear marks room members found → DynamicIndex members found.members dynamic looked
     → FindsBuild s facts slot shapes table dynamic clear marks room
     (record { dest = v; members = found.members; turns = found.turns; looked = looked })
-finds-build s facts slot shapes table dynamic clear marks room members v shp found looked ds ss finds index σ τ is b i d eligible k sh l at h =
-    elim (build-place b s facts slot i d at h) [
-      | build-at a low ↦
+finds_build s facts slot shapes table dynamic clear marks room members v shp found looked ds ss finds index σ τ is b i d eligible k sh l at h =
+    elim (build_place b s facts slot i d at h) [
+      | build_at a low ↦
           let z : v ≡ d = ap (λ (x : ℕ). record { 0 = x }) (ds ∙ sym a) in
           let below : v.0 < length τ.recorded = rw (z, l) low in
-          let f = finds τ is k.rows (le_trans (copies-few τ is) k.short) (ss ∙ sh.shaped v.0 below) below k.few k.wide k.cleared in
+          let f = finds τ is k.rows (le_trans (copies_few τ is) k.short) (ss ∙ sh.shaped v.0 below) below k.few k.wide k.cleared in
           rw (sym z) record {
             dest = refl;
             marks = f.same;
             members = f.listed.many ∙ ap size f.same;
             turns = f.turned;
-            looked = index τ v is (subst (Members members found.members) f.same f.listed) k.dynamic-all;
+            looked = index τ v is (subst (Members members found.members) f.same f.listed) k.dynamic_all;
           }
     ]
 
 -- a line is put of what was found
-pub puts-build : (named : Bool) (s facts : List ℕ) (k j slot : ℕ) (shapes table : List ℕ) (dynamic clear marks : Marks) (room : List ℕ) (r : BuildFamily)
+pub puts_build : (named : Bool) (s facts : List ℕ) (k j slot : ℕ) (shapes table : List ℕ) (dynamic clear marks : Marks) (room : List ℕ) (r : BuildFamily)
     → (text after : List ℕ) (n : ℕ)
     → FindsBuild s facts slot shapes table dynamic clear marks room r → clear ≡ replicate (length dynamic) false → length room ≡ 256
-    → Written (numbersLine (foundNumbers named k j r marks)) 0 text after n
+    → Written (numbers_line (found_numbers named k j r marks)) 0 text after n
     → PutsBuild named s facts k j slot shapes table dynamic text after n
-puts-build named s facts k j slot shapes table dynamic clear marks room r text after n finds cl wide w τ is b i d p at h =
+puts_build named s facts k j slot shapes table dynamic clear marks room r text after n finds cl wide w τ is b i d p at h =
     let q = p.looking in
     let many : length dynamic ≡ length τ.recorded =
-    ap length q.dynamic-all ∙ dynamics-length (replicate (length τ.recorded) false) is ∙ length-replicate (length τ.recorded) false in
+    ap length q.dynamic_all ∙ dynamics_length (replicate (length τ.recorded) false) is ∙ length-replicate (length τ.recorded) false in
     let looking : Looking τ is table dynamic clear room = record {
       rows = q.rows;
       short = q.short;
       few = q.few;
       wide = omega (arith, wide);
       cleared = cl ∙ ap (λ (m : ℕ). replicate m false) many;
-      dynamic-all = q.dynamic-all;
+      dynamic_all = q.dynamic_all;
     } in
     let x = finds p.settings τ is b i d p.eligible looking p.shaped p.values at h in
-    written_as (ap numbersLine (rw (x.dest, x.marks, x.members, x.turns, x.looked) refl)) w
+    written_as (ap numbers_line (rw (x.dest, x.marks, x.members, x.turns, x.looked) refl)) w

@@ -2,14 +2,14 @@
 #![tactic(auto)]
 
 ghost use Rattle.std.specs.Prelude.{◌+◌, ◌*◌, ◌≤◌, length};
-ghost use Rattle.mir.specs.Most.{mostValues, mostSlots};
+ghost use Rattle.mir.specs.Most.{most_values, most_slots};
 ghost use Rattle.bytes_sections.specs.Decode.{mosts, whole_of};
 ghost use Rattle.text.specs.Written.{Written};
-ghost use Rattle.text_lines.specs.Lines.{numbersLine};
+ghost use Rattle.text_lines.specs.Lines.{numbers_line};
 ghost use Rattle.pass_input.specs.Accepted.{Accepted};
-ghost use Rattle.pass_families.specs.Widths.{lineWidth, longestText};
-ghost use Rattle.pass_families.specs.Lines.{markedFrom, familiesOf};
-ghost use Rattle.pass_families.specs.Shown.{foundNumbers, FindsBuild, PutsBuild, PutsOne, PutsAll, PutsBlock, PutsBlocks, PutsRoutine};
+ghost use Rattle.pass_families.specs.Widths.{line_width, longest_text};
+ghost use Rattle.pass_families.specs.Lines.{marked_from, families_of};
+ghost use Rattle.pass_families.specs.Shown.{found_numbers, FindsBuild, PutsBuild, PutsOne, PutsAll, PutsBlock, PutsBlocks, PutsRoutine};
 
 use bytes_field::Bounds;
 use bytes_sections::Checked;
@@ -80,7 +80,7 @@ fn find_build(
 // Lists the marked values at the head of a line, the least first; how many they are.
 fn list_members(family: &[bool], line: &mut [u64]) -> usize
     requires { length family.now ≤ length line.old }
-    ensures listed { Written (markedFrom 0 family.now) 0 line.old line.new result }
+    ensures listed { Written (marked_from 0 family.now) 0 line.old line.new result }
     ensures upper_bound { result ≤ length family.now }
 {
     let mut n = 0;
@@ -97,9 +97,9 @@ fn list_members(family: &[bool], line: &mut [u64]) -> usize
 
 // The line of what was found of a build, whose family has these marks; where `named`, with its members. Answers its length.
 fn put_line(at: Spot, found: BuildFamily, family: &[bool], named: bool, text: &mut [u8]) -> usize
-    requires { length family.now ≤ mostValues }
-    ensures written { Written (numbersLine (foundNumbers named at.block at.instruction found family.now)) 0 text.old text.new result }
-    ensures upper_bound { result ≤ lineWidth }
+    requires { length family.now ≤ most_values }
+    ensures written { Written (numbers_line (found_numbers named at.block at.instruction found family.now)) 0 text.old text.new result }
+    ensures upper_bound { result ≤ line_width }
 {
     let mut line: [u64; LINE] = [0; LINE];
     line[0] = at.block as u64;
@@ -126,10 +126,10 @@ fn put_build(
     named: bool,
     text: &mut [u8],
 ) -> usize
-    requires { length dynamic.now ≤ mostValues }
+    requires { length dynamic.now ≤ most_values }
     ensures written { PutsBuild named s.now facts.now at.block at.instruction at.slot shapes.now copies.now dynamic.now
         text.old text.new result }
-    ensures upper_bound { result ≤ lineWidth }
+    ensures upper_bound { result ≤ line_width }
 {
     let mut family: [bool; most::VALUES] = [false; most::VALUES];
     let mut members: [u16; most::VALUES] = [0; most::VALUES];
@@ -158,10 +158,10 @@ fn put_one(
     named: bool,
     text: &mut [u8],
 ) -> usize
-    requires { length dynamic.now ≤ mostValues }
+    requires { length dynamic.now ≤ most_values }
     ensures written { PutsOne named s.now facts.now at.block at.instruction at.slot shapes.now copies.now dynamic.now
         text.old text.new result }
-    ensures upper_bound { result ≤ lineWidth }
+    ensures upper_bound { result ≤ line_width }
 {
     match bytes_index::kind(facts, at.slot) {
         kind::MAKE_TUPLE | kind::MAKE_STRUCT | kind::MAKE_FIXED_ARRAY => {
@@ -183,10 +183,10 @@ fn put_all(
     named: bool,
     text: &mut [u8],
 ) -> usize
-    requires { (length dynamic.now ≤ mostValues) × (from.slot + count ≤ mostSlots) × (lineWidth * count ≤ length text.old) }
+    requires { (length dynamic.now ≤ most_values) × (from.slot + count ≤ most_slots) × (line_width * count ≤ length text.old) }
     ensures written { PutsAll named s.now facts.now from.block from.slot count shapes.now copies.now dynamic.now
         text.old text.new result }
-    ensures upper_bound { result ≤ lineWidth * count }
+    ensures upper_bound { result ≤ line_width * count }
 {
     let mut to = 0;
     let mut j: u16 = 0;
@@ -223,10 +223,10 @@ fn put_block(
     named: bool,
     text: &mut [u8],
 ) -> usize
-    requires { (b.next ≤ mostValues) × (from.slot + count ≤ mostSlots) × (lineWidth * count ≤ length text.old) }
+    requires { (b.next ≤ most_values) × (from.slot + count ≤ most_slots) × (line_width * count ≤ length text.old) }
     ensures written { PutsBlock named s.now b facts.now from.block from.slot count shapes.now
         text.old text.new result }
-    ensures upper_bound { result ≤ lineWidth * count }
+    ensures upper_bound { result ≤ line_width * count }
 {
     let mut copies: [u16; fold_family::SIZE] = [0; fold_family::SIZE];
     let mut marks: [bool; most::VALUES] = [false; most::VALUES];
@@ -244,9 +244,9 @@ fn put_blocks(
     named: bool,
     text: &mut [u8],
 ) -> usize
-    requires { Accepted s.now facts.now b × (longestText ≤ length text.old) }
+    requires { Accepted s.now facts.now b × (longest_text ≤ length text.old) }
     ensures written { PutsBlocks named s.now b facts.now shapes.now text.old text.new result }
-    ensures upper_bound { result ≤ longestText }
+    ensures upper_bound { result ≤ longest_text }
 {
     let mut to = 0;
     let mut slot: u16 = 0;
@@ -267,9 +267,9 @@ fn put_blocks(
 
 // The lines of an accepted routine, the shapes of whose values' recorded types are found first.
 fn put_routine(s: &[u8], b: Bounds, facts: &[u16], named: bool, text: &mut [u8]) -> usize
-    requires { Accepted s.now facts.now b × (longestText ≤ length text.old) }
+    requires { Accepted s.now facts.now b × (longest_text ≤ length text.old) }
     ensures written { PutsRoutine named s.now b facts.now text.old text.new result }
-    ensures upper_bound { result ≤ longestText }
+    ensures upper_bound { result ≤ longest_text }
 {
     let mut shapes: [u8; most::VALUES] = [0; most::VALUES];
     let mut eligible: [bool; most::VALUES] = [false; most::VALUES];
@@ -288,9 +288,9 @@ fn put_routine(s: &[u8], b: Bounds, facts: &[u16], named: bool, text: &mut [u8])
 
 // Writes what is to be printed of some bytes, where `named` each line with the members of its family, and returns its length.
 pub fn families_text(s: &[u8], named: bool, text: &mut [u8]) -> usize
-    requires { longestText ≤ length text.old }
-    ensures written { Written (familiesOf named (whole_of mosts s.now)) 0 text.old text.new result }
-    ensures upper_bound { result ≤ longestText }
+    requires { longest_text ≤ length text.old }
+    ensures written { Written (families_of named (whole_of mosts s.now)) 0 text.old text.new result }
+    ensures upper_bound { result ≤ longest_text }
 {
     let mut facts: [u16; bytes_index::SIZE] = [0; bytes_index::SIZE];
     match bytes_read::read_routine(s, &mut facts) {

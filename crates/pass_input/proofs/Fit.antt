@@ -17,17 +17,17 @@ flag : {A : Type 0} → Option A → ℕ
 flag none = 0
 flag (some a) = 1
 
-none-some : {A : Type 0} {a : A} → none ≡ some a → ⊥
+none_some : {A : Type 0} {a : A} → none ≡ some a → ⊥
 unfolding flag
-none-some q = let z : ◌≡◌ {A = ℕ} 0 1 = ap flag q in absurd (omega arith)
+none_some q = let z : ◌≡◌ {A = ℕ} 0 1 = ap flag q in absurd (omega arith)
 
 -- what each has that there is
-pub each-some : {A : Type 0} (P : A → Type 0) (os : List (Option A)) → Each (FitOption P) os → (v : ℕ) (a : A) → get_or os v none ≡ some a → P a
-each-some P [] h v a e = absurd (none-some e)
-each-some P (none ∷ os) h zero a e = absurd (none-some e)
-each-some P (some x ∷ os) h zero a e = let z : x ≡ a = cc in rw (← z) h.0
-each-some P (o ∷ os) h (suc v) a e = each-some P os h.1 v a e
+pub each_some : {A : Type 0} (P : A → Type 0) (os : List (Option A)) → Each (FitOption P) os → (v : ℕ) (a : A) → get_or os v none ≡ some a → P a
+each_some P [] h v a e = absurd (none_some e)
+each_some P (none ∷ os) h zero a e = absurd (none_some e)
+each_some P (some x ∷ os) h zero a e = let z : x ≡ a = cc in rw (← z) h.0
+each_some P (o ∷ os) h (suc v) a e = each_some P os h.1 v a e
 
 -- how many instructions a block has
-pub fit-short : (m : Mosts) (b : Bounds) (x : Block) → Fitting m b x → length x.instructions ≤ m.block
-fit-short m b x (fitting total seen l h) = h.own
+pub fit_short : (m : Mosts) (b : Bounds) (x : Block) → Fitting m b x → length x.instructions ≤ m.block
+fit_short m b x (fitting total seen l h) = h.own

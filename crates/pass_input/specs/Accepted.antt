@@ -7,7 +7,7 @@ use Rattle.mir.specs.Routine.{Routine}
 use Rattle.bytes_sections.specs.Decode.{mosts, whole_of}
 use Rattle.bytes_sections.specs.Facts.{FactsOf}
 use Rattle.fold.specs.declared.Settings.{Settings}
-use Rattle.rewrite.specs.Run.{choice, rewrittenBlocks}
+use Rattle.rewrite.specs.Run.{choice, rewritten_blocks}
 use Rattle.rewrite_progress.specs.Chosen.{Follows}
 
 -- the input is a routine, and its parts are found by the table
@@ -16,7 +16,7 @@ pub record Accepted (s facts : List ℕ) (b : Bounds) : Type 0 where
   pub used : ℕ
   pub reads : whole_of mosts s ≡ ok routine used
   pub bytes : Bytes s
-  pub facts-of : FactsOf s facts b routine
+  pub facts_of : FactsOf s facts b routine
 
 -- which builds are folded and which blocks are skipped, too
 pub record Chosen (σ : Settings) (s facts : List ℕ) (b : Bounds) (flags : List Bool) : Type 0 where
@@ -28,4 +28,4 @@ pub record Chosen (σ : Settings) (s facts : List ℕ) (b : Bounds) (flags : Lis
 pub record Unchanged (σ : Settings) (s facts : List ℕ) (b : Bounds) : Type 0 where
   pub accepted : Accepted s facts b
   pub small : σ.most ≤ 16
-  pub still : (rewrittenBlocks σ accepted.routine).changed ≡ false
+  pub still : (rewritten_blocks σ accepted.routine).changed ≡ false

@@ -13,21 +13,21 @@ use Rattle.rewrite.specs.Outcome as O
 use Rattle.rewrite.specs.Outcome.{outcome}
 use Rattle.rewrite.specs.declared.Counts.{Counts}
 use Rattle.rewrite.proofs.Outcomes.{too_large}
-use Rattle.shelf.specs.Answer.{refused, withReason, answer as given}
+use Rattle.shelf.specs.Answer.{refused, with_reason, answer as given}
 use Rattle.pass_numbers.specs.declared.Totals.{Totals}
-use Rattle.pass_numbers.specs.Totals.{numbers64, highest64, added, withCounts}
+use Rattle.pass_numbers.specs.Totals.{numbers64, highest64, added, with_counts}
 
 -- a refusal has no reason
-pub given-refused : (σ : Settings) (room : ℕ) (s : List ℕ) (n o : ℕ) → outcome σ room s ≡ O.refused n o → given σ room s ≡ refused n o
-unfolding given withReason
-given-refused σ room s n o e = rw e
+pub given_refused : (σ : Settings) (room : ℕ) (s : List ℕ) (n o : ℕ) → outcome σ room s ≡ O.refused n o → given σ room s ≡ refused n o
+unfolding given with_reason
+given_refused σ room s n o e = rw e
 
 -- which settings are refused with 12 does not matter
-pub same-settings : (t u : Bool) (most r room : ℕ) (s : List ℕ) → (most ≤ 16 → r ≡ most) → (16 < most → 16 < r) → given (record { tuples = t; structs = u; most = r }) room s ≡ given (record { tuples = t; structs = u; most = most }) room s
-same-settings t u most r room s f g = split (ltb 16 most) refl
+pub same_settings : (t u : Bool) (most r room : ℕ) (s : List ℕ) → (most ≤ 16 → r ≡ most) → (16 < most → 16 < r) → given (record { tuples = t; structs = u; most = r }) room s ≡ given (record { tuples = t; structs = u; most = most }) room s
+same_settings t u most r room s f g = split (ltb 16 most) refl
   where
     large : (n : ℕ) → 16 < n → given (record { tuples = t; structs = u; most = n }) room s ≡ refused 12 0
-    large n h = given-refused (record { tuples = t; structs = u; most = n }) room s 12 0 (too_large (record { tuples = t; structs = u; most = n }) room s h)
+    large n h = given_refused (record { tuples = t; structs = u; most = n }) room s 12 0 (too_large (record { tuples = t; structs = u; most = n }) room s h)
 
     split : (x : Bool) → ltb 16 most ≡ x → given (record { tuples = t; structs = u; most = r }) room s ≡ given (record { tuples = t; structs = u; most = most }) room s
     split true e = large r (g (ltb-true 16 most e)) ∙ sym (large most (ltb-true 16 most e))
@@ -49,13 +49,13 @@ pub ten : (l₀ l₁ l₂ l₃ l₄ l₅ l₆ l₇ l₈ l₉ m : List ℕ) (a b 
 ten l₀ l₁ l₂ l₃ l₄ l₅ l₆ l₇ l₈ l₉ m a b c d e f g h i j p q r s t u v w x y =
     y ∙ ap (λ l. set l 9 j) (x ∙ ap (λ l. set l 8 i) (w ∙ ap (λ l. set l 7 h) (v ∙ ap (λ l. set l 6 g) (u ∙ ap (λ l. set l 5 f) (t ∙ ap (λ l. set l 4 e) (s ∙ ap (λ l. set l 3 d) (r ∙ ap (λ l. set l 2 c) (q ∙ ap (λ l. set l 1 b) p))))))))
 
-pub added-all : (total n : ℕ) → total + n < numbers64 → added total n ≡ total + n
+pub added_all : (total n : ℕ) → total + n < numbers64 → added total n ≡ total + n
 unfolding added
-added-all total n h = rw (lt-ltb _ _ h)
+added_all total n h = rw (lt-ltb _ _ h)
 
-pub added-most : (total n : ℕ) → numbers64 ≤ total + n → added total n ≡ highest64
+pub added_most : (total n : ℕ) → numbers64 ≤ total + n → added total n ≡ highest64
 unfolding added
-added-most total n h = rw (le-ltb _ _ h)
+added_most total n h = rw (le-ltb _ _ h)
 
 -- totals that are numbers of 64 bits
 pub record Fit (t : Totals) : Type 0 where
@@ -67,11 +67,11 @@ pub record Fit (t : Totals) : Type 0 where
 
 -- nothing added is nothing changed
 added_none : (total : ℕ) → total < numbers64 → added total 0 ≡ total
-added_none total h = added-all total 0 (omega (arith, h)) ∙ omega arith
+added_none total h = added_all total 0 (omega (arith, h)) ∙ omega arith
 
 abbrev none : Counts
 none = record { builds = 0; extracts = 0; inserts = 0; assigns = 0; materializations = 0 }
 
-pub with_none : (t : Totals) → Fit t → withCounts t none ≡ t
-unfolding withCounts
+pub with_none : (t : Totals) → Fit t → with_counts t none ≡ t
+unfolding with_counts
 with_none t f = rw (added_none _ f.builds, added_none _ f.extracts, added_none _ f.inserts, added_none _ f.assigns, added_none _ f.materializations)

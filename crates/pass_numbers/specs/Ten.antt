@@ -3,7 +3,7 @@ use Rattle.std.specs.Prelude.{ℕ, List, [], ◌∷◌}
 use Rattle.pass_numbers.specs.declared.Numbers.{Numbers}
 
 -- the numbers in the order in which the entry gives them
-abbrev pub tenNumbers : Numbers → List ℕ
-tenNumbers n =
+abbrev pub ten_numbers : Numbers → List ℕ
+ten_numbers n =
     n.number ∷ n.offset ∷ n.result ∷ n.builds ∷ n.extracts ∷ n.inserts ∷ n.assigns ∷ n.materializations ∷ n.reason ∷ n.size ∷
     []

@@ -15,8 +15,8 @@ unfoldable pub added : ℕ → ℕ → ℕ
 added total n = cond (ltb (total + n) numbers64) (total + n) highest64
 
 -- each total with its count
-unfoldable pub withCounts : Totals → Counts → Totals
-withCounts t c =
+unfoldable pub with_counts : Totals → Counts → Totals
+with_counts t c =
     record {
       builds = added t.builds c.builds;
       extracts = added t.extracts c.extracts;

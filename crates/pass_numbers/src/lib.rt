@@ -3,10 +3,10 @@
 
 ghost use Rattle.std.specs.Prelude.{◌≡◌, List, ℕ, ◌≤◌, ◌<◌, set};
 ghost use Rattle.std.proofs.lemmas.List.Edits.{sets};
-ghost use Rattle.rewrite.specs.Outcome.{settingsOf};
+ghost use Rattle.rewrite.specs.Outcome.{settings_of};
 ghost use Rattle.shelf.specs.Answer.{answer as given};
-ghost use Rattle.pass_numbers.specs.Ten.{tenNumbers};
-ghost use Rattle.pass_numbers.specs.Totals.{added, withCounts};
+ghost use Rattle.pass_numbers.specs.Ten.{ten_numbers};
+ghost use Rattle.pass_numbers.specs.Totals.{added, with_counts};
 
 use fold::Settings;
 use rewrite::Counts;
@@ -77,7 +77,7 @@ fn most_of(most: u64) -> u8
 
 // A flag is on when its number is not 0.
 pub fn settings_of(tuples: u64, structs: u64, most: u64) -> Settings
-    ensures { (room : ℕ) (s : List ℕ) → given result room s ≡ given (settingsOf tuples structs most) room s }
+    ensures { (room : ℕ) (s : List ℕ) → given result room s ≡ given (settings_of tuples structs most) room s }
 {
     let small = most_of(most);
     Settings {
@@ -97,7 +97,7 @@ fn put_number(answer: &mut [u64], k: usize, x: u64)
 
 // The ten numbers, from the first place on, as far as there is room for them.
 pub fn put_numbers(answer: &mut [u64], n: Numbers)
-    ensures { answer.new ≡ sets answer.old 0 (tenNumbers n) }
+    ensures { answer.new ≡ sets answer.old 0 (ten_numbers n) }
 {
     put_number(answer, NUMBER, n.number);
     put_number(answer, OFFSET, n.offset);
@@ -123,7 +123,7 @@ fn add(total: u64, n: u32) -> u64
 
 // The totals with the counts of one more run.
 pub fn with_counts(t: Totals, c: Counts) -> Totals
-    ensures { result ≡ withCounts t c }
+    ensures { result ≡ with_counts t c }
 {
     let builds = add(t.builds, c.builds);
     let extracts = add(t.extracts, c.extracts);

@@ -3,17 +3,17 @@
 use Rattle.std.specs.Prelude.{ℕ, List, [], ◌∷◌}
 use Rattle.bytes_wire.specs.Value.{bool_byte}
 use Rattle.shelf.specs.Answer.{Answer, refused, lowered}
-use Rattle.text_lines.specs.Lines.{refusedLine, loweredLines}
+use Rattle.text_lines.specs.Lines.{refused_line, lowered_lines}
 
 -- the text of an answer
 unfoldable pub text_of : Answer → List ℕ
-text_of (refused n o) = refusedLine n o
-text_of (lowered w c k bytes) = loweredLines (bool_byte w ∷ c.builds ∷ c.extracts ∷ c.inserts ∷ c.assigns ∷ c.materializations ∷ k ∷ []) bytes
+text_of (refused n o) = refused_line n o
+text_of (lowered w c k bytes) = lowered_lines (bool_byte w ∷ c.builds ∷ c.extracts ∷ c.inserts ∷ c.assigns ∷ c.materializations ∷ k ∷ []) bytes
 
 -- "keeps the first 65,536 bytes of standard input and lends 65,536 for output"
-abbrev pub lentBytes : ℕ
-lentBytes = 65536
+abbrev pub lent_bytes : ℕ
+lent_bytes = 65536
 
 -- the most characters of a text
-abbrev pub longestText : ℕ
-longestText = 131328
+abbrev pub longest_text : ℕ
+longest_text = 131328

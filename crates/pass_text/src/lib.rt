@@ -5,7 +5,7 @@ ghost use Rattle.std.specs.Prelude.{◌≤◌};
 ghost use Rattle.shelf.specs.Answer.{answer};
 ghost use Rattle.text.specs.Written.{Written};
 ghost use Rattle.fold.specs.Scalarizable.{defaults};
-ghost use Rattle.pass_text.specs.Text.{text_of, lentBytes, longestText};
+ghost use Rattle.pass_text.specs.Text.{text_of, lent_bytes, longest_text};
 
 // How much is lent for the output, and how long a text can be: two digits for each byte of it, and what stands before them.
 const LENT: usize = 65536;
@@ -19,8 +19,8 @@ const MOST: u64 = 8;
 
 // Writes what is to be printed of some bytes, and returns its length.
 pub fn lower_text(s: &[u8], text: &mut [u8]) -> usize
-    ensures written { Written (text_of (answer defaults lentBytes s.now)) 0 text.old text.new result }
-    ensures upper_bound { result ≤ longestText }
+    ensures written { Written (text_of (answer defaults lent_bytes s.now)) 0 text.old text.new result }
+    ensures upper_bound { result ≤ longest_text }
 {
     let mut output = [0u8; LENT];
     let mut numbers: [u64; 10] = [0; 10];

@@ -9,63 +9,63 @@ use lib.ListN.{length, get_or, take, drop, replicate, length-append, get_or-appe
 use lib.Seq.{sets, sets-eq, length-sets, take_all}
 use lib.Dec.{eqb}
 use Rattle.bytes_field.specs.declared.Bounds.{Bounds}
-use Rattle.bytes_index.specs.Table.{recordedIn}
-use Rattle.bytes_emit.proofs.Sets.{sets-append}
+use Rattle.bytes_index.specs.Table.{recorded_in}
+use Rattle.bytes_emit.proofs.Sets.{sets_append}
 use Rattle.mir.specs.Routine.{Routine}
 use Rattle.bytes_sections.specs.Encode.{encode}
 use Rattle.fold.specs.declared.Settings.{Settings}
 use Rattle.fold.specs.Family.{Marks}
 use Rattle.rewrite.specs.declared.Counts.{Counts}
-use Rattle.rewrite.specs.Run.{Rewritten, choice, rewrittenBlocks, rewriteWith, rewrite}
+use Rattle.rewrite.specs.Run.{Rewritten, choice, rewritten_blocks, rewrite_with, rewrite}
 use Rattle.mir.specs.Lookup.{types_in}
 use Rattle.rewrite.specs.Outcome.{outcome}
 use Rattle.rewrite.specs.Outcome as O
-use Rattle.rewrite.proofs.Bound.{block-count}
+use Rattle.rewrite.proofs.Bound.{block_count}
 use Rattle.rewrite.proofs.Outcomes.{clashing, too_long, accepted}
 use Rattle.rewrite.proofs.Result.{result_count}
 use Rattle.bytes_emit.specs.Written.{Writes}
-use Rattle.rewrite_progress.specs.Effect.{typeNumbers as freshNumbers, Low, PutLow}
+use Rattle.rewrite_progress.specs.Effect.{type_numbers as fresh_numbers, Low, PutLow}
 use Rattle.rewrite_progress.specs.declared.Progress.{Progress}
 use Rattle.rewrite_progress.specs.declared.Put.{Put}
-use Rattle.rewrite_progress.proofs.Laws.{numbers-length}
-use Rattle.rewrite_head.specs.Head.{headBytes, Tabled}
+use Rattle.rewrite_progress.proofs.Laws.{numbers_length}
+use Rattle.rewrite_head.specs.Head.{head_bytes, Tabled}
 use Rattle.rewrite_opening.specs.Opens.{Opens}
-use Rattle.shelf.specs.Reads.{withDebug}
-use Rattle.shelf.specs.Reason.{shelfReason}
+use Rattle.shelf.specs.Reads.{with_debug}
+use Rattle.shelf.specs.Reason.{shelf_reason}
 use Rattle.shelf.specs.Answer.{refused, lowered, answer as given}
 use Rattle.shelf_test.specs.declared.ShelfReason.{ShelfReason}
-use Rattle.shelf_test.specs.Number.{numberOfReason}
+use Rattle.shelf_test.specs.Number.{number_of_reason}
 use Rattle.shelf_test.specs.Shelved.{Shelved}
-use Rattle.pass_numbers.proofs.Laws.{given-refused}
+use Rattle.pass_numbers.proofs.Laws.{given_refused}
 use Rattle.pass_answers.specs.declared.Answer.{Answer}
-use Rattle.pass_answers.specs.Numbers.{acceptance, asAnswer, Answers}
+use Rattle.pass_answers.specs.Numbers.{acceptance, as_answer, Answers}
 use Rattle.pass_answers.proofs.Laws.{answers}
 use Rattle.pass_input.specs.Accepted.{Accepted, Chosen}
-use Rattle.pass_input.proofs.Accepted.{next-is, next-few, recorded-many, canon, types-end, few-fresh}
-use Rattle.pass_answers.proofs.Given.{given-lowered}
+use Rattle.pass_input.proofs.Accepted.{next_is, next_few, recorded_many, canon, types_end, few_fresh}
+use Rattle.pass_answers.proofs.Given.{given_lowered}
 use Rattle.pass_shelf.proofs.Shelf.{shelved}
-use Rattle.pass_blocks.specs.Runs.{body_of, Runs, Begun, rowPlaces}
-use Rattle.pass_write.specs.Written.{freshPlaces, longestHead, head_of, Measured, Headed}
+use Rattle.pass_blocks.specs.Runs.{body_of, Runs, Begun, row_places}
+use Rattle.pass_write.specs.Written.{fresh_places, longest_head, head_of, Measured, Headed}
 
 -- the types of the fresh numbers are all that stands behind the rows
-pub fresh-part : (work : List ℕ) → length work ≤ rowPlaces + freshPlaces → take freshPlaces (drop rowPlaces work) ≡ drop rowPlaces work
-fresh-part work l = take_all freshPlaces (drop rowPlaces work) (omega (arith, length-drop rowPlaces work))
+pub fresh_part : (work : List ℕ) → length work ≤ row_places + fresh_places → take fresh_places (drop row_places work) ≡ drop row_places work
+fresh_part work l = take_all fresh_places (drop row_places work) (omega (arith, length-drop row_places work))
 
 -- ## The bytes
 
-encode-split : (w : Rewritten) (r : Routine) → length w.blocks ≡ length r.blocks → encode (rewriteWith w r) ≡ head_of r w ++ body_of w
-unfolding encode headBytes rewriteWith
-encode-split w r e = rw e (simp (append_assoc))
+encode_split : (w : Rewritten) (r : Routine) → length w.blocks ≡ length r.blocks → encode (rewrite_with w r) ≡ head_of r w ++ body_of w
+unfolding encode head_bytes rewrite_with
+encode_split w r e = rw e (simp (append_assoc))
 
 -- as many blocks as before
-as_many : (σ : Settings) (r : Routine) → length (rewrittenBlocks σ r).blocks ≡ length r.blocks
-unfolding rewrittenBlocks
-as_many σ r = block-count σ (types_in r) (choice σ r) r.next r.blocks
+as_many : (σ : Settings) (r : Routine) → length (rewritten_blocks σ r).blocks ≡ length r.blocks
+unfolding rewritten_blocks
+as_many σ r = block_count σ (types_in r) (choice σ r) r.next r.blocks
 
 -- what stands before the blocks, and the blocks
-rewritten-bytes : (σ : Settings) (r : Routine) → encode (rewrite σ r) ≡ head_of r (rewrittenBlocks σ r) ++ body_of (rewrittenBlocks σ r)
+rewritten_bytes : (σ : Settings) (r : Routine) → encode (rewrite σ r) ≡ head_of r (rewritten_blocks σ r) ++ body_of (rewritten_blocks σ r)
 unfolding rewrite
-rewritten-bytes σ r = encode-split (rewrittenBlocks σ r) r (as_many σ r)
+rewritten_bytes σ r = encode_split (rewritten_blocks σ r) r (as_many σ r)
 
 -- a run of stores from the first place on is what stands there
 sets_first : (zeros ns : List ℕ) (k : ℕ) → length ns ≤ length zeros → k < length ns → get_or (sets zeros 0 ns) k 0 ≡ get_or ns k 0
@@ -74,9 +74,9 @@ sets_first zeros ns k l h =
 
 -- a run into a buffer measures
 pub measured : {σ : Settings} {s facts : List ℕ} {b : Bounds} {flags : List Bool} (h : Chosen σ s facts b flags) (buffer zeros body fresh fresh' : List ℕ) (dropped : Marks) (r : Put) (p : Progress)
-    → freshPlaces ≤ length zeros
+    → fresh_places ≤ length zeros
     → PutLow 4300 r
-    → Runs (rewrittenBlocks σ h.accepted.routine) 0 buffer zeros (replicate 256 false) body fresh dropped r
+    → Runs (rewritten_blocks σ h.accepted.routine) 0 buffer zeros (replicate 256 false) body fresh dropped r
     → r ≡ Put.Went p
     → fresh' ≡ fresh
     → Measured σ s facts b flags fresh' dropped body p
@@ -87,11 +87,11 @@ measured h buffer zeros body fresh fresh' dropped r p l low q e f =
 -- ## The answer
 
 module _ {σ : Settings} {s facts : List ℕ} {b : Bounds} {flags : List Bool} (h : Chosen σ s facts b flags) (out : List ℕ) where
-  pub answers-clash : (rewrittenBlocks σ h.accepted.routine).clash ≡ true → Answers (given σ (length out) s) Answer.Clash out out
-  answers-clash e = answers _ (refused 10 0) _ out out (given-refused σ (length out) s 10 0 (clashing σ (length out) s h.small h.accepted.routine h.accepted.used h.accepted.reads e)) refl refl
+  pub answers_clash : (rewritten_blocks σ h.accepted.routine).clash ≡ true → Answers (given σ (length out) s) Answer.Clash out out
+  answers_clash e = answers _ (refused 10 0) _ out out (given_refused σ (length out) s 10 0 (clashing σ (length out) s h.small h.accepted.routine h.accepted.used h.accepted.reads e)) refl refl
 
 -- the numbers of a run that went through
-numbers_of : (r : Answer) (w : Bool) (c d : Counts) (k n m : ℕ) → asAnswer r ≡ acceptance (not (eqb c.builds 0)) c k n → c ≡ d → w ≡ not (eqb d.builds 0) → n ≡ m → asAnswer r ≡ acceptance w d k m
+numbers_of : (r : Answer) (w : Bool) (c d : Counts) (k n m : ℕ) → as_answer r ≡ acceptance (not (eqb c.builds 0)) c k n → c ≡ d → w ≡ not (eqb d.builds 0) → n ≡ m → as_answer r ≡ acceptance w d k m
 numbers_of r w c d k n m z e f g = z ∙ rw (e, f, g)
 
 module _ {σ : Settings} {s facts : List ℕ} {b : Bounds} {flags : List Bool} {fresh : List ℕ} {dropped : Marks} {body : List ℕ} {p : Progress} (m : Measured σ s facts b flags fresh dropped body p) where
@@ -102,69 +102,69 @@ module _ {σ : Settings} {s facts : List ℕ} {b : Bounds} {flags : List Bool} {
   x = a.routine
 
   abbrev w : Rewritten
-  w = rewrittenBlocks σ x
+  w = rewritten_blocks σ x
 
   abbrev head : List ℕ
   head = head_of x w
 
-  pub many-few : b.next + p.fresh < 65536
-  many-few = omega (arith, next-few a, few-fresh a σ, m.ran.many)
+  pub many_few : b.next + p.fresh < 65536
+  many_few = omega (arith, next_few a, few_fresh a σ, m.ran.many)
 
   pub begun : Begun w body p.to
   begun = record { calm = m.ran.calm; buffer = m.buffer; written = m.ran.written; place = m.ran.place ∙ zero-add (length (body_of w)) }
 
-  pub tabled : Tabled (recordedIn facts) fresh b.next p.fresh x.recorded w.fresh
+  pub tabled : Tabled (recorded_in facts) fresh b.next p.fresh x.recorded w.fresh
   tabled =
-      let n = freshNumbers w.fresh in
-      let l : length n ≤ length m.zeros = omega (arith, numbers-length w.fresh, few-fresh a σ, m.room) in
+      let n = fresh_numbers w.fresh in
+      let l : length n ≤ length m.zeros = omega (arith, numbers_length w.fresh, few_fresh a σ, m.room) in
       record {
-        old = recorded-many a;
+        old = recorded_many a;
         new = sym m.ran.many;
-        known = a.facts-of.recorded;
-        long = omega (arith, next-few a, a.facts-of.long, length-drop 65 facts);
-        taken = λ k h. ap (λ t. get_or t k 0) m.ran.taken ∙ sets_first m.zeros n k l (omega (arith, m.ran.many, numbers-length w.fresh));
+        known = a.facts_of.recorded;
+        long = omega (arith, next_few a, a.facts_of.long, length-drop 65 facts);
+        taken = λ k h. ap (λ t. get_or t k 0) m.ran.taken ∙ sets_first m.zeros n k l (omega (arith, m.ran.many, numbers_length w.fresh));
       }
 
   -- what the writer of the head asks for
   abbrev pub opens : Opens s facts fresh b p.fresh p.to
-  opens = record { routine = x; types = w.fresh; reads = canon a; behind = types-end a; next = sym (next-is a); tabled = tabled; few = many-few; short = a.facts-of.short; low = m.low }
+  opens = record { routine = x; types = w.fresh; reads = canon a; behind = types_end a; next = sym (next_is a); tabled = tabled; few = many_few; short = a.facts_of.short; low = m.low }
 
   -- the head is written
-  abbrev pub headed : (out out₁ : List ℕ) (to : ℕ) → (to ≤ longestHead) × ((length head + p.to ≤ length out) × Writes head out out₁ 0 to) → Headed σ s facts b flags dropped body p out₁ to
+  abbrev pub headed : (out out₁ : List ℕ) (to : ℕ) → (to ≤ longest_head) × ((length head + p.to ≤ length out) × Writes head out out₁ 0 to) → Headed σ s facts b flags dropped body p out₁ to
   headed out out₁ to f = record { fresh = fresh; measured = m; before = out; near = f.0; room = f.1.0; written = f.1.1 }
 
   whole_length : length (encode (rewrite σ x)) ≡ length head + length (body_of w)
-  whole_length = ap length (rewritten-bytes σ x) ∙ length-append head (body_of w)
+  whole_length = ap length (rewritten_bytes σ x) ∙ length-append head (body_of w)
 
   module _ (out : List ℕ) where
     -- where it is too long
-    pub answers-long : (out' : List ℕ) → (length out < length head + p.to) × (out' ≡ out) → Answers (given σ (length out) s) Answer.NoRoom out out'
-    answers-long out' l = answers _ (refused 11 0) _ out out' (given-refused σ (length out) s 11 0 (too_long σ (length out) s m.chosen.small x a.used a.reads m.ran.calm (omega (arith, l.0, whole_length, begun.place)))) refl l.1
+    pub answers_long : (out' : List ℕ) → (length out < length head + p.to) × (out' ≡ out) → Answers (given σ (length out) s) Answer.NoRoom out out'
+    answers_long out' l = answers _ (refused 11 0) _ out out' (given_refused σ (length out) s 11 0 (too_long σ (length out) s m.chosen.small x a.used a.reads m.ran.calm (omega (arith, l.0, whole_length, begun.place)))) refl l.1
 
     module _ (l : length head + p.to ≤ length out) (out₁ out₂ : List ℕ) (to : ℕ) (h : Writes head out out₁ 0 to) (g : out₂ ≡ sets out₁ to (body_of w)) where
       -- where it has room, the output is the rewritten routine's bytes
       written_all : out₂ ≡ sets out 0 (head ++ body_of w)
       written_all =
-          let z : sets out 0 (head ++ body_of w) ≡ sets (sets out 0 head) (0 + length head) (body_of w) = sets-append out 0 head (body_of w) in
+          let z : sets out 0 (head ++ body_of w) ≡ sets (sets out 0 head) (0 + length head) (body_of w) = sets_append out 0 head (body_of w) in
           g ∙ ap (λ k. sets out₁ k (body_of w)) h.0 ∙ ap (λ t. sets t (0 + length head) (body_of w)) h.1 ∙ sym z
 
-      pub answers-written : (k : ShelfReason) (r : Answer) → numberOfReason k ≡ shelfReason withDebug x w → asAnswer r ≡ acceptance (not (eqb p.counts.builds 0)) p.counts (numberOfReason k) (to + p.to) → Answers (given σ (length out) s) r out out₂
-      answers-written k r f z =
+      pub answers_written : (k : ShelfReason) (r : Answer) → number_of_reason k ≡ shelf_reason with_debug x w → as_answer r ≡ acceptance (not (eqb p.counts.builds 0)) p.counts (number_of_reason k) (to + p.to) → Answers (given σ (length out) s) r out out₂
+      answers_written k r f z =
           let i : to + p.to ≡ length (encode (rewrite σ x)) = omega (arith, whole_length, begun.place, h.0) in
-          let j : out₂ ≡ sets out 0 (encode (rewrite σ x)) = written_all ∙ ap (sets out 0) (sym (rewritten-bytes σ x)) in
+          let j : out₂ ≡ sets out 0 (encode (rewrite σ x)) = written_all ∙ ap (sets out 0) (sym (rewritten_bytes σ x)) in
           let o : outcome σ (length out) s ≡ O.lowered w.changed w.counts (encode (rewrite σ x)) = accepted σ (length out) s m.chosen.small x a.used a.reads m.ran.calm (omega (arith, whole_length, begun.place)) in
-          answers _ (lowered w.changed w.counts (numberOfReason k) (encode (rewrite σ x))) r out out₂ (given-lowered σ (length out) s x a.used (numberOfReason k) _ _ _ a.reads f o) (numbers_of r w.changed p.counts w.counts (numberOfReason k) (to + p.to) (length (encode (rewrite σ x))) z m.ran.counted (result_count σ x) i) j
+          answers _ (lowered w.changed w.counts (number_of_reason k) (encode (rewrite σ x))) r out out₂ (given_lowered σ (length out) s x a.used (number_of_reason k) _ _ _ a.reads f o) (numbers_of r w.changed p.counts w.counts (number_of_reason k) (to + p.to) (length (encode (rewrite σ x))) z m.ran.counted (result_count σ x) i) j
 
       -- and the shelf test sees it so
-      pub shelved-written : (next : ℕ) → next ≡ b.next + p.fresh → Shelved s b facts out₂ to next dropped x w
-      shelved-written next en =
+      pub shelved_written : (next : ℕ) → next ≡ b.next + p.fresh → Shelved s b facts out₂ to next dropped x w
+      shelved_written next en =
           let i : length (head ++ body_of w) ≤ length out = omega (arith, length-append head (body_of w), begun.place) in
           shelved m.chosen to next out out₂ (replicate 256 false) dropped (h.0 ∙ zero-add (length head)) (en ∙ ap (λ k. b.next + k) m.ran.many) (as_many σ x) i written_all refl m.ran.marks
 
 -- behind the head there is room for the blocks
-pub room-behind : {σ : Settings} {s facts : List ℕ} {b : Bounds} {flags : List Bool} {dropped : Marks} {body : List ℕ} {p : Progress} {out : List ℕ} {to : ℕ}
+pub room_behind : {σ : Settings} {s facts : List ℕ} {b : Bounds} {flags : List Bool} {dropped : Marks} {body : List ℕ} {p : Progress} {out : List ℕ} {to : ℕ}
     → Headed σ s facts b flags dropped body p out to
     → to + p.to ≤ length out
-room-behind {σ} h =
+room_behind {σ} h =
     let x = h.measured.chosen.accepted.routine in
-    omega (arith, h.room, h.written.0, ap length h.written.1, length-sets h.before 0 (head_of x (rewrittenBlocks σ x)))
+    omega (arith, h.room, h.written.0, ap length h.written.1, length-sets h.before 0 (head_of x (rewritten_blocks σ x)))

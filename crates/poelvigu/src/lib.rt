@@ -5,7 +5,7 @@
 ghost use Rattle.std.specs.Prelude.{◌≡◌};
 ghost use Rattle.bytes_sections.specs.Decode.{mosts, whole_of};
 ghost use Rattle.bytes_sections.specs.Index.{answered, verdict};
-ghost use Rattle.rewrite.specs.Outcome.{settingsOf};
+ghost use Rattle.rewrite.specs.Outcome.{settings_of};
 ghost use Rattle.pass.specs.Promise.{Lowers};
 
 // Whether a byte string is a routine.
@@ -26,7 +26,7 @@ pub extern "C" fn poelvigu_lower(
     most: u64,
     answer: &mut [u64],
 )
-    ensures { Lowers (settingsOf tuples structs most)
+    ensures { Lowers (settings_of tuples structs most)
         input.now output.old output.new answer.old answer.new }
 {
     pass::lower(input, output, tuples, structs, most, answer);

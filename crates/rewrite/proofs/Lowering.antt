@@ -13,14 +13,14 @@ use Rattle.mir.specs.Syntax.{Instruction, Terminator, Jump, If, BranchCmp, Retur
 use Rattle.mir.specs.Routine.{Routine}
 use Rattle.fold.specs.declared.Settings.{Settings}
 use Rattle.mir.specs.Lookup.{Types, types_in}
-use Rattle.mir.specs.Phis.{behindPhis, phisOf}
-use Rattle.rewrite.specs.State.{AggStates, noStates}
+use Rattle.mir.specs.Phis.{behind_phis, phis_of}
+use Rattle.rewrite.specs.State.{AggStates, no_states}
 use Rattle.rewrite.specs.Step.{Piece, kept, left, assigned, step}
-use Rattle.rewrite.specs.Run.{Walked, ends, returned, finish, glue, walk, Rewritten, Choice, blockThen, skipThen, one_block, allBlocks, choice, rewrittenBy, rewrittenBlocks, rewriteWith, rewrite}
-use Rattle.rewrite.specs.Sum.{instructionCount, without, beforeEnd, leftOut, rebuilt, leftOutBlock, leftOutBlocks, rebuiltBlock, rebuiltBlocks}
+use Rattle.rewrite.specs.Run.{Walked, ends, returned, finish, glue, walk, Rewritten, Choice, block_then, skip_then, one_block, all_blocks, choice, rewritten_by, rewritten_blocks, rewrite_with, rewrite}
+use Rattle.rewrite.specs.Sum.{instruction_count, without, before_end, left_out, rebuilt, left_out_block, left_out_blocks, rebuilt_block, rebuilt_blocks}
 use Rattle.rewrite.specs.Lowers.{Lowers, LowersAll}
-use Rattle.rewrite.proofs.Steps.{Made, made, rebuilds-returns}
-use Rattle.rewrite.proofs.Unchanged.{phis-behind}
+use Rattle.rewrite.proofs.Steps.{Made, made, rebuilds_returns}
+use Rattle.rewrite.proofs.Unchanged.{phis_behind}
 
 -- ## In order
 
@@ -29,117 +29,117 @@ to : {n : ℕ} {is os : List Instruction} {t u : Terminator} {ds : List ValueId}
 to m e r = rw (← e) r
 
 -- the terminator, behind the rebuilds that a Return needs
-lowers-end : (τ : Types) (S : AggStates) (n : ℕ) (t : Terminator) → let w = finish τ S n t in Lowers n [] t w.out w.terminator w.dropped (n + length w.fresh)
+lowers_end : (τ : Types) (S : AggStates) (n : ℕ) (t : Terminator) → let w = finish τ S n t in Lowers n [] t w.out w.terminator w.dropped (n + length w.fresh)
 unfolding finish ends returned
-lowers-end τ S n (Jump b) = to _ (omega arith) Lowers.ended
-lowers-end τ S n (If x a b) = to _ (omega arith) Lowers.ended
-lowers-end τ S n (BranchCmp op x y a b) = to _ (omega arith) Lowers.ended
-lowers-end τ S n (Return xs) = Lowers.returned (rebuilds-returns τ S n xs)
-lowers-end τ S n Unreachable = to _ (omega arith) Lowers.ended
+lowers_end τ S n (Jump b) = to _ (omega arith) Lowers.ended
+lowers_end τ S n (If x a b) = to _ (omega arith) Lowers.ended
+lowers_end τ S n (BranchCmp op x y a b) = to _ (omega arith) Lowers.ended
+lowers_end τ S n (Return xs) = Lowers.returned (rebuilds_returns τ S n xs)
+lowers_end τ S n Unreachable = to _ (omega arith) Lowers.ended
 
 abbrev Lowered : ℕ → List Instruction → Terminator → Walked → Type 0
 Lowered n is t w = Lowers n is t w.out w.terminator w.dropped (n + length w.fresh)
 
 -- a piece in front of what comes behind it
-lowers-piece : (S : AggStates) (n : ℕ) (i : Instruction) (p : Piece) (k : ℕ) → Made S n i p k → (is : List Instruction) (t : Terminator) (w : Walked) → Lowered (n + length p.fresh) is t w → Lowered n (i ∷ is) t (glue p w)
+lowers_piece : (S : AggStates) (n : ℕ) (i : Instruction) (p : Piece) (k : ℕ) → Made S n i p k → (is : List Instruction) (t : Terminator) (w : Walked) → Lowered (n + length p.fresh) is t w → Lowered n (i ∷ is) t (glue p w)
 unfolding glue kept left assigned
-lowers-piece S n i p k Made.as-kept is t w l = Lowers.kept (rw (add-zero n) at l)
-lowers-piece S n i p k (Made.as-left c S' v) is t w l = Lowers.left v (rw (add-zero n) at l)
-lowers-piece S n i p k (Made.as-assigned c s) is t w l = Lowers.assigned s (rw (add-zero n) at l)
-lowers-piece S n i p k (Made.as_called a rs f ps qs ts h r) is t w l = rw (append_assoc, length-append, ← add_assoc) (Lowers.called r l)
-lowers-piece S n i p k (Made.as-stored a q u ts h r) is t w l = rw (append_assoc, length-append, ← add_assoc) (Lowers.stored r l)
+lowers_piece S n i p k Made.as_kept is t w l = Lowers.kept (rw (add-zero n) at l)
+lowers_piece S n i p k (Made.as_left c S' v) is t w l = Lowers.left v (rw (add-zero n) at l)
+lowers_piece S n i p k (Made.as_assigned c s) is t w l = Lowers.assigned s (rw (add-zero n) at l)
+lowers_piece S n i p k (Made.as_called a rs f ps qs ts h r) is t w l = rw (append_assoc, length-append, ← add_assoc) (Lowers.called r l)
+lowers_piece S n i p k (Made.as_stored a q u ts h r) is t w l = rw (append_assoc, length-append, ← add_assoc) (Lowers.stored r l)
 
 -- the walk's output stands in order to its input
-pub lowers-walk : (σ : Settings) (τ : Types) (folds : ValueId → Bool) (S : AggStates) (n : ℕ) (is : List Instruction) (t : Terminator) → let w = walk σ τ folds S n is t in Lowers n is t w.out w.terminator w.dropped (n + length w.fresh)
+pub lowers_walk : (σ : Settings) (τ : Types) (folds : ValueId → Bool) (S : AggStates) (n : ℕ) (is : List Instruction) (t : Terminator) → let w = walk σ τ folds S n is t in Lowers n is t w.out w.terminator w.dropped (n + length w.fresh)
 unfolding walk
-lowers-walk σ τ folds S n [] t = lowers-end τ S n t
-lowers-walk σ τ folds S n (i ∷ is) t =
+lowers_walk σ τ folds S n [] t = lowers_end τ S n t
+lowers_walk σ τ folds S n (i ∷ is) t =
     let p = step σ τ folds S n i in
-    lowers-piece S n i _ _ (made σ τ folds S n i) is t _ (lowers-walk σ τ folds p.states (n + length p.fresh) is t)
+    lowers_piece S n i _ _ (made σ τ folds S n i) is t _ (lowers_walk σ τ folds p.states (n + length p.fresh) is t)
 
 module _ (σ : Settings) (τ : Types) (c : Choice) where
-  lowers-block : (n : ℕ) (k : Block) (ks : List Block) (rest : ℕ → Rewritten) (b : Bool) → ((m : ℕ) → LowersAll m ks (rest m).blocks (rest m).dropped (m + length (rest m).fresh)) → let w = one_block σ τ c n k rest b in LowersAll n (k ∷ ks) w.blocks w.dropped (n + length w.fresh)
-  unfolding one_block skipThen blockThen
-  lowers-block n k ks rest true f = LowersAll.skipped (f n)
-  lowers-block n k ks rest false f = rw (length-append, ← add_assoc) (LowersAll.lowered (lowers-walk σ τ (c.folds k) noStates n (behindPhis k.instructions) k.terminator) (f _))
+  lowers_block : (n : ℕ) (k : Block) (ks : List Block) (rest : ℕ → Rewritten) (b : Bool) → ((m : ℕ) → LowersAll m ks (rest m).blocks (rest m).dropped (m + length (rest m).fresh)) → let w = one_block σ τ c n k rest b in LowersAll n (k ∷ ks) w.blocks w.dropped (n + length w.fresh)
+  unfolding one_block skip_then block_then
+  lowers_block n k ks rest true f = LowersAll.skipped (f n)
+  lowers_block n k ks rest false f = rw (length-append, ← add_assoc) (LowersAll.lowered (lowers_walk σ τ (c.folds k) no_states n (behind_phis k.instructions) k.terminator) (f _))
 
   -- and so do the blocks'
-  pub lowers-blocks : (n : ℕ) (ks : List Block) → let w = allBlocks σ τ c n ks in LowersAll n ks w.blocks w.dropped (n + length w.fresh)
-  unfolding allBlocks
-  lowers-blocks n [] = rw (add-zero n) LowersAll.none
-  lowers-blocks n (k ∷ ks) = lowers-block n k ks _ (c.skips k) (λ m. lowers-blocks m ks)
+  pub lowers_blocks : (n : ℕ) (ks : List Block) → let w = all_blocks σ τ c n ks in LowersAll n ks w.blocks w.dropped (n + length w.fresh)
+  unfolding all_blocks
+  lowers_blocks n [] = rw (add-zero n) LowersAll.none
+  lowers_blocks n (k ∷ ks) = lowers_block n k ks _ (c.skips k) (λ m. lowers_blocks m ks)
 
 -- of a whole routine, by any choice
-pub lowers-by : (σ : Settings) (c : Choice) (r : Routine) → let w = rewrittenBy σ c r in LowersAll r.next r.blocks w.blocks w.dropped (rewriteWith w r).next
-unfolding rewrittenBy rewriteWith
-lowers-by σ c r = lowers-blocks σ (types_in r) c r.next r.blocks
+pub lowers_by : (σ : Settings) (c : Choice) (r : Routine) → let w = rewritten_by σ c r in LowersAll r.next r.blocks w.blocks w.dropped (rewrite_with w r).next
+unfolding rewritten_by rewrite_with
+lowers_by σ c r = lowers_blocks σ (types_in r) c r.next r.blocks
 
 -- "every output instruction is an input instruction kept or rewritten, in order, or a rebuild directly before what needs it"
-pub lowers : (σ : Settings) (r : Routine) → LowersAll r.next r.blocks (rewrite σ r).blocks (rewrittenBlocks σ r).dropped (rewrite σ r).next
-unfolding rewrittenBlocks rewrite rewriteWith
-lowers σ r = lowers-blocks σ (types_in r) (choice σ r) r.next r.blocks
+pub lowers : (σ : Settings) (r : Routine) → LowersAll r.next r.blocks (rewrite σ r).blocks (rewritten_blocks σ r).dropped (rewrite σ r).next
+unfolding rewritten_blocks rewrite rewrite_with
+lowers σ r = lowers_blocks σ (types_in r) (choice σ r) r.next r.blocks
 
 -- ## The closing sum
 
-without-last : (bs : List Instruction) (i : Instruction) → without (bs ++ (i ∷ [])) ≡ 0
+without_last : (bs : List Instruction) (i : Instruction) → without (bs ++ (i ∷ [])) ≡ 0
 unfolding without
-without-last [] i = refl
-without-last (b ∷ bs) i = refl
+without_last [] i = refl
+without_last (b ∷ bs) i = refl
 
 -- one instruction with its rebuilds comes out, or none and it is left out
-sum-piece : (S : AggStates) (n : ℕ) (i : Instruction) (p : Piece) (k : ℕ) → Made S n i p k → length p.out + without p.out ≡ 1 + k
+sum_piece : (S : AggStates) (n : ℕ) (i : Instruction) (p : Piece) (k : ℕ) → Made S n i p k → length p.out + without p.out ≡ 1 + k
 unfolding kept left assigned without
-sum-piece S n i p k Made.as-kept = refl
-sum-piece S n i p k (Made.as-left c S' v) = refl
-sum-piece S n i p k (Made.as-assigned c s) = refl
-sum-piece S n i p k (Made.as_called a rs f ps qs {bs} ts h r) = rw (without-last, length-append) (omega arith)
-sum-piece S n i p k (Made.as-stored a q u ts h r) = rw (without-last, length-append) (omega arith)
+sum_piece S n i p k Made.as_kept = refl
+sum_piece S n i p k (Made.as_left c S' v) = refl
+sum_piece S n i p k (Made.as_assigned c s) = refl
+sum_piece S n i p k (Made.as_called a rs f ps qs {bs} ts h r) = rw (without_last, length-append) (omega arith)
+sum_piece S n i p k (Made.as_stored a q u ts h r) = rw (without_last, length-append) (omega arith)
 
 -- the rebuilds of a Return are all that its walk puts out
-sum-end : (τ : Types) (S : AggStates) (n : ℕ) (t : Terminator) → length (finish τ S n t).out ≡ beforeEnd τ S n t
-unfolding finish ends returned beforeEnd
-sum-end τ S n (Jump b) = refl
-sum-end τ S n (If x a b) = refl
-sum-end τ S n (BranchCmp op x y a b) = refl
-sum-end τ S n (Return xs) = refl
-sum-end τ S n Unreachable = refl
+sum_end : (τ : Types) (S : AggStates) (n : ℕ) (t : Terminator) → length (finish τ S n t).out ≡ before_end τ S n t
+unfolding finish ends returned before_end
+sum_end τ S n (Jump b) = refl
+sum_end τ S n (If x a b) = refl
+sum_end τ S n (BranchCmp op x y a b) = refl
+sum_end τ S n (Return xs) = refl
+sum_end τ S n Unreachable = refl
 
 -- in front of what comes behind it
 sum_both : (os qs : List Instruction) (w l k c b : ℕ) → length os + w ≡ 1 + k → length qs + l ≡ c + b → length (os ++ qs) + (w + l) ≡ suc c + (k + b)
 sum_both os qs w l k c b e f = rw length-append (omega arith)
 
 -- of a walk: output plus left out equals input plus rebuilt
-pub sum-walk : (σ : Settings) (τ : Types) (folds : ValueId → Bool) (S : AggStates) (n : ℕ) (is : List Instruction) (t : Terminator) → length (walk σ τ folds S n is t).out + leftOut σ τ folds S n is ≡ length is + rebuilt σ τ folds S n is t
-unfolding walk leftOut rebuilt glue
-sum-walk σ τ folds S n [] t = omega (arith, sum-end τ S n t)
-sum-walk σ τ folds S n (i ∷ is) t = let p = step σ τ folds S n i in sum_both p.out _ (without p.out) _ _ (length is) _ (sum-piece S n i _ _ (made σ τ folds S n i)) (sum-walk σ τ folds p.states (n + length p.fresh) is t)
+pub sum_walk : (σ : Settings) (τ : Types) (folds : ValueId → Bool) (S : AggStates) (n : ℕ) (is : List Instruction) (t : Terminator) → length (walk σ τ folds S n is t).out + left_out σ τ folds S n is ≡ length is + rebuilt σ τ folds S n is t
+unfolding walk left_out rebuilt glue
+sum_walk σ τ folds S n [] t = omega (arith, sum_end τ S n t)
+sum_walk σ τ folds S n (i ∷ is) t = let p = step σ τ folds S n i in sum_both p.out _ (without p.out) _ _ (length is) _ (sum_piece S n i _ _ (made σ τ folds S n i)) (sum_walk σ τ folds p.states (n + length p.fresh) is t)
 
 -- of a block whose phis stay, in front of others
-sum-parts : (ps os is all : List Instruction) (l b x y m k : ℕ) → length os + l ≡ length is + b → x + m ≡ y + k → ps ++ is ≡ all → length (ps ++ os) + x + (l + m) ≡ length all + y + (b + k)
-sum-parts ps os is all l b x y m k e f g = omega (arith, length-append ps os, length-append ps is, ap length g)
+sum_parts : (ps os is all : List Instruction) (l b x y m k : ℕ) → length os + l ≡ length is + b → x + m ≡ y + k → ps ++ is ≡ all → length (ps ++ os) + x + (l + m) ≡ length all + y + (b + k)
+sum_parts ps os is all l b x y m k e f g = omega (arith, length-append ps os, length-append ps is, ap length g)
 
 module _ (σ : Settings) (τ : Types) (c : Choice) where
   -- of a block, skipped or walked
-  sum-block : (n : ℕ) (k : Block) (ks : List Block) (rest : ℕ → Rewritten) (l b : ℕ → ℕ) (s : Bool) → ((m : ℕ) → instructionCount (rest m).blocks + l m ≡ instructionCount ks + b m) → instructionCount (one_block σ τ c n k rest s).blocks + leftOutBlock σ τ c n k l s ≡ instructionCount (k ∷ ks) + rebuiltBlock σ τ c n k b s
-  unfolding one_block skipThen blockThen leftOutBlock rebuiltBlock instructionCount
-  sum-block n k ks rest l b true f = omega (arith, f n)
-  sum-block n k ks rest l b false f =
-      let is = behindPhis k.instructions in
-      let w = walk σ τ (c.folds k) noStates n is k.terminator in
-      sum-parts (phisOf k.instructions) w.out is k.instructions _ _ _ _ _ _ (sum-walk σ τ (c.folds k) noStates n is k.terminator) (f (n + length w.fresh)) (phis-behind k.instructions)
+  sum_block : (n : ℕ) (k : Block) (ks : List Block) (rest : ℕ → Rewritten) (l b : ℕ → ℕ) (s : Bool) → ((m : ℕ) → instruction_count (rest m).blocks + l m ≡ instruction_count ks + b m) → instruction_count (one_block σ τ c n k rest s).blocks + left_out_block σ τ c n k l s ≡ instruction_count (k ∷ ks) + rebuilt_block σ τ c n k b s
+  unfolding one_block skip_then block_then left_out_block rebuilt_block instruction_count
+  sum_block n k ks rest l b true f = omega (arith, f n)
+  sum_block n k ks rest l b false f =
+      let is = behind_phis k.instructions in
+      let w = walk σ τ (c.folds k) no_states n is k.terminator in
+      sum_parts (phis_of k.instructions) w.out is k.instructions _ _ _ _ _ _ (sum_walk σ τ (c.folds k) no_states n is k.terminator) (f (n + length w.fresh)) (phis_behind k.instructions)
 
   -- of all blocks
-  pub sum-blocks : (n : ℕ) (ks : List Block) → instructionCount (allBlocks σ τ c n ks).blocks + leftOutBlocks σ τ c n ks ≡ instructionCount ks + rebuiltBlocks σ τ c n ks
-  unfolding allBlocks leftOutBlocks rebuiltBlocks
-  sum-blocks n [] = refl
-  sum-blocks n (k ∷ ks) = sum-block n k ks _ _ _ (c.skips k) (λ m. sum-blocks m ks)
+  pub sum_blocks : (n : ℕ) (ks : List Block) → instruction_count (all_blocks σ τ c n ks).blocks + left_out_blocks σ τ c n ks ≡ instruction_count ks + rebuilt_blocks σ τ c n ks
+  unfolding all_blocks left_out_blocks rebuilt_blocks
+  sum_blocks n [] = refl
+  sum_blocks n (k ∷ ks) = sum_block n k ks _ _ _ (c.skips k) (λ m. sum_blocks m ks)
 
 -- of a whole routine, by any choice
-pub closing-sum-by : (σ : Settings) (c : Choice) (r : Routine) → instructionCount (rewrittenBy σ c r).blocks + leftOutBlocks σ (types_in r) c r.next r.blocks ≡ instructionCount r.blocks + rebuiltBlocks σ (types_in r) c r.next r.blocks
-unfolding rewrittenBy
-closing-sum-by σ c r = sum-blocks σ (types_in r) c r.next r.blocks
+pub closing_sum_by : (σ : Settings) (c : Choice) (r : Routine) → instruction_count (rewritten_by σ c r).blocks + left_out_blocks σ (types_in r) c r.next r.blocks ≡ instruction_count r.blocks + rebuilt_blocks σ (types_in r) c r.next r.blocks
+unfolding rewritten_by
+closing_sum_by σ c r = sum_blocks σ (types_in r) c r.next r.blocks
 
 -- "output plus left out equals input plus rebuilt"
-pub closing-sum : (σ : Settings) (r : Routine) → instructionCount (rewrite σ r).blocks + leftOutBlocks σ (types_in r) (choice σ r) r.next r.blocks ≡ instructionCount r.blocks + rebuiltBlocks σ (types_in r) (choice σ r) r.next r.blocks
-unfolding rewrite rewriteWith rewrittenBlocks
-closing-sum σ r = sum-blocks σ (types_in r) (choice σ r) r.next r.blocks
+pub closing_sum : (σ : Settings) (r : Routine) → instruction_count (rewrite σ r).blocks + left_out_blocks σ (types_in r) (choice σ r) r.next r.blocks ≡ instruction_count r.blocks + rebuilt_blocks σ (types_in r) (choice σ r) r.next r.blocks
+unfolding rewrite rewrite_with rewritten_blocks
+closing_sum σ r = sum_blocks σ (types_in r) (choice σ r) r.next r.blocks

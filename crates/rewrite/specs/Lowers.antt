@@ -8,7 +8,7 @@ use Rattle.mir.specs.declared.Value.{Value}
 use Rattle.mir.specs.Syntax.{Place, FieldInit, Meta, Instruction, InstructionKind, Terminator, Return, Block, plain}
 use Rattle.mir.specs.Syntax.{Assign, Call, Load, Store, MakeTuple}
 use Rattle.mir.specs.Syntax.{ExtractTupleElement, MakeStruct, ExtractStructField, InsertField, InsertTuple, MakeFixedArray}
-use Rattle.mir.specs.Phis.{behindPhis, phisOf}
+use Rattle.mir.specs.Phis.{behind_phis, phis_of}
 
 -- a rebuild of a value: a build without span, expression id and comment; "a rebuilt array has is_const false"
 pub data Rebuild : ValueId → Instruction → Type 0 where
@@ -45,8 +45,8 @@ pub data Leaves : InstructionKind → List ValueId → Type 0 where
   element : (d : ValueId) (x : Value) (k : ℕ) (t : TypeId) → Leaves (ExtractTupleElement d x k t) (d ∷ [])
   struct : (d : ValueId) (fs : List FieldInit) (t : TypeId) → Leaves (MakeStruct d fs t) (d ∷ [])
   field : (d : ValueId) (x : Value) (f : NameId) (t : TypeId) → Leaves (ExtractStructField d x f t) (d ∷ [])
-  insert-field : (d : ValueId) (x : Value) (f : NameId) (y : Value) (t : TypeId) → Leaves (InsertField d x f y t) (d ∷ [])
-  insert-tuple : (d : ValueId) (x : Value) (k : ℕ) (y : Value) (t : TypeId) → Leaves (InsertTuple d x k y t) (d ∷ [])
+  insert_field : (d : ValueId) (x : Value) (f : NameId) (y : Value) (t : TypeId) → Leaves (InsertField d x f y t) (d ∷ [])
+  insert_tuple : (d : ValueId) (x : Value) (k : ℕ) (y : Value) (t : TypeId) → Leaves (InsertTuple d x k y t) (d ∷ [])
   array : (d : ValueId) (xs : List Value) (t : TypeId) (c : Bool) → Leaves (MakeFixedArray d xs t c) (d ∷ [])
 
 -- Lowers n is t os u ds m: from the next value n on, instructions is and terminator t came out as os and u, the values
@@ -80,6 +80,6 @@ pub data LowersAll : ℕ → List Block → List Block → List ValueId → ℕ 
   none : {n : ℕ} → LowersAll n [] [] [] n
   skipped : {n m : ℕ} {k : Block} {ks js : List Block} {ds : List ValueId} → LowersAll n ks js ds m → LowersAll n (k ∷ ks) (k ∷ js) ds m
   lowered : {n l m : ℕ} {k : Block} {os : List Instruction} {u : Terminator} {ks js : List Block} {es ds : List ValueId}
-      → Lowers n (behindPhis k.instructions) k.terminator os u es l
+      → Lowers n (behind_phis k.instructions) k.terminator os u es l
       → LowersAll l ks js ds m
-      → LowersAll n (k ∷ ks) (record { instructions = phisOf k.instructions ++ os; terminator = u } ∷ js) (es ++ ds) m
+      → LowersAll n (k ∷ ks) (record { instructions = phis_of k.instructions ++ os; terminator = u } ∷ js) (es ++ ds) m

@@ -8,7 +8,7 @@ use Rattle.mir.specs.declared.TypeId.{TypeId}
 use Rattle.mir.specs.declared.Value.{Value}
 use Rattle.mir.specs.MirType.{StructField, MirType, Felt, Bool, U32, Tuple, Struct, FixedArray, Pointer, Function, Unit, Error, Unknown}
 use Rattle.mir.specs.Syntax.{FieldInit, Instruction, InstructionKind, plain}
-use Rattle.mir.specs.Lookup.{Types, row_of, recordedType, isAggregate}
+use Rattle.mir.specs.Lookup.{Types, row_of, recorded_type, is_aggregate}
 use Rattle.rewrite.specs.State.{AggStates, state_of}
 
 -- "a tuple rebuilt at a longer type gets Unit parts, at a shorter one loses its last"
@@ -24,19 +24,19 @@ named (f ∷ fs) [] = record { name = f.name; value = unit } ∷ named fs []
 named (f ∷ fs) (x ∷ xs) = record { name = f.name; value = x } ∷ named fs xs
 
 -- the rebuild's instruction; a type that is no aggregate has none
-unfoldable pub rebuildAt : ValueId → List Value → TypeId → Option MirType → List Instruction
-rebuildAt d xs t none = []
-rebuildAt d xs t (some Felt) = []
-rebuildAt d xs t (some Bool) = []
-rebuildAt d xs t (some U32) = []
-rebuildAt d xs t (some (Tuple ts)) = plain (InstructionKind.MakeTuple d (fitted (length ts) xs)) ∷ []
-rebuildAt d xs t (some (Struct n fs)) = plain (InstructionKind.MakeStruct d (named fs xs) t) ∷ []
-rebuildAt d xs t (some (FixedArray e size)) = plain (InstructionKind.MakeFixedArray d xs e false) ∷ []
-rebuildAt d xs t (some (Pointer e)) = []
-rebuildAt d xs t (some (Function ps r)) = []
-rebuildAt d xs t (some Unit) = []
-rebuildAt d xs t (some Error) = []
-rebuildAt d xs t (some Unknown) = []
+unfoldable pub rebuild_at : ValueId → List Value → TypeId → Option MirType → List Instruction
+rebuild_at d xs t none = []
+rebuild_at d xs t (some Felt) = []
+rebuild_at d xs t (some Bool) = []
+rebuild_at d xs t (some U32) = []
+rebuild_at d xs t (some (Tuple ts)) = plain (InstructionKind.MakeTuple d (fitted (length ts) xs)) ∷ []
+rebuild_at d xs t (some (Struct n fs)) = plain (InstructionKind.MakeStruct d (named fs xs) t) ∷ []
+rebuild_at d xs t (some (FixedArray e size)) = plain (InstructionKind.MakeFixedArray d xs e false) ∷ []
+rebuild_at d xs t (some (Pointer e)) = []
+rebuild_at d xs t (some (Function ps r)) = []
+rebuild_at d xs t (some Unit) = []
+rebuild_at d xs t (some Error) = []
+rebuild_at d xs t (some Unknown) = []
 
 -- "an array of another count panics: refusal 10"
 unfoldable pub clashes : List Value → Option MirType → B.Bool
@@ -65,24 +65,24 @@ abbrev pub untouched : List Value → Rebuilt
 untouched xs = record { before = []; values = xs; fresh = []; clash = false }
 
 -- one value in front of others: kept, or rebuilt at a type from its parts
-unfoldable pub keepValue : Value → Rebuilt → Rebuilt
-keepValue x r = record { before = r.before; values = x ∷ r.values; fresh = r.fresh; clash = r.clash }
+unfoldable pub keep_value : Value → Rebuilt → Rebuilt
+keep_value x r = record { before = r.before; values = x ∷ r.values; fresh = r.fresh; clash = r.clash }
 
 -- "a rebuilt value takes the next value number, which rises by one, and its type is recorded"
-unfoldable pub rebuildValue : Types → ℕ → TypeId → List Value → Rebuilt → Rebuilt
-rebuildValue τ n t xs r =
+unfoldable pub rebuild_value : Types → ℕ → TypeId → List Value → Rebuilt → Rebuilt
+rebuild_value τ n t xs r =
     record {
-      before = rebuildAt (record { 0 = n }) xs t (row_of τ (some t)) ++ r.before;
+      before = rebuild_at (record { 0 = n }) xs t (row_of τ (some t)) ++ r.before;
       values = Value.Operand (record { 0 = n }) ∷ r.values;
       fresh = t ∷ r.fresh;
       clash = clashes xs (row_of τ (some t)) || r.clash;
     }
 
 -- where a type is asked for and the value is tracked, it is rebuilt
-unfoldable pub oneValue : Types → ℕ → Value → (ℕ → Rebuilt) → Option TypeId → Option (List Value) → Rebuilt
-oneValue τ n x rest none s = keepValue x (rest n)
-oneValue τ n x rest (some t) none = keepValue x (rest n)
-oneValue τ n x rest (some t) (some xs) = rebuildValue τ n t xs (rest (suc n))
+unfoldable pub one_value : Types → ℕ → Value → (ℕ → Rebuilt) → Option TypeId → Option (List Value) → Rebuilt
+one_value τ n x rest none s = keep_value x (rest n)
+one_value τ n x rest (some t) none = keep_value x (rest n)
+one_value τ n x rest (some t) (some xs) = rebuild_value τ n t xs (rest (suc n))
 
 -- each value with the type at which it is rebuilt, if any
 pub record Wanted : Type 0 where
@@ -90,27 +90,27 @@ pub record Wanted : Type 0 where
   pub at : Option TypeId
 
 -- the values in order: each rebuild takes the next number
-unfoldable pub rebuildAll : Types → AggStates → ℕ → List Wanted → Rebuilt
-rebuildAll τ S n [] = untouched []
-rebuildAll τ S n (w ∷ ws) = oneValue τ n w.value (λ m. rebuildAll τ S m ws) w.at (state_of S w.value)
+unfoldable pub rebuild_all : Types → AggStates → ℕ → List Wanted → Rebuilt
+rebuild_all τ S n [] = untouched []
+rebuild_all τ S n (w ∷ ws) = one_value τ n w.value (λ m. rebuild_all τ S m ws) w.at (state_of S w.value)
 
 -- a type that is an aggregate, else none
-unfoldable pub aggregateType : Types → TypeId → Option TypeId
-aggregateType τ t = cond (isAggregate (row_of τ (some t))) (some t) none
+unfoldable pub aggregate_type : Types → TypeId → Option TypeId
+aggregate_type τ t = cond (is_aggregate (row_of τ (some t))) (some t) none
 
 -- sroa.rs 1265 to 1273: a Call's arguments at the parameter types; those past the parameter types are not rebuilt
-unfoldable pub wantedArguments : Types → List Value → List TypeId → List Wanted
-wantedArguments τ [] ts = []
-wantedArguments τ (x ∷ xs) [] = record { value = x; at = none } ∷ wantedArguments τ xs []
-wantedArguments τ (x ∷ xs) (t ∷ ts) = record { value = x; at = aggregateType τ t } ∷ wantedArguments τ xs ts
+unfoldable pub wanted_arguments : Types → List Value → List TypeId → List Wanted
+wanted_arguments τ [] ts = []
+wanted_arguments τ (x ∷ xs) [] = record { value = x; at = none } ∷ wanted_arguments τ xs []
+wanted_arguments τ (x ∷ xs) (t ∷ ts) = record { value = x; at = aggregate_type τ t } ∷ wanted_arguments τ xs ts
 
 -- a returned value at its recorded type
-unfoldable pub returnType : Types → Value → Option TypeId
-returnType τ (Value.Literal l) = none
-returnType τ (Value.Operand v) = recordedType τ v
-returnType τ Value.Error = none
+unfoldable pub return_type : Types → Value → Option TypeId
+return_type τ (Value.Literal l) = none
+return_type τ (Value.Operand v) = recorded_type τ v
+return_type τ Value.Error = none
 
 -- sroa.rs 1324 to 1332: a Return's values, each at its recorded type, aggregate or not
-unfoldable pub wantedReturns : Types → List Value → List Wanted
-wantedReturns τ [] = []
-wantedReturns τ (x ∷ xs) = record { value = x; at = returnType τ x } ∷ wantedReturns τ xs
+unfoldable pub wanted_returns : Types → List Value → List Wanted
+wanted_returns τ [] = []
+wanted_returns τ (x ∷ xs) = record { value = x; at = return_type τ x } ∷ wanted_returns τ xs

@@ -9,17 +9,17 @@ use Rattle.mir.specs.Syntax.{MakeTuple, ExtractTupleElement, MakeStruct, Extract
 use Rattle.mir.specs.Routine.{Routine}
 use Rattle.fold.specs.declared.Settings.{Settings}
 use Rattle.mir.specs.Lookup.{Types, types_in}
-use Rattle.fold.specs.Family.{Marks, crossBlockAggregates}
-use Rattle.fold.specs.Climb.{buildOf}
-use Rattle.fold.specs.Fold.{foldsTuple, foldsStruct, foldsArray, skipped}
-use Rattle.mir.specs.Phis.{behindPhis, phisOf}
-use Rattle.rewrite.specs.State.{AggStates, noStates}
-use Rattle.rewrite.specs.Rebuild.{Rebuilt, rebuildAll, wantedReturns}
+use Rattle.fold.specs.Family.{Marks, cross_block_aggregates}
+use Rattle.fold.specs.Climb.{build_of}
+use Rattle.fold.specs.Fold.{folds_tuple, folds_struct, folds_array, skipped}
+use Rattle.mir.specs.Phis.{behind_phis, phis_of}
+use Rattle.rewrite.specs.State.{AggStates, no_states}
+use Rattle.rewrite.specs.Rebuild.{Rebuilt, rebuild_all, wanted_returns}
 use Rattle.rewrite.specs.declared.Counts.{Counts}
-use Rattle.rewrite.specs.Step.{noCounts, materialized, Piece, step}
+use Rattle.rewrite.specs.Step.{no_counts, materialized, Piece, step}
 
-abbrev pub addCounts : Counts → Counts → Counts
-addCounts a b =
+abbrev pub add_counts : Counts → Counts → Counts
+add_counts a b =
     record {
       builds = a.builds + b.builds;
       extracts = a.extracts + b.extracts;
@@ -40,7 +40,7 @@ pub record Walked : Type 0 where
 
 -- nothing changed by the terminator
 unfoldable pub ends : Terminator → Walked
-ends t = record { out = []; terminator = t; dropped = []; fresh = []; counts = noCounts; changed = false; clash = false }
+ends t = record { out = []; terminator = t; dropped = []; fresh = []; counts = no_counts; changed = false; clash = false }
 
 -- "only Return is ever rewritten"
 unfoldable pub returned : Rebuilt → Walked
@@ -60,7 +60,7 @@ unfoldable pub finish : Types → AggStates → ℕ → Terminator → Walked
 finish τ S n (Jump b) = ends (Jump b)
 finish τ S n (If x a b) = ends (If x a b)
 finish τ S n (BranchCmp op x y a b) = ends (BranchCmp op x y a b)
-finish τ S n (Return xs) = returned (rebuildAll τ S n (wantedReturns τ xs))
+finish τ S n (Return xs) = returned (rebuild_all τ S n (wanted_returns τ xs))
 finish τ S n Unreachable = ends Unreachable
 
 -- a piece in front of what comes behind it
@@ -71,7 +71,7 @@ glue p w =
       terminator = w.terminator;
       dropped = p.dropped ++ w.dropped;
       fresh = p.fresh ++ w.fresh;
-      counts = addCounts p.counts w.counts;
+      counts = add_counts p.counts w.counts;
       changed = p.changed || w.changed;
       clash = p.clash || w.clash;
     }
@@ -83,31 +83,31 @@ module _ (σ : Settings) (τ : Types) (folds : ValueId → Bool) where
   walk S n (i ∷ is) t = let p = step σ τ folds S n i in glue p (walk p.states (n + length p.fresh) is t)
 
 -- what is decided of the build of a value
-unfoldable pub foldsBuild : Settings → Types → Marks → List Instruction → Option InstructionKind → Bool
-foldsBuild σ τ cross is none = false
-foldsBuild σ τ cross is (some (Assign d x t)) = false
-foldsBuild σ τ cross is (some (UnaryOp op d x)) = false
-foldsBuild σ τ cross is (some (BinaryOp op d x y)) = false
-foldsBuild σ τ cross is (some (Call ds f xs ps rs)) = false
-foldsBuild σ τ cross is (some (Cast d x t u)) = false
-foldsBuild σ τ cross is (some (Load d p t)) = false
-foldsBuild σ τ cross is (some (Store p x t)) = false
-foldsBuild σ τ cross is (some (Debug m xs)) = false
-foldsBuild σ τ cross is (some Nop) = false
-foldsBuild σ τ cross is (some (Phi d t ss)) = false
-foldsBuild σ τ cross is (some (MakeTuple d xs)) = foldsTuple σ τ cross is d xs
-foldsBuild σ τ cross is (some (ExtractTupleElement d x k t)) = false
-foldsBuild σ τ cross is (some (MakeStruct d fs t)) = foldsStruct σ τ cross is d
-foldsBuild σ τ cross is (some (ExtractStructField d x n t)) = false
-foldsBuild σ τ cross is (some (InsertField d x n y t)) = false
-foldsBuild σ τ cross is (some (InsertTuple d x k y t)) = false
-foldsBuild σ τ cross is (some (MakeFixedArray d xs t c)) = foldsArray σ τ cross is d
-foldsBuild σ τ cross is (some (AssertEq x y)) = false
-foldsBuild σ τ cross is (some (HeapAllocCells d x)) = false
+unfoldable pub folds_build : Settings → Types → Marks → List Instruction → Option InstructionKind → Bool
+folds_build σ τ cross is none = false
+folds_build σ τ cross is (some (Assign d x t)) = false
+folds_build σ τ cross is (some (UnaryOp op d x)) = false
+folds_build σ τ cross is (some (BinaryOp op d x y)) = false
+folds_build σ τ cross is (some (Call ds f xs ps rs)) = false
+folds_build σ τ cross is (some (Cast d x t u)) = false
+folds_build σ τ cross is (some (Load d p t)) = false
+folds_build σ τ cross is (some (Store p x t)) = false
+folds_build σ τ cross is (some (Debug m xs)) = false
+folds_build σ τ cross is (some Nop) = false
+folds_build σ τ cross is (some (Phi d t ss)) = false
+folds_build σ τ cross is (some (MakeTuple d xs)) = folds_tuple σ τ cross is d xs
+folds_build σ τ cross is (some (ExtractTupleElement d x k t)) = false
+folds_build σ τ cross is (some (MakeStruct d fs t)) = folds_struct σ τ cross is d
+folds_build σ τ cross is (some (ExtractStructField d x n t)) = false
+folds_build σ τ cross is (some (InsertField d x n y t)) = false
+folds_build σ τ cross is (some (InsertTuple d x k y t)) = false
+folds_build σ τ cross is (some (MakeFixedArray d xs t c)) = folds_array σ τ cross is d
+folds_build σ τ cross is (some (AssertEq x y)) = false
+folds_build σ τ cross is (some (HeapAllocCells d x)) = false
 
 -- the same, by the value that is built
-unfoldable pub foldsIn : Settings → Types → Marks → List Instruction → ValueId → Bool
-foldsIn σ τ cross is d = foldsBuild σ τ cross is (buildOf σ τ cross d is)
+unfoldable pub folds_in : Settings → Types → Marks → List Instruction → ValueId → Bool
+folds_in σ τ cross is d = folds_build σ τ cross is (build_of σ τ cross d is)
 
 -- what the rewriting of blocks gives
 pub record Rewritten : Type 0 where
@@ -119,19 +119,19 @@ pub record Rewritten : Type 0 where
   pub clash : Bool
 
 -- the walked block, its phis untouched, in front of the blocks behind it
-unfoldable pub blockThen : List Instruction → Walked → Rewritten → Rewritten
-blockThen phis w r =
+unfoldable pub block_then : List Instruction → Walked → Rewritten → Rewritten
+block_then phis w r =
     record {
       blocks = record { instructions = phis ++ w.out; terminator = w.terminator } ∷ r.blocks;
       dropped = w.dropped ++ r.dropped;
       fresh = w.fresh ++ r.fresh;
-      counts = addCounts w.counts r.counts;
+      counts = add_counts w.counts r.counts;
       changed = w.changed || r.changed;
       clash = w.clash || r.clash;
     }
 
-unfoldable pub skipThen : Block → Rewritten → Rewritten
-skipThen k r = record { blocks = k ∷ r.blocks; dropped = r.dropped; fresh = r.fresh; counts = r.counts; changed = r.changed; clash = r.clash }
+unfoldable pub skip_then : Block → Rewritten → Rewritten
+skip_then k r = record { blocks = k ∷ r.blocks; dropped = r.dropped; fresh = r.fresh; counts = r.counts; changed = r.changed; clash = r.clash }
 
 -- which builds are folded in a block, and which blocks are skipped
 pub record Choice : Type 0 where
@@ -141,35 +141,35 @@ pub record Choice : Type 0 where
 module _ (σ : Settings) (τ : Types) (c : Choice) where
   -- sroa.rs 764 to 1361, one block in front of the blocks behind it; the flag says that it is skipped
   unfoldable pub one_block : ℕ → Block → (ℕ → Rewritten) → Bool → Rewritten
-  one_block n k rest true = skipThen k (rest n)
+  one_block n k rest true = skip_then k (rest n)
   one_block n k rest false =
-      let w = walk σ τ (c.folds k) noStates n (behindPhis k.instructions) k.terminator in
-      blockThen (phisOf k.instructions) w (rest (n + length w.fresh))
+      let w = walk σ τ (c.folds k) no_states n (behind_phis k.instructions) k.terminator in
+      block_then (phis_of k.instructions) w (rest (n + length w.fresh))
 
   -- "Process blocks one by one", each from the value number that the last one left
-  unfoldable pub allBlocks : ℕ → List Block → Rewritten
-  allBlocks n [] = record { blocks = []; dropped = []; fresh = []; counts = noCounts; changed = false; clash = false }
-  allBlocks n (k ∷ ks) = one_block n k (λ m. allBlocks m ks) (c.skips k)
+  unfoldable pub all_blocks : ℕ → List Block → Rewritten
+  all_blocks n [] = record { blocks = []; dropped = []; fresh = []; counts = no_counts; changed = false; clash = false }
+  all_blocks n (k ∷ ks) = one_block n k (λ m. all_blocks m ks) (c.skips k)
 
 -- the choice that the Rust makes
 unfoldable pub choice : Settings → Routine → Choice
 choice σ r =
     let τ = types_in r in
-    let cross = crossBlockAggregates σ τ r.blocks in
-    record { folds = λ k. foldsIn σ τ cross (behindPhis k.instructions); skips = λ k. skipped τ k.instructions }
+    let cross = cross_block_aggregates σ τ r.blocks in
+    record { folds = λ k. folds_in σ τ cross (behind_phis k.instructions); skips = λ k. skipped τ k.instructions }
 
 -- what any choice of builds to fold and blocks to skip makes of a routine
-unfoldable pub rewrittenBy : Settings → Choice → Routine → Rewritten
-rewrittenBy σ c r = allBlocks σ (types_in r) c r.next r.blocks
+unfoldable pub rewritten_by : Settings → Choice → Routine → Rewritten
+rewritten_by σ c r = all_blocks σ (types_in r) c r.next r.blocks
 
 -- and what the Rust's choice makes of it
-unfoldable pub rewrittenBlocks : Settings → Routine → Rewritten
-unfolding rewrittenBy
-rewrittenBlocks σ r = rewrittenBy σ (choice σ r) r
+unfoldable pub rewritten_blocks : Settings → Routine → Rewritten
+unfolding rewritten_by
+rewritten_blocks σ r = rewritten_by σ (choice σ r) r
 
 -- the rewritten routine: fresh numbers are recorded in their order
-unfoldable pub rewriteWith : Rewritten → Routine → Routine
-rewriteWith w r =
+unfoldable pub rewrite_with : Rewritten → Routine → Routine
+rewrite_with w r =
     record {
       types = r.types;
       next = r.next + length w.fresh;
@@ -181,4 +181,4 @@ rewriteWith w r =
 
 -- the routine that `run` leaves
 unfoldable pub rewrite : Settings → Routine → Routine
-rewrite σ r = rewriteWith (rewrittenBlocks σ r) r
+rewrite σ r = rewrite_with (rewritten_blocks σ r) r

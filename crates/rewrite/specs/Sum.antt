@@ -9,16 +9,16 @@ use Rattle.mir.specs.Syntax.{Assign, UnaryOp, BinaryOp, Call, Cast, Load, Store,
 use Rattle.mir.specs.Syntax.{MakeTuple, ExtractTupleElement, MakeStruct, ExtractStructField, InsertField, InsertTuple, MakeFixedArray, AssertEq, HeapAllocCells}
 use Rattle.fold.specs.declared.Settings.{Settings}
 use Rattle.mir.specs.Lookup.{Types}
-use Rattle.mir.specs.Phis.{behindPhis}
-use Rattle.rewrite.specs.State.{AggStates, noStates, forwardStore}
-use Rattle.rewrite.specs.Rebuild.{rebuildAll, wantedArguments, wantedReturns, aggregateType}
+use Rattle.mir.specs.Phis.{behind_phis}
+use Rattle.rewrite.specs.State.{AggStates, no_states, forward_store}
+use Rattle.rewrite.specs.Rebuild.{rebuild_all, wanted_arguments, wanted_returns, aggregate_type}
 use Rattle.rewrite.specs.Step.{step}
 use Rattle.rewrite.specs.Run.{Choice, walk}
 
 -- how many instructions blocks have in all
-unfoldable pub instructionCount : List Block → ℕ
-instructionCount [] = 0
-instructionCount (k ∷ ks) = length k.instructions + instructionCount ks
+unfoldable pub instruction_count : List Block → ℕ
+instruction_count [] = 0
+instruction_count (k ∷ ks) = length k.instructions + instruction_count ks
 
 -- an instruction is left out where its piece has no output
 unfoldable pub without : List Instruction → ℕ
@@ -26,19 +26,19 @@ without [] = 1
 without (i ∷ is) = 0
 
 -- the rebuild instructions before a Store: none where it is forwarded
-unfoldable pub beforeStore : Types → AggStates → ℕ → Value → TypeId → Option AggStates → ℕ
-beforeStore τ S n x t none = length (rebuildAll τ S n (record { value = x; at = aggregateType τ t } ∷ [])).before
-beforeStore τ S n x t (some S') = 0
+unfoldable pub before_store : Types → AggStates → ℕ → Value → TypeId → Option AggStates → ℕ
+before_store τ S n x t none = length (rebuild_all τ S n (record { value = x; at = aggregate_type τ t } ∷ [])).before
+before_store τ S n x t (some S') = 0
 
 -- the rebuild instructions before an instruction: only a Call and a Store have any
 unfoldable pub before : Settings → Types → AggStates → ℕ → InstructionKind → ℕ
 before σ τ S n (Assign d x t) = 0
 before σ τ S n (UnaryOp op d x) = 0
 before σ τ S n (BinaryOp op d x y) = 0
-before σ τ S n (Call ds f xs ps rs) = length (rebuildAll τ S n (wantedArguments τ xs ps)).before
+before σ τ S n (Call ds f xs ps rs) = length (rebuild_all τ S n (wanted_arguments τ xs ps)).before
 before σ τ S n (Cast d x t u) = 0
 before σ τ S n (Load d p t) = 0
-before σ τ S n (Store p x t) = cond σ.tuples (beforeStore τ S n x t (forwardStore τ S p x)) 0
+before σ τ S n (Store p x t) = cond σ.tuples (before_store τ S n x t (forward_store τ S p x)) 0
 before σ τ S n (Debug m xs) = 0
 before σ τ S n Nop = 0
 before σ τ S n (Phi d t ss) = 0
@@ -53,46 +53,46 @@ before σ τ S n (AssertEq x y) = 0
 before σ τ S n (HeapAllocCells d x) = 0
 
 -- the rebuild instructions before a terminator: only a Return has any
-unfoldable pub beforeEnd : Types → AggStates → ℕ → Terminator → ℕ
-beforeEnd τ S n (Jump b) = 0
-beforeEnd τ S n (If x a b) = 0
-beforeEnd τ S n (BranchCmp op x y a b) = 0
-beforeEnd τ S n (Return xs) = length (rebuildAll τ S n (wantedReturns τ xs)).before
-beforeEnd τ S n Unreachable = 0
+unfoldable pub before_end : Types → AggStates → ℕ → Terminator → ℕ
+before_end τ S n (Jump b) = 0
+before_end τ S n (If x a b) = 0
+before_end τ S n (BranchCmp op x y a b) = 0
+before_end τ S n (Return xs) = length (rebuild_all τ S n (wanted_returns τ xs)).before
+before_end τ S n Unreachable = 0
 
 module _ (σ : Settings) (τ : Types) (folds : ValueId → Bool) where
   -- how many instructions the walk leaves out
-  unfoldable pub leftOut : AggStates → ℕ → List Instruction → ℕ
-  leftOut S n [] = 0
-  leftOut S n (i ∷ is) = let p = step σ τ folds S n i in without p.out + leftOut p.states (n + length p.fresh) is
+  unfoldable pub left_out : AggStates → ℕ → List Instruction → ℕ
+  left_out S n [] = 0
+  left_out S n (i ∷ is) = let p = step σ τ folds S n i in without p.out + left_out p.states (n + length p.fresh) is
 
   -- how many rebuild instructions it puts in
   unfoldable pub rebuilt : AggStates → ℕ → List Instruction → Terminator → ℕ
-  rebuilt S n [] t = beforeEnd τ S n t
+  rebuilt S n [] t = before_end τ S n t
   rebuilt S n (i ∷ is) t = let p = step σ τ folds S n i in before σ τ S n i.kind + rebuilt p.states (n + length p.fresh) is t
 
 -- both counts over blocks: a skipped block has neither
 module _ (σ : Settings) (τ : Types) (c : Choice) where
   -- instructions left out of a block, in front of others
-  unfoldable pub leftOutBlock : ℕ → Block → (ℕ → ℕ) → Bool → ℕ
-  leftOutBlock n k rest true = rest n
-  leftOutBlock n k rest false =
-      let is = behindPhis k.instructions in
-      leftOut σ τ (c.folds k) noStates n is + rest (n + length (walk σ τ (c.folds k) noStates n is k.terminator).fresh)
+  unfoldable pub left_out_block : ℕ → Block → (ℕ → ℕ) → Bool → ℕ
+  left_out_block n k rest true = rest n
+  left_out_block n k rest false =
+      let is = behind_phis k.instructions in
+      left_out σ τ (c.folds k) no_states n is + rest (n + length (walk σ τ (c.folds k) no_states n is k.terminator).fresh)
 
   -- of all blocks
-  unfoldable pub leftOutBlocks : ℕ → List Block → ℕ
-  leftOutBlocks n [] = 0
-  leftOutBlocks n (k ∷ ks) = leftOutBlock n k (λ m. leftOutBlocks m ks) (c.skips k)
+  unfoldable pub left_out_blocks : ℕ → List Block → ℕ
+  left_out_blocks n [] = 0
+  left_out_blocks n (k ∷ ks) = left_out_block n k (λ m. left_out_blocks m ks) (c.skips k)
 
   -- rebuild instructions of a block, in front of others
-  unfoldable pub rebuiltBlock : ℕ → Block → (ℕ → ℕ) → Bool → ℕ
-  rebuiltBlock n k rest true = rest n
-  rebuiltBlock n k rest false =
-      let is = behindPhis k.instructions in
-      rebuilt σ τ (c.folds k) noStates n is k.terminator + rest (n + length (walk σ τ (c.folds k) noStates n is k.terminator).fresh)
+  unfoldable pub rebuilt_block : ℕ → Block → (ℕ → ℕ) → Bool → ℕ
+  rebuilt_block n k rest true = rest n
+  rebuilt_block n k rest false =
+      let is = behind_phis k.instructions in
+      rebuilt σ τ (c.folds k) no_states n is k.terminator + rest (n + length (walk σ τ (c.folds k) no_states n is k.terminator).fresh)
 
   -- of all blocks
-  unfoldable pub rebuiltBlocks : ℕ → List Block → ℕ
-  rebuiltBlocks n [] = 0
-  rebuiltBlocks n (k ∷ ks) = rebuiltBlock n k (λ m. rebuiltBlocks m ks) (c.skips k)
+  unfoldable pub rebuilt_blocks : ℕ → List Block → ℕ
+  rebuilt_blocks n [] = 0
+  rebuilt_blocks n (k ∷ ks) = rebuilt_block n k (λ m. rebuilt_blocks m ks) (c.skips k)

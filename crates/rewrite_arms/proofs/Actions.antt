@@ -11,15 +11,15 @@ use Rattle.mir.specs.declared.Value.{Value}
 use Rattle.mir.specs.declared.ValueId.{ValueId}
 use Rattle.mir.specs.declared.TypeId.{TypeId}
 use Rattle.mir.specs.Syntax.{Instruction}
-use Rattle.mir.specs.Lookup.{is_some, onSome}
+use Rattle.mir.specs.Lookup.{is_some, on_some}
 use Rattle.fold.specs.Family.{Marks}
-use Rattle.rewrite.specs.State.{AggStates, insertState, state_of, replaced}
-use Rattle.rewrite.specs.Step.{Piece, kept, left, tracked, stepBuild, stepInsert, handOn, stepAssign}
-use Rattle.rewrite_parts.specs.Rows.{ValueAt, Rep, InitAt, givenParts}
+use Rattle.rewrite.specs.State.{AggStates, insert_state, state_of, replaced}
+use Rattle.rewrite.specs.Step.{Piece, kept, left, tracked, step_build, step_insert, hand_on, step_assign}
+use Rattle.rewrite_parts.specs.Rows.{ValueAt, Rep, InitAt, given_parts}
 use Rattle.rewrite_parts.specs.declared.Init.{Init}
-use Rattle.rewrite_parts.proofs.Tables.{element-some, replaced-set, replaced-past}
-use Rattle.bytes_operands.proofs.Places.{listed-past}
-use Rattle.rewrite_arms.specs.Decided.{countedAs, assigned-from, Decided, Planned, SourceOf, found, nothing, stepTaken, builtAs}
+use Rattle.rewrite_parts.proofs.Tables.{element_some, replaced_set, replaced_past}
+use Rattle.bytes_operands.proofs.Places.{listed_past}
+use Rattle.rewrite_arms.specs.Decided.{counted_as, assigned_from, Decided, Planned, SourceOf, found, nothing, step_taken, built_as}
 use Rattle.rewrite_arms.specs.declared.Source.{Source}
 use Rattle.rewrite_arms.specs.declared.Counted.{Counted}
 use Rattle.rewrite_arms.specs.declared.Action.{Action}
@@ -27,9 +27,9 @@ use Rattle.rewrite_arms.specs.declared.Plan.{Plan}
 use Rattle.rewrite_arms.specs.declared.Spot.{Spot}
 
 -- an untracked value has no parts
-pub no-parts : {S : AggStates} {o : Option (List Value)} {r : Source} → SourceOf S o r → r ≡ Source.Untracked → o ≡ none
-no-parts (found v xs f g) e = absurd (let u : ◌≡◌ {A = ℕ} 0 1 = cc in omega arith)
-no-parts (nothing f) e = f
+pub no_parts : {S : AggStates} {o : Option (List Value)} {r : Source} → SourceOf S o r → r ≡ Source.Untracked → o ≡ none
+no_parts (found v xs f g) e = absurd (let u : ◌≡◌ {A = ℕ} 0 1 = cc in omega arith)
+no_parts (nothing f) e = f
 
 -- a tracked one has those of v
 pub data Has (S : AggStates) (o : Option (List Value)) (v : ValueId) : Type 0 where
@@ -45,106 +45,106 @@ unfolding kept
 stays e r = record { rep = rw e r; does = e }
 
 -- one whose dest is tracked
-pub tracks : {next : ℕ} {s : List ℕ} {marks : Marks} {rows : List ℕ} {used : ℕ} {S : AggStates} {i : Instruction} (c : Counted) (d : ValueId) (xs : List Value) {p : Piece} → p ≡ tracked (countedAs c) S d xs → Rep next s marks rows used (insertState S d xs) → Decided next s marks rows S i p (record { action = Action.Track d c; used = used })
+pub tracks : {next : ℕ} {s : List ℕ} {marks : Marks} {rows : List ℕ} {used : ℕ} {S : AggStates} {i : Instruction} (c : Counted) (d : ValueId) (xs : List Value) {p : Piece} → p ≡ tracked (counted_as c) S d xs → Rep next s marks rows used (insert_state S d xs) → Decided next s marks rows S i p (record { action = Action.Track d c; used = used })
 unfolding tracked left
 tracks c d xs e r = record { rep = rw e r; does = rw e refl }
 
 -- a struct's build, by whether its parts were found
-pub struct-built : {next : ℕ} {s : List ℕ} {marks : Marks} {rows : List ℕ} {used : ℕ} {S : AggStates} {i : Instruction} {x : Piece} {a : Action} (d : ValueId) (o : Option (List Value)) (all : B.Bool) → x ≡ stepBuild S i d o → a ≡ builtAs all d → all ≡ is_some o → Rep next s marks rows used (givenParts S d o) → Decided next s marks rows S i x (record { action = a; used = used })
-unfolding stepBuild givenParts is_some
-struct-built d none all e f g r = rw (f, g) (stays e r)
-struct-built d (some xs) all e f g r = rw (f, g) (tracks Counted.Build d xs e r)
+pub struct_built : {next : ℕ} {s : List ℕ} {marks : Marks} {rows : List ℕ} {used : ℕ} {S : AggStates} {i : Instruction} {x : Piece} {a : Action} (d : ValueId) (o : Option (List Value)) (all : B.Bool) → x ≡ step_build S i d o → a ≡ built_as all d → all ≡ is_some o → Rep next s marks rows used (given_parts S d o) → Decided next s marks rows S i x (record { action = a; used = used })
+unfolding step_build given_parts is_some
+struct_built d none all e f g r = rw (f, g) (stays e r)
+struct_built d (some xs) all e f g r = rw (f, g) (tracks Counted.Build d xs e r)
 
 module _ {next : ℕ} {s facts : List ℕ} {S : AggStates} {i : Instruction} {p : Spot} where
   -- nothing is planned
-  pub plans-keep : {x : Piece} → x ≡ kept S i → Planned next s facts S i p x Plan.Keep
-  plans-keep e = record { goes = e; dest = λ f. absurd (f refl) }
+  pub plans_keep : {x : Piece} → x ≡ kept S i → Planned next s facts S i p x Plan.Keep
+  plans_keep e = record { goes = e; dest = λ f. absurd (f refl) }
 
   -- the build of a struct
-  pub struct-keeps : (o : Option (List Value)) → o ≡ none → Planned next s facts S i p (stepBuild S i p.dest o) Plan.Keep
-  unfolding stepBuild
-  struct-keeps o e = plans-keep (rw e refl)
+  pub struct_keeps : (o : Option (List Value)) → o ≡ none → Planned next s facts S i p (step_build S i p.dest o) Plan.Keep
+  unfolding step_build
+  struct_keeps o e = plans_keep (rw e refl)
 
   -- an insert
-  pub insert-stays : (k : ℕ) (x y : Value) → state_of S x ≡ none → Planned next s facts S i p (stepInsert S i p.dest (onSome (state_of S x) (λ xs. replaced xs k y))) Plan.Keep
-  unfolding stepInsert onSome
-  insert-stays k x y e = plans-keep (rw e refl)
+  pub insert_stays : (k : ℕ) (x y : Value) → state_of S x ≡ none → Planned next s facts S i p (step_insert S i p.dest (on_some (state_of S x) (λ xs. replaced xs k y))) Plan.Keep
+  unfolding step_insert on_some
+  insert_stays k x y e = plans_keep (rw e refl)
 
-  pub insert-past : (k : ℕ) (x y : Value) (xs : List Value) → state_of S x ≡ some xs → length xs ≤ k → Planned next s facts S i p (stepInsert S i p.dest (onSome (state_of S x) (λ xs. replaced xs k y))) Plan.Keep
-  unfolding stepInsert onSome
-  insert-past k x y xs e h = plans-keep (rw (e, replaced-past xs k y h) refl)
+  pub insert_past : (k : ℕ) (x y : Value) (xs : List Value) → state_of S x ≡ some xs → length xs ≤ k → Planned next s facts S i p (step_insert S i p.dest (on_some (state_of S x) (λ xs. replaced xs k y))) Plan.Keep
+  unfolding step_insert on_some
+  insert_past k x y xs e h = plans_keep (rw (e, replaced_past xs k y h) refl)
 
   module _ (d : p.dest.0 < next) where
-    pub insert-replaces : {place : ℕ} (k : ℕ) (x y : Value) (v : ValueId) (xs : List Value) → state_of S x ≡ some xs → S v.0 ≡ some xs → k < length xs → ValueAt next s place y → Planned next s facts S i p (stepInsert S i p.dest (onSome (state_of S x) (λ xs. replaced xs k y))) (Plan.Replace v k place)
-    unfolding stepInsert onSome
-    insert-replaces k x y v xs e f h w =
+    pub insert_replaces : {place : ℕ} (k : ℕ) (x y : Value) (v : ValueId) (xs : List Value) → state_of S x ≡ some xs → S v.0 ≡ some xs → k < length xs → ValueAt next s place y → Planned next s facts S i p (step_insert S i p.dest (on_some (state_of S x) (λ xs. replaced xs k y))) (Plan.Replace v k place)
+    unfolding step_insert on_some
+    insert_replaces k x y v xs e f h w =
         record {
-          goes = record { parts = xs; own = f; new = set xs k y; part = y; stands = w; changed = replaced-set xs k y h; piece = rw (e, replaced-set xs k y h) refl };
+          goes = record { parts = xs; own = f; new = set xs k y; part = y; stands = w; changed = replaced_set xs k y h; piece = rw (e, replaced_set xs k y h) refl };
           dest = λ q. d;
         }
 
     -- a value's row is shared
-    plans-share : {x : Piece} (v : ValueId) (c : Counted) (xs : List Value) → S v.0 ≡ some xs → x ≡ tracked (countedAs c) S p.dest xs → Planned next s facts S i p x (Plan.Share v c)
-    plans-share v c xs f e = record { goes = record { parts = xs; own = f; piece = e }; dest = λ q. d }
+    plans_share : {x : Piece} (v : ValueId) (c : Counted) (xs : List Value) → S v.0 ≡ some xs → x ≡ tracked (counted_as c) S p.dest xs → Planned next s facts S i p x (Plan.Share v c)
+    plans_share v c xs f e = record { goes = record { parts = xs; own = f; piece = e }; dest = λ q. d }
 
     -- an Assign
-    pub assign-shares : (v : ValueId) (o : Option (List Value)) (xs : List Value) → o ≡ some xs → S v.0 ≡ some xs → Planned next s facts S i p (stepAssign S i p.dest o) (Plan.Share v Counted.Assign)
-    unfolding stepAssign
-    assign-shares v o xs e f = plans-share v Counted.Assign xs f (rw e refl)
+    pub assign_shares : (v : ValueId) (o : Option (List Value)) (xs : List Value) → o ≡ some xs → S v.0 ≡ some xs → Planned next s facts S i p (step_assign S i p.dest o) (Plan.Share v Counted.Assign)
+    unfolding step_assign
+    assign_shares v o xs e f = plans_share v Counted.Assign xs f (rw e refl)
 
     -- a part that is there
-    pub take-assigns : {place : ℕ} (whole : B.Bool) (t : TypeId) (o : Option Value) (x : Value) → o ≡ some x → cond whole (state_of S x) none ≡ none → ValueAt next s place x → Planned next s facts S i p (stepTaken whole S i p.dest t o) (Plan.Assign place t)
-    unfolding stepTaken handOn
-    take-assigns whole t o x e f v = record { goes = assigned-from x v (rw (e, f) refl); dest = λ q. d }
+    pub take_assigns : {place : ℕ} (whole : B.Bool) (t : TypeId) (o : Option Value) (x : Value) → o ≡ some x → cond whole (state_of S x) none ≡ none → ValueAt next s place x → Planned next s facts S i p (step_taken whole S i p.dest t o) (Plan.Assign place t)
+    unfolding step_taken hand_on
+    take_assigns whole t o x e f v = record { goes = assigned_from x v (rw (e, f) refl); dest = λ q. d }
 
-    pub take-shares : (whole : B.Bool) (t : TypeId) (o : Option Value) (x : Value) (v : ValueId) (xs : List Value) → o ≡ some x → cond whole (state_of S x) none ≡ some xs → S v.0 ≡ some xs → Planned next s facts S i p (stepTaken whole S i p.dest t o) (Plan.Share v Counted.Extract)
-    unfolding stepTaken handOn
-    take-shares whole t o x v xs e f g = plans-share v Counted.Extract xs g (rw (e, f) refl)
+    pub take_shares : (whole : B.Bool) (t : TypeId) (o : Option Value) (x : Value) (v : ValueId) (xs : List Value) → o ≡ some x → cond whole (state_of S x) none ≡ some xs → S v.0 ≡ some xs → Planned next s facts S i p (step_taken whole S i p.dest t o) (Plan.Share v Counted.Extract)
+    unfolding step_taken hand_on
+    take_shares whole t o x v xs e f g = plans_share v Counted.Extract xs g (rw (e, f) refl)
 
   -- an Assign of an untracked value, and a part that is not there
-  pub assign-stays : (o : Option (List Value)) → o ≡ none → Planned next s facts S i p (stepAssign S i p.dest o) Plan.Keep
-  unfolding stepAssign
-  assign-stays o e = plans-keep (rw e refl)
+  pub assign_stays : (o : Option (List Value)) → o ≡ none → Planned next s facts S i p (step_assign S i p.dest o) Plan.Keep
+  unfolding step_assign
+  assign_stays o e = plans_keep (rw e refl)
 
-  pub take-stays : (whole : B.Bool) (t : TypeId) (o : Option Value) → o ≡ none → Planned next s facts S i p (stepTaken whole S i p.dest t o) Plan.Keep
-  unfolding stepTaken
-  take-stays whole t o e = plans-keep (rw e refl)
+  pub take_stays : (whole : B.Bool) (t : TypeId) (o : Option Value) → o ≡ none → Planned next s facts S i p (step_taken whole S i p.dest t o) Plan.Keep
+  unfolding step_taken
+  take_stays whole t o e = plans_keep (rw e refl)
 
 -- parts, found or not
-pub init-none : {next place : ℕ} {s : List ℕ} {o : Option Value} → o ≡ none → InitAt next s o (record { given = false; place = place })
+pub init_none : {next place : ℕ} {s : List ℕ} {o : Option Value} → o ≡ none → InitAt next s o (record { given = false; place = place })
 unfolding is_some
-init-none {o} e = record { told = rw e refl; stands = λ x f. absurd (let z : none ≡ some x = sym e ∙ f in let u : ◌≡◌ {A = ℕ} 0 1 = cc in omega arith) }
+init_none {o} e = record { told = rw e refl; stands = λ x f. absurd (let z : none ≡ some x = sym e ∙ f in let u : ◌≡◌ {A = ℕ} 0 1 = cc in omega arith) }
 
-pub init-some : {next place : ℕ} {s : List ℕ} {o : Option Value} {x : Value} → o ≡ some x → ValueAt next s place x → InitAt next s o (record { given = true; place = place })
+pub init_some : {next place : ℕ} {s : List ℕ} {o : Option Value} {x : Value} → o ≡ some x → ValueAt next s place x → InitAt next s o (record { given = true; place = place })
 unfolding is_some
-init-some {o} {x} e v = record { told = rw e refl; stands = λ y f. let z : some y ≡ some x = sym f ∙ e in let w : y ≡ x = cc in rw w v }
+init_some {o} {x} e v = record { told = rw e refl; stands = λ y f. let z : some y ≡ some x = sym f ∙ e in let w : y ≡ x = cc in rw w v }
 
-pub init-same : {next : ℕ} {s : List ℕ} {o o' : Option Value} {r : Init} → o ≡ o' → InitAt next s o' r → InitAt next s o r
-init-same e a = rw e a
+pub init_same : {next : ℕ} {s : List ℕ} {o o' : Option Value} {r : Init} → o ≡ o' → InitAt next s o' r → InitAt next s o r
+init_same e a = rw e a
 
 module _ {next : ℕ} {s : List ℕ} (S : AggStates) (x : Value) (k : ℕ) where
-  pub part_none : {place : ℕ} → state_of S x ≡ none → InitAt next s (onSome (state_of S x) (λ xs. get_elem? xs k)) (record { given = false; place = place })
-  unfolding onSome
-  part_none e = init-none (rw e refl)
+  pub part_none : {place : ℕ} → state_of S x ≡ none → InitAt next s (on_some (state_of S x) (λ xs. get_elem? xs k)) (record { given = false; place = place })
+  unfolding on_some
+  part_none e = init_none (rw e refl)
 
-  pub part-past : {place : ℕ} (xs : List Value) → state_of S x ≡ some xs → length xs ≤ k → InitAt next s (onSome (state_of S x) (λ xs. get_elem? xs k)) (record { given = false; place = place })
-  unfolding onSome
-  part-past xs e h = init-none (rw e (sym (listed-past xs k h)))
+  pub part_past : {place : ℕ} (xs : List Value) → state_of S x ≡ some xs → length xs ≤ k → InitAt next s (on_some (state_of S x) (λ xs. get_elem? xs k)) (record { given = false; place = place })
+  unfolding on_some
+  part_past xs e h = init_none (rw e (sym (listed_past xs k h)))
 
-  pub part-some : {place : ℕ} (xs : List Value) → state_of S x ≡ some xs → k < length xs → ValueAt next s place (get_or xs k Value.Error) → InitAt next s (onSome (state_of S x) (λ xs. get_elem? xs k)) (record { given = true; place = place })
-  unfolding onSome
-  part-some xs e h v = init-some (rw e (element-some xs k h)) v
+  pub part_some : {place : ℕ} (xs : List Value) → state_of S x ≡ some xs → k < length xs → ValueAt next s place (get_or xs k Value.Error) → InitAt next s (on_some (state_of S x) (λ xs. get_elem? xs k)) (record { given = true; place = place })
+  unfolding on_some
+  part_some xs e h v = init_some (rw e (element_some xs k h)) v
 
 -- what a found part is
-pub init-gone : {next : ℕ} {s : List ℕ} {o : Option Value} {r : Init} → InitAt next s o r → r.given ≡ false → o ≡ none
+pub init_gone : {next : ℕ} {s : List ℕ} {o : Option Value} {r : Init} → InitAt next s o r → r.given ≡ false → o ≡ none
 unfolding is_some
-init-gone {o = none} a e = refl
-init-gone {o = some x} a e = absurd (let z : true ≡ false = sym a.told ∙ e in let u : ◌≡◌ {A = ℕ} 0 1 = cc in omega arith)
+init_gone {o = none} a e = refl
+init_gone {o = some x} a e = absurd (let z : true ≡ false = sym a.told ∙ e in let u : ◌≡◌ {A = ℕ} 0 1 = cc in omega arith)
 
 pub data There (next : ℕ) (s : List ℕ) (o : Option Value) (place : ℕ) : Type 0 where
   there : (x : Value) → o ≡ some x → ValueAt next s place x → There next s o place
 
-pub init-there : {next : ℕ} {s : List ℕ} {o : Option Value} {r : Init} → InitAt next s o r → r.given ≡ true → There next s o r.place
+pub init_there : {next : ℕ} {s : List ℕ} {o : Option Value} {r : Init} → InitAt next s o r → r.given ≡ true → There next s o r.place
 unfolding is_some
-init-there {o = none} a e = absurd (let z : false ≡ true = sym a.told ∙ e in let u : ◌≡◌ {A = ℕ} 0 1 = cc in omega arith)
-init-there {o = some x} a e = there x refl (a.stands x refl)
+init_there {o = none} a e = absurd (let z : false ≡ true = sym a.told ∙ e in let u : ◌≡◌ {A = ℕ} 0 1 = cc in omega arith)
+init_there {o = some x} a e = there x refl (a.stands x refl)

@@ -13,63 +13,63 @@ use Rattle.bytes_wire.specs.WellFormed.{FitValue}
 use Rattle.mir.specs.declared.Value.{Value}
 use Rattle.mir.specs.declared.ValueId.{ValueId}
 use Rattle.mir.specs.declared.TypeId.{TypeId}
-use Rattle.bytes_wire.proofs.Canon.{bytes_drop, value-fit}
+use Rattle.bytes_wire.proofs.Canon.{bytes_drop, value_fit}
 use Rattle.mir.specs.Syntax.{Place, Instruction}
 use Rattle.bytes_field.specs.declared.Bounds.{Bounds}
-use Rattle.bytes_operands.specs.Fields.{valueSize, valueEnd}
+use Rattle.bytes_operands.specs.Fields.{value_size, value_end}
 use Rattle.bytes_operands.proofs.EachKind.{At, at}
-use Rattle.mir.specs.Lookup.{Types, row_of, isAggregate, onSome}
-use Rattle.rewrite.specs.State.{AggStates, state_of, chain, firstInteger}
-use Rattle.rewrite.specs.Rebuild.{aggregateType}
-use Rattle.rewrite.specs.Step.{stepExtract, handOn, stepLoaded, stepLoad}
-use Rattle.rewrite_chains.specs.Chained.{loadedPart}
-use Rattle.rewrite_arms.specs.Decided.{Below, stepTaken}
+use Rattle.mir.specs.Lookup.{Types, row_of, is_aggregate, on_some}
+use Rattle.rewrite.specs.State.{AggStates, state_of, chain, first_integer}
+use Rattle.rewrite.specs.Rebuild.{aggregate_type}
+use Rattle.rewrite.specs.Step.{step_extract, hand_on, step_loaded, step_load}
+use Rattle.rewrite_chains.specs.Chained.{loaded_part}
+use Rattle.rewrite_arms.specs.Decided.{Below, step_taken}
 
 -- numbers behind `off` bytes
-pub behind-16 : (off q : ℕ) (s : List ℕ) → at16 (drop off s) q ≡ at16 s (off + q)
-behind-16 off q s = let z : off + (q + 1) ≡ off + q + 1 = omega arith in rw (get_or-drop off s q 0, get_or-drop off s (q + 1) 0, z) refl
+pub behind_16 : (off q : ℕ) (s : List ℕ) → at16 (drop off s) q ≡ at16 s (off + q)
+behind_16 off q s = let z : off + (q + 1) ≡ off + q + 1 = omega arith in rw (get_or-drop off s q 0, get_or-drop off s (q + 1) 0, z) refl
 
-pub behind-32 : (off q : ℕ) (s : List ℕ) → at32 (drop off s) q ≡ at32 s (off + q)
-behind-32 off q s =
+pub behind_32 : (off q : ℕ) (s : List ℕ) → at32 (drop off s) q ≡ at32 s (off + q)
+behind_32 off q s =
     let z : off + (q + 2) ≡ off + q + 2 = omega arith in
-    ap (λ m. m + 65536 * at16 (drop off s) (q + 2)) (behind-16 off q s) ∙ ap (λ m. at16 s (off + q) + 65536 * m) (behind-16 off (q + 2) s ∙ ap (λ m. at16 s m) z)
+    ap (λ m. m + 65536 * at16 (drop off s) (q + 2)) (behind_16 off q s) ∙ ap (λ m. at16 s (off + q) + 65536 * m) (behind_16 off (q + 2) s ∙ ap (λ m. at16 s m) z)
 
 -- the place behind a value
-pub behind-value : (off q : ℕ) (s : List ℕ) → off + valueEnd (drop off s) q ≡ valueEnd s (off + q)
-behind-value off q s = let z : valueSize (get_or (drop off s) q 0) ≡ valueSize (get_or s (off + q) 0) = ap valueSize (get_or-drop off s q 0) in omega arith
+pub behind_value : (off q : ℕ) (s : List ℕ) → off + value_end (drop off s) q ≡ value_end s (off + q)
+behind_value off q s = let z : value_size (get_or (drop off s) q 0) ≡ value_size (get_or s (off + q) 0) = ap value_size (get_or-drop off s q 0) in omega arith
 
 -- a value that was read is one of those there are
 operand_below : (next : ℕ) (x : Value) → FitValue next x → Below next x
 operand_below next x f = record { each = λ v e. (rw e at f).0 }
 
-pub value-below : (b : Bounds) (s : List ℕ) (off q : ℕ) (x : Value) → ((j : ℕ) → get_or s j 0 < 256) → b.next ≤ 256 → At (value_of b.next) (drop off s) q x → Below b.next x
-value-below b s off q x h l (at n e) = operand_below b.next x (value-fit b.next (drop q (drop off s)) (bytes_drop (drop off s) q (bytes_drop s off h)) e (omega arith))
+pub value_below : (b : Bounds) (s : List ℕ) (off q : ℕ) (x : Value) → ((j : ℕ) → get_or s j 0 < 256) → b.next ≤ 256 → At (value_of b.next) (drop off s) q x → Below b.next x
+value_below b s off q x h l (at n e) = operand_below b.next x (value_fit b.next (drop q (drop off s)) (bytes_drop (drop off s) q (bytes_drop s off h)) e (omega arith))
 
 -- the same by the two ways of writing a step
-pub taken-extract : (S : AggStates) (i : Instruction) (d : ValueId) (t : TypeId) (o : Option Value) → stepExtract S i d t o ≡ stepTaken true S i d t o
-unfolding stepExtract stepTaken
-taken-extract S i d t none = refl
-taken-extract S i d t (some x) = refl
+pub taken_extract : (S : AggStates) (i : Instruction) (d : ValueId) (t : TypeId) (o : Option Value) → step_extract S i d t o ≡ step_taken true S i d t o
+unfolding step_extract step_taken
+taken_extract S i d t none = refl
+taken_extract S i d t (some x) = refl
 
-some-when : {A : Type 0} (c : Bool) (t : TypeId) (o : Option A) → onSome (cond c (some t) none) (λ u. o) ≡ cond c o none
-unfolding onSome
-some-when true t o = refl
-some-when false t o = refl
+some_when : {A : Type 0} (c : Bool) (t : TypeId) (o : Option A) → on_some (cond c (some t) none) (λ u. o) ≡ cond c o none
+unfolding on_some
+some_when true t o = refl
+some_when false t o = refl
 
-pub whole-aggregate : {A : Type 0} (τ : Types) (t : TypeId) (whole : Bool) (o : Option A) → whole ≡ isAggregate (row_of τ (some t)) → onSome (aggregateType τ t) (λ u. o) ≡ cond whole o none
-unfolding aggregateType
-whole-aggregate τ t whole o e = rw e (some-when (isAggregate (row_of τ (some t))) t o)
+pub whole_aggregate : {A : Type 0} (τ : Types) (t : TypeId) (whole : Bool) (o : Option A) → whole ≡ is_aggregate (row_of τ (some t)) → on_some (aggregate_type τ t) (λ u. o) ≡ cond whole o none
+unfolding aggregate_type
+whole_aggregate τ t whole o e = rw e (some_when (is_aggregate (row_of τ (some t))) t o)
 
-loaded-taken : (τ : Types) (S : AggStates) (i : Instruction) (d : ValueId) (t : TypeId) (whole : Bool) (o : Option Value) → whole ≡ isAggregate (row_of τ (some t)) → stepLoaded τ S i d t o ≡ stepTaken whole S i d t o
-unfolding stepLoaded stepTaken
-loaded-taken τ S i d t whole none e = refl
-loaded-taken τ S i d t whole (some x) e = ap (handOn S d t x) (whole-aggregate τ t whole (state_of S x) e)
+loaded_taken : (τ : Types) (S : AggStates) (i : Instruction) (d : ValueId) (t : TypeId) (whole : Bool) (o : Option Value) → whole ≡ is_aggregate (row_of τ (some t)) → step_loaded τ S i d t o ≡ step_taken whole S i d t o
+unfolding step_loaded step_taken
+loaded_taken τ S i d t whole none e = refl
+loaded_taken τ S i d t whole (some x) e = ap (hand_on S d t x) (whole_aggregate τ t whole (state_of S x) e)
 
-load-first : (τ : Types) (S : AggStates) (i : Instruction) (d : ValueId) (p : Place) (t : TypeId) (whole : Bool) (k : Option ℕ) → whole ≡ isAggregate (row_of τ (some t)) → stepLoad τ S i d p t k ≡ stepTaken whole S i d t (onSome k (λ k. onSome (S p.base.0) (λ xs. chain τ S (Value.Operand p.base) p.projections)))
-unfolding stepLoad onSome stepTaken
-load-first τ S i d p t whole none e = refl
-load-first τ S i d p t whole (some k) e = loaded-taken τ S i d t whole (onSome (S p.base.0) (λ xs. chain τ S (Value.Operand p.base) p.projections)) e
+load_first : (τ : Types) (S : AggStates) (i : Instruction) (d : ValueId) (p : Place) (t : TypeId) (whole : Bool) (k : Option ℕ) → whole ≡ is_aggregate (row_of τ (some t)) → step_load τ S i d p t k ≡ step_taken whole S i d t (on_some k (λ k. on_some (S p.base.0) (λ xs. chain τ S (Value.Operand p.base) p.projections)))
+unfolding step_load on_some step_taken
+load_first τ S i d p t whole none e = refl
+load_first τ S i d p t whole (some k) e = loaded_taken τ S i d t whole (on_some (S p.base.0) (λ xs. chain τ S (Value.Operand p.base) p.projections)) e
 
-pub load-taken : (τ : Types) (S : AggStates) (i : Instruction) (d : ValueId) (p : Place) (t : TypeId) (whole : Bool) → whole ≡ isAggregate (row_of τ (some t)) → stepLoad τ S i d p t (firstInteger p.projections) ≡ stepTaken whole S i d t (loadedPart τ S p)
-unfolding loadedPart
-load-taken τ S i d p t whole e = load-first τ S i d p t whole (firstInteger p.projections) e
+pub load_taken : (τ : Types) (S : AggStates) (i : Instruction) (d : ValueId) (p : Place) (t : TypeId) (whole : Bool) → whole ≡ is_aggregate (row_of τ (some t)) → step_load τ S i d p t (first_integer p.projections) ≡ step_taken whole S i d t (loaded_part τ S p)
+unfolding loaded_part
+load_taken τ S i d p t whole e = load_first τ S i d p t whole (first_integer p.projections) e

@@ -15,46 +15,46 @@ use Rattle.mir.specs.declared.TypeId.{TypeId}
 use Rattle.mir.specs.MirType.{MirType, Felt, Bool, U32, Tuple, Struct, FixedArray, Pointer, Function, Unit, Error, Unknown}
 use Rattle.bytes_field.specs.declared.Bounds.{Bounds}
 use Rattle.bytes_lookup.specs.declared.TypeFound.{TypeFound}
-use Rattle.bytes_sections.specs.Index.{recordedNumber, recordedFrom}
-use Rattle.bytes_lookup.specs.Found.{asType}
-use Rattle.mir.specs.Lookup.{Types, row_of, recordedType, valueRow, shape, isTuple, isStruct, isArray, isAggregate, is_some}
-use Rattle.mir.specs.Parts.{or_else, structRow}
+use Rattle.bytes_sections.specs.Index.{recorded_number, recorded_from}
+use Rattle.bytes_lookup.specs.Found.{as_type}
+use Rattle.mir.specs.Lookup.{Types, row_of, recorded_type, value_row, shape, is_tuple, is_struct, is_array, is_aggregate, is_some}
+use Rattle.mir.specs.Parts.{or_else, struct_row}
 use Rattle.rewrite.specs.State.{AggStates, state_of}
 use Rattle.fold.specs.Tables.{Ground}
 use Rattle.rewrite_arms.specs.Decided.{SourceOf, found, nothing}
 use Rattle.rewrite_arms.specs.declared.Source.{Source}
 
 -- a literal, and Error, have no parts
-pub literal-source : (S : AggStates) {x : Value} {l : Literal} → x ≡ Value.Literal l → SourceOf S (state_of S x) Source.Untracked
+pub literal_source : (S : AggStates) {x : Value} {l : Literal} → x ≡ Value.Literal l → SourceOf S (state_of S x) Source.Untracked
 unfolding state_of
-literal-source S e = nothing (ap (state_of S) e)
+literal_source S e = nothing (ap (state_of S) e)
 
-pub error-source : (S : AggStates) {x : Value} → x ≡ Value.Error → SourceOf S (state_of S x) Source.Untracked
+pub error_source : (S : AggStates) {x : Value} → x ≡ Value.Error → SourceOf S (state_of S x) Source.Untracked
 unfolding state_of
-error-source S e = nothing (ap (state_of S) e)
+error_source S e = nothing (ap (state_of S) e)
 
 -- an operand has them where it is marked
-marked-source : (S : AggStates) (v : ValueId) (o : Option (List Value)) → S v.0 ≡ o → is_some o ≡ B.true → SourceOf S (S v.0) (Source.Tracked v)
+marked_source : (S : AggStates) (v : ValueId) (o : Option (List Value)) → S v.0 ≡ o → is_some o ≡ B.true → SourceOf S (S v.0) (Source.Tracked v)
 unfolding is_some
-marked-source S v none f e = absurd (let z : ◌≡◌ {A = ℕ} 0 1 = cc in omega arith)
-marked-source S v (some xs) f e = found v xs f f
+marked_source S v none f e = absurd (let z : ◌≡◌ {A = ℕ} 0 1 = cc in omega arith)
+marked_source S v (some xs) f e = found v xs f f
 
-pub operand-source : (S : AggStates) {x : Value} {v : ValueId} {m : B.Bool} → x ≡ Value.Operand v → m ≡ is_some (S v.0) → m ≡ B.true → SourceOf S (state_of S x) (Source.Tracked v)
+pub operand_source : (S : AggStates) {x : Value} {v : ValueId} {m : B.Bool} → x ≡ Value.Operand v → m ≡ is_some (S v.0) → m ≡ B.true → SourceOf S (state_of S x) (Source.Tracked v)
 unfolding state_of
-operand-source S {x} {v} {m} e f h = rw e (marked-source S v (S v.0) refl (sym f ∙ h))
+operand_source S {x} {v} {m} e f h = rw e (marked_source S v (S v.0) refl (sym f ∙ h))
 
-clear-source : (S : AggStates) (v : ValueId) (o : Option (List Value)) → S v.0 ≡ o → is_some o ≡ B.false → SourceOf S (S v.0) Source.Untracked
+clear_source : (S : AggStates) (v : ValueId) (o : Option (List Value)) → S v.0 ≡ o → is_some o ≡ B.false → SourceOf S (S v.0) Source.Untracked
 unfolding is_some
-clear-source S v none f e = nothing f
-clear-source S v (some xs) f e = absurd (let z : ◌≡◌ {A = ℕ} 0 1 = cc in omega arith)
+clear_source S v none f e = nothing f
+clear_source S v (some xs) f e = absurd (let z : ◌≡◌ {A = ℕ} 0 1 = cc in omega arith)
 
-pub operand-untracked : (S : AggStates) {x : Value} {v : ValueId} {m : B.Bool} → x ≡ Value.Operand v → m ≡ is_some (S v.0) → m ≡ B.false → SourceOf S (state_of S x) Source.Untracked
+pub operand_untracked : (S : AggStates) {x : Value} {v : ValueId} {m : B.Bool} → x ≡ Value.Operand v → m ≡ is_some (S v.0) → m ≡ B.false → SourceOf S (state_of S x) Source.Untracked
 unfolding state_of
-operand-untracked S {x} {v} {m} e f h = rw e (clear-source S v (S v.0) refl (sym f ∙ h))
+operand_untracked S {x} {v} {m} e f h = rw e (clear_source S v (S v.0) refl (sym f ∙ h))
 
 -- the type of an instruction, and the row of it
-shaped : (o : Option MirType) → not (eqb (shape o) 0) ≡ isAggregate o
-unfolding shape isAggregate isTuple isStruct isArray
+shaped : (o : Option MirType) → not (eqb (shape o) 0) ≡ is_aggregate o
+unfolding shape is_aggregate is_tuple is_struct is_array
 shaped none = refl
 shaped (some Felt) = refl
 shaped (some Bool) = refl
@@ -68,36 +68,36 @@ shaped (some Unit) = refl
 shaped (some Error) = refl
 shaped (some Unknown) = refl
 
-pub aggregate-shape : (τ : Types) (t : TypeId) (n : ℕ) → n ≡ shape (get_elem? τ.rows t.0) → not (eqb n 0) ≡ isAggregate (row_of τ (some t))
+pub aggregate_shape : (τ : Types) (t : TypeId) (n : ℕ) → n ≡ shape (get_elem? τ.rows t.0) → not (eqb n 0) ≡ is_aggregate (row_of τ (some t))
 unfolding row_of
-aggregate-shape τ t n e = ap (λ m. not (eqb m 0)) e ∙ shaped (get_elem? τ.rows t.0)
+aggregate_shape τ t n e = ap (λ m. not (eqb m 0)) e ∙ shaped (get_elem? τ.rows t.0)
 
 -- the type of a value, as the code's table has it
-number-back : (o : Option TypeId) → recordedFrom (recordedNumber o) ≡ o
-number-back none = refl
-number-back (some t) = let z : t.0 + 1 ≡ suc t.0 = omega arith in ap recordedFrom z
+number_back : (o : Option TypeId) → recorded_from (recorded_number o) ≡ o
+number_back none = refl
+number_back (some t) = let z : t.0 + 1 ≡ suc t.0 = omega arith in ap recorded_from z
 
 -- an element that is there
-element-at : {A : Type 0} (xs : List A) (k : ℕ) (d : A) → k < length xs → get_elem? xs k ≡ some (get_or xs k d)
-element-at [] k d h = absurd (omega arith)
-element-at (x ∷ xs) zero d h = refl
-element-at (x ∷ xs) (suc k) d h = element-at xs k d (omega arith)
+element_at : {A : Type 0} (xs : List A) (k : ℕ) (d : A) → k < length xs → get_elem? xs k ≡ some (get_or xs k d)
+element_at [] k d h = absurd (omega arith)
+element_at (x ∷ xs) zero d h = refl
+element_at (x ∷ xs) (suc k) d h = element_at xs k d (omega arith)
 
-module _ {b : Bounds} {s types recorded : List ℕ} {τ : Types} (g : Ground b s types recorded τ) (d : ValueId) (l : d.0 < b.next) (r : TypeFound) (e : asType r ≡ recordedFrom (get_or recorded d.0 0)) where
-  recorded-is : asType r ≡ recordedType τ d
-  unfolding recordedType
-  recorded-is =
-      e ∙ ap recordedFrom (g.known.recorded-types d.0 (omega (arith, g.values)) (omega (arith, g.values, g.known.long))) ∙ number-back (get_or τ.recorded d.0 none)
+module _ {b : Bounds} {s types recorded : List ℕ} {τ : Types} (g : Ground b s types recorded τ) (d : ValueId) (l : d.0 < b.next) (r : TypeFound) (e : as_type r ≡ recorded_from (get_or recorded d.0 0)) where
+  recorded_is : as_type r ≡ recorded_type τ d
+  unfolding recorded_type
+  recorded_is =
+      e ∙ ap recorded_from (g.known.recorded_types d.0 (omega (arith, g.values)) (omega (arith, g.values, g.known.long))) ∙ number_back (get_or τ.recorded d.0 none)
 
   -- a struct goes by its recorded type
-  pub row-recorded : (named : TypeId) {t : TypeId} → r ≡ TypeFound.Type t → structRow τ d named ≡ row_of τ (some t)
-  unfolding structRow valueRow row_of or_else recordedType
-  row-recorded named {t} f =
-      let z : recordedType τ d ≡ some t = sym recorded-is ∙ ap asType f in
+  pub row_recorded : (named : TypeId) {t : TypeId} → r ≡ TypeFound.Type t → struct_row τ d named ≡ row_of τ (some t)
+  unfolding struct_row value_row row_of or_else recorded_type
+  row_recorded named {t} f =
+      let z : recorded_type τ d ≡ some t = sym recorded_is ∙ ap as_type f in
       let w : t.0 < length τ.rows = omega (arith, g.rows, g.typed d.0 t z) in
-      rw (z, element-at τ.rows t.0 MirType.Unit w)
+      rw (z, element_at τ.rows t.0 MirType.Unit w)
 
   -- and where none is recorded by the named one
-  pub row_named : (named : TypeId) → r ≡ TypeFound.Nothing → structRow τ d named ≡ row_of τ (some named)
-  unfolding structRow valueRow row_of or_else recordedType
-  row_named named f = let z : recordedType τ d ≡ none = sym recorded-is ∙ ap asType f in rw z
+  pub row_named : (named : TypeId) → r ≡ TypeFound.Nothing → struct_row τ d named ≡ row_of τ (some named)
+  unfolding struct_row value_row row_of or_else recorded_type
+  row_named named f = let z : recorded_type τ d ≡ none = sym recorded_is ∙ ap as_type f in rw z

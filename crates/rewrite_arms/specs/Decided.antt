@@ -9,19 +9,19 @@ use Rattle.mir.specs.declared.Value.{Value}
 use Rattle.mir.specs.declared.NameId.{NameId}
 use Rattle.mir.specs.Syntax.{Instruction, FieldInit}
 use Rattle.bytes_field.specs.declared.Bounds.{Bounds}
-use Rattle.bytes_index.specs.Table.{recordedIn, place_in, end_in}
+use Rattle.bytes_index.specs.Table.{recorded_in, place_in, end_in}
 use Rattle.mir.specs.MirType.{StructField}
-use Rattle.bytes_operands.specs.Fields.{fieldsPlace}
-use Rattle.mir.specs.Parts.{fromStructFields, structParts}
-use Rattle.mir.specs.Lookup.{Types, onSome}
+use Rattle.bytes_operands.specs.Fields.{fields_place}
+use Rattle.mir.specs.Parts.{from_struct_fields, struct_parts}
+use Rattle.mir.specs.Lookup.{Types, on_some}
 use Rattle.fold.specs.Family.{Marks}
 use Rattle.fold.specs.Tables.{Ground}
 use Rattle.rewrite.specs.declared.Counts.{Counts}
 use Rattle.rewrite.specs.State.{AggStates, state_of, replaced}
-use Rattle.rewrite.specs.Step.{Piece, kept, left, tracked, assigned, stepBuild, stepInsert, stepAssign, handOn, extractIndex}
-use Rattle.rewrite.specs.Step.{oneBuild, oneExtract, oneInsert, oneAssign}
-use Rattle.mir.specs.Most.{mostValues}
-use Rattle.rewrite_parts.specs.Rows.{mostParts, ValueAt, Rep, Room, Values, Inits, InitAt}
+use Rattle.rewrite.specs.Step.{Piece, kept, left, tracked, assigned, step_build, step_insert, step_assign, hand_on, extract_index}
+use Rattle.rewrite.specs.Step.{one_build, one_extract, one_insert, one_assign}
+use Rattle.mir.specs.Most.{most_values}
+use Rattle.rewrite_parts.specs.Rows.{most_parts, ValueAt, Rep, Room, Values, Inits, InitAt}
 use Rattle.bytes_struct.specs.Fields.{Names}
 use Rattle.rewrite_parts.specs.declared.Init.{Init}
 use Rattle.rewrite_arms.specs.declared.Counted.{Counted}
@@ -32,20 +32,20 @@ use Rattle.rewrite_arms.specs.declared.Source.{Source}
 use Rattle.rewrite_arms.specs.declared.Spot.{Spot}
 
 -- what an instruction that is left out counts
-abbrev pub countedAs : Counted → Counts
-countedAs Counted.Build = oneBuild
-countedAs Counted.Extract = oneExtract
-countedAs Counted.Insert = oneInsert
-countedAs Counted.Assign = oneAssign
+abbrev pub counted_as : Counted → Counts
+counted_as Counted.Build = one_build
+counted_as Counted.Extract = one_extract
+counted_as Counted.Insert = one_insert
+counted_as Counted.Assign = one_assign
 
 -- the piece is an Assign of the value that stands at a place of the input
 pub data Assigned (next : ℕ) (s : List ℕ) (S : AggStates) (p : Piece) (d : ValueId) (place : ℕ) (t : TypeId) : Type 0 where
-  assigned-from : (x : Value) → ValueAt next s place x → p ≡ assigned oneExtract S d x t → Assigned next s S p d place t
+  assigned_from : (x : Value) → ValueAt next s place x → p ≡ assigned one_extract S d x t → Assigned next s S p d place t
 
 -- what an action does is the piece: the instruction stays, is left out with its dest tracked, or becomes an Assign
 abbrev pub Does : ℕ → List ℕ → AggStates → Instruction → Piece → Action → Type 0
 Does next s S i p Action.Keep = p ≡ kept S i
-Does next s S i p (Action.Track d c) = p ≡ left (countedAs c) (d ∷ []) p.states
+Does next s S i p (Action.Track d c) = p ≡ left (counted_as c) (d ∷ []) p.states
 Does next s S i p (Action.Assign d place t) = Assigned next s S p d place t
 
 -- the tables hold the states behind the piece, and the action does it
@@ -55,7 +55,7 @@ pub record Decided (next : ℕ) (s : List ℕ) (tracked : Marks) (rows : List �
 
 -- the spot of the instruction in a slot
 pub record SpotAt (s facts : List ℕ) (slot : ℕ) (p : Spot) : Type 0 where
-  pub fields : p.off ≡ place_in facts slot + fieldsPlace (drop (place_in facts slot) s)
+  pub fields : p.off ≡ place_in facts slot + fields_place (drop (place_in facts slot) s)
   pub ends : p.end ≡ end_in facts slot
   pub dest : p.dest.0 ≡ at16 s p.off
 
@@ -69,20 +69,20 @@ pub record Below (next : ℕ) (x : Value) : Type 0 where
   pub each : (v : ValueId) → x ≡ Value.Operand v → v.0 < next
 
 -- a part that is taken: it hands its own parts on only where that is asked for
-unfoldable pub stepTaken : Bool → AggStates → Instruction → ValueId → TypeId → Option Value → Piece
-stepTaken whole S i d t none = kept S i
-stepTaken whole S i d t (some x) = handOn S d t x (cond whole (state_of S x) none)
+unfoldable pub step_taken : Bool → AggStates → Instruction → ValueId → TypeId → Option Value → Piece
+step_taken whole S i d t none = kept S i
+step_taken whole S i d t (some x) = hand_on S d t x (cond whole (state_of S x) none)
 
 -- a struct's build, by whether its parts were found
-abbrev pub builtAs : Bool → ValueId → Action
-builtAs true d = Action.Track d Counted.Build
-builtAs false d = Action.Keep
+abbrev pub built_as : Bool → ValueId → Action
+built_as true d = Action.Track d Counted.Build
+built_as false d = Action.Keep
 
 -- what a plan goes by: the parts of the value whose row is shared
 pub record Sharing (S : AggStates) (d : ValueId) (x : Piece) (v : ValueId) (c : Counted) : Type 0 where
   pub parts : List Value
   pub own : S v.0 ≡ some parts
-  pub piece : x ≡ tracked (countedAs c) S d parts
+  pub piece : x ≡ tracked (counted_as c) S d parts
 
 -- the parts of the value that a part is replaced in, and the new part
 pub record Replacing (next : ℕ) (s : List ℕ) (S : AggStates) (d : ValueId) (x : Piece) (v : ValueId) (k place : ℕ) : Type 0 where
@@ -92,15 +92,15 @@ pub record Replacing (next : ℕ) (s : List ℕ) (S : AggStates) (d : ValueId) (
   pub part : Value
   pub stands : ValueAt next s place part
   pub changed : replaced parts k part ≡ some new
-  pub piece : x ≡ tracked oneInsert S d new
+  pub piece : x ≡ tracked one_insert S d new
 
 -- the values of the list of a build
 pub record Listing (next : ℕ) (s : List ℕ) (S : AggStates) (p : Spot) (x : Piece) : Type 0 where
   pub parts : List Value
   pub stand : Values next s 0 (p.off + 3) parts
   pub many : length parts ≡ get_or s (p.off + 2) 0
-  pub few : length parts ≤ mostParts
-  pub piece : x ≡ tracked oneBuild S p.dest parts
+  pub few : length parts ≤ most_parts
+  pub piece : x ≡ tracked one_build S p.dest parts
 
 -- the inits of a build of a struct, and the fields of its type
 pub record Fielding (next : ℕ) (s facts : List ℕ) (S : AggStates) (i : Instruction) (p : Spot) (x : Piece) (t : TypeId) : Type 0 where
@@ -110,8 +110,8 @@ pub record Fielding (next : ℕ) (s facts : List ℕ) (S : AggStates) (i : Instr
   pub fields : List StructField
   pub named : Names (drop (get_or facts t.0 0) s) 4 fields
   pub count : length fields ≡ get_or (drop (get_or facts t.0 0) s) 3 0
-  pub few : length fields ≤ mostParts
-  pub piece : x ≡ stepBuild S i p.dest (fromStructFields inits fields)
+  pub few : length fields ≤ most_parts
+  pub piece : x ≡ step_build S i p.dest (from_struct_fields inits fields)
 
 abbrev pub Goes : ℕ → List ℕ → List ℕ → AggStates → Instruction → Spot → Piece → Plan → Type 0
 Goes next s facts S i p x Plan.Keep = x ≡ kept S i
@@ -133,7 +133,7 @@ TakePlanned next s init t whole marks r =
     → Rep next s marks rows used S
     → p.dest.0 < next
     → InitAt next s o init
-    → Planned next s facts S i p (stepTaken whole S i p.dest t o) r
+    → Planned next s facts S i p (step_taken whole S i p.dest t o) r
 
 -- of an Assign
 abbrev pub AssignPlanned : Value → Bool → Marks → Plan → Type 0
@@ -141,7 +141,7 @@ AssignPlanned x whole marks r =
     (next : ℕ) (s facts rows : List ℕ) (used : ℕ) (S : AggStates) (i : Instruction) (p : Spot)
     → Rep next s marks rows used S
     → p.dest.0 < next
-    → Planned next s facts S i p (stepAssign S i p.dest (cond whole (state_of S x) none)) r
+    → Planned next s facts S i p (step_assign S i p.dest (cond whole (state_of S x) none)) r
 
 -- of an insert of the value at a place
 abbrev pub InsertPlanned : Value → ℕ → ℕ → Marks → List ℕ → Plan → Type 0
@@ -150,17 +150,17 @@ InsertPlanned x k place marks rows r =
     → Rep next s marks rows used S
     → p.dest.0 < next
     → ValueAt next s place y
-    → Planned next s facts S i p (stepInsert S i p.dest (onSome (state_of S x) (λ xs. replaced xs k y))) r
+    → Planned next s facts S i p (step_insert S i p.dest (on_some (state_of S x) (λ xs. replaced xs k y))) r
 
 -- of a build of a struct
 abbrev pub StructPlanned : Bounds → List ℕ → List ℕ → Spot → TypeId → Plan → Type 0
 StructPlanned b s facts p named r =
     (τ : Types) (S : AggStates) (i : Instruction) (fs : List FieldInit)
-    → Ground b s facts (recordedIn facts) τ
+    → Ground b s facts (recorded_in facts) τ
     → p.dest.0 < b.next
     → Inits b.next s (p.off + 3) fs
     → length fs ≡ get_or s (p.off + 2) 0
-    → Planned b.next s facts S i p (stepBuild S i p.dest (structParts τ p.dest fs named)) r
+    → Planned b.next s facts S i p (step_build S i p.dest (struct_parts τ p.dest fs named)) r
 
 -- a build of a struct by its type
 abbrev pub FieldsBuilt : List ℕ → List ℕ → Spot → TypeId → Marks → List ℕ → ℕ → Marks → List ℕ → Decision → Type 0
@@ -168,7 +168,7 @@ FieldsBuilt s facts p t marks rows used marks' rows' r =
     (next : ℕ) (S : AggStates) (i : Instruction) (x : Piece)
     → Rep next s marks rows used S
     → Room rows used
-    → p.dest.0 < mostValues
+    → p.dest.0 < most_values
     → Fielding next s facts S i p x t
     → Decided next s marks' rows' S i x r
 
@@ -176,55 +176,55 @@ FieldsBuilt s facts p t marks rows used marks' rows' r =
 abbrev pub FieldPart : Bounds → List ℕ → List ℕ → Marks → List ℕ → Value → NameId → Init → Type 0
 FieldPart b s facts marks rows x name r =
     (τ : Types) (used : ℕ) (S : AggStates)
-    → Ground b s facts (recordedIn facts) τ
+    → Ground b s facts (recorded_in facts) τ
     → Below b.next x
     → Rep b.next s marks rows used S
-    → InitAt b.next s (onSome (extractIndex τ x name) (λ k. onSome (state_of S x) (λ xs. get_elem? xs k))) r
+    → InitAt b.next s (on_some (extract_index τ x name) (λ k. on_some (state_of S x) (λ xs. get_elem? xs k))) r
 
 -- the numbers of the kinds that are rewritten, in the order of `InstructionKind`
-abbrev pub assignKind : ℕ
-assignKind = 0
+abbrev pub assign_kind : ℕ
+assign_kind = 0
 
-abbrev pub callKind : ℕ
-callKind = 3
+abbrev pub call_kind : ℕ
+call_kind = 3
 
-abbrev pub loadKind : ℕ
-loadKind = 5
+abbrev pub load_kind : ℕ
+load_kind = 5
 
-abbrev pub storeKind : ℕ
-storeKind = 6
+abbrev pub store_kind : ℕ
+store_kind = 6
 
-abbrev pub makeTupleKind : ℕ
-makeTupleKind = 10
+abbrev pub make_tuple_kind : ℕ
+make_tuple_kind = 10
 
-abbrev pub extractElementKind : ℕ
-extractElementKind = 11
+abbrev pub extract_element_kind : ℕ
+extract_element_kind = 11
 
-abbrev pub makeStructKind : ℕ
-makeStructKind = 12
+abbrev pub make_struct_kind : ℕ
+make_struct_kind = 12
 
-abbrev pub extractFieldKind : ℕ
-extractFieldKind = 13
+abbrev pub extract_field_kind : ℕ
+extract_field_kind = 13
 
-abbrev pub insertFieldKind : ℕ
-insertFieldKind = 14
+abbrev pub insert_field_kind : ℕ
+insert_field_kind = 14
 
-abbrev pub insertElementKind : ℕ
-insertElementKind = 15
+abbrev pub insert_element_kind : ℕ
+insert_element_kind = 15
 
-abbrev pub makeArrayKind : ℕ
-makeArrayKind = 16
+abbrev pub make_array_kind : ℕ
+make_array_kind = 16
 
 -- whether a kind is looked at: under the settings for tuples and structs, and a build where it is taken apart
 abbrev pub acts : Bool → Bool → Bool → ℕ → Bool
 acts tuples structs fold k =
-    cond (eqb k assignKind) true
-    (cond (eqb k loadKind) tuples
-    (cond (eqb k makeTupleKind) fold
-    (cond (eqb k extractElementKind) tuples
-    (cond (eqb k makeStructKind) fold
-    (cond (eqb k extractFieldKind) structs
-    (cond (eqb k insertFieldKind) structs
-    (cond (eqb k insertElementKind) tuples
-    (cond (eqb k makeArrayKind) fold
+    cond (eqb k assign_kind) true
+    (cond (eqb k load_kind) tuples
+    (cond (eqb k make_tuple_kind) fold
+    (cond (eqb k extract_element_kind) tuples
+    (cond (eqb k make_struct_kind) fold
+    (cond (eqb k extract_field_kind) structs
+    (cond (eqb k insert_field_kind) structs
+    (cond (eqb k insert_element_kind) tuples
+    (cond (eqb k make_array_kind) fold
     false))))))))

@@ -7,13 +7,13 @@ ghost use Rattle.std.proofs.Math.ListN.{get_elem?};
 ghost use Rattle.bytes_wire.specs.Number.{at16};
 ghost use Rattle.bytes_field.specs.declared.Bounds.{Bounds as BoundsOf};
 ghost use Rattle.bytes_types.specs.Index.{TypesAt};
-ghost use Rattle.mir.specs.Lookup.{Types, row_of, isAggregate, onSome};
+ghost use Rattle.mir.specs.Lookup.{Types, row_of, is_aggregate, on_some};
 ghost use Rattle.fold.specs.Tables.{Ground};
-ghost use Rattle.mir.specs.Parts.{structRow};
+ghost use Rattle.mir.specs.Parts.{struct_row};
 ghost use Rattle.rewrite.specs.State.{AggStates, state_of};
-ghost use Rattle.rewrite_parts.specs.Rows.{rowMost, usedBelow, Rep, InitAt};
-ghost use Rattle.rewrite_arms.specs.Decided.{SourceOf, builtAs, FieldPart, TakePlanned, AssignPlanned, InsertPlanned, StructPlanned, FieldsBuilt};
-ghost use Rattle.bytes_operands.specs.Reach.{offsetReach};
+ghost use Rattle.rewrite_parts.specs.Rows.{row_most, used_below, Rep, InitAt};
+ghost use Rattle.rewrite_arms.specs.Decided.{SourceOf, built_as, FieldPart, TakePlanned, AssignPlanned, InsertPlanned, StructPlanned, FieldsBuilt};
+ghost use Rattle.bytes_operands.specs.Reach.{offset_reach};
 
 use bytes_field::Bounds;
 use bytes_lookup::TypeFound;
@@ -138,7 +138,7 @@ pub fn last_type(s: &[u8], end: usize) -> TypeId
 // The type is an aggregate.
 pub fn is_aggregate(s: &[u8], types: &[u16], many: u16, t: TypeId) -> bool
     ensures { (most : ℕ) (τ : Types) → TypesAt most s.now types.now τ.rows → length τ.rows ≡ many
-        → result ≡ isAggregate (row_of τ (some t)) }
+        → result ≡ is_aggregate (row_of τ (some t)) }
 {
     fold_shapes::type_shape(s, types, many, t) != shape::OTHER
 }
@@ -146,7 +146,7 @@ pub fn is_aggregate(s: &[u8], types: &[u16], many: u16, t: TypeId) -> bool
 // The type by which a struct's parts go: the recorded one of its dest, else the named one.
 fn struct_type(recorded: &[u16], d: ValueId, named: TypeId) -> TypeId
     ensures { (b : BoundsOf) (s types : List ℕ) (τ : Types) → Ground b s types recorded.now τ → d.0 < b.next
-        → structRow τ d named ≡ row_of τ (some result) }
+        → struct_row τ d named ≡ row_of τ (some result) }
 {
     match bytes_lookup::recorded_type(recorded, d) {
         TypeFound::Type(t) => t,
@@ -167,7 +167,7 @@ pub fn plan_struct(s: &[u8], b: Bounds, facts: &[u16], p: Spot, named: TypeId) -
 
 // The build is left out where its parts were found.
 fn built(given: bool, d: ValueId) -> Action
-    ensures { result ≡ builtAs given d }
+    ensures { result ≡ built_as given d }
 {
     if given {
         return Action::Track {
@@ -188,8 +188,8 @@ pub fn build_fields(
     rows: &mut [u16],
     used: usize,
 ) -> Decision
-    requires { (used < usedBelow) × (p.off < offsetReach) }
-    ensures used_bound { result.used ≤ used + rowMost }
+    requires { (used < used_below) × (p.off < offset_reach) }
+    ensures used_bound { result.used ≤ used + row_most }
     ensures fields_built { FieldsBuilt s.now facts.now p t tracked.old rows.old used
         tracked.new rows.new result }
 {
@@ -236,7 +236,7 @@ pub fn plan_insert(x: Value, k: u32, place: usize, tracked: &[bool], rows: &[u16
 // Part `k` of a tracked value.
 pub fn part(tracked: &[bool], rows: &[u16], x: Value, k: u32) -> Init
     ensures { (next : ℕ) (s : List ℕ) (used : ℕ) (S : AggStates) → Rep next s tracked.now rows.now used S
-        → InitAt next s (onSome (state_of S x) (λ xs. get_elem? xs k)) result }
+        → InitAt next s (on_some (state_of S x) (λ xs. get_elem? xs k)) result }
 {
     match tracked_source(tracked, x, true) {
         Source::Untracked => Init {

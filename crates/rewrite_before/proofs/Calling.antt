@@ -12,40 +12,40 @@ use Rattle.mir.specs.declared.TypeId.{TypeId}
 use Rattle.mir.specs.declared.Value.{Value}
 use Rattle.bytes_wire.proofs.Canon.{bytes_drop}
 use Rattle.mir.specs.Syntax.{Instruction, Call}
-use Rattle.bytes_field.specs.Decode.{instructionOf}
-use Rattle.bytes_field.specs.Encode.{instructionBytes}
+use Rattle.bytes_field.specs.Decode.{instruction_of}
+use Rattle.bytes_field.specs.Encode.{instruction_bytes}
 use Rattle.bytes_field.specs.declared.Bounds.{Bounds}
 use Rattle.bytes_index.specs.Table.{place_in, end_in}
-use Rattle.bytes_operands.specs.Fields.{fieldsPlace}
-use Rattle.bytes_laws.proofs.Instruction.{instruction-size}
+use Rattle.bytes_operands.specs.Fields.{fields_place}
+use Rattle.bytes_laws.proofs.Instruction.{instruction_size}
 use Rattle.mir.specs.Lookup.{Types}
 use Rattle.fold.specs.Family.{Marks}
 use Rattle.rewrite.specs.State.{AggStates}
-use Rattle.rewrite.specs.Rebuild.{Rebuilt, rebuildAll, wantedArguments}
-use Rattle.rewrite.specs.Step.{Piece, stepCall}
-use Rattle.rewrite_parts.specs.Rows.{rowsIn, freshIn}
+use Rattle.rewrite.specs.Rebuild.{Rebuilt, rebuild_all, wanted_arguments}
+use Rattle.rewrite.specs.Step.{Piece, step_call}
+use Rattle.rewrite_parts.specs.Rows.{rows_in, fresh_in}
 use Rattle.rewrite_parts.specs.Here.{Here}
 use Rattle.rewrite_progress.specs.declared.Progress.{Progress}
 use Rattle.rewrite_progress.specs.declared.Put.{Put}
-use Rattle.rewrite_progress.specs.Effect.{outputOf, rebuiltEffect, pieceEffect, Puts}
-use Rattle.rewrite_wanted.specs.Asked.{Setting, askedList}
+use Rattle.rewrite_progress.specs.Effect.{output_of, rebuilt_effect, piece_effect, Puts}
+use Rattle.rewrite_wanted.specs.Asked.{Setting, asked_list}
 use Rattle.rewrite_list.specs.declared.ValueList.{ValueList}
 use Rattle.rewrite_list.specs.Lists.{AllPut}
-use Rattle.rewrite_before.specs.Materialized.{onward, callList, callBehind, withValues, Around, CallWritten, InstructionWritten, CallPut}
+use Rattle.rewrite_before.specs.Materialized.{onward, call_list, call_behind, with_values, Around, CallWritten, InstructionWritten, CallPut}
 use Rattle.rewrite_before.proofs.Standing.{CallKnown, call_known}
-use Rattle.rewrite_before.proofs.Effects.{Idle, idle, clash-put, went-put, spent, as_many, call-clash, call-fresh, call_kept, call-anew}
+use Rattle.rewrite_before.proofs.Effects.{Idle, idle, clash_put, went_put, spent, as_many, call_clash, call_fresh, call_kept, call_anew}
 
 module _ (b : Bounds) (s facts : List ℕ) (slot : ℕ) (tracked : Marks) (out work : List ℕ) (p : Progress) (at : ℕ) (t : List ℕ) (place : ℕ) (f : List ℕ) (l : ValueList)
-    (ha : at ≡ place_in facts slot) (ht : t ≡ drop at s) (hp : place ≡ fieldsPlace t) (hf : f ≡ drop place t) (hl : l ≡ callList f)
+    (ha : at ≡ place_in facts slot) (ht : t ≡ drop at s) (hp : place ≡ fields_place t) (hf : f ≡ drop place t) (hl : l ≡ call_list f)
     (r : Put) (out₁ work₁ : List ℕ) (u : AllPut b s facts f tracked l out work p out₁ work₁ r) where
   -- what is known in each case
-  module _ (τ : Types) (S : AggStates) (used : ℕ) (i : Instruction) (ds : List ValueId) (g : ℕ) (xs : List Value) (ps rs : List TypeId) (dropped : Marks) (q : Piece) (a : Here b s facts slot tracked (rowsIn work) used τ S i) (k : i.kind ≡ Call ds g xs ps rs)
-      (y : q ≡ stepCall S i ds g ps rs (rebuildAll τ S (b.next + p.fresh) (wantedArguments τ xs ps)) (rebuildAll τ S (b.next + p.fresh) (wantedArguments τ xs ps)).fresh) (h : b.next + p.fresh + length q.fresh < 65536) where
+  module _ (τ : Types) (S : AggStates) (used : ℕ) (i : Instruction) (ds : List ValueId) (g : ℕ) (xs : List Value) (ps rs : List TypeId) (dropped : Marks) (q : Piece) (a : Here b s facts slot tracked (rows_in work) used τ S i) (k : i.kind ≡ Call ds g xs ps rs)
+      (y : q ≡ step_call S i ds g ps rs (rebuild_all τ S (b.next + p.fresh) (wanted_arguments τ xs ps)) (rebuild_all τ S (b.next + p.fresh) (wanted_arguments τ xs ps)).fresh) (h : b.next + p.fresh + length q.fresh < 65536) where
     abbrev n : ℕ
     n = end_in facts slot - place_in facts slot
 
     abbrev R : Rebuilt
-    R = rebuildAll τ S (b.next + p.fresh) (askedList τ f (callList f).asks 0 xs)
+    R = rebuild_all τ S (b.next + p.fresh) (asked_list τ f (call_list f).asks 0 xs)
 
     there : t ≡ drop (place_in facts slot) s
     there = ht ∙ ap (λ j. drop j s) ha
@@ -53,63 +53,63 @@ module _ (b : Bounds) (s facts : List ℕ) (slot : ℕ) (tracked : Marks) (out w
     bs : Bytes t
     bs = rw there (bytes_drop s (place_in facts slot) a.ground.bytes)
 
-    te : instructionOf b [] false t ≡ ok i n
-    te = ap (instructionOf b [] false) there ∙ a.line.read
+    te : instruction_of b [] false t ≡ ok i n
+    te = ap (instruction_of b [] false) there ∙ a.line.read
 
-    known : CallKnown b.next n f (fieldsPlace t) ds g xs ps rs (callList f).first (callList f).many (callBehind f)
-    known = let z : f ≡ drop (fieldsPlace t) t = hf ∙ ap (λ j. drop j t) hp in rw z (call_known b t i n bs te ds g xs ps rs k)
+    known : CallKnown b.next n f (fields_place t) ds g xs ps rs (call_list f).first (call_list f).many (call_behind f)
+    known = let z : f ≡ drop (fields_place t) t = hf ∙ ap (λ j. drop j t) hp in rw z (call_known b t i n bs te ds g xs ps rs k)
 
-    same : q ≡ stepCall S i ds g ps rs R R.fresh
-    same = y ∙ ap (λ ws. stepCall S i ds g ps rs (rebuildAll τ S (b.next + p.fresh) ws) (rebuildAll τ S (b.next + p.fresh) ws).fresh) (sym (known.asked τ))
+    same : q ≡ step_call S i ds g ps rs R R.fresh
+    same = y ∙ ap (λ ws. step_call S i ds g ps rs (rebuild_all τ S (b.next + p.fresh) ws) (rebuild_all τ S (b.next + p.fresh) ws).fresh) (sym (known.asked τ))
 
-    fresh-same : length q.fresh ≡ length R.fresh
-    fresh-same = ap (λ z. length z.fresh) same ∙ ap length (call-fresh S i ds g ps rs R)
+    fresh_same : length q.fresh ≡ length R.fresh
+    fresh_same = ap (λ z. length z.fresh) same ∙ ap length (call_fresh S i ds g ps rs R)
 
     calm : R.fresh ≡ [] → Idle R
-    calm z = idle τ S (askedList τ f (callList f).asks 0 xs) (b.next + p.fresh) z
+    calm z = idle τ S (asked_list τ f (call_list f).asks 0 xs) (b.next + p.fresh) z
 
-    clash-same : q.clash ≡ R.clash
-    clash-same = ap (λ z. z.clash) same ∙ call-clash S i ds g ps rs R calm
+    clash_same : q.clash ≡ R.clash
+    clash_same = ap (λ z. z.clash) same ∙ call_clash S i ds g ps rs R calm
 
-    setting : Setting b s facts tracked (rowsIn work) τ S
+    setting : Setting b s facts tracked (rows_in work) τ S
     setting = record { used = used; ground = a.ground; rep = a.rep }
 
     few : b.next + p.fresh + length R.fresh < 65536
-    few = omega (arith, fresh-same)
+    few = omega (arith, fresh_same)
 
-    puts : Puts (outputOf out (freshIn work) dropped p) (rebuiltEffect R) R.clash out₁ (freshIn work₁) dropped r
+    puts : Puts (output_of out (fresh_in work) dropped p) (rebuilt_effect R) R.clash out₁ (fresh_in work₁) dropped r
     puts = subst (λ m. AllPut b s facts f tracked m out work p out₁ work₁ r) hl u τ S xs setting known.lies known.listed few dropped
 
     short : n ≤ 268
-    short = instruction-size b [] false t bs te a.ground.listed a.ground.projected
+    short = instruction_size b [] false t bs te a.ground.listed a.ground.projected
 
     -- no argument is rebuilt: the Call as it stands
-    kept_case : (q' s' : Progress) (out₂ : List ℕ) (to : ℕ) → r ≡ Put.Went q' → q'.fresh ≡ p.fresh → InstructionWritten s facts slot out₁ out₂ q'.to to → s' ≡ onward q' to 1 0 → Puts (outputOf out (freshIn work) dropped p) (pieceEffect q) q.clash out₂ (freshIn work₁) dropped (Put.Went s')
+    kept_case : (q' s' : Progress) (out₂ : List ℕ) (to : ℕ) → r ≡ Put.Went q' → q'.fresh ≡ p.fresh → InstructionWritten s facts slot out₁ out₂ q'.to to → s' ≡ onward q' to 1 0 → Puts (output_of out (fresh_in work) dropped p) (piece_effect q) q.clash out₂ (fresh_in work₁) dropped (Put.Went s')
     kept_case q' s' out₂ to z c v o =
-        let none : length R.fresh ≡ 0 = omega (arith, spent out (freshIn work) dropped p R r out₁ (freshIn work₁) puts q' z) in
-        went-put out (freshIn work) dropped p R r out₁ (freshIn work₁) puts q' (instructionBytes i) out₂ to 1 0 _ _ s' z (v b τ i a.ground a.line) o (call_kept S i ds g ps rs R none calm ∙ ap pieceEffect (sym same)) clash-same
+        let none : length R.fresh ≡ 0 = omega (arith, spent out (fresh_in work) dropped p R r out₁ (fresh_in work₁) puts q' z) in
+        went_put out (fresh_in work) dropped p R r out₁ (fresh_in work₁) puts q' (instruction_bytes i) out₂ to 1 0 _ _ s' z (v b τ i a.ground a.line) o (call_kept S i ds g ps rs R none calm ∙ ap piece_effect (sym same)) clash_same
 
     -- else it is built anew
-    anew-case : (q' s' : Progress) (out₂ : List ℕ) (to end : ℕ) → r ≡ Put.Went q' → (q'.fresh ≡ p.fresh → ⊥) → end ≡ end_in facts slot - (at + place) → l.first ≤ 1024 → CallWritten b s facts f tracked l p.fresh end out₁ out₂ q'.to to → s' ≡ onward q' to 1 (q'.fresh - p.fresh)
-        → Puts (outputOf out (freshIn work) dropped p) (pieceEffect q) q.clash out₂ (freshIn work₁) dropped (Put.Went s')
-    anew-case q' s' out₂ to end z c he hs v o =
-        let e : end ≡ n - fieldsPlace t = omega (arith, he, ha, hp) in
-        let v' = subst (λ m. CallWritten b s facts f tracked m p.fresh (n - fieldsPlace t) out₁ out₂ q'.to to) hl (subst (λ j. CallWritten b s facts f tracked l p.fresh j out₁ out₂ q'.to to) e v) in
-        let around : Around f (callList f) (n - fieldsPlace t) = record { before = omega (arith, ap (λ (m : ValueList). m.first) hl); front = known.front_long; behind = omega (arith, short); back = known.back_long } in
-        let W : List ℕ = 0 ∷ 3 ∷ withValues f (callList f) (n - fieldsPlace t) R.values in
-        let made : q'.fresh ≡ p.fresh + length R.fresh = spent out (freshIn work) dropped p R r out₁ (freshIn work₁) puts q' z in
+    anew_case : (q' s' : Progress) (out₂ : List ℕ) (to end : ℕ) → r ≡ Put.Went q' → (q'.fresh ≡ p.fresh → ⊥) → end ≡ end_in facts slot - (at + place) → l.first ≤ 1024 → CallWritten b s facts f tracked l p.fresh end out₁ out₂ q'.to to → s' ≡ onward q' to 1 (q'.fresh - p.fresh)
+        → Puts (output_of out (fresh_in work) dropped p) (piece_effect q) q.clash out₂ (fresh_in work₁) dropped (Put.Went s')
+    anew_case q' s' out₂ to end z c he hs v o =
+        let e : end ≡ n - fields_place t = omega (arith, he, ha, hp) in
+        let v' = subst (λ m. CallWritten b s facts f tracked m p.fresh (n - fields_place t) out₁ out₂ q'.to to) hl (subst (λ j. CallWritten b s facts f tracked l p.fresh j out₁ out₂ q'.to to) e v) in
+        let around : Around f (call_list f) (n - fields_place t) = record { before = omega (arith, ap (λ (m : ValueList). m.first) hl); front = known.front_long; behind = omega (arith, short); back = known.back_long } in
+        let W : List ℕ = 0 ∷ 3 ∷ with_values f (call_list f) (n - fields_place t) R.values in
+        let made : q'.fresh ≡ p.fresh + length R.fresh = spent out (fresh_in work) dropped p R r out₁ (fresh_in work₁) puts q' z in
         let many : q'.fresh - p.fresh ≡ length R.fresh = omega (arith, made) in
-        went-put out (freshIn work) dropped p R r out₁ (freshIn work₁) puts q' W out₂ to 1 (length R.fresh) _ _ s' z
-        (v' (rowsIn work) around τ S xs setting known.lies known.listed few)
+        went_put out (fresh_in work) dropped p R r out₁ (fresh_in work₁) puts q' W out₂ to 1 (length R.fresh) _ _ s' z
+        (v' (rows_in work) around τ S xs setting known.lies known.listed few)
         (o ∙ ap (onward q' to 1) many)
-        (call-anew S i ds g ps rs R W (λ m. c (omega (arith, made))) (known.bytes R.values (as_many τ S (b.next + p.fresh) f (callList f).asks xs)) ∙ ap pieceEffect (sym same))
-        clash-same
+        (call_anew S i ds g ps rs R W (λ m. c (omega (arith, made))) (known.bytes R.values (as_many τ S (b.next + p.fresh) f (call_list f).asks xs)) ∙ ap piece_effect (sym same))
+        clash_same
 
-  pub call-clashed : r ≡ Put.Clash → CallPut b s facts slot tracked out work p out₁ work₁ Put.Clash
-  call-clashed z = λ τ S used i ds g xs ps rs dropped q a k y h. clash-put out (freshIn work) dropped p _ r out₁ (freshIn work₁) (puts τ S used i ds g xs ps rs dropped q a k y h) _ _ z (clash-same τ S used i ds g xs ps rs dropped q a k y h)
+  pub call_clashed : r ≡ Put.Clash → CallPut b s facts slot tracked out work p out₁ work₁ Put.Clash
+  call_clashed z = λ τ S used i ds g xs ps rs dropped q a k y h. clash_put out (fresh_in work) dropped p _ r out₁ (fresh_in work₁) (puts τ S used i ds g xs ps rs dropped q a k y h) _ _ z (clash_same τ S used i ds g xs ps rs dropped q a k y h)
 
-  pub call-stayed : (q' s' : Progress) (out₂ : List ℕ) (to : ℕ) → r ≡ Put.Went q' → q'.fresh ≡ p.fresh → InstructionWritten s facts slot out₁ out₂ q'.to to → s' ≡ onward q' to 1 0 → CallPut b s facts slot tracked out work p out₂ work₁ (Put.Went s')
-  call-stayed q' s' out₂ to z c v o = λ τ S used i ds g xs ps rs dropped q a k y h. kept_case τ S used i ds g xs ps rs dropped q a k y h q' s' out₂ to z c v o
+  pub call_stayed : (q' s' : Progress) (out₂ : List ℕ) (to : ℕ) → r ≡ Put.Went q' → q'.fresh ≡ p.fresh → InstructionWritten s facts slot out₁ out₂ q'.to to → s' ≡ onward q' to 1 0 → CallPut b s facts slot tracked out work p out₂ work₁ (Put.Went s')
+  call_stayed q' s' out₂ to z c v o = λ τ S used i ds g xs ps rs dropped q a k y h. kept_case τ S used i ds g xs ps rs dropped q a k y h q' s' out₂ to z c v o
 
-  pub call-built : (q' s' : Progress) (out₂ : List ℕ) (to end : ℕ) → r ≡ Put.Went q' → (q'.fresh ≡ p.fresh → ⊥) → end ≡ end_in facts slot - (at + place) → l.first ≤ 1024 → CallWritten b s facts f tracked l p.fresh end out₁ out₂ q'.to to → s' ≡ onward q' to 1 (q'.fresh - p.fresh) → CallPut b s facts slot tracked out work p out₂ work₁ (Put.Went s')
-  call-built q' s' out₂ to end z c he hs v o = λ τ S used i ds g xs ps rs dropped q a k y h. anew-case τ S used i ds g xs ps rs dropped q a k y h q' s' out₂ to end z c he hs v o
+  pub call_built : (q' s' : Progress) (out₂ : List ℕ) (to end : ℕ) → r ≡ Put.Went q' → (q'.fresh ≡ p.fresh → ⊥) → end ≡ end_in facts slot - (at + place) → l.first ≤ 1024 → CallWritten b s facts f tracked l p.fresh end out₁ out₂ q'.to to → s' ≡ onward q' to 1 (q'.fresh - p.fresh) → CallPut b s facts slot tracked out work p out₂ work₁ (Put.Went s')
+  call_built q' s' out₂ to end z c he hs v o = λ τ S used i ds g xs ps rs dropped q a k y h. anew_case τ S used i ds g xs ps rs dropped q a k y h q' s' out₂ to end z c he hs v o

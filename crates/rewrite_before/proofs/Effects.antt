@@ -7,27 +7,27 @@ use mathlib.Core.Option.{Option, none, some}
 use native.Mathlib.Nat.{add-zero, zero-add}
 use native.Mathlib.Omega.{arith}
 use lib.ListN.{length, get_or, length-append}
-use Rattle.bytes_wire.specs.Value.{valueBytes}
+use Rattle.bytes_wire.specs.Value.{value_bytes}
 use Rattle.mir.specs.declared.ValueId.{ValueId}
 use Rattle.mir.specs.declared.TypeId.{TypeId}
 use Rattle.mir.specs.declared.Value.{Value}
 use Rattle.mir.specs.Syntax.{Place, Instruction, Call, Store, Return, plain}
-use Rattle.bytes_field.specs.Encode.{eachBytes, instructionBytes, terminatorBytes}
+use Rattle.bytes_field.specs.Encode.{each_bytes, instruction_bytes, terminator_bytes}
 use Rattle.bytes_field.specs.Decode.{bit}
-use Rattle.bytes_operands.specs.Fields.{fieldsPlace}
-use Rattle.mir.specs.Lookup.{Types, isAggregate, row_of, onSome}
+use Rattle.bytes_operands.specs.Fields.{fields_place}
+use Rattle.mir.specs.Lookup.{Types, is_aggregate, row_of, on_some}
 use Rattle.fold.specs.Family.{Marks}
 use Rattle.rewrite.specs.State.{AggStates, state_of}
-use Rattle.rewrite.specs.Rebuild.{Rebuilt, Wanted, untouched, keepValue, rebuildValue, oneValue, rebuildAll, aggregateType}
-use Rattle.rewrite.specs.Step.{Piece, noCounts, materialized, kept, stepCall, storeRebuilt, storeKept}
+use Rattle.rewrite.specs.Rebuild.{Rebuilt, Wanted, untouched, keep_value, rebuild_value, one_value, rebuild_all, aggregate_type}
+use Rattle.rewrite.specs.Step.{Piece, no_counts, materialized, kept, step_call, store_rebuilt, store_kept}
 use Rattle.rewrite.specs.Run.{returned}
 use Rattle.bytes_emit.specs.Written.{Writes}
 use Rattle.rewrite_progress.specs.declared.Progress.{Progress}
 use Rattle.rewrite_progress.specs.declared.Put.{Put}
-use Rattle.rewrite_progress.specs.Effect.{Effect, outputOf, typeNumbers, markAll, further, behind, thenEffect, rebuiltEffect, pieceEffect, walkedEffect, Puts, Low}
-use Rattle.rewrite_progress.proofs.Laws.{no-went, no-clash, each_append, behind-then}
+use Rattle.rewrite_progress.specs.Effect.{Effect, output_of, type_numbers, mark_all, further, behind, then_effect, rebuilt_effect, piece_effect, walked_effect, Puts, Low}
+use Rattle.rewrite_progress.proofs.Laws.{no_went, no_clash, each_append, behind_then}
 use Rattle.rewrite_wanted.specs.declared.Asks.{Asks}
-use Rattle.rewrite_wanted.specs.Asked.{askedList}
+use Rattle.rewrite_wanted.specs.Asked.{asked_list}
 use Rattle.rewrite_list.specs.Lists.{Few}
 use Rattle.rewrite_before.specs.Materialized.{onward}
 
@@ -35,167 +35,167 @@ use Rattle.rewrite_before.specs.Materialized.{onward}
 abbrev pub line : List ℕ → ℕ → ℕ → Effect
 line w lines made = record { bytes = w; lines = lines; dropped = []; fresh = []; counts = materialized made }
 
-one_further : (out fresh : List ℕ) (dropped : Marks) (q : Progress) (w out' : List ℕ) (to lines made : ℕ) → Writes w out out' q.to to → outputOf out' fresh dropped (onward q to lines made) ≡ behind (outputOf out fresh dropped q) (line w lines made)
-unfolding behind further markAll typeNumbers
+one_further : (out fresh : List ℕ) (dropped : Marks) (q : Progress) (w out' : List ℕ) (to lines made : ℕ) → Writes w out out' q.to to → output_of out' fresh dropped (onward q to lines made) ≡ behind (output_of out fresh dropped q) (line w lines made)
+unfolding behind further mark_all type_numbers
 one_further out fresh dropped q w out' to lines made v = rw (v.0, v.1, add-zero q.fresh) refl
 
-module _ (out fresh : List ℕ) (dropped : Marks) (p : Progress) (R : Rebuilt) (r : Put) (out₁ fresh₁ : List ℕ) (u : Puts (outputOf out fresh dropped p) (rebuiltEffect R) R.clash out₁ fresh₁ dropped r) where
+module _ (out fresh : List ℕ) (dropped : Marks) (p : Progress) (R : Rebuilt) (r : Put) (out₁ fresh₁ : List ℕ) (u : Puts (output_of out fresh dropped p) (rebuilt_effect R) R.clash out₁ fresh₁ dropped r) where
   -- a clash among the builds is one of the whole
-  pub clash-put : (E : Effect) (c : Bool) → r ≡ Put.Clash → c ≡ R.clash → Puts (outputOf out fresh dropped p) E c out₁ fresh₁ dropped Put.Clash
-  clash-put E c e f = record { clashed = λ _. f ∙ u.clashed e; went = λ q z. absurd (no-went z) }
+  pub clash_put : (E : Effect) (c : Bool) → r ≡ Put.Clash → c ≡ R.clash → Puts (output_of out fresh dropped p) E c out₁ fresh₁ dropped Put.Clash
+  clash_put E c e f = record { clashed = λ _. f ∙ u.clashed e; went = λ q z. absurd (no_went z) }
 
   -- else the rest is written behind them
-  pub went-put : (q : Progress) (w out₂ : List ℕ) (to lines made : ℕ) (E : Effect) (c : Bool) (s : Progress) → r ≡ Put.Went q → Writes w out₁ out₂ q.to to → s ≡ onward q to lines made → thenEffect (rebuiltEffect R) (line w lines made) ≡ E → c ≡ R.clash
-      → Puts (outputOf out fresh dropped p) E c out₂ fresh₁ dropped (Put.Went s)
-  went-put q w out₂ to lines made E c s e v t f g =
+  pub went_put : (q : Progress) (w out₂ : List ℕ) (to lines made : ℕ) (E : Effect) (c : Bool) (s : Progress) → r ≡ Put.Went q → Writes w out₁ out₂ q.to to → s ≡ onward q to lines made → then_effect (rebuilt_effect R) (line w lines made) ≡ E → c ≡ R.clash
+      → Puts (output_of out fresh dropped p) E c out₂ fresh₁ dropped (Put.Went s)
+  went_put q w out₂ to lines made E c s e v t f g =
       let h = u.went q e in
       record {
-        clashed = λ z. absurd (no-clash z);
+        clashed = λ z. absurd (no_clash z);
         went = λ q' z.
             let y : q' ≡ onward q to lines made = (let y' : q' ≡ s = cc in y') ∙ t in
-            (g ∙ h.0, ap (outputOf out₂ fresh₁ dropped) y ∙ one_further out₁ fresh₁ dropped q w out₂ to lines made v ∙ ap (λ o. behind o (line w lines made)) h.1 ∙ behind-then (outputOf out fresh dropped p) (rebuiltEffect R) (line w lines made) ∙ ap (behind (outputOf out fresh dropped p)) f);
+            (g ∙ h.0, ap (output_of out₂ fresh₁ dropped) y ∙ one_further out₁ fresh₁ dropped q w out₂ to lines made v ∙ ap (λ o. behind o (line w lines made)) h.1 ∙ behind_then (output_of out fresh dropped p) (rebuilt_effect R) (line w lines made) ∙ ap (behind (output_of out fresh dropped p)) f);
       }
 
   -- as many fresh numbers as the builds took
   pub spent : (q : Progress) → r ≡ Put.Went q → q.fresh ≡ p.fresh + length R.fresh
-  unfolding behind further rebuiltEffect
+  unfolding behind further rebuilt_effect
   spent q e = ap (λ o. o.progress.fresh) (u.went q e).1
 
 -- as many values as before
-length-one : (τ : Types) (n : ℕ) (x : Value) (rest : ℕ → Rebuilt) (o : Option TypeId) (s : Option (List Value)) (k : ℕ) → ((m : ℕ) → length (rest m).values ≡ k) → length (oneValue τ n x rest o s).values ≡ suc k
-unfolding oneValue keepValue rebuildValue
-length-one τ n x rest none s k h = ap suc (h n)
-length-one τ n x rest (some t) none k h = ap suc (h n)
-length-one τ n x rest (some t) (some xs) k h = ap suc (h (suc n))
+length_one : (τ : Types) (n : ℕ) (x : Value) (rest : ℕ → Rebuilt) (o : Option TypeId) (s : Option (List Value)) (k : ℕ) → ((m : ℕ) → length (rest m).values ≡ k) → length (one_value τ n x rest o s).values ≡ suc k
+unfolding one_value keep_value rebuild_value
+length_one τ n x rest none s k h = ap suc (h n)
+length_one τ n x rest (some t) none k h = ap suc (h n)
+length_one τ n x rest (some t) (some xs) k h = ap suc (h (suc n))
 
-length-values : (τ : Types) (S : AggStates) (ws : List Wanted) (n : ℕ) → length (rebuildAll τ S n ws).values ≡ length ws
-unfolding rebuildAll
-length-values τ S [] n = refl
-length-values τ S (w ∷ ws) n = length-one τ n w.value (λ m. rebuildAll τ S m ws) w.at (state_of S w.value) (length ws) (λ m. length-values τ S ws m)
+length_values : (τ : Types) (S : AggStates) (ws : List Wanted) (n : ℕ) → length (rebuild_all τ S n ws).values ≡ length ws
+unfolding rebuild_all
+length_values τ S [] n = refl
+length_values τ S (w ∷ ws) n = length_one τ n w.value (λ m. rebuild_all τ S m ws) w.at (state_of S w.value) (length ws) (λ m. length_values τ S ws m)
 
-length-asked : (τ : Types) (t : List ℕ) (a : Asks) (i : ℕ) (xs : List Value) → length (askedList τ t a i xs) ≡ length xs
-unfolding askedList
-length-asked τ t a i [] = refl
-length-asked τ t a i (x ∷ xs) = ap suc (length-asked τ t a (suc i) xs)
+length_asked : (τ : Types) (t : List ℕ) (a : Asks) (i : ℕ) (xs : List Value) → length (asked_list τ t a i xs) ≡ length xs
+unfolding asked_list
+length_asked τ t a i [] = refl
+length_asked τ t a i (x ∷ xs) = ap suc (length_asked τ t a (suc i) xs)
 
-pub as_many : (τ : Types) (S : AggStates) (n : ℕ) (t : List ℕ) (a : Asks) (xs : List Value) → length (rebuildAll τ S n (askedList τ t a 0 xs)).values ≡ length xs
-as_many τ S n t a xs = length-values τ S (askedList τ t a 0 xs) n ∙ length-asked τ t a 0 xs
+pub as_many : (τ : Types) (S : AggStates) (n : ℕ) (t : List ℕ) (a : Asks) (xs : List Value) → length (rebuild_all τ S n (asked_list τ t a 0 xs)).values ≡ length xs
+as_many τ S n t a xs = length_values τ S (asked_list τ t a 0 xs) n ∙ length_asked τ t a 0 xs
 
 -- where no fresh number is taken, nothing is put out before
 pub record Idle (R : Rebuilt) : Type 0 where
   pub before : R.before ≡ []
   pub clash : R.clash ≡ false
 
-idle-one : (τ : Types) (n : ℕ) (x : Value) (rest : ℕ → Rebuilt) (o : Option TypeId) (s : Option (List Value)) → (oneValue τ n x rest o s).fresh ≡ [] → ((rest n).fresh ≡ [] → Idle (rest n)) → Idle (oneValue τ n x rest o s)
-unfolding oneValue keepValue rebuildValue
-idle-one τ n x rest none s e h = record { before = (h e).before; clash = (h e).clash }
-idle-one τ n x rest (some t) none e h = record { before = (h e).before; clash = (h e).clash }
-idle-one τ n x rest (some t) (some xs) e h = absurd (let z : suc (length (rest (suc n)).fresh) ≡ 0 = ap length e in omega arith)
+idle_one : (τ : Types) (n : ℕ) (x : Value) (rest : ℕ → Rebuilt) (o : Option TypeId) (s : Option (List Value)) → (one_value τ n x rest o s).fresh ≡ [] → ((rest n).fresh ≡ [] → Idle (rest n)) → Idle (one_value τ n x rest o s)
+unfolding one_value keep_value rebuild_value
+idle_one τ n x rest none s e h = record { before = (h e).before; clash = (h e).clash }
+idle_one τ n x rest (some t) none e h = record { before = (h e).before; clash = (h e).clash }
+idle_one τ n x rest (some t) (some xs) e h = absurd (let z : suc (length (rest (suc n)).fresh) ≡ 0 = ap length e in omega arith)
 
-pub idle : (τ : Types) (S : AggStates) (ws : List Wanted) (n : ℕ) → (rebuildAll τ S n ws).fresh ≡ [] → Idle (rebuildAll τ S n ws)
-unfolding rebuildAll
+pub idle : (τ : Types) (S : AggStates) (ws : List Wanted) (n : ℕ) → (rebuild_all τ S n ws).fresh ≡ [] → Idle (rebuild_all τ S n ws)
+unfolding rebuild_all
 idle τ S [] n e = record { before = refl; clash = refl }
-idle τ S (w ∷ ws) n e = idle-one τ n w.value (λ m. rebuildAll τ S m ws) w.at (state_of S w.value) e (λ f. idle τ S ws n f)
+idle τ S (w ∷ ws) n e = idle_one τ n w.value (λ m. rebuild_all τ S m ws) w.at (state_of S w.value) e (λ f. idle τ S ws n f)
 
 same_effect : {w w' : List ℕ} {a a' : ℕ} {ts ts' : List TypeId} {m m' : ℕ} → w ≡ w' → a ≡ a' → ts ≡ ts' → m ≡ m' → ◌≡◌ {A = Effect} (record { bytes = w; lines = a; dropped = []; fresh = ts; counts = materialized m }) (record { bytes = w'; lines = a'; dropped = []; fresh = ts'; counts = materialized m' })
 same_effect e f g h = rw (e, f, g, h) refl
 
 -- the builds, with so many fresh numbers
 abbrev Built : Rebuilt → List TypeId → Effect
-Built R ts = record { bytes = eachBytes instructionBytes R.before; lines = length R.before; dropped = []; fresh = ts; counts = noCounts }
+Built R ts = record { bytes = each_bytes instruction_bytes R.before; lines = length R.before; dropped = []; fresh = ts; counts = no_counts }
 
 -- a Call
 module _ (S : AggStates) (i : Instruction) (ds : List ValueId) (g : ℕ) (ps rs : List TypeId) (R : Rebuilt) where
-  pub call-clash : (R.fresh ≡ [] → Idle R) → (stepCall S i ds g ps rs R R.fresh).clash ≡ R.clash
-  unfolding stepCall kept
-  call-clash h = go R.fresh h
+  pub call_clash : (R.fresh ≡ [] → Idle R) → (step_call S i ds g ps rs R R.fresh).clash ≡ R.clash
+  unfolding step_call kept
+  call_clash h = go R.fresh h
     where
-      go : (ts : List TypeId) → (ts ≡ [] → Idle R) → (stepCall S i ds g ps rs R ts).clash ≡ R.clash
+      go : (ts : List TypeId) → (ts ≡ [] → Idle R) → (step_call S i ds g ps rs R ts).clash ≡ R.clash
       go [] f = sym (f refl).clash
       go (t ∷ ts) f = refl
 
-  pub call-fresh : (stepCall S i ds g ps rs R R.fresh).fresh ≡ R.fresh
-  unfolding stepCall kept
-  call-fresh = go R.fresh
+  pub call_fresh : (step_call S i ds g ps rs R R.fresh).fresh ≡ R.fresh
+  unfolding step_call kept
+  call_fresh = go R.fresh
     where
-      go : (ts : List TypeId) → (stepCall S i ds g ps rs R ts).fresh ≡ ts
+      go : (ts : List TypeId) → (step_call S i ds g ps rs R ts).fresh ≡ ts
       go [] = refl
       go (t ∷ ts) = refl
 
-  pub call_kept : length R.fresh ≡ 0 → (R.fresh ≡ [] → Idle R) → thenEffect (rebuiltEffect R) (line (instructionBytes i) 1 0) ≡ pieceEffect (stepCall S i ds g ps rs R R.fresh)
-  unfolding stepCall kept thenEffect rebuiltEffect pieceEffect
+  pub call_kept : length R.fresh ≡ 0 → (R.fresh ≡ [] → Idle R) → then_effect (rebuilt_effect R) (line (instruction_bytes i) 1 0) ≡ piece_effect (step_call S i ds g ps rs R R.fresh)
+  unfolding step_call kept then_effect rebuilt_effect piece_effect
   call_kept e h = go R.fresh e h
     where
-      go : (ts : List TypeId) → length ts ≡ 0 → (ts ≡ [] → Idle R) → thenEffect (Built R ts) (line (instructionBytes i) 1 0) ≡ pieceEffect (stepCall S i ds g ps rs R ts)
-      go [] e h = same_effect (ap (λ z. eachBytes instructionBytes z ++ instructionBytes i) (h refl).before ∙ sym (append-nil (instructionBytes i))) (ap (λ z. length z + 1) (h refl).before) refl refl
+      go : (ts : List TypeId) → length ts ≡ 0 → (ts ≡ [] → Idle R) → then_effect (Built R ts) (line (instruction_bytes i) 1 0) ≡ piece_effect (step_call S i ds g ps rs R ts)
+      go [] e h = same_effect (ap (λ z. each_bytes instruction_bytes z ++ instruction_bytes i) (h refl).before ∙ sym (append-nil (instruction_bytes i))) (ap (λ z. length z + 1) (h refl).before) refl refl
       go (t ∷ ts) e h = absurd (omega arith)
 
-  pub call-anew : (w : List ℕ) → (length R.fresh ≡ 0 → ⊥) → w ≡ instructionBytes (plain (Call ds g R.values ps rs)) → thenEffect (rebuiltEffect R) (line w 1 (length R.fresh)) ≡ pieceEffect (stepCall S i ds g ps rs R R.fresh)
-  unfolding stepCall thenEffect rebuiltEffect pieceEffect
-  call-anew w h e = go R.fresh h
+  pub call_anew : (w : List ℕ) → (length R.fresh ≡ 0 → ⊥) → w ≡ instruction_bytes (plain (Call ds g R.values ps rs)) → then_effect (rebuilt_effect R) (line w 1 (length R.fresh)) ≡ piece_effect (step_call S i ds g ps rs R R.fresh)
+  unfolding step_call then_effect rebuilt_effect piece_effect
+  call_anew w h e = go R.fresh h
     where
-      go : (ts : List TypeId) → (length ts ≡ 0 → ⊥) → thenEffect (Built R ts) (line w 1 (length ts)) ≡ pieceEffect (stepCall S i ds g ps rs R ts)
+      go : (ts : List TypeId) → (length ts ≡ 0 → ⊥) → then_effect (Built R ts) (line w 1 (length ts)) ≡ piece_effect (step_call S i ds g ps rs R ts)
       go [] f = absurd (f refl)
       go (t ∷ ts) f =
           let I : Instruction = plain (Call ds g R.values ps rs) in
           same_effect
-          (sym (each_append instructionBytes R.before (I ∷ []) ∙ ap (λ z. eachBytes instructionBytes R.before ++ z) (append-nil (instructionBytes I) ∙ sym e)))
+          (sym (each_append instruction_bytes R.before (I ∷ []) ∙ ap (λ z. each_bytes instruction_bytes R.before ++ z) (append-nil (instruction_bytes I) ∙ sym e)))
           (sym (length-append R.before (I ∷ [])))
           (append-nil (t ∷ ts))
           (zero-add (length (t ∷ ts)))
 
 -- a Store
 pub data StoreCase (S : AggStates) (i : Instruction) (l : Place) (x : Value) (u : TypeId) (R : Rebuilt) (q : Piece) : Type 0 where
-  store-stays : R ≡ untouched (x ∷ []) → q ≡ kept S i → StoreCase S i l x u R q
-  store-anew : (y : Value) → R.values ≡ y ∷ [] → (length R.fresh ≡ 0 → ⊥) → q ≡ record { out = R.before ++ (record { meta = i.meta; kind = Store l y u } ∷ []); dropped = []; states = S; fresh = R.fresh; counts = noCounts; changed = true; clash = R.clash } → StoreCase S i l x u R q
+  store_stays : R ≡ untouched (x ∷ []) → q ≡ kept S i → StoreCase S i l x u R q
+  store_anew : (y : Value) → R.values ≡ y ∷ [] → (length R.fresh ≡ 0 → ⊥) → q ≡ record { out = R.before ++ (record { meta = i.meta; kind = Store l y u } ∷ []); dropped = []; states = S; fresh = R.fresh; counts = no_counts; changed = true; clash = R.clash } → StoreCase S i l x u R q
 
-store-some : (τ : Types) (S : AggStates) (n : ℕ) (i : Instruction) (l : Place) (x : Value) (u : TypeId) (xs : List Value) → state_of S x ≡ some xs → storeKept τ S n i l x u (some xs) ≡ storeRebuilt S i.meta l u (rebuildValue τ n u xs (untouched [])) (rebuildValue τ n u xs (untouched [])).values
-unfolding storeKept rebuildAll oneValue
-store-some τ S n i l x u xs f =
-    let e : rebuildAll τ S n (record { value = x; at = some u } ∷ []) ≡ rebuildValue τ n u xs (untouched []) = rw f refl in
-    ap (λ r. storeRebuilt S i.meta l u r r.values) e
+store_some : (τ : Types) (S : AggStates) (n : ℕ) (i : Instruction) (l : Place) (x : Value) (u : TypeId) (xs : List Value) → state_of S x ≡ some xs → store_kept τ S n i l x u (some xs) ≡ store_rebuilt S i.meta l u (rebuild_value τ n u xs (untouched [])) (rebuild_value τ n u xs (untouched [])).values
+unfolding store_kept rebuild_all one_value
+store_some τ S n i l x u xs f =
+    let e : rebuild_all τ S n (record { value = x; at = some u } ∷ []) ≡ rebuild_value τ n u xs (untouched []) = rw f refl in
+    ap (λ r. store_rebuilt S i.meta l u r r.values) e
 
-pub store-case : (τ : Types) (S : AggStates) (n : ℕ) (i : Instruction) (l : Place) (x : Value) (u : TypeId) → StoreCase S i l x u (rebuildAll τ S n (record { value = x; at = aggregateType τ u } ∷ [])) (storeKept τ S n i l x u (onSome (aggregateType τ u) (λ z. state_of S x)))
-unfolding rebuildAll oneValue keepValue rebuildValue aggregateType onSome storeKept storeRebuilt
-store-case τ S n i l x u = go (isAggregate (row_of τ (some u))) refl (state_of S x) refl
+pub store_case : (τ : Types) (S : AggStates) (n : ℕ) (i : Instruction) (l : Place) (x : Value) (u : TypeId) → StoreCase S i l x u (rebuild_all τ S n (record { value = x; at = aggregate_type τ u } ∷ [])) (store_kept τ S n i l x u (on_some (aggregate_type τ u) (λ z. state_of S x)))
+unfolding rebuild_all one_value keep_value rebuild_value aggregate_type on_some store_kept store_rebuilt
+store_case τ S n i l x u = go (is_aggregate (row_of τ (some u))) refl (state_of S x) refl
   where
-    go : (a : Bool) → isAggregate (row_of τ (some u)) ≡ a → (s : Option (List Value)) → state_of S x ≡ s → StoreCase S i l x u (rebuildAll τ S n (record { value = x; at = aggregateType τ u } ∷ [])) (storeKept τ S n i l x u (onSome (aggregateType τ u) (λ z. state_of S x)))
-    go false e s f = store-stays (rw e refl) (rw e refl)
-    go true e none f = store-stays (rw (e, f) refl) (rw (e, f) refl)
-    go true e (some xs) f = store-anew (Value.Operand (record { 0 = n })) (rw (e, f) refl) (λ z. let y : ◌≡◌ {A = ℕ} 1 0 = rw (e, f) at z in omega arith) (rw (e, f) (store-some τ S n i l x u xs f))
+    go : (a : Bool) → is_aggregate (row_of τ (some u)) ≡ a → (s : Option (List Value)) → state_of S x ≡ s → StoreCase S i l x u (rebuild_all τ S n (record { value = x; at = aggregate_type τ u } ∷ [])) (store_kept τ S n i l x u (on_some (aggregate_type τ u) (λ z. state_of S x)))
+    go false e s f = store_stays (rw e refl) (rw e refl)
+    go true e none f = store_stays (rw (e, f) refl) (rw (e, f) refl)
+    go true e (some xs) f = store_anew (Value.Operand (record { 0 = n })) (rw (e, f) refl) (λ z. let y : ◌≡◌ {A = ℕ} 1 0 = rw (e, f) at z in omega arith) (rw (e, f) (store_some τ S n i l x u xs f))
 
 module _ (S : AggStates) (i : Instruction) (l : Place) (x : Value) (u : TypeId) (R : Rebuilt) (q : Piece) (c : StoreCase S i l x u R q) where
-  pub store-clash : q.clash ≡ R.clash
+  pub store_clash : q.clash ≡ R.clash
   unfolding kept
-  store-clash = elim c [ store-stays a b ↦ ap (λ z. z.clash) b ∙ sym (ap (λ z. z.clash) a) | store-anew y a b d ↦ ap (λ z. z.clash) d ]
+  store_clash = elim c [ store_stays a b ↦ ap (λ z. z.clash) b ∙ sym (ap (λ z. z.clash) a) | store_anew y a b d ↦ ap (λ z. z.clash) d ]
 
-  pub store-fresh : q.fresh ≡ R.fresh
+  pub store_fresh : q.fresh ≡ R.fresh
   unfolding kept
-  store-fresh = elim c [ store-stays a b ↦ ap (λ z. z.fresh) b ∙ sym (ap (λ z. z.fresh) a) | store-anew y a b d ↦ ap (λ z. z.fresh) d ]
+  store_fresh = elim c [ store_stays a b ↦ ap (λ z. z.fresh) b ∙ sym (ap (λ z. z.fresh) a) | store_anew y a b d ↦ ap (λ z. z.fresh) d ]
 
-  pub store_kept : length R.fresh ≡ 0 → thenEffect (rebuiltEffect R) (line (instructionBytes i) 1 0) ≡ pieceEffect q
-  unfolding kept thenEffect rebuiltEffect pieceEffect
-  store_kept e = elim c [ store-stays a b ↦ rw (a, b) (same_effect {ts = []} (sym (append-nil (instructionBytes i))) refl refl refl) | store-anew y a b d ↦ absurd (b e) ]
+  pub store_kept_lem : length R.fresh ≡ 0 → then_effect (rebuilt_effect R) (line (instruction_bytes i) 1 0) ≡ piece_effect q
+  unfolding kept then_effect rebuilt_effect piece_effect
+  store_kept_lem e = elim c [ store_stays a b ↦ rw (a, b) (same_effect {ts = []} (sym (append-nil (instruction_bytes i))) refl refl refl) | store_anew y a b d ↦ absurd (b e) ]
 
-  pub store-built : (w h t : List ℕ) → (length R.fresh ≡ 0 → ⊥) → w ≡ h ++ (eachBytes valueBytes R.values ++ t) → ((y : Value) → h ++ (eachBytes valueBytes (y ∷ []) ++ t) ≡ instructionBytes (record { meta = i.meta; kind = Store l y u })) → thenEffect (rebuiltEffect R) (line w 1 0) ≡ pieceEffect q
-  unfolding thenEffect rebuiltEffect pieceEffect
-  store-built w h t n e f =
+  pub store_built : (w h t : List ℕ) → (length R.fresh ≡ 0 → ⊥) → w ≡ h ++ (each_bytes value_bytes R.values ++ t) → ((y : Value) → h ++ (each_bytes value_bytes (y ∷ []) ++ t) ≡ instruction_bytes (record { meta = i.meta; kind = Store l y u })) → then_effect (rebuilt_effect R) (line w 1 0) ≡ piece_effect q
+  unfolding then_effect rebuilt_effect piece_effect
+  store_built w h t n e f =
       elim c [
-        | store-stays a b ↦ absurd (n (ap (λ z. length z.fresh) a))
-        | store-anew y a b d ↦
+        | store_stays a b ↦ absurd (n (ap (λ z. length z.fresh) a))
+        | store_anew y a b d ↦
             let I : Instruction = record { meta = i.meta; kind = Store l y u } in
-            let v : w ≡ instructionBytes I = e ∙ ap (λ z. h ++ (eachBytes valueBytes z ++ t)) a ∙ f y in
-            rw d (same_effect (sym (each_append instructionBytes R.before (I ∷ []) ∙ ap (λ z. eachBytes instructionBytes R.before ++ z) (append-nil (instructionBytes I) ∙ sym v))) (sym (length-append R.before (I ∷ []))) (append-nil R.fresh) refl)
+            let v : w ≡ instruction_bytes I = e ∙ ap (λ z. h ++ (each_bytes value_bytes z ++ t)) a ∙ f y in
+            rw d (same_effect (sym (each_append instruction_bytes R.before (I ∷ []) ∙ ap (λ z. each_bytes instruction_bytes R.before ++ z) (append-nil (instruction_bytes I) ∙ sym v))) (sym (length-append R.before (I ∷ []))) (append-nil R.fresh) refl)
       ]
 
 -- a Return
-pub return-effect : (R : Rebuilt) (w : List ℕ) → w ≡ terminatorBytes (Return R.values) → thenEffect (rebuiltEffect R) (line w 0 (length R.fresh)) ≡ walkedEffect (returned R)
-unfolding thenEffect rebuiltEffect walkedEffect returned
-return-effect R w e = same_effect (ap (λ z. eachBytes instructionBytes R.before ++ z) e) (add-zero (length R.before)) (append-nil R.fresh) (zero-add (length R.fresh))
+pub return_effect : (R : Rebuilt) (w : List ℕ) → w ≡ terminator_bytes (Return R.values) → then_effect (rebuilt_effect R) (line w 0 (length R.fresh)) ≡ walked_effect (returned R)
+unfolding then_effect rebuilt_effect walked_effect returned
+return_effect R w e = same_effect (ap (λ z. each_bytes instruction_bytes R.before ++ z) e) (add-zero (length R.before)) (append-nil R.fresh) (zero-add (length R.fresh))
 
 -- the numbers stay low
-pub low-on : (k : ℕ) (p q s : Progress) (to lines made : ℕ) → s ≡ onward q to lines made → Low k p → Few p 255 q → to ≤ q.to + 5000 → lines ≤ 1 → made ≤ 255 → Low (k + 1) s
-low-on k p q s to lines made e l f t a m =
+pub low_on : (k : ℕ) (p q s : Progress) (to lines made : ℕ) → s ≡ onward q to lines made → Low k p → Few p 255 q → to ≤ q.to + 5000 → lines ≤ 1 → made ≤ 255 → Low (k + 1) s
+low_on k p q s to lines made e l f t a m =
     let c1 : q.counts.builds ≡ p.counts.builds = ap (λ c. c.builds) f.counts in
     let c2 : q.counts.extracts ≡ p.counts.extracts = ap (λ c. c.extracts) f.counts in
     let c3 : q.counts.inserts ≡ p.counts.inserts = ap (λ c. c.inserts) f.counts in
@@ -213,24 +213,24 @@ low-on k p q s to lines made e l f t a m =
     })
 
 -- what was taken, and that there is room
-pub made-few : (p q : Progress) → Few p 255 q → q.fresh - p.fresh ≤ 255
-made-few p q f = omega (arith, f.fresh)
+pub made_few : (p q : Progress) → Few p 255 q → q.fresh - p.fresh ≤ 255
+made_few p q f = omega (arith, f.fresh)
 
-pub further-fits : (p q : Progress) (lines made : ℕ) → Low 8000 p → Few p 255 q → lines ≤ 1 → made ≤ 255 → (q.lines < 1073741824) × ((q.counts.materializations < 1073741824) × ((lines < 1024) × (made < 1024)))
-further-fits p q lines made l f a m =
+pub further_fits : (p q : Progress) (lines made : ℕ) → Low 8000 p → Few p 255 q → lines ≤ 1 → made ≤ 255 → (q.lines < 1073741824) × ((q.counts.materializations < 1073741824) × ((lines < 1024) × (made < 1024)))
+further_fits p q lines made l f a m =
     let c5 : q.counts.materializations ≡ p.counts.materializations = ap (λ c. c.materializations) f.counts in
     (omega (arith, l.lines, f.lines), (omega (arith, l.materializations), (omega arith, omega arith)))
 
-pub place-fits : (p q : Progress) → Low 8000 p → Few p 255 q → q.to < 10737418240
-place-fits p q l f = omega (arith, l.to, f.to)
+pub place_fits_lem : (p q : Progress) → Low 8000 p → Few p 255 q → q.to < 10737418240
+place_fits_lem p q l f = omega (arith, l.to, f.to)
 
 -- counts with none added but materializations
-pub onward-same : (p : Progress) (to lines made : ℕ) → record { to = to; lines = p.lines + lines; fresh = p.fresh; counts = record { builds = p.counts.builds; extracts = p.counts.extracts; inserts = p.counts.inserts; assigns = p.counts.assigns; materializations = p.counts.materializations + made } } ≡ onward p to lines made
-onward-same p to lines made = sym (rw (add-zero p.counts.builds, add-zero p.counts.extracts, add-zero p.counts.inserts, add-zero p.counts.assigns) refl)
+pub onward_same : (p : Progress) (to lines made : ℕ) → record { to = to; lines = p.lines + lines; fresh = p.fresh; counts = record { builds = p.counts.builds; extracts = p.counts.extracts; inserts = p.counts.inserts; assigns = p.counts.assigns; materializations = p.counts.materializations + made } } ≡ onward p to lines made
+onward_same p to lines made = sym (rw (add-zero p.counts.builds, add-zero p.counts.extracts, add-zero p.counts.inserts, add-zero p.counts.assigns) refl)
 
 -- the fields begin within 26 bytes
-pub place-near : (t : List ℕ) → fieldsPlace t ≤ 26
-place-near t = go (bit 0 (get_or t 0 0)) (bit 1 (get_or t 0 0)) (bit 2 (get_or t 0 0))
+pub place_near : (t : List ℕ) → fields_place t ≤ 26
+place_near t = go (bit 0 (get_or t 0 0)) (bit 1 (get_or t 0 0)) (bit 2 (get_or t 0 0))
   where
     go : (x y z : Bool) → 2 + (cond x 8 0 + (cond y 12 0 + cond z 4 0)) ≤ 26
     go true true true = omega arith

@@ -3,12 +3,12 @@
 #![tactic(auto)]
 
 ghost use Rattle.std.specs.Prelude.{◌≡◌, ℕ, ◌+◌, ◌-◌, ◌≤◌, ◌<◌};
-ghost use Rattle.rewrite_parts.specs.Rows.{rowsIn};
-ghost use Rattle.rewrite_list.specs.Lists.{mostCopied};
-ghost use Rattle.rewrite_progress.specs.Effect.{lowEnough, Low, PutLow, countsBelow, mostLines};
-ghost use Rattle.rewrite_before.specs.Materialized.{onward, callList, storeList, anewMost, callMost, listStarts};
+ghost use Rattle.rewrite_parts.specs.Rows.{rows_in};
+ghost use Rattle.rewrite_list.specs.Lists.{most_copied};
+ghost use Rattle.rewrite_progress.specs.Effect.{low_enough, Low, PutLow, counts_below, most_lines};
+ghost use Rattle.rewrite_before.specs.Materialized.{onward, call_list, store_list, anew_most, call_most, list_starts};
 ghost use Rattle.rewrite_before.specs.Materialized.{AnewWritten, CallWritten, InstructionWritten, CallPut, StorePut, ReturnPut};
-ghost use Rattle.bytes_emit.specs.Written.{valueRoom, rebuiltRoom, callRoom};
+ghost use Rattle.bytes_emit.specs.Written.{value_room, rebuilt_room, call_room};
 
 use bytes_field::Bounds;
 use mir::kind;
@@ -39,7 +39,7 @@ fn minus(a: usize, b: usize) -> usize
 
 // The output is written up to `to`: so many instructions further, and so many more materializations.
 fn put_further(p: Progress, to: usize, lines: u32, made: u32) -> Progress
-    requires { (p.lines < countsBelow) × ((p.counts.materializations < countsBelow) × ((lines < mostLines) × (made < mostLines))) }
+    requires { (p.lines < counts_below) × ((p.counts.materializations < counts_below) × ((lines < most_lines) × (made < most_lines))) }
     ensures { result ≡ onward p to lines made }
 {
     let c = p.counts;
@@ -60,8 +60,8 @@ fn put_further(p: Progress, to: usize, lines: u32, made: u32) -> Progress
 
 // Writes a slot's instruction as it stands, and returns the place behind it.
 fn copy_instruction(out: &mut [u8], to: usize, s: &[u8], facts: &[u16], slot: u16) -> usize
-    requires { to < valueRoom }
-    ensures upper_bound { result ≤ to + mostCopied }
+    requires { to < value_room }
+    ensures upper_bound { result ≤ to + most_copied }
     ensures instruction_written { InstructionWritten s.now facts.now slot out.old out.new to result }
 {
     let at = bytes_index::place(facts, slot);
@@ -86,8 +86,8 @@ fn put_anew(
     tracked: &[bool],
     end: usize,
 ) -> usize
-    requires { (to < rebuiltRoom) × ((taken < countsBelow) × (list.first < countsBelow)) }
-    ensures upper_bound { result ≤ to + anewMost }
+    requires { (to < rebuilt_room) × ((taken < counts_below) × (list.first < counts_below)) }
+    ensures upper_bound { result ≤ to + anew_most }
     ensures anew_written { AnewWritten b s.now facts.now t.now tracked.now list taken end
         out.old out.new to result }
 {
@@ -99,7 +99,7 @@ fn put_anew(
 
 // The arguments of the Call that has the fields f.
 fn call_list(f: &[u8]) -> ValueList
-    ensures { (result ≡ callList f.now) × (result.first ≤ listStarts) }
+    ensures { (result ≡ call_list f.now) × (result.first ≤ list_starts) }
 {
     let first = 4 + 2 * bytes_wire::byte_at(f, 0) as usize;
     let many = bytes_wire::byte_at(f, first - 1);
@@ -128,8 +128,8 @@ fn put_call_anew(
     tracked: &[bool],
     end: usize,
 ) -> usize
-    requires { (to < callRoom) × ((taken < countsBelow) × (list.first < countsBelow)) }
-    ensures upper_bound { result ≤ to + callMost }
+    requires { (to < call_room) × ((taken < counts_below) × (list.first < counts_below)) }
+    ensures upper_bound { result ≤ to + call_most }
     ensures call_written { CallWritten b s.now facts.now f.now tracked.now list taken end
         out.old out.new to result }
 {
@@ -150,9 +150,9 @@ pub fn put_call(
     tracked: &[bool],
     work: &mut [u16],
 ) -> Put
-    requires { Low lowEnough p }
+    requires { Low low_enough p }
     ensures by_index { (k : ℕ) → Low k p → PutLow (k + 1) result }
-    ensures work_unchanged { rowsIn work.new ≡ rowsIn work.old }
+    ensures work_unchanged { rows_in work.new ≡ rows_in work.old }
     ensures call_put { CallPut b s.now facts.now slot tracked.now
         out.old work.old p out.new work.new result }
 {
@@ -176,7 +176,7 @@ pub fn put_call(
 
 // The value of the Store that begins here.
 fn store_list(t: &[u8]) -> ValueList
-    ensures { (result ≡ storeList t.now) × (result.first < countsBelow) }
+    ensures { (result ≡ store_list t.now) × (result.first < counts_below) }
 {
     let place = bytes_operands::fields_place(t);
     let f = bytes_field::tail(t, place);
@@ -204,9 +204,9 @@ pub fn put_store(
     tracked: &[bool],
     work: &mut [u16],
 ) -> Put
-    requires { Low lowEnough p }
+    requires { Low low_enough p }
     ensures by_index { (k : ℕ) → Low k p → PutLow (k + 1) result }
-    ensures work_unchanged { rowsIn work.new ≡ rowsIn work.old }
+    ensures work_unchanged { rows_in work.new ≡ rows_in work.old }
     ensures store_put { StorePut b s.now facts.now slot tracked.now
         out.old work.old p out.new work.new result }
 {
@@ -237,9 +237,9 @@ pub fn put_return(
     tracked: &[bool],
     work: &mut [u16],
 ) -> Put
-    requires { Low lowEnough p }
+    requires { Low low_enough p }
     ensures by_index { (k : ℕ) → Low k p → PutLow (k + 1) result }
-    ensures work_unchanged { rowsIn work.new ≡ rowsIn work.old }
+    ensures work_unchanged { rows_in work.new ≡ rows_in work.old }
     ensures return_put { ReturnPut b s.now facts.now slot tracked.now
         out.old work.old p out.new work.new result }
 {

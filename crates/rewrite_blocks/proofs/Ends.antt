@@ -10,9 +10,9 @@ use Rattle.bytes_wire.specs.WellFormed.{Bytes}
 use Rattle.mir.specs.declared.Value.{Value}
 use Rattle.bytes_wire.proofs.Canon.{bytes_drop}
 use Rattle.mir.specs.Syntax.{Terminator, Jump, If, BranchCmp, Return, Unreachable}
-use Rattle.bytes_field.specs.Encode.{terminatorBytes}
+use Rattle.bytes_field.specs.Encode.{terminator_bytes}
 use Rattle.bytes_field.specs.declared.Bounds.{Bounds}
-use Rattle.bytes_laws.proofs.Instruction.{terminator-canon}
+use Rattle.bytes_laws.proofs.Instruction.{terminator_canon}
 use Rattle.bytes_index.specs.Table.{place_in, end_in}
 use Rattle.bytes_index.specs.Code.{TerminatorIn}
 use Rattle.mir.specs.Lookup.{Types}
@@ -21,32 +21,32 @@ use Rattle.rewrite.specs.State.{AggStates}
 use Rattle.rewrite.specs.Run.{ends, finish}
 use Rattle.rewrite_progress.specs.declared.Progress.{Progress}
 use Rattle.rewrite_progress.specs.declared.Put.{Put}
-use Rattle.rewrite_progress.specs.Effect.{outputOf, behind, further, walkedEffect, markAll, typeNumbers, Puts}
+use Rattle.rewrite_progress.specs.Effect.{output_of, behind, further, walked_effect, mark_all, type_numbers, Puts}
 use Rattle.rewrite_perform.specs.Performed.{moved_to}
-use Rattle.rewrite_perform.proofs.Counting.{puts-went}
+use Rattle.rewrite_perform.proofs.Counting.{puts_went}
 
 -- a terminator has a first byte
-not-empty : (t : Terminator) → 1 ≤ length (terminatorBytes t)
-unfolding terminatorBytes
-not-empty (Jump p) = omega arith
-not-empty (If x p q) = omega arith
-not-empty (BranchCmp op x y p q) = omega arith
-not-empty (Return xs) = omega arith
-not-empty Unreachable = omega arith
+not_empty : (t : Terminator) → 1 ≤ length (terminator_bytes t)
+unfolding terminator_bytes
+not_empty (Jump p) = omega arith
+not_empty (If x p q) = omega arith
+not_empty (BranchCmp op x y p q) = omega arith
+not_empty (Return xs) = omega arith
+not_empty Unreachable = omega arith
 
 data ReturnEnd (t : Terminator) : Type 0 where
-  is-return : (xs : List Value) → t ≡ Return xs → ReturnEnd t
+  is_return : (xs : List Value) → t ≡ Return xs → ReturnEnd t
 
-three : (t : Terminator) → get_or (terminatorBytes t) 0 0 ≡ 3 → ReturnEnd t
-unfolding terminatorBytes
+three : (t : Terminator) → get_or (terminator_bytes t) 0 0 ≡ 3 → ReturnEnd t
+unfolding terminator_bytes
 three (Jump p) h = absurd (omega arith)
 three (If x p q) h = absurd (omega arith)
 three (BranchCmp op x y p q) h = absurd (omega arith)
-three (Return xs) h = is-return xs refl
+three (Return xs) h = is_return xs refl
 three Unreachable h = absurd (omega arith)
 
-not_three : (τ : Types) (S : AggStates) (m : ℕ) (t : Terminator) → (get_or (terminatorBytes t) 0 0 ≡ 3 → ⊥) → finish τ S m t ≡ ends t
-unfolding terminatorBytes finish
+not_three : (τ : Types) (S : AggStates) (m : ℕ) (t : Terminator) → (get_or (terminator_bytes t) 0 0 ≡ 3 → ⊥) → finish τ S m t ≡ ends t
+unfolding terminator_bytes finish
 not_three τ S m (Jump p) h = refl
 not_three τ S m (If x p q) h = refl
 not_three τ S m (BranchCmp op x y p q) h = refl
@@ -58,30 +58,30 @@ module _ (b : Bounds) (s facts : List ℕ) (slot : ℕ) (t : Terminator) (h : By
   abbrev from : ℕ
   from = place_in facts slot
 
-  canon-size : length (terminatorBytes t) ≡ end_in facts slot - from
-  canon-size = (terminator-canon b (drop from s) (bytes_drop s from h) line.read).size
+  canon_size : length (terminator_bytes t) ≡ end_in facts slot - from
+  canon_size = (terminator_canon b (drop from s) (bytes_drop s from h) line.read).size
 
-  canon-same : terminatorBytes t ≡ take (end_in facts slot - from) (drop from s)
-  canon-same = (terminator-canon b (drop from s) (bytes_drop s from h) line.read).same
+  canon_same : terminator_bytes t ≡ take (end_in facts slot - from) (drop from s)
+  canon_same = (terminator_canon b (drop from s) (bytes_drop s from h) line.read).same
 
-  tag_is : get_or (terminatorBytes t) 0 0 ≡ k
-  tag_is = ap (λ l. get_or l 0 0) canon-same ∙ get_or-take (end_in facts slot - from) (drop from s) 0 0 (omega (arith, canon-size, not-empty t)) ∙ get_or-drop from s 0 0 ∙ sym (ek ∙ ap (λ n. get_or s n 0) (ea ∙ sym (add-zero from)))
+  tag_is : get_or (terminator_bytes t) 0 0 ≡ k
+  tag_is = ap (λ l. get_or l 0 0) canon_same ∙ get_or-take (end_in facts slot - from) (drop from s) 0 0 (omega (arith, canon_size, not_empty t)) ∙ get_or-drop from s 0 0 ∙ sym (ek ∙ ap (λ n. get_or s n 0) (ea ∙ sym (add-zero from)))
 
   -- a Return
-  pub return-end : (P : Type 0) → k ≡ 3 → ((xs : List Value) → t ≡ Return xs → TerminatorIn b s facts slot (Return xs) → P) → P
-  return-end P e f =
+  pub return_end : (P : Type 0) → k ≡ 3 → ((xs : List Value) → t ≡ Return xs → TerminatorIn b s facts slot (Return xs) → P) → P
+  return_end P e f =
       elim (three t (tag_is ∙ e)) [
-        | is-return xs z ↦ f xs z (rw z at line)
+        | is_return xs z ↦ f xs z (rw z at line)
       ]
 
   -- any other stays as it stands
-  pub other-end : (τ : Types) (S : AggStates) (m end : ℕ) (part out out' types : List ℕ) (dropped : Marks) (p r : Progress) → (k ≡ 3 → ⊥)
+  pub other_end : (τ : Types) (S : AggStates) (m end : ℕ) (part out out' types : List ℕ) (dropped : Marks) (p r : Progress) → (k ≡ 3 → ⊥)
       → (end ≡ end_in facts slot) × (end < 65536) → part ≡ take (end - at) (drop at s)
       → (length part ≤ 65536 → (r ≡ moved_to p (p.to + length part) (p.lines + 0)) × (out' ≡ sets out p.to part))
-      → Puts (outputOf out types dropped p) (walkedEffect (finish τ S m t)) (finish τ S m t).clash out' types dropped (Put.Went r)
-  unfolding behind further walkedEffect ends markAll typeNumbers
-  other-end τ S m end part out out' types dropped p r n ee f w =
+      → Puts (output_of out types dropped p) (walked_effect (finish τ S m t)) (finish τ S m t).clash out' types dropped (Put.Went r)
+  unfolding behind further walked_effect ends mark_all type_numbers
+  other_end τ S m end part out out' types dropped p r n ee f w =
       let z : finish τ S m t ≡ ends t = not_three τ S m t (λ x. n (sym tag_is ∙ x)) in
-      let own : part ≡ terminatorBytes t = f ∙ ap (λ j. take (end - j) (drop j s)) ea ∙ ap (λ j. take (j - from) (drop from s)) ee.0 ∙ sym canon-same in
-      let d = w (omega (arith, ap length own, canon-size, ee.0, ee.1)) in
-      rw z (puts-went _ _ _ out' types dropped r refl (rw (d.0, d.1, own) (simp (add-zero))))
+      let own : part ≡ terminator_bytes t = f ∙ ap (λ j. take (end - j) (drop j s)) ea ∙ ap (λ j. take (j - from) (drop from s)) ee.0 ∙ sym canon_same in
+      let d = w (omega (arith, ap length own, canon_size, ee.0, ee.1)) in
+      rw z (puts_went _ _ _ out' types dropped r refl (rw (d.0, d.1, own) (simp (add-zero))))

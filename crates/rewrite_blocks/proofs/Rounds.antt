@@ -10,104 +10,104 @@ use lib.Seq.{drop-cons, drop-length}
 use Rattle.mir.specs.Syntax.{Block}
 use Rattle.bytes_index.specs.Code.{no_block}
 use Rattle.mir.specs.Lookup.{Types}
-use Rattle.rewrite.specs.Run.{Rewritten, Choice, allBlocks}
+use Rattle.rewrite.specs.Run.{Rewritten, Choice, all_blocks}
 use Rattle.rewrite_progress.specs.declared.Progress.{Progress}
 use Rattle.rewrite_progress.specs.declared.Put.{Put}
 use Rattle.rewrite_progress.specs.declared.Setup.{Setup}
 use Rattle.rewrite_progress.specs.Ground.{Coded}
 use Rattle.rewrite_progress.specs.Chosen.{Follows}
-use Rattle.rewrite_progress.specs.Effect.{Effect, Output, behind, further, rewrittenEffect, Low, PutLow}
-use Rattle.rewrite_progress.proofs.Laws.{behind-then, behind-none}
-use Rattle.rewrite_step.specs.Stepping.{Lent, outputIn, PutsIn, freshFrom, Enough}
-use Rattle.rewrite_perform.proofs.Lows.{low-mono}
-use Rattle.rewrite_perform.proofs.Counting.{puts-went, puts-clash}
+use Rattle.rewrite_progress.specs.Effect.{Effect, Output, behind, further, rewritten_effect, Low, PutLow}
+use Rattle.rewrite_progress.proofs.Laws.{behind_then, behind_none}
+use Rattle.rewrite_step.specs.Stepping.{Lent, output_in, PutsIn, fresh_from, Enough}
+use Rattle.rewrite_perform.proofs.Lows.{low_mono}
+use Rattle.rewrite_perform.proofs.Counting.{puts_went, puts_clash}
 use Rattle.rewrite_blocks.specs.Blocks.{rewritten, OnePut, AllPut}
-use Rattle.rewrite_blocks.proofs.Whole.{cons-blocks}
+use Rattle.rewrite_blocks.proofs.Whole.{cons_blocks}
 
 -- of blocks that give `whole` from the output o on, the blocks `rest` are left at the progress p
 pub record BlocksLeft (setup : Setup) (τ : Types) (c : Choice) (o : Output) (whole : Effect) (clash : Bool) (rest : List Block) (l : Lent) (p : Progress) : Type 0 where
-  pub same : behind (outputIn l p) (rewrittenEffect (rewritten setup τ c p rest)) ≡ behind o whole
+  pub same : behind (output_in l p) (rewritten_effect (rewritten setup τ c p rest)) ≡ behind o whole
   pub safe : (rewritten setup τ c p rest).clash ≡ clash
   pub bound : Enough setup.bounds p (rewritten setup τ c p rest).fresh
   pub first : p.lines ≡ 0
 
 module _ (setup : Setup) (τ : Types) (c : Choice) (o : Output) (whole : Effect) (clash : Bool) where
   -- no block is left
-  left-none : (l : Lent) (p : Progress) → BlocksLeft setup τ c o whole clash [] l p → (clash ≡ false) × (outputIn l p ≡ behind o whole)
-  unfolding allBlocks rewrittenEffect
-  left-none l p left = (sym left.safe, sym (behind-none (outputIn l p)) ∙ left.same)
+  left_none : (l : Lent) (p : Progress) → BlocksLeft setup τ c o whole clash [] l p → (clash ≡ false) × (output_in l p ≡ behind o whole)
+  unfolding all_blocks rewritten_effect
+  left_none l p left = (sym left.safe, sym (behind_none (output_in l p)) ∙ left.same)
 
   module _ (x : Block) (rest : List Block) (l : Lent) (p : Progress) (left : BlocksLeft setup τ c o whole clash (x ∷ rest) l p) where
     abbrev at : ℕ
-    at = freshFrom setup.bounds p
+    at = fresh_from setup.bounds p
 
     abbrev alone : Rewritten
     alone = rewritten setup τ c p (x ∷ [])
 
     abbrev others : Rewritten
-    others = allBlocks setup.settings τ c (at + length alone.fresh) rest
+    others = all_blocks setup.settings τ c (at + length alone.fresh) rest
 
-    first-bound : Enough setup.bounds p alone.fresh
-    first-bound = omega (arith, left.bound, ap (λ w. length w) (cons-blocks setup.settings τ c at x rest).1.1, length-append alone.fresh others.fresh)
+    first_bound : Enough setup.bounds p alone.fresh
+    first_bound = omega (arith, left.bound, ap (λ w. length w) (cons_blocks setup.settings τ c at x rest).1.1, length-append alone.fresh others.fresh)
 
-    first-clash : alone.clash ≡ true → clash ≡ true
-    first-clash h = sym left.safe ∙ (cons-blocks setup.settings τ c at x rest).1.0 ∙ ap (λ y. y || others.clash) h
+    first_clash : alone.clash ≡ true → clash ≡ true
+    first_clash h = sym left.safe ∙ (cons_blocks setup.settings τ c at x rest).1.0 ∙ ap (λ y. y || others.clash) h
 
-    module _ (l' : Lent) (q : Progress) (safe : alone.clash ≡ false) (out : outputIn l' q ≡ behind (outputIn l p) (rewrittenEffect alone)) where
-      fresh_on : freshFrom setup.bounds q ≡ at + length alone.fresh
-      unfolding behind further rewrittenEffect
+    module _ (l' : Lent) (q : Progress) (safe : alone.clash ≡ false) (out : output_in l' q ≡ behind (output_in l p) (rewritten_effect alone)) where
+      fresh_on : fresh_from setup.bounds q ≡ at + length alone.fresh
+      unfolding behind further rewritten_effect
       fresh_on =
           let z : q.fresh ≡ p.fresh + length alone.fresh = ap (λ y. y.progress.fresh) out in
           omega (arith, z)
 
       no_lines : q.lines ≡ 0
-      unfolding behind further rewrittenEffect
+      unfolding behind further rewritten_effect
       no_lines =
           let z : q.lines ≡ p.lines + 0 = ap (λ y. y.progress.lines) out in
           omega (arith, z, left.first)
 
       moved : rewritten setup τ c q rest ≡ others
-      moved = ap (λ n. allBlocks setup.settings τ c n rest) fresh_on
+      moved = ap (λ n. all_blocks setup.settings τ c n rest) fresh_on
 
-      blocks-again : BlocksLeft setup τ c o whole clash rest l' q
-      blocks-again =
+      blocks_again : BlocksLeft setup τ c o whole clash rest l' q
+      blocks_again =
           record {
-            same = ap (λ y. behind (outputIn l' q) (rewrittenEffect y)) moved ∙ ap (λ y. behind y (rewrittenEffect others)) out ∙ behind-then (outputIn l p) (rewrittenEffect alone) (rewrittenEffect others) ∙ ap (λ e. behind (outputIn l p) e) (sym (cons-blocks setup.settings τ c at x rest).0) ∙ left.same;
-            safe = ap (λ y. y.clash) moved ∙ sym (ap (λ y. y || others.clash) safe) ∙ sym (cons-blocks setup.settings τ c at x rest).1.0 ∙ left.safe;
-            bound = omega (arith, left.bound, ap (λ w. length w) (cons-blocks setup.settings τ c at x rest).1.1, length-append alone.fresh others.fresh, ap (λ y. length y.fresh) moved, fresh_on);
+            same = ap (λ y. behind (output_in l' q) (rewritten_effect y)) moved ∙ ap (λ y. behind y (rewritten_effect others)) out ∙ behind_then (output_in l p) (rewritten_effect alone) (rewritten_effect others) ∙ ap (λ e. behind (output_in l p) e) (sym (cons_blocks setup.settings τ c at x rest).0) ∙ left.same;
+            safe = ap (λ y. y.clash) moved ∙ sym (ap (λ y. y || others.clash) safe) ∙ sym (cons_blocks setup.settings τ c at x rest).1.0 ∙ left.safe;
+            bound = omega (arith, left.bound, ap (λ w. length w) (cons_blocks setup.settings τ c at x rest).1.1, length-append alone.fresh others.fresh, ap (λ y. length y.fresh) moved, fresh_on);
             first = no_lines;
           }
 
 pub record Laid (setup : Setup) (s facts : List ℕ) (choice : List Bool) (l₀ : Lent) (p : Progress) (l : Lent) (q : Progress) (k : ℕ) : Type 0 where
   pub few : k ≤ setup.bounds.blocks
   pub low : (n : ℕ) → Low n p → Low (n + 130 * k) q
-  pub tracked-size : length l.tracked ≡ length l₀.tracked
-  pub dropped-size : length l.dropped ≡ length l₀.dropped
-  pub work-size : length l.work ≡ length l₀.work
-  pub out-size : length l.out ≡ length l₀.out
-  pub left : (τ : Types) (c : Choice) (ks : List Block) → Coded setup.bounds s facts τ ks → Follows c facts choice ks → p.lines ≡ 0 → Enough setup.bounds p (rewritten setup τ c p ks).fresh → BlocksLeft setup τ c (outputIn l₀ p) (rewrittenEffect (rewritten setup τ c p ks)) (rewritten setup τ c p ks).clash (drop k ks) l q
+  pub tracked_size : length l.tracked ≡ length l₀.tracked
+  pub dropped_size : length l.dropped ≡ length l₀.dropped
+  pub work_size : length l.work ≡ length l₀.work
+  pub out_size : length l.out ≡ length l₀.out
+  pub left : (τ : Types) (c : Choice) (ks : List Block) → Coded setup.bounds s facts τ ks → Follows c facts choice ks → p.lines ≡ 0 → Enough setup.bounds p (rewritten setup τ c p ks).fresh → BlocksLeft setup τ c (output_in l₀ p) (rewritten_effect (rewritten setup τ c p ks)) (rewritten setup τ c p ks).clash (drop k ks) l q
 
 module _ (setup : Setup) (s facts : List ℕ) (choice : List Bool) (l₀ : Lent) (p : Progress) where
   pub laid_none : Laid setup s facts choice l₀ p l₀ p 0
   laid_none =
       record {
         few = omega arith;
-        low = λ n l. low-mono n (n + 130 * 0) p (omega arith) l;
-        tracked-size = refl;
-        dropped-size = refl;
-        work-size = refl;
-        out-size = refl;
+        low = λ n l. low_mono n (n + 130 * 0) p (omega arith) l;
+        tracked_size = refl;
+        dropped_size = refl;
+        work_size = refl;
+        out_size = refl;
         left = λ τ c ks co fo z en. record { same = refl; safe = refl; bound = en; first = z };
       }
 
   module _ (l : Lent) (q : Progress) (k : ℕ) (inv : Laid setup s facts choice l₀ p l q k) where
     -- all blocks are behind
-    pub laid-all : setup.bounds.blocks ≤ k → AllPut setup s facts choice l₀ p l (Put.Went q)
-    laid-all h τ c ks co fo z en =
+    pub laid_all : setup.bounds.blocks ≤ k → AllPut setup s facts choice l₀ p l (Put.Went q)
+    laid_all h τ c ks co fo z en =
         let y : k ≡ length ks = omega (arith, inv.few, co.many) in
         let d : drop k ks ≡ [] = ap (λ n. drop n ks) y ∙ drop-length ks in
-        let w = left-none setup τ c _ _ _ l q (rw d at (inv.left τ c ks co fo z en)) in
-        puts-went _ _ _ _ _ _ q w.0 w.1
+        let w = left_none setup τ c _ _ _ l q (rw d at (inv.left τ c ks co fo z en)) in
+        puts_went _ _ _ _ _ _ q w.0 w.1
 
     module _ (h : k < setup.bounds.blocks) (l' : Lent) (r : Put) (one : OnePut setup s facts choice k l q l' r) where
       module _ (τ : Types) (c : Choice) (ks : List Block) (co : Coded setup.bounds s facts τ ks) (fo : Follows c facts choice ks) (z : p.lines ≡ 0) (en : Enough setup.bounds p (rewritten setup τ c p ks).fresh) where
@@ -120,29 +120,29 @@ module _ (setup : Setup) (s facts : List ℕ) (choice : List Bool) (l₀ : Lent)
         below : k < length ks
         below = omega (arith, co.many)
 
-        next-left : BlocksLeft setup τ c (outputIn l₀ p) (rewrittenEffect all) all.clash (this ∷ drop (suc k) ks) l q
-        next-left = rw (← drop-cons ks k no_block below) (inv.left τ c ks co fo z en)
+        next_left : BlocksLeft setup τ c (output_in l₀ p) (rewritten_effect all) all.clash (this ∷ drop (suc k) ks) l q
+        next_left = rw (← drop-cons ks k no_block below) (inv.left τ c ks co fo z en)
 
-        turned : PutsIn (outputIn l q) (rewrittenEffect (rewritten setup τ c q (this ∷ []))) (rewritten setup τ c q (this ∷ [])).clash l' r
-        turned = one τ c ks co fo below next-left.first (first-bound setup τ c (outputIn l₀ p) (rewrittenEffect all) all.clash this (drop (suc k) ks) l q next-left)
+        turned : PutsIn (output_in l q) (rewritten_effect (rewritten setup τ c q (this ∷ []))) (rewritten setup τ c q (this ∷ [])).clash l' r
+        turned = one τ c ks co fo below next_left.first (first_bound setup τ c (output_in l₀ p) (rewritten_effect all) all.clash this (drop (suc k) ks) l q next_left)
 
         -- an array rebuild met another count
-        pub laid-clash : r ≡ Put.Clash → PutsIn (outputIn l₀ p) (rewrittenEffect all) all.clash l' Put.Clash
-        laid-clash v = puts-clash _ _ _ _ _ _ (first-clash setup τ c (outputIn l₀ p) (rewrittenEffect all) all.clash this (drop (suc k) ks) l q next-left (turned.clashed v))
+        pub laid_clash : r ≡ Put.Clash → PutsIn (output_in l₀ p) (rewritten_effect all) all.clash l' Put.Clash
+        laid_clash v = puts_clash _ _ _ _ _ _ (first_clash setup τ c (output_in l₀ p) (rewritten_effect all) all.clash this (drop (suc k) ks) l q next_left (turned.clashed v))
 
-        went_on : (w : Progress) → r ≡ Put.Went w → BlocksLeft setup τ c (outputIn l₀ p) (rewrittenEffect all) all.clash (drop (suc k) ks) l' w
-        went_on w v = blocks-again setup τ c (outputIn l₀ p) (rewrittenEffect all) all.clash this (drop (suc k) ks) l q next-left l' w (turned.went w v).0 (turned.went w v).1
+        went_on : (w : Progress) → r ≡ Put.Went w → BlocksLeft setup τ c (output_in l₀ p) (rewritten_effect all) all.clash (drop (suc k) ks) l' w
+        went_on w v = blocks_again setup τ c (output_in l₀ p) (rewritten_effect all) all.clash this (drop (suc k) ks) l q next_left l' w (turned.went w v).0 (turned.went w v).1
 
       -- one more is behind
-      pub laid-again : (w : Progress) → r ≡ Put.Went w → ((n : ℕ) → Low n q → PutLow (n + 130) r) → length l'.tracked ≡ length l.tracked → length l'.dropped ≡ length l.dropped → length l'.work ≡ length l.work → length l'.out ≡ length l.out → Laid setup s facts choice l₀ p l' w (k + 1)
-      laid-again w v lo lt ld lw lu =
+      pub laid_again : (w : Progress) → r ≡ Put.Went w → ((n : ℕ) → Low n q → PutLow (n + 130) r) → length l'.tracked ≡ length l.tracked → length l'.dropped ≡ length l.dropped → length l'.work ≡ length l.work → length l'.out ≡ length l.out → Laid setup s facts choice l₀ p l' w (k + 1)
+      laid_again w v lo lt ld lw lu =
           let lows : (n : ℕ) → Low n q → Low (n + 130) w = λ n y. rw v at (lo n y) in
           record {
             few = omega arith;
-            low = λ n y. low-mono (n + 130 * k + 130) (n + 130 * (k + 1)) w (omega arith) (lows (n + 130 * k) (inv.low n y));
-            tracked-size = lt ∙ inv.tracked-size;
-            dropped-size = ld ∙ inv.dropped-size;
-            work-size = lw ∙ inv.work-size;
-            out-size = lu ∙ inv.out-size;
+            low = λ n y. low_mono (n + 130 * k + 130) (n + 130 * (k + 1)) w (omega arith) (lows (n + 130 * k) (inv.low n y));
+            tracked_size = lt ∙ inv.tracked_size;
+            dropped_size = ld ∙ inv.dropped_size;
+            work_size = lw ∙ inv.work_size;
+            out_size = lu ∙ inv.out_size;
             left = λ τ c ks co fo z en. rw (add-one k) (went_on τ c ks co fo z en w v);
           }

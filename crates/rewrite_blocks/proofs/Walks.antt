@@ -9,122 +9,122 @@ use lib.ListN.{length, length-append, get_or, drop}
 use lib.Seq.{drop-cons, drop-length, length-take-le}
 use Rattle.mir.specs.declared.ValueId.{ValueId}
 use Rattle.mir.specs.Syntax.{Instruction, Terminator, Block}
-use Rattle.bytes_index.specs.Code.{noInstruction}
+use Rattle.bytes_index.specs.Code.{no_instruction}
 use Rattle.mir.specs.Lookup.{Types}
-use Rattle.rewrite.specs.State.{noStates}
+use Rattle.rewrite.specs.State.{no_states}
 use Rattle.rewrite.specs.Step.{Piece, step}
 use Rattle.rewrite.specs.Run.{Walked, glue, walk}
-use Rattle.rewrite_parts.specs.Rows.{Room, rowMost, rowsSize, rowsIn}
+use Rattle.rewrite_parts.specs.Rows.{Room, row_most, rows_size, rows_in}
 use Rattle.rewrite_progress.specs.declared.Setup.{Setup}
-use Rattle.rewrite_progress.specs.Effect.{Output, behind, further, pieceEffect, walkedEffect, Low}
-use Rattle.rewrite_progress.proofs.Laws.{behind-then, glue-effect}
+use Rattle.rewrite_progress.specs.Effect.{Output, behind, further, piece_effect, walked_effect, Low}
+use Rattle.rewrite_progress.proofs.Laws.{behind_then, glue_effect}
 use Rattle.rewrite_step.specs.declared.Reached.{Reached}
 use Rattle.rewrite_step.specs.declared.Stepped.{Stepped}
-use Rattle.rewrite_step.specs.Stepping.{Lent, outputIn, freshFrom, Enough, SteppedLow, Gone, Steps, StepsOn}
-use Rattle.rewrite_perform.proofs.Lows.{low-mono}
+use Rattle.rewrite_step.specs.Stepping.{Lent, output_in, fresh_from, Enough, SteppedLow, Gone, Steps, StepsOn}
+use Rattle.rewrite_perform.proofs.Lows.{low_mono}
 use Rattle.rewrite_blocks.specs.declared.Slots.{Slots}
-use Rattle.rewrite_blocks.specs.Blocks.{walkFrom, walk_of, Left, Begun, Ready, InstructionsPut}
+use Rattle.rewrite_blocks.specs.Blocks.{walk_from, walk_of, Left, Begun, Ready, InstructionsPut}
 
 module _ (setup : Setup) (τ : Types) (folds : ValueId → Bool) (s : List ℕ) (t : Terminator) (o : Output) (whole : Walked) (i : Instruction) (rest : List Instruction) (l : Lent) (w : Reached) (left : Left setup τ folds s t o whole (i ∷ rest) l w) where
   abbrev at : ℕ
-  at = freshFrom setup.bounds w.progress
+  at = fresh_from setup.bounds w.progress
 
   -- the next piece, and what comes behind it
   abbrev piece : Piece
   piece = step setup.settings τ folds left.states at i
 
-  abbrev behindIt : Walked
-  behindIt = walk setup.settings τ folds piece.states (at + length piece.fresh) rest t
+  abbrev behind_it : Walked
+  behind_it = walk setup.settings τ folds piece.states (at + length piece.fresh) rest t
 
-  glued : walkFrom setup τ folds left.states w.progress (i ∷ rest) t ≡ glue piece behindIt
+  glued : walk_from setup τ folds left.states w.progress (i ∷ rest) t ≡ glue piece behind_it
   unfolding walk
   glued = refl
 
-  pub left-bound : Enough setup.bounds w.progress piece.fresh
+  pub left_bound : Enough setup.bounds w.progress piece.fresh
   unfolding glue
-  left-bound = omega (arith, left.bound, ap (λ x. length x.fresh) glued, length-append piece.fresh behindIt.fresh)
+  left_bound = omega (arith, left.bound, ap (λ x. length x.fresh) glued, length-append piece.fresh behind_it.fresh)
 
-  pub left-clash : piece.clash ≡ true → whole.clash ≡ true
+  pub left_clash : piece.clash ≡ true → whole.clash ≡ true
   unfolding glue
-  left-clash h = sym left.clash ∙ ap (λ x. x.clash) glued ∙ ap (λ x. x || behindIt.clash) h
+  left_clash h = sym left.clash ∙ ap (λ x. x.clash) glued ∙ ap (λ x. x || behind_it.clash) h
 
-  module _ (l' : Lent) (v : Reached) (g : Gone setup.bounds.next s (outputIn l w.progress) piece l' v) where
+  module _ (l' : Lent) (v : Reached) (g : Gone setup.bounds.next s (output_in l w.progress) piece l' v) where
     -- as many fresh numbers as the piece took are taken
-    further-on : freshFrom setup.bounds v.progress ≡ at + length piece.fresh
-    unfolding behind further pieceEffect
-    further-on =
+    further_on : fresh_from setup.bounds v.progress ≡ at + length piece.fresh
+    unfolding behind further piece_effect
+    further_on =
         let z : v.progress.fresh ≡ w.progress.fresh + length piece.fresh = ap (λ x. x.progress.fresh) g.out in
         omega (arith, z)
 
-    moved : walkFrom setup τ folds piece.states v.progress rest t ≡ behindIt
-    moved = ap (λ n. walk setup.settings τ folds piece.states n rest t) further-on
+    moved : walk_from setup τ folds piece.states v.progress rest t ≡ behind_it
+    moved = ap (λ n. walk setup.settings τ folds piece.states n rest t) further_on
 
-    pub left-again : Left setup τ folds s t o whole rest l' v
+    pub left_again : Left setup τ folds s t o whole rest l' v
     unfolding glue
-    left-again =
+    left_again =
         record {
           states = piece.states;
           rep = g.rep;
-          same = ap (λ x. behind (outputIn l' v.progress) (walkedEffect x)) moved ∙ ap (λ x. behind x (walkedEffect behindIt)) g.out ∙ behind-then (outputIn l w.progress) (pieceEffect piece) (walkedEffect behindIt) ∙ ap (λ e. behind (outputIn l w.progress) e) (sym (glue-effect piece behindIt)) ∙ sym (ap (λ x. behind (outputIn l w.progress) (walkedEffect x)) glued) ∙ left.same;
-          clash = ap (λ x. x.clash) moved ∙ sym (ap (λ x. x || behindIt.clash) g.safe) ∙ sym (ap (λ x. x.clash) glued) ∙ left.clash;
-          bound = omega (arith, left.bound, ap (λ x. length x.fresh) glued, length-append piece.fresh behindIt.fresh, ap (λ x. length x.fresh) moved, further-on);
+          same = ap (λ x. behind (output_in l' v.progress) (walked_effect x)) moved ∙ ap (λ x. behind x (walked_effect behind_it)) g.out ∙ behind_then (output_in l w.progress) (piece_effect piece) (walked_effect behind_it) ∙ ap (λ e. behind (output_in l w.progress) e) (sym (glue_effect piece behind_it)) ∙ sym (ap (λ x. behind (output_in l w.progress) (walked_effect x)) glued) ∙ left.same;
+          clash = ap (λ x. x.clash) moved ∙ sym (ap (λ x. x || behind_it.clash) g.safe) ∙ sym (ap (λ x. x.clash) glued) ∙ left.clash;
+          bound = omega (arith, left.bound, ap (λ x. length x.fresh) glued, length-append piece.fresh behind_it.fresh, ap (λ x. length x.fresh) moved, further_on);
         }
 
 -- the loop, from the tables l₀ and the progress w₀ on
 pub record Walking (setup : Setup) (s facts : List ℕ) (choice : List Bool) (at : Slots) (l₀ : Lent) (w₀ : Reached) (l : Lent) (w : Reached) (j : ℕ) : Type 0 where
   pub few : j ≤ at.count
   pub low : (n : ℕ) → Low n w₀.progress → Low (n + j) w.progress
-  pub used : w.used ≤ w₀.used + rowMost * j
-  pub tracked-size : length l.tracked ≡ length l₀.tracked
-  pub dropped-size : length l.dropped ≡ length l₀.dropped
-  pub work-size : length l.work ≡ length l₀.work
-  pub out-size : length l.out ≡ length l₀.out
+  pub used : w.used ≤ w₀.used + row_most * j
+  pub tracked_size : length l.tracked ≡ length l₀.tracked
+  pub dropped_size : length l.dropped ≡ length l₀.dropped
+  pub work_size : length l.work ≡ length l₀.work
+  pub out_size : length l.out ≡ length l₀.out
   pub left : (τ : Types) (folds : ValueId → Bool) (x : Block) → Begun setup s facts choice at l₀ w₀ τ folds x
-      → Left setup τ folds s x.terminator (outputIn l₀ w₀.progress) (walk_of setup τ folds w₀.progress x) (drop j x.instructions) l w
+      → Left setup τ folds s x.terminator (output_in l₀ w₀.progress) (walk_of setup τ folds w₀.progress x) (drop j x.instructions) l w
 
 -- a step that went, or clashed
-went-not-clash : {v : Reached} → Stepped.Went v ≡ Stepped.Clash → ⊥
-went-not-clash {v} e = let z : ◌≡◌ {A = ℕ} 0 1 = cc in omega arith
+went_not_clash : {v : Reached} → Stepped.Went v ≡ Stepped.Clash → ⊥
+went_not_clash {v} e = let z : ◌≡◌ {A = ℕ} 0 1 = cc in omega arith
 
 module _ (setup : Setup) (s facts : List ℕ) (choice : List Bool) (at : Slots) (l₀ : Lent) (w₀ : Reached) where
   pub walking_start : Walking setup s facts choice at l₀ w₀ l₀ w₀ 0
   walking_start =
       record {
         few = omega arith;
-        low = λ n y. low-mono n (n + 0) w₀.progress (omega arith) y;
+        low = λ n y. low_mono n (n + 0) w₀.progress (omega arith) y;
         used = omega arith;
-        tracked-size = refl;
-        dropped-size = refl;
-        work-size = refl;
-        out-size = refl;
-        left = λ τ folds x a. record { states = noStates; rep = a.rep; same = refl; clash = refl; bound = a.bound };
+        tracked_size = refl;
+        dropped_size = refl;
+        work_size = refl;
+        out_size = refl;
+        left = λ τ folds x a. record { states = no_states; rep = a.rep; same = refl; clash = refl; bound = a.bound };
       }
 
   module _ (l : Lent) (w : Reached) (j : ℕ) (inv : Walking setup s facts choice at l₀ w₀ l w j) where
     -- all instructions are behind
-    pub walking-done : at.count ≤ j → InstructionsPut setup s facts choice at l₀ w₀ l (Stepped.Went w)
-    walking-done h τ folds x a =
+    pub walking_done : at.count ≤ j → InstructionsPut setup s facts choice at l₀ w₀ l (Stepped.Went w)
+    walking_done h τ folds x a =
         let z : j ≡ length x.instructions = omega (arith, inv.few, a.many) in
         let q : drop j x.instructions ≡ [] = ap (λ n. drop n x.instructions) z ∙ drop-length x.instructions in
         let own = rw q at (inv.left τ folds x a) in
-        record { clashed = λ e. absurd (went-not-clash e); went = λ v e. let y : v ≡ w = cc in rw y own }
+        record { clashed = λ e. absurd (went_not_clash e); went = λ v e. let y : v ≡ w = cc in rw y own }
 
     module _ (ready : Ready at w₀ l₀.work) where
       -- the tables are long enough for a step
-      pub walking-long : rowsSize ≤ length l.work
-      walking-long = omega (arith, ready.long, inv.work-size)
+      pub walking_long : rows_size ≤ length l.work
+      walking_long = omega (arith, ready.long, inv.work_size)
 
       module _ (h : j < at.count) (fold : Bool) (ef : fold ≡ get_or choice (at.first + j) false) (l' : Lent) (r : Stepped) (st : StepsOn setup s facts (at.first + j) fold l w l' r) where
         -- there is room for one more row
-        room : Room (rowsIn l.work) w.used
-        room = omega (arith, length-take-le rowsSize l.work walking-long, inv.used, ready.used, ready.most)
+        room : Room (rows_in l.work) w.used
+        room = omega (arith, length-take-le rows_size l.work walking_long, inv.used, ready.used, ready.most)
 
         module _ (τ : Types) (folds : ValueId → Bool) (x : Block) (a : Begun setup s facts choice at l₀ w₀ τ folds x) where
           abbrev whole : Walked
           whole = walk_of setup τ folds w₀.progress x
 
           abbrev this : Instruction
-          this = get_or x.instructions j noInstruction
+          this = get_or x.instructions j no_instruction
 
           abbrev rest : List Instruction
           rest = drop (suc j) x.instructions
@@ -132,44 +132,44 @@ module _ (setup : Setup) (s facts : List ℕ) (choice : List Bool) (at : Slots) 
           below : j < length x.instructions
           below = omega (arith, a.many)
 
-          next-left : Left setup τ folds s x.terminator (outputIn l₀ w₀.progress) whole (this ∷ rest) l w
-          next-left = rw (← drop-cons x.instructions j noInstruction below) (inv.left τ folds x a)
+          next_left : Left setup τ folds s x.terminator (output_in l₀ w₀.progress) whole (this ∷ rest) l w
+          next_left = rw (← drop-cons x.instructions j no_instruction below) (inv.left τ folds x a)
 
-          turned : Steps setup.bounds.next s (outputIn l w.progress) (step setup.settings τ folds next-left.states (freshFrom setup.bounds w.progress) this) l' r
+          turned : Steps setup.bounds.next s (output_in l w.progress) (step setup.settings τ folds next_left.states (fresh_from setup.bounds w.progress) this) l' r
           turned =
-              st τ next-left.states folds this
-              (record { ground = a.ground; rep = next-left.rep; line = a.block.instructions j below })
+              st τ next_left.states folds this
+              (record { ground = a.ground; rep = next_left.rep; line = a.block.instructions j below })
               room
               (λ d e. ef ∙ a.flags j d below e)
-              (left-bound setup τ folds s x.terminator (outputIn l₀ w₀.progress) whole this rest l w next-left)
+              (left_bound setup τ folds s x.terminator (output_in l₀ w₀.progress) whole this rest l w next_left)
 
-          went-turn : (v : Reached) → r ≡ Stepped.Went v → Left setup τ folds s x.terminator (outputIn l₀ w₀.progress) whole rest l' v
-          went-turn v e = left-again setup τ folds s x.terminator (outputIn l₀ w₀.progress) whole this rest l w next-left l' v (turned.went v e)
+          went_turn : (v : Reached) → r ≡ Stepped.Went v → Left setup τ folds s x.terminator (output_in l₀ w₀.progress) whole rest l' v
+          went_turn v e = left_again setup τ folds s x.terminator (output_in l₀ w₀.progress) whole this rest l w next_left l' v (turned.went v e)
 
         -- an array rebuild met another count
-        pub walking-clash : r ≡ Stepped.Clash → InstructionsPut setup s facts choice at l₀ w₀ l' Stepped.Clash
-        walking-clash e τ folds x a =
+        pub walking_clash : r ≡ Stepped.Clash → InstructionsPut setup s facts choice at l₀ w₀ l' Stepped.Clash
+        walking_clash e τ folds x a =
             record {
-              clashed = λ z. left-clash setup τ folds s x.terminator (outputIn l₀ w₀.progress) (whole τ folds x a) (this τ folds x a) (rest τ folds x a) l w (next-left τ folds x a) ((turned τ folds x a).clashed e);
-              went = λ v z. absurd (went-not-clash (sym z));
+              clashed = λ z. left_clash setup τ folds s x.terminator (output_in l₀ w₀.progress) (whole τ folds x a) (this τ folds x a) (rest τ folds x a) l w (next_left τ folds x a) ((turned τ folds x a).clashed e);
+              went = λ v z. absurd (went_not_clash (sym z));
             }
 
         -- one more is behind
-        pub walking-again : (v : Reached) → r ≡ Stepped.Went v → ((n : ℕ) → Low n w.progress → SteppedLow (n + 1) (w.used + rowMost) r)
+        pub walking_again : (v : Reached) → r ≡ Stepped.Went v → ((n : ℕ) → Low n w.progress → SteppedLow (n + 1) (w.used + row_most) r)
             → length l'.tracked ≡ length l.tracked
             → length l'.dropped ≡ length l.dropped
             → length l'.work ≡ length l.work
             → length l'.out ≡ length l.out
             → Walking setup s facts choice at l₀ w₀ l' v (j + 1)
-        walking-again v e lo lt ld lw lu =
-            let lows : (n : ℕ) → Low n w.progress → Low (n + 1) v.progress × (v.used ≤ w.used + rowMost) = λ n y. rw e at (lo n y) in
+        walking_again v e lo lt ld lw lu =
+            let lows : (n : ℕ) → Low n w.progress → Low (n + 1) v.progress × (v.used ≤ w.used + row_most) = λ n y. rw e at (lo n y) in
             record {
               few = omega arith;
-              low = λ n y. low-mono (n + j + 1) (n + (j + 1)) v.progress (omega arith) (lows (n + j) (inv.low n y)).0;
+              low = λ n y. low_mono (n + j + 1) (n + (j + 1)) v.progress (omega arith) (lows (n + j) (inv.low n y)).0;
               used = omega (arith, (lows (4801 + j) (inv.low 4801 ready.low)).1, inv.used);
-              tracked-size = lt ∙ inv.tracked-size;
-              dropped-size = ld ∙ inv.dropped-size;
-              work-size = lw ∙ inv.work-size;
-              out-size = lu ∙ inv.out-size;
-              left = λ τ folds x a. rw (add-one j) (went-turn τ folds x a v e);
+              tracked_size = lt ∙ inv.tracked_size;
+              dropped_size = ld ∙ inv.dropped_size;
+              work_size = lw ∙ inv.work_size;
+              out_size = lu ∙ inv.out_size;
+              left = λ τ folds x a. rw (add-one j) (went_turn τ folds x a v e);
             }

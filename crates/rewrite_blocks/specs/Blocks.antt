@@ -4,87 +4,87 @@ use Rattle.std.proofs.Math.Option.{some}
 use Rattle.mir.specs.declared.ValueId.{ValueId}
 use Rattle.mir.specs.Syntax.{Instruction, Terminator, Block}
 use Rattle.bytes_field.specs.declared.Bounds.{Bounds}
-use Rattle.bytes_index.specs.Table.{recordedIn, startsIn}
-use Rattle.bytes_index.specs.Code.{noInstruction, no_block, TerminatorIn, BlockIn, CodeIn}
+use Rattle.bytes_index.specs.Table.{recorded_in, starts_in}
+use Rattle.bytes_index.specs.Code.{no_instruction, no_block, TerminatorIn, BlockIn, CodeIn}
 use Rattle.mir.specs.Lookup.{Types}
-use Rattle.fold.specs.Family.{Marks, buildDest}
-use Rattle.rewrite.specs.State.{AggStates, noStates}
-use Rattle.rewrite.specs.Run.{Walked, Rewritten, Choice, finish, walk, allBlocks}
-use Rattle.mir.specs.Most.{mostValues, mostInstructions, mostSlots}
-use Rattle.rewrite_parts.specs.Rows.{Rep, rows_from, rowsSize, rowsIn, freshIn}
+use Rattle.fold.specs.Family.{Marks, build_dest}
+use Rattle.rewrite.specs.State.{AggStates, no_states}
+use Rattle.rewrite.specs.Run.{Walked, Rewritten, Choice, finish, walk, all_blocks}
+use Rattle.mir.specs.Most.{most_values, most_instructions, most_slots}
+use Rattle.rewrite_parts.specs.Rows.{Rep, rows_from, rows_size, rows_in, fresh_in}
 use Rattle.rewrite_progress.specs.declared.Progress.{Progress}
 use Rattle.rewrite_progress.specs.declared.Put.{Put}
 use Rattle.rewrite_progress.specs.declared.Setup.{Setup}
 use Rattle.rewrite_progress.specs.Ground.{Ground, Coded}
 use Rattle.rewrite_progress.specs.Chosen.{Follows}
-use Rattle.rewrite_progress.specs.Effect.{Output, outputOf, behind, walkedEffect, rewrittenEffect, Puts, Low}
+use Rattle.rewrite_progress.specs.Effect.{Output, output_of, behind, walked_effect, rewritten_effect, Puts, Low}
 use Rattle.rewrite_step.specs.declared.Reached.{Reached}
 use Rattle.rewrite_step.specs.declared.Stepped.{Stepped}
-use Rattle.rewrite_step.specs.Stepping.{Lent, outputIn, PutsIn, freshFrom, Enough}
+use Rattle.rewrite_step.specs.Stepping.{Lent, output_in, PutsIn, fresh_from, Enough}
 use Rattle.rewrite_blocks.specs.declared.Slots.{Slots}
 
 -- the slots of block k: those that the table of facts has
 pub record SlotsOf (facts : List ℕ) (k : ℕ) (at : Slots) : Type 0 where
-  pub early : at.first ≤ mostSlots
-  pub most : at.count ≤ mostInstructions
-  pub first : (b : Bounds) (s : List ℕ) (ks : List Block) → CodeIn b s facts ks → k < length ks → at.first ≡ get_or (startsIn facts) k 0
+  pub early : at.first ≤ most_slots
+  pub most : at.count ≤ most_instructions
+  pub first : (b : Bounds) (s : List ℕ) (ks : List Block) → CodeIn b s facts ks → k < length ks → at.first ≡ get_or (starts_in facts) k 0
   pub count : (b : Bounds) (s : List ℕ) (ks : List Block) → CodeIn b s facts ks → k < length ks
-      → length (get_or ks k no_block).instructions ≤ mostInstructions → at.count ≡ length (get_or ks k no_block).instructions
+      → length (get_or ks k no_block).instructions ≤ most_instructions → at.count ≡ length (get_or ks k no_block).instructions
 
 -- the terminator behind a block's instructions is put out
 abbrev pub EndPut : Bounds → List ℕ → List ℕ → ℕ → Marks → List ℕ → List ℕ → Progress → List ℕ → List ℕ → Put → Type 0
 EndPut b s facts slot tracked work out p work' out' r =
     (τ : Types) (S : AggStates) (used : ℕ) (t : Terminator) (dropped : Marks) →
-    Ground b s facts (recordedIn facts) τ →
-    Rep b.next s tracked (rowsIn work) used S →
+    Ground b s facts (recorded_in facts) τ →
+    Rep b.next s tracked (rows_in work) used S →
     TerminatorIn b s facts slot t →
-    let w = finish τ S (freshFrom b p) t in
+    let w = finish τ S (fresh_from b p) t in
     Enough b p w.fresh →
-    Puts (outputOf out (freshIn work) dropped p) (walkedEffect w) w.clash out' (freshIn work') dropped r
+    Puts (output_of out (fresh_in work) dropped p) (walked_effect w) w.clash out' (fresh_in work') dropped r
 
 -- a block's walk from a progress on: the instructions `is` and the terminator t, where the states S are tracked
-abbrev pub walkFrom : Setup → Types → (ValueId → Bool) → AggStates → Progress → List Instruction → Terminator → Walked
-walkFrom setup τ folds S p is t = walk setup.settings τ folds S (freshFrom setup.bounds p) is t
+abbrev pub walk_from : Setup → Types → (ValueId → Bool) → AggStates → Progress → List Instruction → Terminator → Walked
+walk_from setup τ folds S p is t = walk setup.settings τ folds S (fresh_from setup.bounds p) is t
 
 -- all of it: nothing is tracked where a block begins
 abbrev pub walk_of : Setup → Types → (ValueId → Bool) → Progress → Block → Walked
-walk_of setup τ folds p x = walkFrom setup τ folds noStates p x.instructions x.terminator
+walk_of setup τ folds p x = walk_from setup τ folds no_states p x.instructions x.terminator
 
 -- Of a block whose walk is `whole` from the output o on, the instructions `rest` and the terminator t are left at w: what
 -- they give from the states that the tables hold is what the whole walk gives.
 pub record Left (setup : Setup) (τ : Types) (folds : ValueId → Bool) (s : List ℕ) (t : Terminator) (o : Output) (whole : Walked)
     (rest : List Instruction) (l : Lent) (w : Reached) : Type 0 where
   pub states : AggStates
-  pub rep : Rep setup.bounds.next s l.tracked (rowsIn l.work) w.used states
-  pub same : behind (outputIn l w.progress) (walkedEffect (walkFrom setup τ folds states w.progress rest t)) ≡ behind o (walkedEffect whole)
-  pub clash : (walkFrom setup τ folds states w.progress rest t).clash ≡ whole.clash
-  pub bound : Enough setup.bounds w.progress (walkFrom setup τ folds states w.progress rest t).fresh
+  pub rep : Rep setup.bounds.next s l.tracked (rows_in l.work) w.used states
+  pub same : behind (output_in l w.progress) (walked_effect (walk_from setup τ folds states w.progress rest t)) ≡ behind o (walked_effect whole)
+  pub clash : (walk_from setup τ folds states w.progress rest t).clash ≡ whole.clash
+  pub bound : Enough setup.bounds w.progress (walk_from setup τ folds states w.progress rest t).fresh
 
 -- the block x stands in the slots, its flags say which builds are folded, nothing is tracked, the fresh numbers are enough
 pub record Begun (setup : Setup) (s facts : List ℕ) (choice : List Bool) (at : Slots) (l : Lent) (w : Reached)
     (τ : Types) (folds : ValueId → Bool) (x : Block) : Type 0 where
-  pub ground : Ground setup.bounds s facts (recordedIn facts) τ
+  pub ground : Ground setup.bounds s facts (recorded_in facts) τ
   pub block : BlockIn setup.bounds s facts at.first x
   pub many : length x.instructions ≡ at.count
   pub flags : (j : ℕ) (d : ValueId) → j < length x.instructions
-      → buildDest (get_or x.instructions j noInstruction).kind ≡ some d → get_or choice (at.first + j) false ≡ folds d
-  pub rep : Rep setup.bounds.next s l.tracked (rowsIn l.work) w.used noStates
+      → build_dest (get_or x.instructions j no_instruction).kind ≡ some d → get_or choice (at.first + j) false ≡ folds d
+  pub rep : Rep setup.bounds.next s l.tracked (rows_in l.work) w.used no_states
   pub bound : Enough setup.bounds w.progress (walk_of setup τ folds w.progress x).fresh
 
 -- the numbers that the loop over a block's instructions begins with
 pub record Ready (at : Slots) (w : Reached) (work : List ℕ) : Type 0 where
-  pub early : at.first ≤ mostSlots
-  pub most : at.count ≤ mostInstructions
+  pub early : at.first ≤ most_slots
+  pub most : at.count ≤ most_instructions
   pub low : Low 4801 w.progress
   pub used : w.used ≡ rows_from
-  pub long : rowsSize ≤ length work
+  pub long : rows_size ≤ length work
 
 -- all instructions of x are behind, or an array rebuild met another count
 pub record Through (setup : Setup) (s : List ℕ) (τ : Types) (folds : ValueId → Bool) (x : Block)
     (l : Lent) (w : Reached) (l' : Lent) (r : Stepped) : Type 0 where
   pub clashed : r ≡ Stepped.Clash → (walk_of setup τ folds w.progress x).clash ≡ true
   pub went : (v : Reached) → r ≡ Stepped.Went v
-      → Left setup τ folds s x.terminator (outputIn l w.progress) (walk_of setup τ folds w.progress x) [] l' v
+      → Left setup τ folds s x.terminator (output_in l w.progress) (walk_of setup τ folds w.progress x) [] l' v
 
 -- the instructions of a block that begins in these slots are put out
 abbrev pub InstructionsPut : Setup → List ℕ → List ℕ → List Bool → Slots → Lent → Reached → Lent → Stepped → Type 0
@@ -95,18 +95,18 @@ InstructionsPut setup s facts choice at l w l' r =
 
 -- a mark for each value is lent, and a working table with all rows
 abbrev pub Lendable : Marks → List ℕ → Type 0
-Lendable tracked work = (length tracked ≡ mostValues) × (rowsSize ≤ length work)
+Lendable tracked work = (length tracked ≡ most_values) × (rows_size ≤ length work)
 
 -- the blocks ks, rewritten from a progress on
 abbrev pub rewritten : Setup → Types → Choice → Progress → List Block → Rewritten
-rewritten setup τ c p ks = allBlocks setup.settings τ c (freshFrom setup.bounds p) ks
+rewritten setup τ c p ks = all_blocks setup.settings τ c (fresh_from setup.bounds p) ks
 
 -- they are put out, where the fresh numbers are enough
 abbrev pub BlocksPut : Setup → Types → Choice → Lent → Progress → List Block → Lent → Put → Type 0
 BlocksPut setup τ c l p ks l' r =
     p.lines ≡ 0 →
     Enough setup.bounds p (rewritten setup τ c p ks).fresh →
-    PutsIn (outputIn l p) (rewrittenEffect (rewritten setup τ c p ks)) (rewritten setup τ c p ks).clash l' r
+    PutsIn (output_in l p) (rewritten_effect (rewritten setup τ c p ks)) (rewritten setup τ c p ks).clash l' r
 
 -- block k of a routine is put out, and all blocks are
 abbrev pub OnePut : Setup → List ℕ → List ℕ → List Bool → ℕ → Lent → Progress → Lent → Put → Type 0

@@ -2,12 +2,12 @@
 #![tactic(auto)]
 
 ghost use Rattle.std.specs.Prelude.{◌≡◌, false, ℕ, ◌+◌, ◌*◌, ◌≤◌, ◌<◌, get_or};
-ghost use Rattle.rewrite_parts.specs.Rows.{rowMost};
-ghost use Rattle.rewrite_progress.specs.Chosen.{skipsFrom};
-ghost use Rattle.rewrite_progress.specs.Effect.{lowEnough, Low, PutLow, startLow, blockLow, blockRise, routineLow};
+ghost use Rattle.rewrite_parts.specs.Rows.{row_most};
+ghost use Rattle.rewrite_progress.specs.Chosen.{skips_from};
+ghost use Rattle.rewrite_progress.specs.Effect.{low_enough, Low, PutLow, start_low, block_low, block_rise, routine_low};
 ghost use Rattle.rewrite_step.specs.Stepping.{lent_as, SteppedLow};
 ghost use Rattle.rewrite_blocks.specs.Blocks.{EndPut, SlotsOf, Ready, InstructionsPut, Lendable, OnePut, AllPut};
-ghost use Rattle.mir.specs.Most.{mostBlocks};
+ghost use Rattle.mir.specs.Most.{most_blocks};
 
 use bytes_field::Bounds;
 use mir::{BlockId, most, terminator};
@@ -58,7 +58,7 @@ fn put_end(
     tracked: &[bool],
     work: &mut [u16],
 ) -> Put
-    requires { Low lowEnough p }
+    requires { Low low_enough p }
     ensures by_index { (k : ℕ) → Low k p → PutLow (k + 1) result }
     ensures end_put { EndPut b s.now facts.now slot
         tracked.now work.old out.old p work.new out.new result }
@@ -85,7 +85,7 @@ fn put_instructions(
     w: Reached,
 ) -> Stepped
     requires { Ready at w work.old }
-    ensures by_index { (n : ℕ) → Low n w.progress → SteppedLow (n + at.count) (w.used + rowMost * at.count) result }
+    ensures by_index { (n : ℕ) → Low n w.progress → SteppedLow (n + at.count) (w.used + row_most * at.count) result }
     ensures instructions_put { InstructionsPut setup s.now facts.now choice.now at
         (lent_as tracked.old dropped.old work.old out.old) w
         (lent_as tracked.new dropped.new work.new out.new) result }
@@ -123,9 +123,9 @@ fn put_rewritten(
     out: &mut [u8],
     p: Progress,
 ) -> Put
-    requires { Low blockLow p × Lendable tracked.old work.old }
-    ensures by_index { (n : ℕ) → Low n p → PutLow (n + blockRise) result }
-    ensures one_put { get_or choice.now (skipsFrom + k.0) false ≡ false
+    requires { Low block_low p × Lendable tracked.old work.old }
+    ensures by_index { (n : ℕ) → Low n p → PutLow (n + block_rise) result }
+    ensures one_put { get_or choice.now (skips_from + k.0) false ≡ false
         → OnePut setup s.now facts.now choice.now k.0
         (lent_as tracked.old dropped.old work.old out.old) p
         (lent_as tracked.new dropped.new work.new out.new) result }
@@ -161,8 +161,8 @@ fn put_block(
     out: &mut [u8],
     p: Progress,
 ) -> Put
-    requires { Low blockLow p × Lendable tracked.old work.old }
-    ensures by_index { (n : ℕ) → Low n p → PutLow (n + blockRise) result }
+    requires { Low block_low p × Lendable tracked.old work.old }
+    ensures by_index { (n : ℕ) → Low n p → PutLow (n + block_rise) result }
     ensures one_put { OnePut setup s.now facts.now choice.now k.0
         (lent_as tracked.old dropped.old work.old out.old) p
         (lent_as tracked.new dropped.new work.new out.new) result }
@@ -188,8 +188,8 @@ pub fn put_blocks(
     work: &mut [u16],
     out: &mut [u8],
 ) -> Put
-    requires { Low startLow p × ((setup.bounds.blocks ≤ mostBlocks) × Lendable tracked.old work.old) }
-    ensures put_low { PutLow routineLow result }
+    requires { Low start_low p × ((setup.bounds.blocks ≤ most_blocks) × Lendable tracked.old work.old) }
+    ensures put_low { PutLow routine_low result }
     ensures all_put { AllPut setup s.now facts.now choice.now
         (lent_as tracked.old dropped.old work.old out.old) p
         (lent_as tracked.new dropped.new work.new out.new) result }

@@ -17,16 +17,16 @@ use Rattle.mir.specs.declared.TypeId.{TypeId}
 use Rattle.mir.specs.declared.Value.{Value}
 use Rattle.bytes_wire.proofs.Canon.{bytes_drop}
 use Rattle.mir.specs.Syntax.{InstructionKind, plain}
-use Rattle.bytes_field.specs.Encode.{eachBytes, instructionBytes}
+use Rattle.bytes_field.specs.Encode.{each_bytes, instruction_bytes}
 use Rattle.mir.specs.MirType.{StructField, MirType}
 use Rattle.bytes_types.specs.Decode.{type_of}
 use Rattle.bytes_types.specs.Index.{TypesAt}
 use Rattle.bytes_before.proofs.Same.{no_true}
 use Rattle.mir.specs.Lookup.{Types, row_of}
-use Rattle.rewrite.specs.Rebuild.{fitted, named, rebuildAt, clashes}
+use Rattle.rewrite.specs.Rebuild.{fitted, named, rebuild_at, clashes}
 use Rattle.bytes_emit.specs.Written.{Writes}
 use Rattle.rewrite_build.specs.Written.{Rebuilds}
-use Rattle.bytes_struct.specs.Fields.{firstName, Names}
+use Rattle.bytes_struct.specs.Fields.{first_name, Names}
 use Rattle.rewrite_build.proofs.Shape.{tuple, struct, array, other, shape_of}
 
 -- the type T was read from `row`
@@ -43,9 +43,9 @@ module _ (most own n : ℕ) (row : List ℕ) (T : MirType) (xs : List Value) (h 
       ]
 
   -- no other type does
-  pub no-array : (get_or row 0 0 ≡ 5 → ⊥) → false ≡ clashes xs (some T)
+  pub no_array : (get_or row 0 0 ≡ 5 → ⊥) → false ≡ clashes xs (some T)
   unfolding clashes
-  no-array g =
+  no_array g =
       elim (shape_of most own row T n h e) [
         | tuple b ts q m ↦ rw q
         | struct b x fs q m i ↦ rw q
@@ -55,9 +55,9 @@ module _ (most own n : ℕ) (row : List ℕ) (T : MirType) (xs : List Value) (h 
 
   module _ (d : ValueId) (t : TypeId) (out out' : List ℕ) (to p : ℕ) where
     -- a tuple of as many parts as its type has
-    pub tuple-made : (want : ℕ) → get_or row 0 0 ≡ 3 → want ≡ get_or row 1 0 → Writes (instructionBytes (plain (InstructionKind.MakeTuple d (fitted want xs)))) out out' to p → Writes (eachBytes instructionBytes (rebuildAt d xs t (some T))) out out' to p
-    unfolding rebuildAt
-    tuple-made want g k w =
+    pub tuple_made : (want : ℕ) → get_or row 0 0 ≡ 3 → want ≡ get_or row 1 0 → Writes (instruction_bytes (plain (InstructionKind.MakeTuple d (fitted want xs)))) out out' to p → Writes (each_bytes instruction_bytes (rebuild_at d xs t (some T))) out out' to p
+    unfolding rebuild_at
+    tuple_made want g k w =
         elim (shape_of most own row T n h e) [
           | tuple b ts q m ↦ rw (q, append-nil, m, ← k) w
           | struct b x fs q m i ↦ absurd (omega arith)
@@ -66,8 +66,8 @@ module _ (most own n : ℕ) (row : List ℕ) (T : MirType) (xs : List Value) (h 
         ]
 
     -- a struct of its type's fields
-    pub struct_made : get_or row 0 0 ≡ 4 → ((fs : List StructField) → length fs ≡ get_or row 3 0 → Names row firstName fs → Writes (instructionBytes (plain (InstructionKind.MakeStruct d (named fs xs) t))) out out' to p) → Writes (eachBytes instructionBytes (rebuildAt d xs t (some T))) out out' to p
-    unfolding rebuildAt
+    pub struct_made : get_or row 0 0 ≡ 4 → ((fs : List StructField) → length fs ≡ get_or row 3 0 → Names row first_name fs → Writes (instruction_bytes (plain (InstructionKind.MakeStruct d (named fs xs) t))) out out' to p) → Writes (each_bytes instruction_bytes (rebuild_at d xs t (some T))) out out' to p
+    unfolding rebuild_at
     struct_made g w =
         elim (shape_of most own row T n h e) [
           | tuple b ts q m ↦ absurd (omega arith)
@@ -77,8 +77,8 @@ module _ (most own n : ℕ) (row : List ℕ) (T : MirType) (xs : List Value) (h 
         ]
 
     -- an array of all the parts
-    pub array_made : (x : ℕ) → get_or row 0 0 ≡ 5 → x ≡ at16 row 1 → Writes (instructionBytes (plain (InstructionKind.MakeFixedArray d xs (record { 0 = x }) false))) out out' to p → Writes (eachBytes instructionBytes (rebuildAt d xs t (some T))) out out' to p
-    unfolding rebuildAt
+    pub array_made : (x : ℕ) → get_or row 0 0 ≡ 5 → x ≡ at16 row 1 → Writes (instruction_bytes (plain (InstructionKind.MakeFixedArray d xs (record { 0 = x }) false))) out out' to p → Writes (each_bytes instruction_bytes (rebuild_at d xs t (some T))) out out' to p
+    unfolding rebuild_at
     array_made x g k w =
         elim (shape_of most own row T n h e) [
           | tuple b ts q m ↦ absurd (omega arith)
@@ -88,7 +88,7 @@ module _ (most own n : ℕ) (row : List ℕ) (T : MirType) (xs : List Value) (h 
         ]
 
   -- of another type nothing
-  pub none_made : (d : ValueId) (t : TypeId) (out : List ℕ) (to : ℕ) → (get_or row 0 0 ≡ 3 → ⊥) → (get_or row 0 0 ≡ 4 → ⊥) → (get_or row 0 0 ≡ 5 → ⊥) → Writes (eachBytes instructionBytes (rebuildAt d xs t (some T))) out out to to
+  pub none_made : (d : ValueId) (t : TypeId) (out : List ℕ) (to : ℕ) → (get_or row 0 0 ≡ 3 → ⊥) → (get_or row 0 0 ≡ 4 → ⊥) → (get_or row 0 0 ≡ 5 → ⊥) → Writes (each_bytes instruction_bytes (rebuild_at d xs t (some T))) out out to to
   none_made d t out to x y z =
       elim (shape_of most own row T n h e) [
         | tuple b ts q m ↦ absurd (x b)
@@ -103,16 +103,16 @@ module _ (most : ℕ) (τ : Types) (t : TypeId) (s types row : List ℕ) (place 
   abbrev T : MirType
   T = get_or τ.rows t.0 MirType.Unit
 
-  row-of : row_of τ (some t) ≡ some T
+  row_of_lem : row_of τ (some t) ≡ some T
   unfolding row_of
-  row-of = some_at τ.rows t.0 MirType.Unit l
+  row_of_lem = some_at τ.rows t.0 MirType.Unit l
 
   here : row ≡ drop (get_or types t.0 0) s
   here = f ∙ ap (λ j. drop j s) e
 
   -- bytes
-  row-bytes : Bytes row
-  row-bytes = rw here (bytes_drop s (get_or types t.0 0) h)
+  row_bytes : Bytes row
+  row_bytes = rw here (bytes_drop s (get_or types t.0 0) h)
 
   -- that were read
   row_read : type_of most t.0 row ≡ ok T (get_or types (suc t.0) 0 - get_or types t.0 0)
@@ -120,21 +120,21 @@ module _ (most : ℕ) (τ : Types) (t : TypeId) (s types row : List ℕ) (place 
 
   module _ (d : ValueId) (xs : List Value) (out : List ℕ) (to : ℕ) (b : B.Bool) (c : (m o n : ℕ) (U : MirType) → Bytes row → type_of m o row ≡ ok U n → b ≡ clashes xs (some U)) where
     -- a clash, or none
-    clash-of : b ≡ clashes xs (row_of τ (some t))
-    clash-of = c most t.0 _ T row-bytes row_read ∙ ap (clashes xs) (sym row-of)
+    clash_of : b ≡ clashes xs (row_of τ (some t))
+    clash_of = c most t.0 _ T row_bytes row_read ∙ ap (clashes xs) (sym row_of_lem)
 
     -- a clash writes nothing
-    pub rebuild-clash : b ≡ true → Rebuilds τ d xs t out out to (record { to = to; clash = true })
-    rebuild-clash g = record {
-      clashed = sym g ∙ clash-of;
+    pub rebuild_clash : b ≡ true → Rebuilds τ d xs t out out to (record { to = to; clash = true })
+    rebuild_clash g = record {
+      clashed = sym g ∙ clash_of;
       written = λ i. absurd (no_true (sym i));
       kept = λ _. (refl, refl);
     }
 
     -- else the rebuild is written
-    pub rebuild-made : b ≡ false → (out' : List ℕ) (p : ℕ) → ((m o n : ℕ) (U : MirType) → Bytes row → type_of m o row ≡ ok U n → Writes (eachBytes instructionBytes (rebuildAt d xs t (some U))) out out' to p) → Rebuilds τ d xs t out out' to (record { to = p; clash = false })
-    rebuild-made g out' p w = record {
-      clashed = sym g ∙ clash-of;
-      written = λ _. rw row-of (w most t.0 _ T row-bytes row_read);
+    pub rebuild_made : b ≡ false → (out' : List ℕ) (p : ℕ) → ((m o n : ℕ) (U : MirType) → Bytes row → type_of m o row ≡ ok U n → Writes (each_bytes instruction_bytes (rebuild_at d xs t (some U))) out out' to p) → Rebuilds τ d xs t out out' to (record { to = p; clash = false })
+    rebuild_made g out' p w = record {
+      clashed = sym g ∙ clash_of;
+      written = λ _. rw row_of_lem (w most t.0 _ T row_bytes row_read);
       kept = λ i. absurd (no_true i);
     }

@@ -7,23 +7,23 @@ use Rattle.mir.specs.declared.ValueId.{ValueId}
 use Rattle.mir.specs.declared.TypeId.{TypeId}
 use Rattle.mir.specs.declared.Value.{Value}
 use Rattle.bytes_emit.specs.Written.{Writes}
-use Rattle.bytes_field.specs.Encode.{eachBytes, instructionBytes}
+use Rattle.bytes_field.specs.Encode.{each_bytes, instruction_bytes}
 use Rattle.mir.specs.MirType.{StructField, MirType}
 use Rattle.bytes_types.specs.Decode.{type_of}
 use Rattle.bytes_types.specs.Index.{TypesAt}
 use Rattle.mir.specs.Lookup.{Types, row_of}
-use Rattle.rewrite.specs.Rebuild.{rebuildAt, clashes}
+use Rattle.rewrite.specs.Rebuild.{rebuild_at, clashes}
 use Rattle.rewrite_parts.specs.Rows.{RowAt}
-use Rattle.bytes_struct.specs.Fields.{firstName, Names}
+use Rattle.bytes_struct.specs.Fields.{first_name, Names}
 use Rattle.rewrite_build.specs.declared.Rebuilt.{Rebuilt}
 
 -- a row of parts begins before this
-abbrev pub rowRoom : ℕ
-rowRoom = 1099511627776
+abbrev pub row_room : ℕ
+row_room = 1099511627776
 
 -- the most bytes of a rebuild
-abbrev pub rebuildMost : ℕ
-rebuildMost = 1792
+abbrev pub rebuild_most : ℕ
+rebuild_most = 1792
 
 -- P holds of the `have` parts whose places stand in the rows from `from` on
 abbrev pub OfParts : ℕ → List ℕ → List ℕ → ℕ → ℕ → (List Value → Type 0) → Type 0
@@ -31,7 +31,7 @@ OfParts next s rows from have P = (xs : List Value) → RowAt next s rows from x
 
 -- P holds of the `want` fields whose names stand in a type's bytes
 abbrev pub OfFields : List ℕ → ℕ → (List StructField → Type 0) → Type 0
-OfFields row want P = (fs : List StructField) → length fs ≡ want → Names row firstName fs → P fs
+OfFields row want P = (fs : List StructField) → length fs ≡ want → Names row first_name fs → P fs
 
 -- P holds of the type that is read from its bytes
 abbrev pub OfType : List ℕ → (MirType → Type 0) → Type 0
@@ -42,11 +42,11 @@ abbrev pub OfTable : List ℕ → List ℕ → TypeId → (Types → Type 0) →
 OfTable s types t P = (most : ℕ) (τ : Types) → Bytes s → TypesAt most s types τ.rows → t.0 < length τ.rows → P τ
 
 -- the bytes of the rebuild of d from the parts xs at type t
-abbrev pub rebuildBytes : Types → ValueId → List Value → TypeId → List ℕ
-rebuildBytes τ d xs t = eachBytes instructionBytes (rebuildAt d xs t (row_of τ (some t)))
+abbrev pub rebuild_bytes : Types → ValueId → List Value → TypeId → List ℕ
+rebuild_bytes τ d xs t = each_bytes instruction_bytes (rebuild_at d xs t (row_of τ (some t)))
 
 -- the answer tells a clash; without one the rebuild is written, and with one nothing is
 pub record Rebuilds (τ : Types) (d : ValueId) (xs : List Value) (t : TypeId) (out out' : List ℕ) (to : ℕ) (r : Rebuilt) : Type 0 where
   pub clashed : r.clash ≡ clashes xs (row_of τ (some t))
-  pub written : r.clash ≡ false → Writes (rebuildBytes τ d xs t) out out' to r.to
+  pub written : r.clash ≡ false → Writes (rebuild_bytes τ d xs t) out out' to r.to
   pub kept : r.clash ≡ true → (r.to ≡ to) × (out' ≡ out)

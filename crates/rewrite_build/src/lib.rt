@@ -4,13 +4,13 @@
 ghost use Rattle.std.specs.Prelude.{◌≡◌, List, [], ◌∷◌, ◌++◌, false, ◌+◌, ◌*◌, ◌≤◌, ◌<◌, length, get_or};
 ghost use Rattle.std.proofs.Math.Option.{some};
 ghost use Rattle.std.proofs.lemmas.List.Edits.{sets};
-ghost use Rattle.bytes_wire.specs.Value.{valueBytes, unit};
+ghost use Rattle.bytes_wire.specs.Value.{value_bytes, unit};
 ghost use Rattle.mir.specs.Syntax.{InstructionKind, plain};
-ghost use Rattle.bytes_field.specs.Encode.{eachBytes, valueIdBytes, fieldInitBytes, instructionBytes};
-ghost use Rattle.rewrite.specs.Rebuild.{fitted, named, rebuildAt, clashes};
-ghost use Rattle.rewrite_parts.specs.Rows.{mostParts, ValueAt};
-ghost use Rattle.bytes_emit.specs.Written.{Writes, valueRoom, instructionRoom, buildRoom};
-ghost use Rattle.rewrite_build.specs.Written.{rebuildMost, OfParts, OfFields, OfType, OfTable, Rebuilds, rowRoom};
+ghost use Rattle.bytes_field.specs.Encode.{each_bytes, value_id_bytes, field_init_bytes, instruction_bytes};
+ghost use Rattle.rewrite.specs.Rebuild.{fitted, named, rebuild_at, clashes};
+ghost use Rattle.rewrite_parts.specs.Rows.{most_parts, ValueAt};
+ghost use Rattle.bytes_emit.specs.Written.{Writes, value_room, instruction_room, build_room};
+ghost use Rattle.rewrite_build.specs.Written.{rebuild_most, OfParts, OfFields, OfType, OfTable, Rebuilds, row_room};
 
 use bytes_types::layout;
 use mir::{Literal, NameId, TypeId, Value, ValueId, kind, type_kind};
@@ -34,9 +34,9 @@ pub struct Rebuilt {
 
 // Writes the value that stands at a place of the input, and returns the place behind it.
 pub fn put_value_at(out: &mut [u8], to: usize, s: &[u8], at: usize, next: u16) -> usize
-    requires { to < valueRoom }
+    requires { to < value_room }
     ensures upper_bound { result ≤ to + 5 }
-    ensures writes { (x : Value) → ValueAt next s.now at x → Writes (valueBytes x) out.old out.new to result }
+    ensures writes { (x : Value) → ValueAt next s.now at x → Writes (value_bytes x) out.old out.new to result }
 {
     bytes_emit::put_value(out, to, bytes_operands::value_at(s, at, next))
 }
@@ -52,10 +52,10 @@ fn put_part(
     have: u16,
     k: u8,
 ) -> usize
-    requires { (to < valueRoom) × (from < rowRoom) }
+    requires { (to < value_room) × (from < row_room) }
     ensures upper_bound { result ≤ to + 5 }
     ensures of_parts { OfParts next s.now rows.now from have (λ xs.
-        Writes (valueBytes (get_or xs k unit)) out.old out.new to result) }
+        Writes (value_bytes (get_or xs k unit)) out.old out.new to result) }
 {
     if (k as u16) < have {
         let at = table::place(rows, from + k as usize);
@@ -75,10 +75,10 @@ fn put_parts(
     have: u16,
     want: u8,
 ) -> usize
-    requires { (to < instructionRoom) × (from < rowRoom) }
+    requires { (to < instruction_room) × (from < row_room) }
     ensures upper_bound { result ≤ to + 5 * want }
     ensures of_parts { OfParts next s.now rows.now from have (λ xs.
-        Writes (eachBytes valueBytes (fitted want xs)) out.old out.new to result) }
+        Writes (each_bytes value_bytes (fitted want xs)) out.old out.new to result) }
 {
     let mut p = to;
     let mut i: u8 = 0;
@@ -101,10 +101,10 @@ fn put_fields(
     row: &[u8],
     want: u8,
 ) -> usize
-    requires { (to < instructionRoom) × (from < rowRoom) }
+    requires { (to < instruction_room) × (from < row_room) }
     ensures upper_bound { result ≤ to + 7 * want }
     ensures of_parts { OfParts next s.now rows.now from have (λ xs. OfFields row.now want (λ fs.
-        Writes (eachBytes fieldInitBytes (named fs xs)) out.old out.new to result)) }
+        Writes (each_bytes field_init_bytes (named fs xs)) out.old out.new to result)) }
 {
     let mut p = to;
     let mut i: u8 = 0;
@@ -122,8 +122,8 @@ fn put_fields(
 
 // What a Make of n parts begins with: no bits, its kind, what it defines and the count.
 fn put_head(out: &mut [u8], to: usize, kind: u8, d: ValueId, n: u8)
-    requires { to < instructionRoom }
-    ensures { out.new ≡ sets out.old to (0 ∷ kind ∷ (valueIdBytes d ++ (n ∷ []))) }
+    requires { to < instruction_room }
+    ensures { out.new ≡ sets out.old to (0 ∷ kind ∷ (value_id_bytes d ++ (n ∷ []))) }
 {
     bytes_emit::put_u8(out, to, 0);
     bytes_emit::put_u8(out, to + 1, kind);
@@ -143,10 +143,10 @@ fn put_tuple(
     have: u16,
     want: u8,
 ) -> usize
-    requires { (to < buildRoom) × (from < rowRoom) }
-    ensures upper_bound { result ≤ to + rebuildMost }
+    requires { (to < build_room) × (from < row_room) }
+    ensures upper_bound { result ≤ to + rebuild_most }
     ensures of_parts { OfParts next s.now rows.now from have (λ xs.
-        Writes (instructionBytes (plain (InstructionKind.MakeTuple d (fitted want xs)))) out.old out.new to result) }
+        Writes (instruction_bytes (plain (InstructionKind.MakeTuple d (fitted want xs)))) out.old out.new to result) }
 {
     put_head(out, to, MAKE_TUPLE, d, want);
     put_parts(out, to + HEAD_BYTES, s, next, rows, from, have, want)
@@ -165,10 +165,10 @@ fn put_struct(
     row: &[u8],
     t: TypeId,
 ) -> usize
-    requires { (to < buildRoom) × (from < rowRoom) }
-    ensures upper_bound { result ≤ to + rebuildMost }
+    requires { (to < build_room) × (from < row_room) }
+    ensures upper_bound { result ≤ to + rebuild_most }
     ensures of_parts { OfParts next s.now rows.now from have (λ xs. OfFields row.now (get_or row.now 3 0) (λ fs.
-        Writes (instructionBytes (plain (InstructionKind.MakeStruct d (named fs xs) t))) out.old out.new to result)) }
+        Writes (instruction_bytes (plain (InstructionKind.MakeStruct d (named fs xs) t))) out.old out.new to result)) }
 {
     let want = bytes_wire::byte_at(row, layout::STRUCT_COUNT);
     put_head(out, to, MAKE_STRUCT, d, want);
@@ -189,10 +189,10 @@ fn put_array(
     have: u16,
     e: TypeId,
 ) -> usize
-    requires { (to < buildRoom) × (from < rowRoom) }
-    ensures upper_bound { result ≤ to + rebuildMost }
+    requires { (to < build_room) × (from < row_room) }
+    ensures upper_bound { result ≤ to + rebuild_most }
     ensures of_parts { OfParts next s.now rows.now from have (λ xs.
-        have < 256 → Writes (instructionBytes (plain (InstructionKind.MakeFixedArray d xs e false))) out.old out.new to result) }
+        have < 256 → Writes (instruction_bytes (plain (InstructionKind.MakeFixedArray d xs e false))) out.old out.new to result) }
 {
     let n = (have % 256) as u8;
     put_head(out, to, MAKE_FIXED_ARRAY, d, n);
@@ -224,10 +224,10 @@ fn put_make(
     from: usize,
     have: u16,
 ) -> usize
-    requires { (to < buildRoom) × (from < rowRoom) }
-    ensures upper_bound { result ≤ to + rebuildMost }
+    requires { (to < build_room) × (from < row_room) }
+    ensures upper_bound { result ≤ to + rebuild_most }
     ensures of_type { OfType row.now (λ T. OfParts next s.now rows.now from have (λ xs.
-        have ≤ mostParts → Writes (eachBytes instructionBytes (rebuildAt d xs t (some T))) out.old out.new to result)) }
+        have ≤ most_parts → Writes (each_bytes instruction_bytes (rebuild_at d xs t (some T))) out.old out.new to result)) }
 {
     let kind = bytes_wire::byte_at(row, 0);
     if kind == type_kind::TUPLE {
@@ -258,10 +258,10 @@ pub fn put_rebuild(
     from: usize,
     have: u16,
 ) -> Rebuilt
-    requires { (to < buildRoom) × (from < rowRoom) }
-    ensures to_bound { result.to ≤ to + rebuildMost }
+    requires { (to < build_room) × (from < row_room) }
+    ensures to_bound { result.to ≤ to + rebuild_most }
     ensures of_table { OfTable s.now types.now t (λ τ. OfParts next s.now rows.now from have (λ xs.
-        have ≤ mostParts → Rebuilds τ d xs t out.old out.new to result)) }
+        have ≤ most_parts → Rebuilds τ d xs t out.old out.new to result)) }
 {
     let row = bytes_field::tail(s, bytes_lookup::type_place(types, t));
     if array_clashes(row, have) {

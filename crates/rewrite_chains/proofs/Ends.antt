@@ -13,104 +13,104 @@ use Rattle.mir.specs.declared.Value.{Value}
 use Rattle.mir.specs.declared.ValueId.{ValueId}
 use Rattle.bytes_wire.proofs.Canon.{bytes_drop}
 use Rattle.mir.specs.Syntax.{Projection, Index, Field, Tuple, Place, Instruction, InstructionKind}
-use Rattle.mir.specs.Reads.{reads, kindNumber}
-use Rattle.bytes_field.specs.Decode.{instructionOf}
+use Rattle.mir.specs.Reads.{reads, kind_number}
+use Rattle.bytes_field.specs.Decode.{instruction_of}
 use Rattle.bytes_field.specs.declared.Bounds.{Bounds}
 use Rattle.bytes_laws.specs.WellFormed.{Wide, FitKind}
 use Rattle.bytes_laws.proofs.Instruction.{instruction}
-use Rattle.bytes_index.specs.Table.{place_in, end_in, readIn}
-use Rattle.bytes_operands.specs.Fields.{placeSteps, fieldsPlace, asStep, stepCount}
+use Rattle.bytes_index.specs.Table.{place_in, end_in, read_in}
+use Rattle.bytes_operands.specs.Fields.{place_steps, fields_place, as_step, step_count}
 use Rattle.bytes_operands.specs.declared.Step.{Step}
-use Rattle.bytes_operands.proofs.Instruction.{instruction-fields, instruction-stands}
+use Rattle.bytes_operands.proofs.Instruction.{instruction_fields, instruction_stands}
 use Rattle.fold.specs.Family.{Marks}
-use Rattle.mir.specs.Lookup.{Types, asConstInteger, onSome}
-use Rattle.rewrite.specs.State.{AggStates, stepIndex, stepPart, chain, firstInteger, storeLast, storeDeeper, storeFrom, forwardStore}
+use Rattle.mir.specs.Lookup.{Types, as_const_integer, on_some}
+use Rattle.rewrite.specs.State.{AggStates, step_index, step_part, chain, first_integer, store_last, store_deeper, store_from, forward_store}
 use Rattle.rewrite_parts.specs.Rows.{InitAt}
 use Rattle.rewrite_parts.specs.Here.{Here}
 use Rattle.rewrite_parts.specs.declared.Init.{Init}
-use Rattle.rewrite_chains.specs.Chained.{operandIn, LeadsTo, StepsAt, steps-at, held, loadedPart}
+use Rattle.rewrite_chains.specs.Chained.{operand_in, LeadsTo, StepsAt, steps_at, held, loaded_part}
 use Rattle.rewrite_chains.specs.declared.Walked.{Walked}
 use Rattle.table.proofs.Elements.{some_at}
-use Rattle.rewrite_chains.proofs.Steps.{init-none}
-use Rattle.rewrite_chains.proofs.Walks.{leads-some, leads-none}
+use Rattle.rewrite_chains.proofs.Steps.{init_none}
+use Rattle.rewrite_chains.proofs.Walks.{leads_some, leads_none}
 
 -- two steps at once
-on_both : {A B C : Type 0} (o : Option A) (f : A → Option B) (g : A → Option C) (h : C → Option B) → ((a : A) → f a ≡ onSome (g a) h) → onSome o f ≡ onSome (onSome o g) h
-unfolding onSome
+on_both : {A B C : Type 0} (o : Option A) (f : A → Option B) (g : A → Option C) (h : C → Option B) → ((a : A) → f a ≡ on_some (g a) h) → on_some o f ≡ on_some (on_some o g) h
+unfolding on_some
 on_both none f g h e = refl
 on_both (some a) f g h e = e a
 
-on_same : {A : Type 0} (o : Option A) → onSome o (λ a. some a) ≡ o
-unfolding onSome
+on_same : {A : Type 0} (o : Option A) → on_some o (λ a. some a) ≡ o
+unfolding on_some
 on_same none = refl
 on_same (some a) = refl
 
 -- a chain is its first steps and the last one
-pub chain-last : (τ : Types) (S : AggStates) (ps : List Projection) (last : ℕ) (q : Projection) → length ps ≡ last + 1 → get_elem? ps last ≡ some q → (x : Value) → chain τ S x ps ≡ onSome (chain τ S x (take last ps)) (λ z. stepPart τ S z q)
-unfolding chain onSome
-chain-last τ S [] last q l e x = absurd (omega arith)
-chain-last τ S (p ∷ []) zero q l e x = let z : p ≡ q = cc in rw z (on_same (stepPart τ S x q))
-chain-last τ S (p ∷ r ∷ ps) zero q l e x = absurd (omega arith)
-chain-last τ S (p ∷ ps) (suc k) q l e x =
-    on_both (stepPart τ S x p) (λ y. chain τ S y ps) (λ y. chain τ S y (take k ps)) (λ z. stepPart τ S z q) (chain-last τ S ps k q (omega arith) e)
+pub chain_last : (τ : Types) (S : AggStates) (ps : List Projection) (last : ℕ) (q : Projection) → length ps ≡ last + 1 → get_elem? ps last ≡ some q → (x : Value) → chain τ S x ps ≡ on_some (chain τ S x (take last ps)) (λ z. step_part τ S z q)
+unfolding chain on_some
+chain_last τ S [] last q l e x = absurd (omega arith)
+chain_last τ S (p ∷ []) zero q l e x = let z : p ≡ q = cc in rw z (on_same (step_part τ S x q))
+chain_last τ S (p ∷ r ∷ ps) zero q l e x = absurd (omega arith)
+chain_last τ S (p ∷ ps) (suc k) q l e x =
+    on_both (step_part τ S x p) (λ y. chain τ S y ps) (λ y. chain τ S y (take k ps)) (λ z. step_part τ S z q) (chain_last τ S ps k q (omega arith) e)
 
 -- so is a deeper store
-deeper-last : (τ : Types) (S : AggStates) (y : Value) (ps : List Projection) (last : ℕ) (q : Projection) → length ps ≡ last + 1 → get_elem? ps last ≡ some q → (x : Value) → storeDeeper τ S x ps y ≡ onSome (chain τ S x (take last ps)) (λ z. storeLast τ S z q y)
-unfolding storeDeeper chain onSome
-deeper-last τ S y [] last q l e x = absurd (omega arith)
-deeper-last τ S y (p ∷ []) zero q l e x = let z : p ≡ q = cc in rw z
-deeper-last τ S y (p ∷ []) (suc k) q l e x = absurd (omega arith)
-deeper-last τ S y (p ∷ r ∷ ps) zero q l e x = absurd (omega arith)
-deeper-last τ S y (p ∷ r ∷ ps) (suc k) q l e x =
-    on_both (stepPart τ S x p) (λ z. storeDeeper τ S z (r ∷ ps) y) (λ z. chain τ S z (take k (r ∷ ps))) (λ z. storeLast τ S z q y) (deeper-last τ S y (r ∷ ps) k q (omega arith) e)
+deeper_last : (τ : Types) (S : AggStates) (y : Value) (ps : List Projection) (last : ℕ) (q : Projection) → length ps ≡ last + 1 → get_elem? ps last ≡ some q → (x : Value) → store_deeper τ S x ps y ≡ on_some (chain τ S x (take last ps)) (λ z. store_last τ S z q y)
+unfolding store_deeper chain on_some
+deeper_last τ S y [] last q l e x = absurd (omega arith)
+deeper_last τ S y (p ∷ []) zero q l e x = let z : p ≡ q = cc in rw z
+deeper_last τ S y (p ∷ []) (suc k) q l e x = absurd (omega arith)
+deeper_last τ S y (p ∷ r ∷ ps) zero q l e x = absurd (omega arith)
+deeper_last τ S y (p ∷ r ∷ ps) (suc k) q l e x =
+    on_both (step_part τ S x p) (λ z. store_deeper τ S z (r ∷ ps) y) (λ z. chain τ S z (take k (r ∷ ps))) (λ z. store_last τ S z q y) (deeper_last τ S y (r ∷ ps) k q (omega arith) e)
 
 -- the first step by an Integer literal is a step like any other
-integer-store : (τ : Types) (S : AggStates) (v : ValueId) (k : ℕ) (ps : List Projection) (y : Value) → storeFrom τ S v (Index (Value.Literal (Literal.Integer k)) ∷ ps) y k ≡ storeDeeper τ S (Value.Operand v) (Index (Value.Literal (Literal.Integer k)) ∷ ps) y
-unfolding storeFrom storeDeeper storeLast stepPart stepIndex asConstInteger onSome
-integer-store τ S v k [] y = refl
-integer-store τ S v k (q ∷ ps) y = on_both (S v.0) (λ xs. onSome (get_elem? xs k) (λ x. storeDeeper τ S x (q ∷ ps) y)) (λ xs. get_elem? xs k) (λ x. storeDeeper τ S x (q ∷ ps) y) (λ xs. refl)
+integer_store : (τ : Types) (S : AggStates) (v : ValueId) (k : ℕ) (ps : List Projection) (y : Value) → store_from τ S v (Index (Value.Literal (Literal.Integer k)) ∷ ps) y k ≡ store_deeper τ S (Value.Operand v) (Index (Value.Literal (Literal.Integer k)) ∷ ps) y
+unfolding store_from store_deeper store_last step_part step_index as_const_integer on_some
+integer_store τ S v k [] y = refl
+integer_store τ S v k (q ∷ ps) y = on_both (S v.0) (λ xs. on_some (get_elem? xs k) (λ x. store_deeper τ S x (q ∷ ps) y)) (λ xs. get_elem? xs k) (λ x. store_deeper τ S x (q ∷ ps) y) (λ xs. refl)
 
 -- and an untracked base has no chain
-integer-load : (τ : Types) (S : AggStates) (v : ValueId) (k : ℕ) (ps : List Projection) → onSome (S v.0) (λ xs. chain τ S (Value.Operand v) (Index (Value.Literal (Literal.Integer k)) ∷ ps)) ≡ chain τ S (Value.Operand v) (Index (Value.Literal (Literal.Integer k)) ∷ ps)
-unfolding chain stepPart stepIndex asConstInteger onSome
-integer-load τ S v k ps = go (S v.0)
+integer_load : (τ : Types) (S : AggStates) (v : ValueId) (k : ℕ) (ps : List Projection) → on_some (S v.0) (λ xs. chain τ S (Value.Operand v) (Index (Value.Literal (Literal.Integer k)) ∷ ps)) ≡ chain τ S (Value.Operand v) (Index (Value.Literal (Literal.Integer k)) ∷ ps)
+unfolding chain step_part step_index as_const_integer on_some
+integer_load τ S v k ps = go (S v.0)
   where
-    go : (o : Option (List Value)) → onSome o (λ zs. onSome (onSome o (λ xs. get_elem? xs k)) (λ z. chain τ S z ps)) ≡ onSome (onSome o (λ xs. get_elem? xs k)) (λ z. chain τ S z ps)
+    go : (o : Option (List Value)) → on_some o (λ zs. on_some (on_some o (λ xs. get_elem? xs k)) (λ z. chain τ S z ps)) ≡ on_some (on_some o (λ xs. get_elem? xs k)) (λ z. chain τ S z ps)
     go none = refl
     go (some xs) = refl
 
 -- a Load's part and a Store's states, by the value that all but the last projection lead to
 module _ (τ : Types) (S : AggStates) (v : ValueId) where
-  load-held : (ps : List Projection) (last : ℕ) (q : Projection) → length ps ≡ last + 1 → get_elem? ps last ≡ some q → loadedPart τ S (record { base = v; projections = ps }) ≡ onSome (held τ S v ps last) (λ z. stepPart τ S z q)
-  unfolding loadedPart held firstInteger onSome
-  load-held [] last q l e = refl
-  load-held (Index (Value.Literal (Literal.Integer k)) ∷ ps) last q l e = integer-load τ S v k ps ∙ chain-last τ S (Index (Value.Literal (Literal.Integer k)) ∷ ps) last q l e (Value.Operand v)
-  load-held (Index (Value.Literal (Literal.Boolean b)) ∷ ps) last q l e = refl
-  load-held (Index (Value.Literal Literal.Unit) ∷ ps) last q l e = refl
-  load-held (Index (Value.Operand u) ∷ ps) last q l e = refl
-  load-held (Index Value.Error ∷ ps) last q l e = refl
-  load-held (Field n ∷ ps) last q l e = refl
-  load-held (Tuple k ∷ ps) last q l e = refl
+  load_held : (ps : List Projection) (last : ℕ) (q : Projection) → length ps ≡ last + 1 → get_elem? ps last ≡ some q → loaded_part τ S (record { base = v; projections = ps }) ≡ on_some (held τ S v ps last) (λ z. step_part τ S z q)
+  unfolding loaded_part held first_integer on_some
+  load_held [] last q l e = refl
+  load_held (Index (Value.Literal (Literal.Integer k)) ∷ ps) last q l e = integer_load τ S v k ps ∙ chain_last τ S (Index (Value.Literal (Literal.Integer k)) ∷ ps) last q l e (Value.Operand v)
+  load_held (Index (Value.Literal (Literal.Boolean b)) ∷ ps) last q l e = refl
+  load_held (Index (Value.Literal Literal.Unit) ∷ ps) last q l e = refl
+  load_held (Index (Value.Operand u) ∷ ps) last q l e = refl
+  load_held (Index Value.Error ∷ ps) last q l e = refl
+  load_held (Field n ∷ ps) last q l e = refl
+  load_held (Tuple k ∷ ps) last q l e = refl
 
-  pub store-held : (y : Value) (ps : List Projection) (last : ℕ) (q : Projection) → length ps ≡ last + 1 → get_elem? ps last ≡ some q → forwardStore τ S (record { base = v; projections = ps }) y ≡ onSome (held τ S v ps last) (λ z. storeLast τ S z q y)
-  unfolding forwardStore held firstInteger onSome
-  store-held y [] last q l e = refl
-  store-held y (Index (Value.Literal (Literal.Integer k)) ∷ ps) last q l e = integer-store τ S v k ps y ∙ deeper-last τ S y (Index (Value.Literal (Literal.Integer k)) ∷ ps) last q l e (Value.Operand v)
-  store-held y (Index (Value.Literal (Literal.Boolean b)) ∷ ps) last q l e = refl
-  store-held y (Index (Value.Literal Literal.Unit) ∷ ps) last q l e = refl
-  store-held y (Index (Value.Operand u) ∷ ps) last q l e = refl
-  store-held y (Index Value.Error ∷ ps) last q l e = refl
-  store-held y (Field n ∷ ps) last q l e = refl
-  store-held y (Tuple k ∷ ps) last q l e = refl
+  pub store_held : (y : Value) (ps : List Projection) (last : ℕ) (q : Projection) → length ps ≡ last + 1 → get_elem? ps last ≡ some q → forward_store τ S (record { base = v; projections = ps }) y ≡ on_some (held τ S v ps last) (λ z. store_last τ S z q y)
+  unfolding forward_store held first_integer on_some
+  store_held y [] last q l e = refl
+  store_held y (Index (Value.Literal (Literal.Integer k)) ∷ ps) last q l e = integer_store τ S v k ps y ∙ deeper_last τ S y (Index (Value.Literal (Literal.Integer k)) ∷ ps) last q l e (Value.Operand v)
+  store_held y (Index (Value.Literal (Literal.Boolean b)) ∷ ps) last q l e = refl
+  store_held y (Index (Value.Literal Literal.Unit) ∷ ps) last q l e = refl
+  store_held y (Index (Value.Operand u) ∷ ps) last q l e = refl
+  store_held y (Index Value.Error ∷ ps) last q l e = refl
+  store_held y (Field n ∷ ps) last q l e = refl
+  store_held y (Tuple k ∷ ps) last q l e = refl
 
 -- no projection
-load-nothing : (τ : Types) (S : AggStates) (v : ValueId) (ps : List Projection) → length ps ≡ 0 → loadedPart τ S (record { base = v; projections = ps }) ≡ none
-unfolding loadedPart firstInteger onSome
-load-nothing τ S v [] e = refl
-load-nothing τ S v (p ∷ ps) e = absurd (omega arith)
+load_nothing : (τ : Types) (S : AggStates) (v : ValueId) (ps : List Projection) → length ps ≡ 0 → loaded_part τ S (record { base = v; projections = ps }) ≡ none
+unfolding loaded_part first_integer on_some
+load_nothing τ S v [] e = refl
+load_nothing τ S v (p ∷ ps) e = absurd (omega arith)
 
-pub store_nothing : (τ : Types) (S : AggStates) (y : Value) (v : ValueId) (ps : List Projection) → length ps ≡ 0 → forwardStore τ S (record { base = v; projections = ps }) y ≡ none
-unfolding forwardStore firstInteger onSome
+pub store_nothing : (τ : Types) (S : AggStates) (y : Value) (v : ValueId) (ps : List Projection) → length ps ≡ 0 → forward_store τ S (record { base = v; projections = ps }) y ≡ none
+unfolding forward_store first_integer on_some
 store_nothing τ S y v [] e = refl
 store_nothing τ S y v (p ∷ ps) e = absurd (omega arith)
 
@@ -121,12 +121,12 @@ pub record PlaceRead (b : Bounds) (t : List ℕ) (p : Place) (at many : ℕ) : T
   pub below : at < b.next
   pub long : length p.projections ≡ many
 
-module _ {b : Bounds} {s facts : List ℕ} {slot : ℕ} {tracked : Marks} {rows : List ℕ} {used : ℕ} {τ : Types} {S : AggStates} {i : Instruction} (o : Here b s facts slot tracked rows used τ S i) (few-types : b.types < 65536) (few-blocks : b.blocks < 65536) {t u : List ℕ} {f : ℕ} (p : Place) (et : t ≡ drop (place_in facts slot) s) (eu : u ≡ drop f t) (ef : f ≡ fieldsPlace t) where
+module _ {b : Bounds} {s facts : List ℕ} {slot : ℕ} {tracked : Marks} {rows : List ℕ} {used : ℕ} {τ : Types} {S : AggStates} {i : Instruction} (o : Here b s facts slot tracked rows used τ S i) (few_types : b.types < 65536) (few_blocks : b.blocks < 65536) {t u : List ℕ} {f : ℕ} (p : Place) (et : t ≡ drop (place_in facts slot) s) (eu : u ≡ drop f t) (ef : f ≡ fields_place t) where
   abbrev size : ℕ
   size = end_in facts slot - place_in facts slot
 
-  e : instructionOf b [] false t ≡ ok i size
-  e = ap (instructionOf b [] false) et ∙ o.line.read
+  e : instruction_of b [] false t ≡ ok i size
+  e = ap (instruction_of b [] false) et ∙ o.line.read
 
   fits : FitKind b [] i.kind
   fits = (((instruction b [] false).each (drop (place_in facts slot) s) i size (bytes_drop s (place_in facts slot) o.ground.bytes) o.line.read).good wide).1
@@ -134,23 +134,23 @@ module _ {b : Bounds} {s facts : List ℕ} {slot : ℕ} {tracked : Marks} {rows 
       wide : Wide b
       wide = record { types = omega arith; next = omega (arith, o.ground.few); blocks = omega arith; list = omega (arith, o.ground.listed); projections = omega (arith, o.ground.projected) }
 
-  counted : (j : ℕ) → kindNumber i.kind ≡ j → length (placeSteps i.kind) ≡ stepCount u j
+  counted : (j : ℕ) → kind_number i.kind ≡ j → length (place_steps i.kind) ≡ step_count u j
   counted j k =
-      let own : u ≡ drop (fieldsPlace t) t = eu ∙ ap (λ a. drop a t) ef in
-      (instruction-stands b [] false t i size e).stepped ∙ ap (λ a. stepCount a (get_or t 1 0)) (sym own) ∙ ap (stepCount u) (sym (instruction-fields b [] false t i size e).numbered ∙ k)
+      let own : u ≡ drop (fields_place t) t = eu ∙ ap (λ a. drop a t) ef in
+      (instruction_stands b [] false t i size e).stepped ∙ ap (λ a. step_count a (get_or t 1 0)) (sym own) ∙ ap (step_count u) (sym (instruction_fields b [] false t i size e).numbered ∙ k)
 
-  first : {at : ℕ} (v : ValueId) (vs : List ValueId) → reads i.kind ≡ v ∷ vs → at ≡ readIn facts slot 0 → at ≡ v.0
+  first : {at : ℕ} (v : ValueId) (vs : List ValueId) → reads i.kind ≡ v ∷ vs → at ≡ read_in facts slot 0 → at ≡ v.0
   first v vs k ea = ea ∙ o.line.reads_in.each 0 (rw k (omega arith)) ∙ ap (λ (xs : List ValueId). (get_or xs 0 (record { 0 = 0 })).0) k
 
-  pub load_read : {d : ValueId} {y : TypeId} {at many : ℕ} → i.kind ≡ InstructionKind.Load d p y → at ≡ readIn facts slot 0 → many ≡ get_or u 4 0 → PlaceRead b t p at many
+  pub load_read : {d : ValueId} {y : TypeId} {at many : ℕ} → i.kind ≡ InstructionKind.Load d p y → at ≡ read_in facts slot 0 → many ≡ get_or u 4 0 → PlaceRead b t p at many
   load_read {d} {y} {at} {many} k ea em =
       let z : at ≡ p.base.0 = first p.base _ (ap reads k) ea in
-      record { steps = steps-at i size e (ap placeSteps k); based = z; below = rw z (rw k at fits).1.0; long = sym (ap (λ j. length (placeSteps j)) k) ∙ counted 5 (ap kindNumber k) ∙ sym em }
+      record { steps = steps_at i size e (ap place_steps k); based = z; below = rw z (rw k at fits).1.0; long = sym (ap (λ j. length (place_steps j)) k) ∙ counted 5 (ap kind_number k) ∙ sym em }
 
-  pub store-read : {x : Value} {y : TypeId} {at many : ℕ} → i.kind ≡ InstructionKind.Store p x y → at ≡ readIn facts slot 0 → many ≡ get_or u 2 0 → PlaceRead b t p at many
-  store-read {x} {y} {at} {many} k ea em =
+  pub store_read : {x : Value} {y : TypeId} {at many : ℕ} → i.kind ≡ InstructionKind.Store p x y → at ≡ read_in facts slot 0 → many ≡ get_or u 2 0 → PlaceRead b t p at many
+  store_read {x} {y} {at} {many} k ea em =
       let z : at ≡ p.base.0 = first p.base _ (ap reads k) ea in
-      record { steps = steps-at i size e (ap placeSteps k); based = z; below = rw z (rw k at fits).0.0; long = sym (ap (λ j. length (placeSteps j)) k) ∙ counted 6 (ap kindNumber k) ∙ sym em }
+      record { steps = steps_at i size e (ap place_steps k); based = z; below = rw z (rw k at fits).0.0; long = sym (ap (λ j. length (place_steps j)) k) ∙ counted 6 (ap kind_number k) ∙ sym em }
 
 -- the last projection
 pub data LastOf (ps : List Projection) (last : ℕ) : Type 0 where
@@ -160,39 +160,39 @@ pub the_last : (ps : List Projection) (last : ℕ) → length ps ≡ last + 1 �
 the_last ps last l = last_of (get_or ps last (Tuple 0)) (some_at ps last (Tuple 0) (omega arith))
 
 -- the number of the last projection
-pub last-long : (ps : List Projection) {many : ℕ} → length ps ≡ many → (many ≡ 0 → ⊥) → length ps ≡ many - 1 + 1
-last-long ps {many} l h = omega arith
+pub last_long : (ps : List Projection) {many : ℕ} → length ps ≡ many → (many ≡ 0 → ⊥) → length ps ≡ many - 1 + 1
+last_long ps {many} l h = omega arith
 
 module _ {b : Bounds} {t : List ℕ} (τ : Types) (S : AggStates) (p : Place) {at many : ℕ} (r : PlaceRead b t p at many) where
   -- no projection
-  pub load-empty : {s : List ℕ} → many ≡ 0 → InitAt b.next s (loadedPart τ S p) (record { given = false; place = 0 })
-  load-empty h = init-none (load-nothing τ S p.base p.projections (r.long ∙ h))
+  pub load_empty : {s : List ℕ} → many ≡ 0 → InitAt b.next s (loaded_part τ S p) (record { given = false; place = 0 })
+  load_empty h = init_none (load_nothing τ S p.base p.projections (r.long ∙ h))
 
   -- where the base is read
-  pub held-base : (last : ℕ) → held τ S (record { 0 = at }) p.projections last ≡ held τ S p.base p.projections last
-  held-base last = ap (λ a. held τ S (record { 0 = a }) p.projections last) r.based
+  pub held_base : (last : ℕ) → held τ S (record { 0 = at }) p.projections last ≡ held τ S p.base p.projections last
+  held_base last = ap (λ a. held τ S (record { 0 = a }) p.projections last) r.based
 
   module _ (h : many ≡ 0 → ⊥) where
     -- no operand holds the part
-    pub load_stuck : {s : List ℕ} {w : Walked} → LeadsTo b.next (held τ S (record { 0 = at }) p.projections (many - 1)) w → w ≡ Walked.Nothing → InitAt b.next s (loadedPart τ S p) (record { given = false; place = 0 })
-    unfolding stepPart
+    pub load_stuck : {s : List ℕ} {w : Walked} → LeadsTo b.next (held τ S (record { 0 = at }) p.projections (many - 1)) w → w ≡ Walked.Nothing → InitAt b.next s (loaded_part τ S p) (record { given = false; place = 0 })
+    unfolding step_part
     load_stuck w f =
-        let l = last-long p.projections r.long h in
+        let l = last_long p.projections r.long h in
         let w' : LeadsTo b.next (held τ S (record { 0 = at }) p.projections (many - 1)) Walked.Nothing = rw f at w in
         elim (the_last p.projections (many - 1) l) [
           | last_of q e ↦
-              init-none (load-held τ S p.base p.projections (many - 1) q l e ∙ leads-none (held τ S p.base p.projections (many - 1)) (λ z. stepPart τ S z q) (λ k. refl) refl (w'.told ∙ ap operandIn (held-base (many - 1))))
+              init_none (load_held τ S p.base p.projections (many - 1) q l e ∙ leads_none (held τ S p.base p.projections (many - 1)) (λ z. step_part τ S z q) (λ k. refl) refl (w'.told ∙ ap operand_in (held_base (many - 1))))
         ]
 
     -- an operand does
-    pub load-ends : {s : List ℕ} (v : ValueId) {w : Walked} → LeadsTo b.next (held τ S (record { 0 = at }) p.projections (many - 1)) w → w ≡ Walked.Operand v → (j : Step) → asStep j ≡ get_elem? p.projections (many - 1) → {o : Init} → ((q : Projection) → v.0 < b.next → asStep j ≡ some q → InitAt b.next s (stepPart τ S (Value.Operand v) q) o) → InitAt b.next s (loadedPart τ S p) o
-    unfolding onSome
-    load-ends {s} v {w} to f j look {o} step =
-        let l = last-long p.projections r.long h in
+    pub load_ends : {s : List ℕ} (v : ValueId) {w : Walked} → LeadsTo b.next (held τ S (record { 0 = at }) p.projections (many - 1)) w → w ≡ Walked.Operand v → (j : Step) → as_step j ≡ get_elem? p.projections (many - 1) → {o : Init} → ((q : Projection) → v.0 < b.next → as_step j ≡ some q → InitAt b.next s (step_part τ S (Value.Operand v) q) o) → InitAt b.next s (loaded_part τ S p) o
+    unfolding on_some
+    load_ends {s} v {w} to f j look {o} step =
+        let l = last_long p.projections r.long h in
         elim (the_last p.projections (many - 1) l) [
           | last_of q e ↦
               let to' : LeadsTo b.next (held τ S (record { 0 = at }) p.projections (many - 1)) (Walked.Operand v) = rw f at to in
-              let z : held τ S p.base p.projections (many - 1) ≡ some (Value.Operand v) = sym (held-base (many - 1)) ∙ leads-some to' in
-              let y : loadedPart τ S p ≡ stepPart τ S (Value.Operand v) q = load-held τ S p.base p.projections (many - 1) q l e ∙ ap (λ a. onSome a (λ x. stepPart τ S x q)) z in
+              let z : held τ S p.base p.projections (many - 1) ≡ some (Value.Operand v) = sym (held_base (many - 1)) ∙ leads_some to' in
+              let y : loaded_part τ S p ≡ step_part τ S (Value.Operand v) q = load_held τ S p.base p.projections (many - 1) q l e ∙ ap (λ a. on_some a (λ x. step_part τ S x q)) z in
               rw y (step q (to'.below v refl) (look ∙ e))
         ]

@@ -12,43 +12,43 @@ use Rattle.mir.specs.declared.Value.{Value}
 use Rattle.mir.specs.declared.ValueId.{ValueId}
 use Rattle.bytes_wire.specs.Parse.{ok}
 use Rattle.mir.specs.Syntax.{Projection, Index, Field, Tuple, Instruction}
-use Rattle.bytes_field.specs.Decode.{instructionOf}
+use Rattle.bytes_field.specs.Decode.{instruction_of}
 use Rattle.bytes_field.specs.declared.Bounds.{Bounds}
-use Rattle.bytes_operands.specs.Fields.{asStep, placeSteps}
+use Rattle.bytes_operands.specs.Fields.{as_step, place_steps}
 use Rattle.bytes_operands.specs.declared.Step.{Step}
-use Rattle.mir.specs.Lookup.{is_some, Types, onSome}
+use Rattle.mir.specs.Lookup.{is_some, Types, on_some}
 use Rattle.fold.specs.Family.{Marks}
-use Rattle.rewrite.specs.State.{AggStates, stepPart, chain, firstInteger}
-use Rattle.rewrite_chains.specs.Chained.{asWalked, operandIn, LeadsTo, Walking, StepsAt, steps-at, held, integerStep}
+use Rattle.rewrite.specs.State.{AggStates, step_part, chain, first_integer}
+use Rattle.rewrite_chains.specs.Chained.{as_walked, operand_in, LeadsTo, Walking, StepsAt, steps_at, held, integer_step}
 use Rattle.rewrite_chains.specs.declared.Walked.{Walked}
 
 -- the operand that was found
-operand-inv : (o : Option Value) {w : ValueId} → some w ≡ operandIn o → o ≡ some (Value.Operand w)
-operand-inv none {w} e = absurd (let z : ◌≡◌ {A = ℕ} 0 1 = cc in omega arith)
-operand-inv (some (Value.Literal l)) {w} e = absurd (let z : ◌≡◌ {A = ℕ} 0 1 = cc in omega arith)
-operand-inv (some (Value.Operand v)) {w} e = let z : v ≡ w = cc in rw z
-operand-inv (some Value.Error) {w} e = absurd (let z : ◌≡◌ {A = ℕ} 0 1 = cc in omega arith)
+operand_inv : (o : Option Value) {w : ValueId} → some w ≡ operand_in o → o ≡ some (Value.Operand w)
+operand_inv none {w} e = absurd (let z : ◌≡◌ {A = ℕ} 0 1 = cc in omega arith)
+operand_inv (some (Value.Literal l)) {w} e = absurd (let z : ◌≡◌ {A = ℕ} 0 1 = cc in omega arith)
+operand_inv (some (Value.Operand v)) {w} e = let z : v ≡ w = cc in rw z
+operand_inv (some Value.Error) {w} e = absurd (let z : ◌≡◌ {A = ℕ} 0 1 = cc in omega arith)
 
-pub leads-some : {next : ℕ} {o : Option Value} {w : ValueId} → LeadsTo next o (Walked.Operand w) → o ≡ some (Value.Operand w)
-leads-some {next} {o} h = operand-inv o h.told
+pub leads_some : {next : ℕ} {o : Option Value} {w : ValueId} → LeadsTo next o (Walked.Operand w) → o ≡ some (Value.Operand w)
+leads_some {next} {o} h = operand_inv o h.told
 
 -- where no operand is found, no further step is made
-pub leads-none : {A : Type 0} (o : Option Value) (f : Value → Option A) → ((l : Literal) → f (Value.Literal l) ≡ none) → f Value.Error ≡ none → none ≡ operandIn o → onSome o f ≡ none
-unfolding onSome
-leads-none none f g h e = refl
-leads-none (some (Value.Literal l)) f g h e = g l
-leads-none (some (Value.Operand v)) f g h e = absurd (let z : ◌≡◌ {A = ℕ} 0 1 = cc in omega arith)
-leads-none (some Value.Error) f g h e = h
+pub leads_none : {A : Type 0} (o : Option Value) (f : Value → Option A) → ((l : Literal) → f (Value.Literal l) ≡ none) → f Value.Error ≡ none → none ≡ operand_in o → on_some o f ≡ none
+unfolding on_some
+leads_none none f g h e = refl
+leads_none (some (Value.Literal l)) f g h e = g l
+leads_none (some (Value.Operand v)) f g h e = absurd (let z : ◌≡◌ {A = ℕ} 0 1 = cc in omega arith)
+leads_none (some Value.Error) f g h e = h
 
 -- and a chain comes to none
-chain-none : (τ : Types) (S : AggStates) (o : Option Value) (qs : List Projection) → none ≡ operandIn o → none ≡ operandIn (onSome o (λ y. chain τ S y qs))
-unfolding onSome chain stepPart
-chain-none τ S none qs e = refl
-chain-none τ S (some (Value.Literal l)) [] e = refl
-chain-none τ S (some (Value.Literal l)) (q ∷ qs) e = refl
-chain-none τ S (some (Value.Operand v)) qs e = absurd (let z : ◌≡◌ {A = ℕ} 0 1 = cc in omega arith)
-chain-none τ S (some Value.Error) [] e = refl
-chain-none τ S (some Value.Error) (q ∷ qs) e = refl
+chain_none : (τ : Types) (S : AggStates) (o : Option Value) (qs : List Projection) → none ≡ operand_in o → none ≡ operand_in (on_some o (λ y. chain τ S y qs))
+unfolding on_some chain step_part
+chain_none τ S none qs e = refl
+chain_none τ S (some (Value.Literal l)) [] e = refl
+chain_none τ S (some (Value.Literal l)) (q ∷ qs) e = refl
+chain_none τ S (some (Value.Operand v)) qs e = absurd (let z : ◌≡◌ {A = ℕ} 0 1 = cc in omega arith)
+chain_none τ S (some Value.Error) [] e = refl
+chain_none τ S (some Value.Error) (q ∷ qs) e = refl
 
 -- the next of the first k projections
 pub data Next (ps : List Projection) (k i : ℕ) : Type 0 where
@@ -81,33 +81,33 @@ module _ {b : Bounds} {s t facts : List ℕ} {tracked : Marks} {rows : List ℕ}
   pub going : Going b s t facts tracked rows base k base.0 0
   going = record { under = zero-le; below = λ τ S ps w a h l. h; left = λ τ S ps w a h l. rw sub-zero }
 
-  module _ {v i : ℕ} (o : Going b s t facts tracked rows base k v i) (h : i < k) (p : Step) (look : (ps : List Projection) → StepsAt b t ps → asStep p ≡ get_elem? ps i) {r : Walked} (step : (τ : Types) (S : AggStates) (q : Projection) → Walking b s facts tracked rows τ S → v < b.next → asStep p ≡ some q → LeadsTo b.next (stepPart τ S (Value.Operand (record { 0 = v })) q) r) where
+  module _ {v i : ℕ} (o : Going b s t facts tracked rows base k v i) (h : i < k) (p : Step) (look : (ps : List Projection) → StepsAt b t ps → as_step p ≡ get_elem? ps i) {r : Walked} (step : (τ : Types) (S : AggStates) (q : Projection) → Walking b s facts tracked rows τ S → v < b.next → as_step p ≡ some q → LeadsTo b.next (step_part τ S (Value.Operand (record { 0 = v })) q) r) where
     -- one more
     pub going_more : (w : ValueId) → r ≡ Walked.Operand w → Going b s t facts tracked rows base k w.0 (i + 1)
-    unfolding chain onSome
+    unfolding chain on_some
     going_more w e =
         record {
           under = omega arith;
-          below = λ τ S ps a c d l. elim (next_of ps k i h l) [ this q f g ↦ (step τ S q a (o.below τ S ps a c d l) (look ps c ∙ f)).below w (ap asWalked e) ];
+          below = λ τ S ps a c d l. elim (next_of ps k i h l) [ this q f g ↦ (step τ S q a (o.below τ S ps a c d l) (look ps c ∙ f)).below w (ap as_walked e) ];
           left = λ τ S ps a c d l.
               elim (next_of ps k i h l) [
                 | this q f g ↦
-                    let to : LeadsTo b.next (stepPart τ S (Value.Operand (record { 0 = v })) q) (Walked.Operand w) = rw e at (step τ S q a (o.below τ S ps a c d l) (look ps c ∙ f)) in
-                    let z = leads-some to in
+                    let to : LeadsTo b.next (step_part τ S (Value.Operand (record { 0 = v })) q) (Walked.Operand w) = rw e at (step τ S q a (o.below τ S ps a c d l) (look ps c ∙ f)) in
+                    let z = leads_some to in
                     o.left τ S ps a c d l ∙ ap (chain τ S (Value.Operand (record { 0 = v }))) g ∙ rw z
               ];
         }
 
     -- no operand
-    pub going-ends : r ≡ Walked.Nothing → (τ : Types) (S : AggStates) (ps : List Projection) → Walking b s facts tracked rows τ S → StepsAt b t ps → base.0 < b.next → k ≤ length ps → LeadsTo b.next (chain τ S (Value.Operand base) (take k ps)) Walked.Nothing
+    pub going_ends : r ≡ Walked.Nothing → (τ : Types) (S : AggStates) (ps : List Projection) → Walking b s facts tracked rows τ S → StepsAt b t ps → base.0 < b.next → k ≤ length ps → LeadsTo b.next (chain τ S (Value.Operand base) (take k ps)) Walked.Nothing
     unfolding chain
-    going-ends e τ S ps a c d l =
+    going_ends e τ S ps a c d l =
         elim (next_of ps k i h l) [
           | this q f g ↦
-              let to : LeadsTo b.next (stepPart τ S (Value.Operand (record { 0 = v })) q) Walked.Nothing = rw e at (step τ S q a (o.below τ S ps a c d l) (look ps c ∙ f)) in
+              let to : LeadsTo b.next (step_part τ S (Value.Operand (record { 0 = v })) q) Walked.Nothing = rw e at (step τ S q a (o.below τ S ps a c d l) (look ps c ∙ f)) in
               let z = o.left τ S ps a c d l ∙ ap (chain τ S (Value.Operand (record { 0 = v }))) g in
               record {
-                told = chain-none τ S (stepPart τ S (Value.Operand (record { 0 = v })) q) (take (k - (i + 1)) (drop (i + 1) ps)) to.told ∙ ap operandIn (sym z);
+                told = chain_none τ S (step_part τ S (Value.Operand (record { 0 = v })) q) (take (k - (i + 1)) (drop (i + 1) ps)) to.told ∙ ap operand_in (sym z);
                 below = λ u y. absurd (let n : ◌≡◌ {A = ℕ} 0 1 = cc in omega arith);
               }
         ]
@@ -119,44 +119,44 @@ module _ {b : Bounds} {s t facts : List ℕ} {tracked : Marks} {rows : List ℕ}
       let n : k - i ≡ 0 = omega arith in
       let z : chain τ S (Value.Operand base) (take k ps) ≡ some (Value.Operand (record { 0 = v })) = o.left τ S ps a c d l ∙ ap (λ m. chain τ S (Value.Operand (record { 0 = v })) (take m (drop i ps))) n in
       record {
-        told = sym (ap operandIn z);
+        told = sym (ap operand_in z);
         below = λ u y. let e : u.0 ≡ v = (let w : u ≡ record { 0 = v } = cc in ap (λ (x : ValueId). x.0) w) in rw e (o.below τ S ps a c d l);
       }
 
 -- the first projection is an Integer literal
-first-integer : (ps : List Projection) → integerStep (get_elem? ps 0) ≡ is_some (firstInteger ps)
-unfolding firstInteger is_some
-first-integer [] = refl
-first-integer (Index (Value.Literal (Literal.Integer k)) ∷ ps) = refl
-first-integer (Index (Value.Literal (Literal.Boolean b)) ∷ ps) = refl
-first-integer (Index (Value.Literal Literal.Unit) ∷ ps) = refl
-first-integer (Index (Value.Operand v) ∷ ps) = refl
-first-integer (Index Value.Error ∷ ps) = refl
-first-integer (Field n ∷ ps) = refl
-first-integer (Tuple k ∷ ps) = refl
+first_integer_lem : (ps : List Projection) → integer_step (get_elem? ps 0) ≡ is_some (first_integer ps)
+unfolding first_integer is_some
+first_integer_lem [] = refl
+first_integer_lem (Index (Value.Literal (Literal.Integer k)) ∷ ps) = refl
+first_integer_lem (Index (Value.Literal (Literal.Boolean b)) ∷ ps) = refl
+first_integer_lem (Index (Value.Literal Literal.Unit) ∷ ps) = refl
+first_integer_lem (Index (Value.Operand v) ∷ ps) = refl
+first_integer_lem (Index Value.Error ∷ ps) = refl
+first_integer_lem (Field n ∷ ps) = refl
+first_integer_lem (Tuple k ∷ ps) = refl
 
-module _ (τ : Types) (S : AggStates) (v : ValueId) (ps : List Projection) (last : ℕ) (p : Step) {h : Bool} (e : h ≡ integerStep (asStep p)) (look : asStep p ≡ get_elem? ps 0) where
-  told-first : h ≡ is_some (firstInteger ps)
-  told-first = e ∙ ap integerStep look ∙ first-integer ps
+module _ (τ : Types) (S : AggStates) (v : ValueId) (ps : List Projection) (last : ℕ) (p : Step) {h : Bool} (e : h ≡ integer_step (as_step p)) (look : as_step p ≡ get_elem? ps 0) where
+  told_first : h ≡ is_some (first_integer ps)
+  told_first = e ∙ ap integer_step look ∙ first_integer_lem ps
 
   -- it is not
-  pub held-not : {next : ℕ} → h ≡ false → LeadsTo next (held τ S v ps last) Walked.Nothing
-  unfolding held onSome is_some
-  held-not {next} f = go (firstInteger ps) refl
+  pub held_not : {next : ℕ} → h ≡ false → LeadsTo next (held τ S v ps last) Walked.Nothing
+  unfolding held on_some is_some
+  held_not {next} f = go (first_integer ps) refl
     where
-      go : (o : Option ℕ) → firstInteger ps ≡ o → LeadsTo next (held τ S v ps last) Walked.Nothing
+      go : (o : Option ℕ) → first_integer ps ≡ o → LeadsTo next (held τ S v ps last) Walked.Nothing
       go none g = record { told = rw g; below = λ u y. absurd (let n : ◌≡◌ {A = ℕ} 0 1 = cc in omega arith) }
-      go (some k) g = absurd (let z : false ≡ true = sym f ∙ told-first ∙ rw g in let n : ◌≡◌ {A = ℕ} 0 1 = cc in omega arith)
+      go (some k) g = absurd (let z : false ≡ true = sym f ∙ told_first ∙ rw g in let n : ◌≡◌ {A = ℕ} 0 1 = cc in omega arith)
 
   -- it is: the walk's answer
-  pub held-walked : {next : ℕ} {r : Walked} → h ≡ true → LeadsTo next (chain τ S (Value.Operand v) (take last ps)) r → LeadsTo next (held τ S v ps last) r
-  unfolding held onSome is_some
-  held-walked {next} {r} f w = go (firstInteger ps) refl
+  pub held_walked : {next : ℕ} {r : Walked} → h ≡ true → LeadsTo next (chain τ S (Value.Operand v) (take last ps)) r → LeadsTo next (held τ S v ps last) r
+  unfolding held on_some is_some
+  held_walked {next} {r} f w = go (first_integer ps) refl
     where
-      go : (o : Option ℕ) → firstInteger ps ≡ o → LeadsTo next (held τ S v ps last) r
-      go none g = absurd (let z : true ≡ false = sym f ∙ told-first ∙ rw g in let n : ◌≡◌ {A = ℕ} 0 1 = cc in omega arith)
+      go : (o : Option ℕ) → first_integer ps ≡ o → LeadsTo next (held τ S v ps last) r
+      go none g = absurd (let z : true ≡ false = sym f ∙ told_first ∙ rw g in let n : ◌≡◌ {A = ℕ} 0 1 = cc in omega arith)
       go (some k) g = rw g w
 
 -- what a lookup finds
-pub looked : (b : Bounds) (t : List ℕ) (i : ℕ) (p : Step) → ((seen : List Bool) (late : Bool) (j : Instruction) (n : ℕ) → instructionOf b seen late t ≡ ok j n → asStep p ≡ get_elem? (placeSteps j.kind) i) → (ps : List Projection) → StepsAt b t ps → asStep p ≡ get_elem? ps i
-looked b t i p f ps (steps-at j n e g) = f [] false j n e ∙ ap (λ (qs : List Projection). get_elem? qs i) g
+pub looked : (b : Bounds) (t : List ℕ) (i : ℕ) (p : Step) → ((seen : List Bool) (late : Bool) (j : Instruction) (n : ℕ) → instruction_of b seen late t ≡ ok j n → as_step p ≡ get_elem? (place_steps j.kind) i) → (ps : List Projection) → StepsAt b t ps → as_step p ≡ get_elem? ps i
+looked b t i p f ps (steps_at j n e g) = f [] false j n e ∙ ap (λ (qs : List Projection). get_elem? qs i) g

@@ -9,19 +9,19 @@ use Rattle.mir.specs.declared.ValueId.{ValueId}
 use Rattle.mir.specs.declared.TypeId.{TypeId}
 use Rattle.mir.specs.declared.NameId.{NameId}
 use Rattle.mir.specs.Syntax.{Projection, Index, Field, Tuple, Place, Instruction, InstructionKind}
-use Rattle.bytes_field.specs.Decode.{instructionOf}
+use Rattle.bytes_field.specs.Decode.{instruction_of}
 use Rattle.bytes_field.specs.declared.Bounds.{Bounds}
-use Rattle.bytes_index.specs.Table.{recordedIn}
-use Rattle.bytes_operands.specs.Fields.{placeSteps, asStep}
+use Rattle.bytes_index.specs.Table.{recorded_in}
+use Rattle.bytes_operands.specs.Fields.{place_steps, as_step}
 use Rattle.bytes_operands.specs.declared.Step.{Step}
-use Rattle.mir.specs.Lookup.{is_some, Types, onSome, valueRow}
-use Rattle.bytes_struct.specs.FindField.{findField}
-use Rattle.bytes_struct.specs.Found.{asFound}
+use Rattle.mir.specs.Lookup.{is_some, Types, on_some, value_row}
+use Rattle.bytes_struct.specs.FindField.{find_field}
+use Rattle.bytes_struct.specs.Found.{as_found}
 use Rattle.bytes_struct.specs.declared.FieldLookup.{FieldLookup}
 use Rattle.fold.specs.Family.{Marks}
 use Rattle.fold.specs.Tables.{Known, Ground}
-use Rattle.rewrite.specs.State.{AggStates, chain, firstInteger, stepPart, storePart, storeLast, forwardStore}
-use Rattle.mir.specs.Most.{mostValues}
+use Rattle.rewrite.specs.State.{AggStates, chain, first_integer, step_part, store_part, store_last, forward_store}
+use Rattle.mir.specs.Most.{most_values}
 use Rattle.rewrite_parts.specs.Rows.{ValueAt, Rep, Room, InitAt}
 use Rattle.rewrite_parts.specs.Here.{Here}
 use Rattle.rewrite_parts.specs.declared.Init.{Init}
@@ -30,13 +30,13 @@ use Rattle.rewrite_chains.specs.declared.Walked.{Walked}
 use Rattle.rewrite_chains.specs.declared.Forwarded.{Forwarded}
 
 -- a part's number, and an operand, where there is one
-abbrev pub asPosition : Position → Option ℕ
-asPosition (Position.At k) = some k
-asPosition Position.Nothing = none
+abbrev pub as_position : Position → Option ℕ
+as_position (Position.At k) = some k
+as_position Position.Nothing = none
 
-abbrev pub asWalked : Walked → Option ValueId
-asWalked (Walked.Operand v) = some v
-asWalked Walked.Nothing = none
+abbrev pub as_walked : Walked → Option ValueId
+as_walked (Walked.Operand v) = some v
+as_walked Walked.Nothing = none
 
 -- a field by its name in the recorded type of v
 abbrev pub FoundInType : List ℕ → List ℕ → ℕ → List ℕ → ValueId → NameId → FieldLookup → Type 0
@@ -45,38 +45,38 @@ FoundInType s types many recorded v name r =
     → Known most s types recorded τ
     → length τ.rows ≡ many
     → v.0 < length τ.recorded
-    → asFound r ≡ findField (valueRow τ v) name
+    → as_found r ≡ find_field (value_row τ v) name
 
 -- the value where it is an operand
-abbrev pub operandIn : Option Value → Option ValueId
-operandIn none = none
-operandIn (some (Value.Literal l)) = none
-operandIn (some (Value.Operand v)) = some v
-operandIn (some Value.Error) = none
+abbrev pub operand_in : Option Value → Option ValueId
+operand_in none = none
+operand_in (some (Value.Literal l)) = none
+operand_in (some (Value.Operand v)) = some v
+operand_in (some Value.Error) = none
 
 -- where a walk comes to, if that is an operand
 pub record LeadsTo (next : ℕ) (o : Option Value) (r : Walked) : Type 0 where
-  pub told : asWalked r ≡ operandIn o
-  pub below : (v : ValueId) → asWalked r ≡ some v → v.0 < next
+  pub told : as_walked r ≡ operand_in o
+  pub below : (v : ValueId) → as_walked r ≡ some v → v.0 < next
 
 -- a part of a value, by its position
 abbrev pub part_at : AggStates → ValueId → Option ℕ → Option Value
-part_at S v o = onSome o (λ k. onSome (S v.0) (λ xs. get_elem? xs k))
+part_at S v o = on_some o (λ k. on_some (S v.0) (λ xs. get_elem? xs k))
 
 -- there is a part k
-abbrev pub hasPart : Option (List Value) → ℕ → Bool
-hasPart none k = false
-hasPart (some xs) k = ltb k (length xs)
+abbrev pub has_part : Option (List Value) → ℕ → Bool
+has_part none k = false
+has_part (some xs) k = ltb k (length xs)
 
 -- what a walk looks at: the bytes, the table of facts and the tables of tracked values
 pub record Walking (b : Bounds) (s facts : List ℕ) (tracked : Marks) (rows : List ℕ) (τ : Types) (S : AggStates) : Type 0 where
-  pub ground : Ground b s facts (recordedIn facts) τ
+  pub ground : Ground b s facts (recorded_in facts) τ
   pub used : ℕ
   pub rep : Rep b.next s tracked rows used S
 
 -- an accepted instruction stands at the head of t, and ps are its projections
 pub data StepsAt (b : Bounds) (t : List ℕ) (ps : List Projection) : Type 0 where
-  steps-at : (i : Instruction) (n : ℕ) → instructionOf b [] false t ≡ ok i n → placeSteps i.kind ≡ ps → StepsAt b t ps
+  steps_at : (i : Instruction) (n : ℕ) → instruction_of b [] false t ≡ ok i n → place_steps i.kind ≡ ps → StepsAt b t ps
 
 -- so it is with the part of v that a projection names
 abbrev pub OfStep : Bounds → List ℕ → List ℕ → Marks → List ℕ → ValueId → Step → (Option Value → Type 0) → Type 0
@@ -84,8 +84,8 @@ OfStep b s facts tracked rows v p So =
     (τ : Types) (S : AggStates) (q : Projection)
     → Walking b s facts tracked rows τ S
     → v.0 < b.next
-    → asStep p ≡ some q
-    → So (stepPart τ S (Value.Operand v) q)
+    → as_step p ≡ some q
+    → So (step_part τ S (Value.Operand v) q)
 
 -- a walk from `base` on, by the projections ps of the instruction t, of which there are enough, comes to `end`
 abbrev pub OfSteps : Bounds → List ℕ → List ℕ → List ℕ → Marks → List ℕ → ValueId → Walked
@@ -101,35 +101,35 @@ OfSteps b s facts t tracked rows base r Enough end =
     → LeadsTo b.next (end τ S ps) r
 
 -- an Index by an Integer literal
-abbrev pub integerStep : Option Projection → Bool
-integerStep none = false
-integerStep (some (Index (Value.Literal (Literal.Integer k)))) = true
-integerStep (some (Index (Value.Literal (Literal.Boolean b)))) = false
-integerStep (some (Index (Value.Literal Literal.Unit))) = false
-integerStep (some (Index (Value.Operand v))) = false
-integerStep (some (Index Value.Error)) = false
-integerStep (some (Field n)) = false
-integerStep (some (Tuple k)) = false
+abbrev pub integer_step : Option Projection → Bool
+integer_step none = false
+integer_step (some (Index (Value.Literal (Literal.Integer k)))) = true
+integer_step (some (Index (Value.Literal (Literal.Boolean b)))) = false
+integer_step (some (Index (Value.Literal Literal.Unit))) = false
+integer_step (some (Index (Value.Operand v))) = false
+integer_step (some (Index Value.Error)) = false
+integer_step (some (Field n)) = false
+integer_step (some (Tuple k)) = false
 
 -- what all but the last projection lead to, where the first is an Integer literal
 unfoldable pub held : Types → AggStates → ValueId → List Projection → ℕ → Option Value
-held τ S v ps last = onSome (firstInteger ps) (λ k. chain τ S (Value.Operand v) (take last ps))
+held τ S v ps last = on_some (first_integer ps) (λ k. chain τ S (Value.Operand v) (take last ps))
 
 -- sroa.rs 1489, `forward_projection_chain`: the part that a Load takes
-unfoldable pub loadedPart : Types → AggStates → Place → Option Value
-loadedPart τ S p =
-    onSome (firstInteger p.projections) (λ k.
-    onSome (S p.base.0) (λ xs. chain τ S (Value.Operand p.base) p.projections))
+unfoldable pub loaded_part : Types → AggStates → Place → Option Value
+loaded_part τ S p =
+    on_some (first_integer p.projections) (λ k.
+    on_some (S p.base.0) (λ xs. chain τ S (Value.Operand p.base) p.projections))
 
 -- the states behind a Store: those it is forwarded into, else as they were
-unfoldable pub statesAfter : AggStates → Option AggStates → AggStates
-statesAfter S none = S
-statesAfter S (some S') = S'
+unfoldable pub states_after : AggStates → Option AggStates → AggStates
+states_after S none = S
+states_after S (some S') = S'
 
 -- a Store's answer: whether it is forwarded, and the tables hold the states behind it
 pub record Forwards (next : ℕ) (s : List ℕ) (S : AggStates) (o : Option AggStates) (tracked : Marks) (rows : List ℕ) (r : Forwarded) : Type 0 where
   pub told : r.forwarded ≡ is_some o
-  pub rep : Rep next s tracked rows r.used (statesAfter S o)
+  pub rep : Rep next s tracked rows r.used (states_after S o)
 
 -- the Load in a slot: the part that it takes
 abbrev pub PartLoaded : Bounds → List ℕ → List ℕ → ℕ → Marks → List ℕ → Init → Type 0
@@ -137,7 +137,7 @@ PartLoaded b s facts slot tracked rows r =
     (τ : Types) (S : AggStates) (used : ℕ) (i : Instruction) (d : ValueId) (p : Place) (y : TypeId)
     → Here b s facts slot tracked rows used τ S i
     → i.kind ≡ InstructionKind.Load d p y
-    → InitAt b.next s (loadedPart τ S p) r
+    → InitAt b.next s (loaded_part τ S p) r
 
 -- part k of v is the value at a place
 abbrev pub PartStored : ValueId → ℕ → ℕ → Marks → List ℕ → ℕ → Marks → List ℕ → Forwarded → Type 0
@@ -145,21 +145,21 @@ PartStored v k place tracked rows used tracked' rows' r =
     (next : ℕ) (s : List ℕ) (S : AggStates) (y : Value)
     → Rep next s tracked rows used S
     → Room rows used
-    → v.0 < mostValues
+    → v.0 < most_values
     → ValueAt next s place y
-    → Forwards next s S (storePart S v k y) tracked' rows' r
+    → Forwards next s S (store_part S v k y) tracked' rows' r
 
 -- the part of v that a projection names is the value at a place
 abbrev pub LastStored : Bounds → List ℕ → List ℕ → ValueId → Step → ℕ → Marks → List ℕ → ℕ → Marks → List ℕ → Forwarded → Type 0
 LastStored b s facts v p place tracked rows used tracked' rows' r =
     (τ : Types) (S : AggStates) (q : Projection) (y : Value)
-    → Ground b s facts (recordedIn facts) τ
+    → Ground b s facts (recorded_in facts) τ
     → Rep b.next s tracked rows used S
     → Room rows used
     → v.0 < b.next
-    → asStep p ≡ some q
+    → as_step p ≡ some q
     → ValueAt b.next s place y
-    → Forwards b.next s S (storeLast τ S (Value.Operand v) q y) tracked' rows' r
+    → Forwards b.next s S (store_last τ S (Value.Operand v) q y) tracked' rows' r
 
 -- the Store in a slot: whether it is forwarded, and the states behind it
 abbrev pub StoreForwarded : Bounds → List ℕ → List ℕ → ℕ → Marks → List ℕ → ℕ → Marks → List ℕ → Forwarded → Type 0
@@ -168,5 +168,5 @@ StoreForwarded b s facts slot tracked rows used tracked' rows' r =
     → Here b s facts slot tracked rows used τ S i
     → Room rows used
     → i.kind ≡ InstructionKind.Store p x y
-    → (r.forwarded ≡ is_some (forwardStore τ S p x))
-    × Rep b.next s tracked' rows' r.used (statesAfter S (forwardStore τ S p x))
+    → (r.forwarded ≡ is_some (forward_store τ S p x))
+    × Rep b.next s tracked' rows' r.used (states_after S (forward_store τ S p x))

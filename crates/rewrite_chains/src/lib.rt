@@ -4,7 +4,7 @@
 mod path;
 
 ghost use Rattle.std.specs.Prelude.{◌+◌, ◌≤◌, ◌<◌};
-ghost use Rattle.rewrite_parts.specs.Rows.{rowMost, usedBelow};
+ghost use Rattle.rewrite_parts.specs.Rows.{row_most, used_below};
 ghost use Rattle.rewrite_chains.specs.Chained.{FoundInType};
 ghost use Rattle.rewrite_chains.specs.Chained.{PartLoaded, PartStored, LastStored, StoreForwarded};
 
@@ -103,8 +103,8 @@ fn store_part(
     k: u32,
     place: usize,
 ) -> Forwarded
-    requires { used < usedBelow }
-    ensures used_bound { result.used ≤ used + rowMost }
+    requires { used < used_below }
+    ensures used_bound { result.used ≤ used + row_most }
     ensures part_stored { PartStored v k place tracked.old rows.old used
         tracked.new rows.new result }
 {
@@ -133,8 +133,8 @@ fn store_last(
     p: Step,
     place: usize,
 ) -> Forwarded
-    requires { used < usedBelow }
-    ensures used_bound { result.used ≤ used + rowMost }
+    requires { used < used_below }
+    ensures used_bound { result.used ≤ used + row_most }
     ensures last_stored { LastStored b s.now facts.now v p place tracked.old rows.old used
         tracked.new rows.new result }
 {
@@ -157,8 +157,8 @@ pub fn forward_store(
     rows: &mut [u16],
     used: usize,
 ) -> Forwarded
-    requires { used < usedBelow }
-    ensures used_bound { result.used ≤ used + rowMost }
+    requires { used < used_below }
+    ensures used_bound { result.used ≤ used + row_most }
     ensures store_forwarded { StoreForwarded b s.now facts.now slot tracked.old rows.old used
         tracked.new rows.new result }
 {

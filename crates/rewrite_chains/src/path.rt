@@ -4,15 +4,15 @@ ghost use Rattle.std.proofs.Math.Option.{some};
 ghost use Rattle.bytes_wire.specs.WellFormed.{Bytes};
 ghost use Rattle.mir.specs.declared.Value.{Value as AnyValue};
 ghost use Rattle.mir.specs.Syntax.{Projection};
-ghost use Rattle.bytes_operands.specs.Fields.{asStep};
-ghost use Rattle.mir.specs.Lookup.{Types, asConstInteger};
-ghost use Rattle.bytes_struct.specs.FindField.{positionIn};
-ghost use Rattle.bytes_struct.specs.Found.{asFound};
+ghost use Rattle.bytes_operands.specs.Fields.{as_step};
+ghost use Rattle.mir.specs.Lookup.{Types, as_const_integer};
+ghost use Rattle.bytes_struct.specs.FindField.{position_in};
+ghost use Rattle.bytes_struct.specs.Found.{as_found};
 ghost use Rattle.fold.specs.Tables.{Ground};
-ghost use Rattle.rewrite.specs.State.{AggStates, stepIndex, chain};
+ghost use Rattle.rewrite.specs.State.{AggStates, step_index, chain};
 ghost use Rattle.rewrite_parts.specs.Rows.{ValueAt, Rep, InitAt};
-ghost use Rattle.rewrite_chains.specs.Chained.{asPosition, LeadsTo, hasPart, part_at, OfStep, OfSteps, integerStep, held};
-ghost use Rattle.table.specs.Number.{numbersBelow};
+ghost use Rattle.rewrite_chains.specs.Chained.{as_position, LeadsTo, has_part, part_at, OfStep, OfSteps, integer_step, held};
+ghost use Rattle.table.specs.Number.{numbers_below};
 
 use crate::{Position, Walked};
 use bytes_field::Bounds;
@@ -24,7 +24,7 @@ use rewrite_parts::Init;
 
 // value.rs, `as_const_integer`.
 fn const_integer(x: Value) -> Position
-    ensures { asPosition result ≡ asConstInteger x }
+    ensures { as_position result ≡ as_const_integer x }
 {
     match x {
         Value::Literal(l) => match l {
@@ -39,7 +39,7 @@ fn const_integer(x: Value) -> Position
 
 // The position of a field that was looked for.
 fn position_of(f: FieldLookup) -> Position
-    ensures { asPosition result ≡ positionIn (asFound f) }
+    ensures { as_position result ≡ position_in (as_found f) }
 {
     match f {
         FieldLookup::Found { position, .. } => Position::At(position),
@@ -57,7 +57,7 @@ pub fn step_index(
     p: Step,
 ) -> Position
     ensures { (τ : Types) (q : Projection) → Ground b s.now types.now recorded.now τ → v.0 < b.next
-        → asStep p ≡ some q → asPosition result ≡ stepIndex τ v q }
+        → as_step p ≡ some q → as_position result ≡ step_index τ v q }
 {
     match p {
         Step::Index(x) => const_integer(x),
@@ -72,7 +72,7 @@ pub fn step_index(
 // A value is tracked and has part `k`.
 pub fn has_part(tracked: &[bool], rows: &[u16], v: ValueId, k: u32) -> bool
     ensures { (next : ℕ) (s : List ℕ) (used : ℕ) (S : AggStates) → Rep next s tracked.now rows.now used S
-        → result ≡ hasPart (S v.0) k }
+        → result ≡ has_part (S v.0) k }
 {
     if !rewrite_parts::tracked(tracked, v) {
         return false;
@@ -83,7 +83,7 @@ pub fn has_part(tracked: &[bool], rows: &[u16], v: ValueId, k: u32) -> bool
 // A value's part at a position, where it is tracked and has that part.
 fn part_at(tracked: &[bool], rows: &[u16], v: ValueId, q: Position) -> Init
     ensures { (next : ℕ) (s : List ℕ) (used : ℕ) (S : AggStates) → Rep next s tracked.now rows.now used S
-        → InitAt next s (part_at S v (asPosition q)) result }
+        → InitAt next s (part_at S v (as_position q)) result }
 {
     match q {
         Position::Nothing => Init {
@@ -128,7 +128,7 @@ pub fn step_part(
 
 // The value that stands at a place, where it is an operand.
 fn operand_at(s: &[u8], at: usize, next: u16) -> Walked
-    ensures { (x : AnyValue) → Bytes s.now → next ≤ numbersBelow
+    ensures { (x : AnyValue) → Bytes s.now → next ≤ numbers_below
         → ValueAt next s.now at x → LeadsTo next (some x) result }
 {
     match bytes_wire::read_value(bytes_field::tail(s, at), next) {
@@ -191,7 +191,7 @@ fn walk(
 
 // The projection is an Index by an Integer literal.
 fn is_integer(p: Step) -> bool
-    ensures { result ≡ integerStep (asStep p) }
+    ensures { result ≡ integer_step (as_step p) }
 {
     match p {
         Step::Index(x) => match x {

@@ -3,10 +3,10 @@
 #![tactic(auto)]
 
 ghost use Rattle.std.specs.Prelude.{◌≡◌, List, ℕ, ◌+◌, ◌≤◌, ◌<◌};
-ghost use Rattle.rewrite_parts.specs.Rows.{rowMost, usedBelow};
+ghost use Rattle.rewrite_parts.specs.Rows.{row_most, used_below};
 ghost use Rattle.rewrite_arms.specs.Decided.{acts, SpotAt};
-ghost use Rattle.rewrite_arms.specs.Decided.{assignKind, loadKind, extractElementKind, extractFieldKind, insertFieldKind, insertElementKind};
-ghost use Rattle.rewrite_decide.specs.Stepped.{Near, always, ofTuples, ofStructs, KindPlanned, StepPlanned};
+ghost use Rattle.rewrite_arms.specs.Decided.{assign_kind, load_kind, extract_element_kind, extract_field_kind, insert_field_kind, insert_element_kind};
+ghost use Rattle.rewrite_decide.specs.Stepped.{Near, always, of_tuples, of_structs, KindPlanned, StepPlanned};
 ghost use Rattle.rewrite_decide.specs.Stepped.{ValuesBuilt, CarriedOut, StepDecided};
 
 use bytes_field::Bounds;
@@ -54,7 +54,7 @@ fn active(tuples: bool, structs: bool, fold: bool, kind: u16) -> bool
 // An Assign: sroa.rs 805.
 fn assign(s: &[u8], b: Bounds, facts: &[u16], p: Spot, tracked: &[bool]) -> Plan
     requires { Near p }
-    ensures { (slot : ℕ) (rows : List ℕ) → KindPlanned assignKind always s.now b facts.now slot p
+    ensures { (slot : ℕ) (rows : List ℕ) → KindPlanned assign_kind always s.now b facts.now slot p
         tracked.now rows result }
 {
     let x = bytes_operands::value_at(s, p.off + DEST_BYTES, b.next);
@@ -73,7 +73,7 @@ fn load(
     tracked: &[bool],
     rows: &[u16],
 ) -> Plan
-    ensures { KindPlanned loadKind ofTuples s.now b facts.now slot p
+    ensures { KindPlanned load_kind of_tuples s.now b facts.now slot p
         tracked.now rows.now result }
 {
     let t = rewrite_arms::last_type(s, p.end);
@@ -85,7 +85,7 @@ fn load(
 // An extract takes the tuple's element of its index.
 fn extract_element(s: &[u8], b: Bounds, p: Spot, tracked: &[bool], rows: &[u16]) -> Plan
     requires { Near p }
-    ensures { (facts : List ℕ) (slot : ℕ) → KindPlanned extractElementKind ofTuples s.now b facts slot p
+    ensures { (facts : List ℕ) (slot : ℕ) → KindPlanned extract_element_kind of_tuples s.now b facts slot p
         tracked.now rows.now result }
 {
     let x = bytes_operands::value_at(s, p.off + DEST_BYTES, b.next);
@@ -105,7 +105,7 @@ fn extract_field(
     rows: &[u16],
 ) -> Plan
     requires { Near p }
-    ensures { (slot : ℕ) → KindPlanned extractFieldKind ofStructs s.now b facts.now slot p
+    ensures { (slot : ℕ) → KindPlanned extract_field_kind of_structs s.now b facts.now slot p
         tracked.now rows.now result }
 {
     let x = bytes_operands::value_at(s, p.off + DEST_BYTES, b.next);
@@ -119,7 +119,7 @@ fn extract_field(
 // An insert replaces the struct's field of its name, which its type has.
 fn insert_field(s: &[u8], b: Bounds, facts: &[u16], p: Spot, tracked: &[bool], rows: &[u16]) -> Plan
     requires { Near p }
-    ensures { (slot : ℕ) → KindPlanned insertFieldKind ofStructs s.now b facts.now slot p
+    ensures { (slot : ℕ) → KindPlanned insert_field_kind of_structs s.now b facts.now slot p
         tracked.now rows.now result }
 {
     let x = bytes_operands::value_at(s, p.off + DEST_BYTES, b.next);
@@ -137,7 +137,7 @@ fn insert_field(s: &[u8], b: Bounds, facts: &[u16], p: Spot, tracked: &[bool], r
 // An insert replaces the tuple's element of its index.
 fn insert_element(s: &[u8], b: Bounds, p: Spot, tracked: &[bool], rows: &[u16]) -> Plan
     requires { Near p }
-    ensures { (facts : List ℕ) (slot : ℕ) → KindPlanned insertElementKind ofTuples s.now b facts slot p
+    ensures { (facts : List ℕ) (slot : ℕ) → KindPlanned insert_element_kind of_tuples s.now b facts slot p
         tracked.now rows.now result }
 {
     let x = bytes_operands::value_at(s, p.off + DEST_BYTES, b.next);
@@ -188,8 +188,8 @@ fn plan(
 
 // A build of a tuple or an array: its dest gets the values of its list.
 fn build_values(s: &[u8], p: Spot, tracked: &mut [bool], rows: &mut [u16], used: usize) -> Decision
-    requires { (used < usedBelow) × Near p }
-    ensures used_bound { result.used ≤ used + rowMost }
+    requires { (used < used_below) × Near p }
+    ensures used_bound { result.used ≤ used + row_most }
     ensures values_built { ValuesBuilt s.now p tracked.old rows.old used
         tracked.new rows.new result }
 {
@@ -215,8 +215,8 @@ fn carry_out(
     rows: &mut [u16],
     used: usize,
 ) -> Decision
-    requires { (used < usedBelow) × Near p }
-    ensures used_bound { result.used ≤ used + rowMost }
+    requires { (used < used_below) × Near p }
+    ensures used_bound { result.used ≤ used + row_most }
     ensures carried_out { CarriedOut plan s.now facts.now p tracked.old rows.old used
         tracked.new rows.new result }
 {
@@ -272,8 +272,8 @@ pub fn decide(
     rows: &mut [u16],
     used: usize,
 ) -> Decision
-    requires { used < usedBelow }
-    ensures used_bound { result.used ≤ used + rowMost }
+    requires { used < used_below }
+    ensures used_bound { result.used ≤ used + row_most }
     ensures step_decided { StepDecided s.now b settings facts.now slot fold
         tracked.old rows.old used tracked.new rows.new result }
 {

@@ -4,26 +4,26 @@ use Rattle.std.proofs.Math.Option.{Option, some}
 use Rattle.std.proofs.Math.Seq.{slice}
 use Rattle.bytes_wire.specs.Number.{to_bytes}
 use Rattle.mir.specs.declared.TypeId.{TypeId}
-use Rattle.bytes_field.specs.Encode.{valueIdBytes, blockIdBytes, listBytes}
-use Rattle.bytes_types.specs.Encode.{typesBytes}
+use Rattle.bytes_field.specs.Encode.{value_id_bytes, block_id_bytes, list_bytes}
+use Rattle.bytes_types.specs.Encode.{types_bytes}
 use Rattle.mir.specs.Routine.{Routine}
-use Rattle.bytes_sections.specs.Encode.{encode, recordedBytes}
+use Rattle.bytes_sections.specs.Encode.{encode, recorded_bytes}
 use Rattle.bytes_sections.specs.Index.{RecordedAt}
 use Rattle.bytes_emit.specs.Written.{Writes}
-use Rattle.rewrite_progress.specs.Effect.{typeNumbers}
+use Rattle.rewrite_progress.specs.Effect.{type_numbers}
 
 -- the bytes of a routine before those of its blocks
-unfoldable pub headBytes : Routine → List ℕ
-headBytes r =
-    typesBytes r.types
+unfoldable pub head_bytes : Routine → List ℕ
+head_bytes r =
+    types_bytes r.types
     ++ (to_bytes 2 r.next
     ++ (to_bytes 2 (length r.blocks)
-    ++ (blockIdBytes r.entry
-    ++ (listBytes valueIdBytes r.parameters ++ recordedBytes r.recorded))))
+    ++ (block_id_bytes r.entry
+    ++ (list_bytes value_id_bytes r.parameters ++ recorded_bytes r.recorded))))
 
 -- the recorded types of the values there were, then those of the fresh ones
-abbrev pub withFresh : List (Option TypeId) → List TypeId → List (Option TypeId)
-withFresh rs ts = rs ++ map some ts
+abbrev pub with_fresh : List (Option TypeId) → List TypeId → List (Option TypeId)
+with_fresh rs ts = rs ++ map some ts
 
 -- a routine with fresh values behind its own
 abbrev pub widened : Routine → List TypeId → Routine
@@ -33,7 +33,7 @@ widened r ts =
       next = r.next + length ts;
       entry = r.entry;
       parameters = r.parameters;
-      recorded = withFresh r.recorded ts;
+      recorded = with_fresh r.recorded ts;
       blocks = r.blocks;
     }
 
@@ -43,40 +43,40 @@ pub record Tabled (recorded fresh : List ℕ) (next many : ℕ) (rs : List (Opti
   pub new : length ts ≡ many
   pub known : RecordedAt recorded rs
   pub long : next ≤ length recorded
-  pub taken : (k : ℕ) → k < many → get_or fresh k 0 ≡ get_or (typeNumbers ts) k 0
+  pub taken : (k : ℕ) → k < many → get_or fresh k 0 ≡ get_or (type_numbers ts) k 0
 
 -- the place behind the parameters, where the types end at `at`
-abbrev pub frontEnd : List ℕ → ℕ → ℕ
-frontEnd s at = at + 7 + 2 * get_or s (at + 6) 0
+abbrev pub front_end : List ℕ → ℕ → ℕ
+front_end s at = at + 7 + 2 * get_or s (at + 6) 0
 
 -- the types, another next value, then what stands up to the end of the parameters
-abbrev pub frontBytes : List ℕ → ℕ → ℕ → List ℕ
-frontBytes s at next = slice 0 at s ++ (to_bytes 2 next ++ slice (at + 2) (frontEnd s at) s)
+abbrev pub front_bytes : List ℕ → ℕ → ℕ → List ℕ
+front_bytes s at next = slice 0 at s ++ (to_bytes 2 next ++ slice (at + 2) (front_end s at) s)
 
 -- P holds of the recorded types of all values, the fresh ones behind the others
 abbrev pub OfRecorded : List ℕ → List ℕ → ℕ → ℕ → (List (Option TypeId) → Type 0) → Type 0
 OfRecorded recorded fresh next many P =
     (rs : List (Option TypeId)) (ts : List TypeId)
     → Tabled recorded fresh next many rs ts
-    → P (withFresh rs ts)
+    → P (with_fresh rs ts)
 
 -- of the routine that s is, whose types end at `at`, the head with the fresh values is written
 abbrev pub HeadPut : List ℕ → ℕ → List ℕ → ℕ → List ℕ → ℕ → List ℕ → List ℕ → ℕ → Type 0
 HeadPut s at recorded next fresh many out out' r =
     (x : Routine) (ts : List TypeId)
     → encode x ≡ s
-    → length (typesBytes x.types) ≡ at
+    → length (types_bytes x.types) ≡ at
     → x.next ≡ next
     → Tabled recorded fresh next many x.recorded ts
-    → Writes (headBytes (widened x ts)) out out' 0 r
+    → Writes (head_bytes (widened x ts)) out out' 0 r
 
 -- the places of the map's bits are below this
-abbrev pub bitsBelow : ℕ
-bitsBelow = 1048576
+abbrev pub bits_below : ℕ
+bits_below = 1048576
 
 -- the most bytes of the recorded types, and how much longer than the input the head is at most
-abbrev pub recordedMost : ℕ
-recordedMost = 131072
+abbrev pub recorded_most : ℕ
+recorded_most = 131072
 
-abbrev pub headMost : ℕ
-headMost = 139265
+abbrev pub head_most : ℕ
+head_most = 139265

@@ -6,13 +6,13 @@ ghost use Rattle.std.specs.Prelude.{◌≡◌, ◌+◌, ◌*◌, ◌/◌, ◌%�
 ghost use Rattle.std.proofs.Math.Option.{none};
 ghost use Rattle.std.proofs.lemmas.List.Edits.{sets};
 ghost use Rattle.bytes_wire.specs.Number.{to_bytes};
-ghost use Rattle.bytes_field.specs.Encode.{eachBytes, optionBytes, typeIdBytes, stands};
-ghost use Rattle.bytes_sections.specs.Encode.{mapNumber};
-ghost use Rattle.bytes_sections.specs.Index.{recordedNumber};
-ghost use Rattle.bytes_emit.specs.Written.{Writes, wordRoom, valueRoom};
-ghost use Rattle.table.specs.Number.{numbersBelow};
-ghost use Rattle.rewrite_head.specs.Head.{OfRecorded, frontEnd, frontBytes, HeadPut, bitsBelow, recordedMost, headMost};
-ghost use Rattle.rewrite_progress.specs.Effect.{countsBelow};
+ghost use Rattle.bytes_field.specs.Encode.{each_bytes, option_bytes, type_id_bytes, stands};
+ghost use Rattle.bytes_sections.specs.Encode.{map_number};
+ghost use Rattle.bytes_sections.specs.Index.{recorded_number};
+ghost use Rattle.bytes_emit.specs.Written.{Writes, word_room, value_room};
+ghost use Rattle.table.specs.Number.{numbers_below};
+ghost use Rattle.rewrite_head.specs.Head.{OfRecorded, front_end, front_bytes, HeadPut, bits_below, recorded_most, head_most};
+ghost use Rattle.rewrite_progress.specs.Effect.{counts_below};
 
 // In the routine's bytes, from the end of the types on: the next value, then the counts of blocks and the entry, then the
 // number of parameters, then these.
@@ -32,8 +32,8 @@ const BYTE_BITS: u32 = 8;
 // The recorded type of value v, of `next` values and `many` fresh ones, as the table has it: 0 for none, else one more than
 // its number.
 fn number_of(recorded: &[u16], next: u16, fresh: &[u16], many: u32, v: u32) -> u32
-    ensures upper_bound { result ≤ numbersBelow }
-    ensures of_recorded { OfRecorded recorded.now fresh.now next many (λ all. result ≡ recordedNumber (get_or all v none)) }
+    ensures upper_bound { result ≤ numbers_below }
+    ensures of_recorded { OfRecorded recorded.now fresh.now next many (λ all. result ≡ recorded_number (get_or all v none)) }
 {
     let old = next as u32;
     if v < old {
@@ -59,9 +59,9 @@ fn bit_of(recorded: &[u16], next: u16, fresh: &[u16], many: u32, v: u32) -> u8
 
 // The eight bits from value v on, the lowest first.
 fn map_byte(recorded: &[u16], next: u16, fresh: &[u16], many: u32, v: u32) -> u8
-    requires { v < bitsBelow }
+    requires { v < bits_below }
     ensures { OfRecorded recorded.now fresh.now next many (λ all.
-        (result ≡ mapNumber (drop v all) % 256) × (mapNumber (drop v all) / 256 ≡ mapNumber (drop (v + 8) all))) }
+        (result ≡ map_number (drop v all) % 256) × (map_number (drop v all) / 256 ≡ map_number (drop (v + 8) all))) }
 {
     let a = bit_of(recorded, next, fresh, many, v);
     let b = bit_of(recorded, next, fresh, many, v + 1);
@@ -85,10 +85,10 @@ fn put_map(
     fresh: &[u16],
     many: u32,
 ) -> usize
-    requires { (to < valueRoom) × (next + many < numbersBelow) }
+    requires { (to < value_room) × (next + many < numbers_below) }
     ensures value { result ≡ to + (next + many + 7) / 8 }
     ensures of_recorded { OfRecorded recorded.now fresh.now next many (λ all.
-        out.new ≡ sets out.old to (to_bytes ((next + many + 7) / 8) (mapNumber all))) }
+        out.new ≡ sets out.old to (to_bytes ((next + many + 7) / 8) (map_number all))) }
 {
     let bytes = (next as u32 + many + 7) / BYTE_BITS;
     let mut k: u32 = 0;
@@ -110,10 +110,10 @@ fn put_type(
     many: u32,
     v: u32,
 ) -> usize
-    requires { to < wordRoom }
+    requires { to < word_room }
     ensures upper_bound { result ≤ to + 2 }
     ensures of_recorded { OfRecorded recorded.now fresh.now next many (λ all.
-        Writes (optionBytes typeIdBytes (get_or all v none)) out.old out.new to result) }
+        Writes (option_bytes type_id_bytes (get_or all v none)) out.old out.new to result) }
 {
     let number = number_of(recorded, next, fresh, many, v);
     if number == 0 {
@@ -132,10 +132,10 @@ fn put_types(
     fresh: &[u16],
     many: u32,
 ) -> usize
-    requires { (to < valueRoom) × (next + many < numbersBelow) }
-    ensures upper_bound { result ≤ to + recordedMost }
+    requires { (to < value_room) × (next + many < numbers_below) }
+    ensures upper_bound { result ≤ to + recorded_most }
     ensures of_recorded { OfRecorded recorded.now fresh.now next many (λ all.
-        Writes (eachBytes (optionBytes typeIdBytes) all) out.old out.new to result) }
+        Writes (each_bytes (option_bytes type_id_bytes) all) out.old out.new to result) }
 {
     let all = next as u32 + many;
     let mut p = to;
@@ -149,9 +149,9 @@ fn put_types(
 
 // What stands before the map: as in the input, whose types end at `at`, but for the next value.
 fn put_front(out: &mut [u8], s: &[u8], at: usize, next: u16) -> usize
-    requires { (frontEnd s.now at ≤ length s.now) × (length s.now < countsBelow) }
-    ensures { (result ≡ frontEnd s.now at)
-        × (out.new ≡ sets out.old 0 (frontBytes s.now at next)) }
+    requires { (front_end s.now at ≤ length s.now) × (length s.now < counts_below) }
+    ensures { (result ≡ front_end s.now at)
+        × (out.new ≡ sets out.old 0 (front_bytes s.now at next)) }
 {
     let count = bytes_wire::byte_at(s, at + PARAMETER_COUNT);
     let end = at + PARAMETERS + PARAMETER_BYTES * (count as usize);
@@ -171,8 +171,8 @@ pub fn put_head(
     fresh: &[u16],
     many: u32,
 ) -> usize
-    requires { (frontEnd s.now at ≤ length s.now) × (length s.now < countsBelow) × (next + many < numbersBelow) }
-    ensures upper_bound { result ≤ length s.now + headMost }
+    requires { (front_end s.now at ≤ length s.now) × (length s.now < counts_below) × (next + many < numbers_below) }
+    ensures upper_bound { result ≤ length s.now + head_most }
     ensures head_put { HeadPut s.now at recorded.now next fresh.now many
         out.old out.new result }
 {

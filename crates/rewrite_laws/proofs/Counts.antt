@@ -9,82 +9,82 @@ use Rattle.mir.specs.declared.Value.{Value}
 use Rattle.mir.specs.Syntax.{Instruction, InstructionKind, Terminator, Jump, If, BranchCmp, Return, Unreachable, Block}
 use Rattle.mir.specs.Syntax.{Assign, UnaryOp, BinaryOp, Call, Cast, Load, Store, Debug, Nop, Phi}
 use Rattle.mir.specs.Syntax.{MakeTuple, ExtractTupleElement, MakeStruct, ExtractStructField, InsertField, InsertTuple, MakeFixedArray, AssertEq, HeapAllocCells}
-use Rattle.mir.specs.Reads.{dests, isPhi}
+use Rattle.mir.specs.Reads.{dests, is_phi}
 use Rattle.bytes_field.specs.declared.Bounds.{Bounds}
 use Rattle.bytes_laws.specs.WellFormed.{FitKind, FitTerminator}
-use Rattle.bytes_block.specs.Decode.{marks, blockMarks}
+use Rattle.bytes_block.specs.Decode.{marks, block_marks}
 use Rattle.bytes_block.specs.declared.Mosts.{Mosts}
 use Rattle.bytes_block.specs.WellFormed.{FitInstructions}
 use Rattle.mir.specs.Routine.{Routine}
 use Rattle.bytes_laws_whole.specs.WellFormed.{FitBlocks, bounds, unmarked, WellFormed}
-use Rattle.rewrite.specs.Sum.{instructionCount}
-use Rattle.rewrite.specs.Within.{argumentCount, returnCount, CallsWithin, ListsWithin}
+use Rattle.rewrite.specs.Sum.{instruction_count}
+use Rattle.rewrite.specs.Within.{argument_count, return_count, CallsWithin, ListsWithin}
 use Rattle.rewrite.specs.Lowers.{Rebuilds, Lowers}
 
-call-most : (b : Bounds) (seen : List Bool) (i : InstructionKind) → FitKind b seen i → argumentCount i ≤ b.list
-unfolding argumentCount
-call-most b seen (Assign d x t) h = zero-le
-call-most b seen (UnaryOp op d x) h = zero-le
-call-most b seen (BinaryOp op d x y) h = zero-le
-call-most b seen (Call ds f xs ps rs) h = h.2.0
-call-most b seen (Cast d x t u) h = zero-le
-call-most b seen (Load d p t) h = zero-le
-call-most b seen (Store p x t) h = zero-le
-call-most b seen (Debug m xs) h = zero-le
-call-most b seen Nop h = zero-le
-call-most b seen (Phi d t ss) h = zero-le
-call-most b seen (MakeTuple d xs) h = zero-le
-call-most b seen (ExtractTupleElement d x k t) h = zero-le
-call-most b seen (MakeStruct d fs t) h = zero-le
-call-most b seen (ExtractStructField d x n t) h = zero-le
-call-most b seen (InsertField d x n y t) h = zero-le
-call-most b seen (InsertTuple d x k y t) h = zero-le
-call-most b seen (MakeFixedArray d xs t c) h = zero-le
-call-most b seen (AssertEq x y) h = zero-le
-call-most b seen (HeapAllocCells d x) h = zero-le
+call_most_lem : (b : Bounds) (seen : List Bool) (i : InstructionKind) → FitKind b seen i → argument_count i ≤ b.list
+unfolding argument_count
+call_most_lem b seen (Assign d x t) h = zero-le
+call_most_lem b seen (UnaryOp op d x) h = zero-le
+call_most_lem b seen (BinaryOp op d x y) h = zero-le
+call_most_lem b seen (Call ds f xs ps rs) h = h.2.0
+call_most_lem b seen (Cast d x t u) h = zero-le
+call_most_lem b seen (Load d p t) h = zero-le
+call_most_lem b seen (Store p x t) h = zero-le
+call_most_lem b seen (Debug m xs) h = zero-le
+call_most_lem b seen Nop h = zero-le
+call_most_lem b seen (Phi d t ss) h = zero-le
+call_most_lem b seen (MakeTuple d xs) h = zero-le
+call_most_lem b seen (ExtractTupleElement d x k t) h = zero-le
+call_most_lem b seen (MakeStruct d fs t) h = zero-le
+call_most_lem b seen (ExtractStructField d x n t) h = zero-le
+call_most_lem b seen (InsertField d x n y t) h = zero-le
+call_most_lem b seen (InsertTuple d x k y t) h = zero-le
+call_most_lem b seen (MakeFixedArray d xs t c) h = zero-le
+call_most_lem b seen (AssertEq x y) h = zero-le
+call_most_lem b seen (HeapAllocCells d x) h = zero-le
 
-return-most : (b : Bounds) (t : Terminator) → FitTerminator b t → returnCount t ≤ b.list
-unfolding returnCount
-return-most b (Jump p) h = zero-le
-return-most b (If x p q) h = zero-le
-return-most b (BranchCmp op x y p q) h = zero-le
-return-most b (Return xs) h = h.0
-return-most b Unreachable h = zero-le
+return_most : (b : Bounds) (t : Terminator) → FitTerminator b t → return_count t ≤ b.list
+unfolding return_count
+return_most b (Jump p) h = zero-le
+return_most b (If x p q) h = zero-le
+return_most b (BranchCmp op x y p q) h = zero-le
+return_most b (Return xs) h = h.0
+return_most b Unreachable h = zero-le
 
-calls-within : (b : Bounds) (seen : List Bool) (late : Bool) (is : List Instruction) → FitInstructions b seen late is → CallsWithin b.list is
-calls-within b seen late [] h = tt
-calls-within b seen late (i ∷ is) h = (call-most b seen i.kind h.0.1, calls-within b (marks seen (dests i.kind)) (late || not (isPhi i.kind)) is h.1)
+calls_within : (b : Bounds) (seen : List Bool) (late : Bool) (is : List Instruction) → FitInstructions b seen late is → CallsWithin b.list is
+calls_within b seen late [] h = tt
+calls_within b seen late (i ∷ is) h = (call_most_lem b seen i.kind h.0.1, calls_within b (marks seen (dests i.kind)) (late || not (is_phi i.kind)) is h.1)
 
-blocks-within : (m : Mosts) (b : Bounds) (total : ℕ) (seen : List Bool) (ks : List Block) → FitBlocks m b total seen ks → ListsWithin b.list ks
-blocks-within m b total seen [] h = tt
-blocks-within m b total seen (k ∷ ks) h =
-    (calls-within b seen false k.instructions h.0.instructions, return-most b k.terminator h.0.terminator, blocks-within m b (total + length k.instructions) (blockMarks seen k.instructions) ks h.1)
+blocks_within : (m : Mosts) (b : Bounds) (total : ℕ) (seen : List Bool) (ks : List Block) → FitBlocks m b total seen ks → ListsWithin b.list ks
+blocks_within m b total seen [] h = tt
+blocks_within m b total seen (k ∷ ks) h =
+    (calls_within b seen false k.instructions h.0.instructions, return_most b k.terminator h.0.terminator, blocks_within m b (total + length k.instructions) (block_marks seen k.instructions) ks h.1)
 
 -- "16 in any list"
-pub lists-within : (m : Mosts) (r : Routine) → WellFormed m r → ListsWithin m.list r.blocks
-lists-within m r w = blocks-within m (bounds m r) 0 (marks (unmarked r) r.parameters) r.blocks w.blocks
+pub lists_within : (m : Mosts) (r : Routine) → WellFormed m r → ListsWithin m.list r.blocks
+lists_within m r w = blocks_within m (bounds m r) 0 (marks (unmarked r) r.parameters) r.blocks w.blocks
 
-count_most : (m : Mosts) (b : Bounds) (total : ℕ) (seen : List Bool) (ks : List Block) → total ≤ m.all → FitBlocks m b total seen ks → total + instructionCount ks ≤ m.all
-unfolding instructionCount
+count_most : (m : Mosts) (b : Bounds) (total : ℕ) (seen : List Bool) (ks : List Block) → total ≤ m.all → FitBlocks m b total seen ks → total + instruction_count ks ≤ m.all
+unfolding instruction_count
 count_most m b total seen [] l h = omega (arith, l)
-count_most m b total seen (k ∷ ks) l h = omega (arith, count_most m b (total + length k.instructions) (blockMarks seen k.instructions) ks h.0.all h.1)
+count_most m b total seen (k ∷ ks) l h = omega (arith, count_most m b (total + length k.instructions) (block_marks seen k.instructions) ks h.0.all h.1)
 
 -- "256 in all"
-pub all_most : (m : Mosts) (r : Routine) → WellFormed m r → instructionCount r.blocks ≤ m.all
+pub all_most : (m : Mosts) (r : Routine) → WellFormed m r → instruction_count r.blocks ≤ m.all
 all_most m r w = omega (arith, count_most m (bounds m r) 0 (marks (unmarked r) r.parameters) r.blocks zero-le w.blocks)
 
 -- each instruction of an output is an input's, or has a fresh number of its own
-rebuilds-count : {x : Bool} {n m : ℕ} {xs ys : List Value} {bs : List Instruction} → Rebuilds x n xs ys bs m → n + length bs ≤ m
-rebuilds-count Rebuilds.none = omega arith
-rebuilds-count (Rebuilds.same r) = rebuilds-count r
-rebuilds-count (Rebuilds.anew i r) = omega (arith, rebuilds-count r)
-rebuilds-count (Rebuilds.bare r) = omega (arith, rebuilds-count r)
+rebuilds_count : {x : Bool} {n m : ℕ} {xs ys : List Value} {bs : List Instruction} → Rebuilds x n xs ys bs m → n + length bs ≤ m
+rebuilds_count Rebuilds.none = omega arith
+rebuilds_count (Rebuilds.same r) = rebuilds_count r
+rebuilds_count (Rebuilds.anew i r) = omega (arith, rebuilds_count r)
+rebuilds_count (Rebuilds.bare r) = omega (arith, rebuilds_count r)
 
-pub lowers-count : {n m : ℕ} {is os : List Instruction} {t u : Terminator} {ds : List ValueId} → Lowers n is t os u ds m → n + length os ≤ length is + m
-lowers-count Lowers.ended = omega arith
-lowers-count (Lowers.returned r) = omega (arith, rebuilds-count r)
-lowers-count (Lowers.kept r) = omega (arith, lowers-count r)
-lowers-count (Lowers.left v r) = omega (arith, lowers-count r)
-lowers-count (Lowers.assigned s r) = omega (arith, lowers-count r)
-lowers-count (Lowers.called {bs} x r) = rw (length-append bs) (omega (arith, rebuilds-count x, lowers-count r))
-lowers-count (Lowers.stored {bs} x r) = rw (length-append bs) (omega (arith, rebuilds-count x, lowers-count r))
+pub lowers_count : {n m : ℕ} {is os : List Instruction} {t u : Terminator} {ds : List ValueId} → Lowers n is t os u ds m → n + length os ≤ length is + m
+lowers_count Lowers.ended = omega arith
+lowers_count (Lowers.returned r) = omega (arith, rebuilds_count r)
+lowers_count (Lowers.kept r) = omega (arith, lowers_count r)
+lowers_count (Lowers.left v r) = omega (arith, lowers_count r)
+lowers_count (Lowers.assigned s r) = omega (arith, lowers_count r)
+lowers_count (Lowers.called {bs} x r) = rw (length-append bs) (omega (arith, rebuilds_count x, lowers_count r))
+lowers_count (Lowers.stored {bs} x r) = rw (length-append bs) (omega (arith, rebuilds_count x, lowers_count r))

@@ -14,20 +14,20 @@ use Rattle.mir.specs.declared.Value.{Value}
 use Rattle.mir.specs.MirType.{MirType, Felt, Bool, U32, Tuple, Struct, FixedArray, Pointer, Function, Unit, Error, Unknown}
 use Rattle.bytes_types.specs.WellFormed.{FitMirType}
 use Rattle.mir.specs.Syntax.{Place, FieldInit, Meta, Instruction, Call}
-use Rattle.mir.specs.Reads.{isPhi}
+use Rattle.mir.specs.Reads.{is_phi}
 use Rattle.bytes_field.specs.declared.Bounds.{Bounds}
 use Rattle.bytes_laws.specs.WellFormed.{FitType, FitNews, FitInit, FitMeta, FitPlace, FitKind}
 use Rattle.mir.specs.Lists.{Each}
-use Rattle.mir.specs.Lookup.{Types, row_of, recordedType, valueRow, isStruct, structFieldsOf, onSome}
-use Rattle.mir.specs.Parts.{fromStructFields, structParts, or_else, structRow}
+use Rattle.mir.specs.Lookup.{Types, row_of, recorded_type, value_row, is_struct, struct_fields_of, on_some}
+use Rattle.mir.specs.Parts.{from_struct_fields, struct_parts, or_else, struct_row}
 use Rattle.rewrite.specs.declared.Counts.{Counts}
 use Rattle.rewrite.specs.State.{AggStates, state_of, replaced, chain}
-use Rattle.rewrite.specs.Rebuild.{Rebuilt, Wanted, oneValue, keepValue, rebuildValue, rebuildAll, aggregateType}
-use Rattle.rewrite.specs.Step.{Piece, kept, left, tracked, assigned, stepBuild, foldedParts, stepInsert, handOn, stepExtract, stepLoaded, stepLoad, storeRebuilt, storeKept, stepStore, stepAssign, stepCall, guarded}
-use Rattle.rewrite_laws.proofs.Wider.{Wider, kind-wider}
-use Rattle.rewrite_laws.proofs.Parts.{Parts, FitStates, Holds, insert-fit, state-fit, on_some, any, holds-any, element-fit, replaced-fit, chain-fit, fields_fit}
+use Rattle.rewrite.specs.Rebuild.{Rebuilt, Wanted, one_value, keep_value, rebuild_value, rebuild_all, aggregate_type}
+use Rattle.rewrite.specs.Step.{Piece, kept, left, tracked, assigned, step_build, folded_parts, step_insert, hand_on, step_extract, step_loaded, step_load, store_rebuilt, store_kept, step_store, step_assign, step_call, guarded}
+use Rattle.rewrite_laws.proofs.Wider.{Wider, kind_wider}
+use Rattle.rewrite_laws.proofs.Parts.{Parts, FitStates, Holds, insert_fit, state_fit, on_some_lem, Any, holds_any, element_fit, replaced_fit, chain_fit, fields_fit}
 use Rattle.rewrite_laws.proofs.Rebuilt.{Loose, Typed, all_fit}
-use Rattle.bytes_laws_whole.proofs.Whole.{both-lists}
+use Rattle.bytes_laws_whole.proofs.Whole.{both_lists}
 
 pub record PieceFit (c : Bounds) (p : Piece) : Type 0 where
   pub out : Each (Loose c) p.out
@@ -41,129 +41,129 @@ module _ (b c : Bounds) (w : Wider b c) (τ : Types) (g : Typed c τ) where
   abbrev States : AggStates → Type 0
   States S = FitStates c.list c.next S
 
-  abbrev parts : List Value → Type 0
-  parts xs = Parts c.list c.next xs
+  abbrev PartsFit : List Value → Type 0
+  PartsFit xs = Parts c.list c.next xs
 
   -- an instruction of the input
-  pub kept-loose : (seen : List B.Bool) (i : Instruction) → FitMeta i.meta → isPhi i.kind ≡ false → FitKind b seen i.kind → Loose c i
-  kept-loose seen i m o h = record { beside = m; other = o; fits = λ marks n. kind-wider b c w seen i.kind h marks n }
+  pub kept_loose : (seen : List B.Bool) (i : Instruction) → FitMeta i.meta → is_phi i.kind ≡ false → FitKind b seen i.kind → Loose c i
+  kept_loose seen i m o h = record { beside = m; other = o; fits = λ marks n. kind_wider b c w seen i.kind h marks n }
 
-  abbrev one : Instruction → Type 0
-  one i = Loose c i
+  abbrev OneFits : Instruction → Type 0
+  OneFits i = Loose c i
 
-  pub piece-kept : (S : AggStates) (i : Instruction) → States S → one i → PieceFit c (kept S i)
+  pub piece_kept : (S : AggStates) (i : Instruction) → States S → OneFits i → PieceFit c (kept S i)
   unfolding kept
-  piece-kept S i h l = record { out = (l, tt); states = h; fresh = tt }
+  piece_kept S i h l = record { out = (l, tt); states = h; fresh = tt }
 
-  piece-tracked : (k : Counts) (S : AggStates) (d : ValueId) (xs : List Value) → States S → parts xs → PieceFit c (tracked k S d xs)
+  piece_tracked : (k : Counts) (S : AggStates) (d : ValueId) (xs : List Value) → States S → PartsFit xs → PieceFit c (tracked k S d xs)
   unfolding tracked left
-  piece-tracked k S d xs h p = record { out = tt; states = insert-fit c.list c.next S d xs h p; fresh = tt }
+  piece_tracked k S d xs h p = record { out = tt; states = insert_fit c.list c.next S d xs h p; fresh = tt }
 
-  piece-left : (k : Counts) (ds : List ValueId) (S : AggStates) → States S → PieceFit c (left k ds S)
+  piece_left : (k : Counts) (ds : List ValueId) (S : AggStates) → States S → PieceFit c (left k ds S)
   unfolding left
-  piece-left k ds S h = record { out = tt; states = h; fresh = tt }
+  piece_left k ds S h = record { out = tt; states = h; fresh = tt }
 
-  piece-assigned : (k : Counts) (S : AggStates) (d : ValueId) (x : Value) (t : TypeId) → States S → fit x → FitType c t → PieceFit c (assigned k S d x t)
+  piece_assigned : (k : Counts) (S : AggStates) (d : ValueId) (x : Value) (t : TypeId) → States S → fit x → FitType c t → PieceFit c (assigned k S d x t)
   unfolding assigned
-  piece-assigned k S d x t h p q = record { out = (record { beside = (tt, tt, tt); other = refl; fits = λ m n. (n.0, p, q) }, tt); states = h; fresh = tt }
+  piece_assigned k S d x t h p q = record { out = (record { beside = (tt, tt, tt); other = refl; fits = λ m n. (n.0, p, q) }, tt); states = h; fresh = tt }
 
-  module _ (S : AggStates) (h : States S) (n : ℕ) (i : Instruction) (l : one i) where
-    pub build-fit : (d : ValueId) (o : Option (List Value)) → Holds parts o → PieceFit c (stepBuild S i d o)
-    unfolding stepBuild
-    build-fit d none p = piece-kept S i h l
-    build-fit d (some xs) p = piece-tracked _ S d xs h p
+  module _ (S : AggStates) (h : States S) (n : ℕ) (i : Instruction) (l : OneFits i) where
+    pub build_fit : (d : ValueId) (o : Option (List Value)) → Holds PartsFit o → PieceFit c (step_build S i d o)
+    unfolding step_build
+    build_fit d none p = piece_kept S i h l
+    build_fit d (some xs) p = piece_tracked _ S d xs h p
 
-    pub folded-fit : (f : B.Bool) (o : Option (List Value)) → Holds parts o → Holds parts (foldedParts f o)
-    unfolding foldedParts
-    folded-fit true o p = p
-    folded-fit false o p = tt
+    pub folded_fit : (f : B.Bool) (o : Option (List Value)) → Holds PartsFit o → Holds PartsFit (folded_parts f o)
+    unfolding folded_parts
+    folded_fit true o p = p
+    folded_fit false o p = tt
 
-    pub insert-piece : (d : ValueId) (o : Option (List Value)) → Holds parts o → PieceFit c (stepInsert S i d o)
-    unfolding stepInsert
-    insert-piece d none p = piece-kept S i h l
-    insert-piece d (some xs) p = piece-tracked _ S d xs h p
+    pub insert_piece : (d : ValueId) (o : Option (List Value)) → Holds PartsFit o → PieceFit c (step_insert S i d o)
+    unfolding step_insert
+    insert_piece d none p = piece_kept S i h l
+    insert_piece d (some xs) p = piece_tracked _ S d xs h p
 
-    hand-fit : (d : ValueId) (t : TypeId) (x : Value) (o : Option (List Value)) → FitType c t → fit x → Holds parts o → PieceFit c (handOn S d t x o)
-    unfolding handOn
-    hand-fit d t x none q p r = piece-assigned _ S d x t h p q
-    hand-fit d t x (some xs) q p r = piece-tracked _ S d xs h r
+    hand_fit : (d : ValueId) (t : TypeId) (x : Value) (o : Option (List Value)) → FitType c t → fit x → Holds PartsFit o → PieceFit c (hand_on S d t x o)
+    unfolding hand_on
+    hand_fit d t x none q p r = piece_assigned _ S d x t h p q
+    hand_fit d t x (some xs) q p r = piece_tracked _ S d xs h r
 
-    pub extract-fit : (d : ValueId) (t : TypeId) (o : Option Value) → FitType c t → Holds fit o → PieceFit c (stepExtract S i d t o)
-    unfolding stepExtract
-    extract-fit d t none q p = piece-kept S i h l
-    extract-fit d t (some x) q p = hand-fit d t x (state_of S x) q p (state-fit c.list c.next S x h)
+    pub extract_fit : (d : ValueId) (t : TypeId) (o : Option Value) → FitType c t → Holds fit o → PieceFit c (step_extract S i d t o)
+    unfolding step_extract
+    extract_fit d t none q p = piece_kept S i h l
+    extract_fit d t (some x) q p = hand_fit d t x (state_of S x) q p (state_fit c.list c.next S x h)
 
     -- a part of a tracked value
-    pub part_of : (x : Value) (k : ℕ) → Holds fit (onSome (state_of S x) (λ xs. get_elem? xs k))
-    part_of x k = on_some c.list c.next parts fit (state_of S x) (λ xs. get_elem? xs k) (state-fit c.list c.next S x h) (λ xs p. element-fit c.list c.next xs k p.1)
+    pub part_of : (x : Value) (k : ℕ) → Holds fit (on_some (state_of S x) (λ xs. get_elem? xs k))
+    part_of x k = on_some_lem c.list c.next PartsFit fit (state_of S x) (λ xs. get_elem? xs k) (state_fit c.list c.next S x h) (λ xs p. element_fit c.list c.next xs k p.1)
 
     -- a tracked value with a part replaced
-    pub put_of : (x : Value) (k : ℕ) (y : Value) → fit y → Holds parts (onSome (state_of S x) (λ xs. replaced xs k y))
-    put_of x k y p = on_some c.list c.next parts parts (state_of S x) (λ xs. replaced xs k y) (state-fit c.list c.next S x h) (λ xs q. replaced-fit c.list c.next xs k y q p)
+    pub put_of : (x : Value) (k : ℕ) (y : Value) → fit y → Holds PartsFit (on_some (state_of S x) (λ xs. replaced xs k y))
+    put_of x k y p = on_some_lem c.list c.next PartsFit PartsFit (state_of S x) (λ xs. replaced xs k y) (state_fit c.list c.next S x h) (λ xs q. replaced_fit c.list c.next xs k y q p)
 
     -- a tracked value, where the type is an aggregate
-    pub state-at : (t : TypeId) (x : Value) → Holds parts (onSome (aggregateType τ t) (λ u. state_of S x))
-    state-at t x = on_some c.list c.next (any c.list c.next) parts (aggregateType τ t) (λ u. state_of S x) (holds-any c.list c.next (aggregateType τ t)) (λ u a. state-fit c.list c.next S x h)
+    pub state_at : (t : TypeId) (x : Value) → Holds PartsFit (on_some (aggregate_type τ t) (λ u. state_of S x))
+    state_at t x = on_some_lem c.list c.next (Any c.list c.next) PartsFit (aggregate_type τ t) (λ u. state_of S x) (holds_any c.list c.next (aggregate_type τ t)) (λ u a. state_fit c.list c.next S x h)
 
-    loaded-fit : (d : ValueId) (t : TypeId) (o : Option Value) → FitType c t → Holds fit o → PieceFit c (stepLoaded τ S i d t o)
-    unfolding stepLoaded
-    loaded-fit d t none q p = piece-kept S i h l
-    loaded-fit d t (some x) q p = hand-fit d t x (onSome (aggregateType τ t) (λ u. state_of S x)) q p (state-at t x)
+    loaded_fit : (d : ValueId) (t : TypeId) (o : Option Value) → FitType c t → Holds fit o → PieceFit c (step_loaded τ S i d t o)
+    unfolding step_loaded
+    loaded_fit d t none q p = piece_kept S i h l
+    loaded_fit d t (some x) q p = hand_fit d t x (on_some (aggregate_type τ t) (λ u. state_of S x)) q p (state_at t x)
 
-    pub load-fit : (d : ValueId) (pl : Place) (t : TypeId) (o : Option ℕ) → pl.base.0 < c.next → FitType c t → PieceFit c (stepLoad τ S i d pl t o)
-    unfolding stepLoad
-    load-fit d pl t none k q = piece-kept S i h l
-    load-fit d pl t (some j) k q =
-        loaded-fit d t (onSome (S pl.base.0) (λ xs. chain τ S (Value.Operand pl.base) pl.projections)) q
-        (on_some c.list c.next (any c.list c.next) fit (S pl.base.0) (λ xs. chain τ S (Value.Operand pl.base) pl.projections) (holds-any c.list c.next (S pl.base.0))
-        (λ xs a. chain-fit c.list c.next τ S h (Value.Operand pl.base) pl.projections (k, w.top)))
+    pub load_fit : (d : ValueId) (pl : Place) (t : TypeId) (o : Option ℕ) → pl.base.0 < c.next → FitType c t → PieceFit c (step_load τ S i d pl t o)
+    unfolding step_load
+    load_fit d pl t none k q = piece_kept S i h l
+    load_fit d pl t (some j) k q =
+        loaded_fit d t (on_some (S pl.base.0) (λ xs. chain τ S (Value.Operand pl.base) pl.projections)) q
+        (on_some_lem c.list c.next (Any c.list c.next) fit (S pl.base.0) (λ xs. chain τ S (Value.Operand pl.base) pl.projections) (holds_any c.list c.next (S pl.base.0))
+        (λ xs a. chain_fit c.list c.next τ S h (Value.Operand pl.base) pl.projections (k, w.top)))
 
-    pub assign-fit : (d : ValueId) (o : Option (List Value)) → Holds parts o → PieceFit c (stepAssign S i d o)
-    unfolding stepAssign
-    assign-fit d none p = piece-kept S i h l
-    assign-fit d (some xs) p = piece-tracked _ S d xs h p
+    pub assign_fit : (d : ValueId) (o : Option (List Value)) → Holds PartsFit o → PieceFit c (step_assign S i d o)
+    unfolding step_assign
+    assign_fit d none p = piece_kept S i h l
+    assign_fit d (some xs) p = piece_tracked _ S d xs h p
 
-    pub guarded-fit : (x : B.Bool) (p : Piece) → PieceFit c p → PieceFit c (guarded x S i p)
+    pub guarded_fit : (x : B.Bool) (p : Piece) → PieceFit c p → PieceFit c (guarded x S i p)
     unfolding guarded
-    guarded-fit true p f = f
-    guarded-fit false p f = piece-kept S i h l
+    guarded_fit true p f = f
+    guarded_fit false p f = piece_kept S i h l
 
     -- a Store behind its rebuild
-    rebuilt-store : (m : Meta) (pl : Place) (t : TypeId) (r : Rebuilt) (xs : List Value) → FitMeta m → FitPlace c pl → FitType c t → fit Value.Error → Each (Loose c) r.before → Each fit xs → Each (FitType c) r.fresh → PieceFit c (storeRebuilt S m pl t r xs)
-    unfolding storeRebuilt kept
-    rebuilt-store m pl t r [] a k q e u v y = record { out = (record { beside = a; other = refl; fits = λ z y. (k, tt, q) }, tt); states = h; fresh = tt }
-    rebuilt-store m pl t r (x ∷ xs) a k q e u v y =
-        record { out = both-lists (Loose c) r.before _ u (record { beside = a; other = refl; fits = λ z y. (k, v.0, q) }, tt); states = h; fresh = y }
+    rebuilt_store : (m : Meta) (pl : Place) (t : TypeId) (r : Rebuilt) (xs : List Value) → FitMeta m → FitPlace c pl → FitType c t → fit Value.Error → Each (Loose c) r.before → Each fit xs → Each (FitType c) r.fresh → PieceFit c (store_rebuilt S m pl t r xs)
+    unfolding store_rebuilt kept
+    rebuilt_store m pl t r [] a k q e u v y = record { out = (record { beside = a; other = refl; fits = λ z y. (k, tt, q) }, tt); states = h; fresh = tt }
+    rebuilt_store m pl t r (x ∷ xs) a k q e u v y =
+        record { out = both_lists (Loose c) r.before _ u (record { beside = a; other = refl; fits = λ z y. (k, v.0, q) }, tt); states = h; fresh = y }
 
     -- its value stands behind the rebuild
-    store-fresh : (m : Meta) (pl : Place) (x : Value) (t : TypeId) (rest : ℕ → Rebuilt) (s : Option (List Value)) → let r = oneValue τ n x rest (some t) s in (storeRebuilt S m pl t r r.values).fresh ≡ r.fresh
-    unfolding oneValue keepValue rebuildValue storeRebuilt
-    store-fresh m pl x t rest none = refl
-    store-fresh m pl x t rest (some xs) = refl
+    store_fresh : (m : Meta) (pl : Place) (x : Value) (t : TypeId) (rest : ℕ → Rebuilt) (s : Option (List Value)) → let r = one_value τ n x rest (some t) s in (store_rebuilt S m pl t r r.values).fresh ≡ r.fresh
+    unfolding one_value keep_value rebuild_value store_rebuilt
+    store_fresh m pl x t rest none = refl
+    store_fresh m pl x t rest (some xs) = refl
 
-    store_kept : (pl : Place) (x : Value) (t : TypeId) (o : Option (List Value)) → FitMeta i.meta → FitPlace c pl → FitType c t → fit x → n + length (storeKept τ S n i pl x t o).fresh ≤ c.next → PieceFit c (storeKept τ S n i pl x t o)
-    unfolding storeKept rebuildAll
-    store_kept pl x t none a k q p z = piece-kept S i h l
-    store_kept pl x t (some xs) a k q p z =
+    store_kept_lem : (pl : Place) (x : Value) (t : TypeId) (o : Option (List Value)) → FitMeta i.meta → FitPlace c pl → FitType c t → fit x → n + length (store_kept τ S n i pl x t o).fresh ≤ c.next → PieceFit c (store_kept τ S n i pl x t o)
+    unfolding store_kept rebuild_all
+    store_kept_lem pl x t none a k q p z = piece_kept S i h l
+    store_kept_lem pl x t (some xs) a k q p z =
         let ws : List Wanted = record { value = x; at = some t } ∷ [] in
-        let r = rebuildAll τ S n ws in
-        let e : (storeRebuilt S i.meta pl t r r.values).fresh ≡ r.fresh = store-fresh i.meta pl x t (λ m. rebuildAll τ S m []) (state_of S x) in
+        let r = rebuild_all τ S n ws in
+        let e : (store_rebuilt S i.meta pl t r r.values).fresh ≡ r.fresh = store_fresh i.meta pl x t (λ m. rebuild_all τ S m []) (state_of S x) in
         let f = all_fit c w.top τ g S h n ws ((p, q), tt) (rw e at z) in
-        rebuilt-store i.meta pl t r r.values a k q tt f.before f.values f.fresh
+        rebuilt_store i.meta pl t r r.values a k q tt f.before f.values f.fresh
 
-    pub store-fit : (pl : Place) (x : Value) (t : TypeId) (o : Option AggStates) → FitMeta i.meta → FitPlace c pl → FitType c t → fit x → Holds States o → n + length (stepStore τ S n i pl x t o).fresh ≤ c.next → PieceFit c (stepStore τ S n i pl x t o)
-    unfolding stepStore
-    store-fit pl x t none a k q p s z = store_kept pl x t (onSome (aggregateType τ t) (λ u. state_of S x)) a k q p z
-    store-fit pl x t (some S') a k q p s z = piece-left _ [] S' s
+    pub store_fit : (pl : Place) (x : Value) (t : TypeId) (o : Option AggStates) → FitMeta i.meta → FitPlace c pl → FitType c t → fit x → Holds States o → n + length (step_store τ S n i pl x t o).fresh ≤ c.next → PieceFit c (step_store τ S n i pl x t o)
+    unfolding step_store
+    store_fit pl x t none a k q p s z = store_kept_lem pl x t (on_some (aggregate_type τ t) (λ u. state_of S x)) a k q p z
+    store_fit pl x t (some S') a k q p s z = piece_left _ [] S' s
 
     -- a Call behind the rebuilds of its arguments
-    pub call-fit : (ds : List ValueId) (f : ℕ) (xs : List Value) (ps rs : List TypeId) (r : Rebuilt) (ts : List TypeId) → r.fresh ≡ ts → FitMeta i.meta → ((marks : List B.Bool) → FitNews c marks ds → FitKind c marks (Call ds f xs ps rs)) → length r.values ≡ length xs
-        → Each (Loose c) r.before → Each fit r.values → Each (FitType c) ts → PieceFit c (stepCall S i ds f ps rs r ts)
-    unfolding stepCall
-    call-fit ds f xs ps rs r [] e a k s u v x = piece-kept S i h l
-    call-fit ds f xs ps rs r (t ∷ ts) e a k s u v x =
+    pub call_fit : (ds : List ValueId) (f : ℕ) (xs : List Value) (ps rs : List TypeId) (r : Rebuilt) (ts : List TypeId) → r.fresh ≡ ts → FitMeta i.meta → ((marks : List B.Bool) → FitNews c marks ds → FitKind c marks (Call ds f xs ps rs)) → length r.values ≡ length xs
+        → Each (Loose c) r.before → Each fit r.values → Each (FitType c) ts → PieceFit c (step_call S i ds f ps rs r ts)
+    unfolding step_call
+    call_fit ds f xs ps rs r [] e a k s u v x = piece_kept S i h l
+    call_fit ds f xs ps rs r (t ∷ ts) e a k s u v x =
         record {
-          out = both-lists (Loose c) r.before _ u (
+          out = both_lists (Loose c) r.before _ u (
             record {
               beside = (tt, tt, tt);
               other = refl;
@@ -176,43 +176,43 @@ module _ (b c : Bounds) (w : Wider b c) (τ : Types) (g : Typed c τ) where
         }
 
   -- the fields of a row
-  fields-few : (row : Option MirType) (t : ℕ) → ((T : MirType) → row ≡ some T → FitMirType c.list t T) → length (structFieldsOf row) ≤ c.list
-  unfolding structFieldsOf
-  fields-few none t f = zero-le
-  fields-few (some Felt) t f = zero-le
-  fields-few (some Bool) t f = zero-le
-  fields-few (some U32) t f = zero-le
-  fields-few (some (Tuple ts)) t f = zero-le
-  fields-few (some (Struct n fs)) t f = (f (Struct n fs) refl).1
-  fields-few (some (FixedArray e size)) t f = zero-le
-  fields-few (some (Pointer e)) t f = zero-le
-  fields-few (some (Function ps r)) t f = zero-le
-  fields-few (some Unit) t f = zero-le
-  fields-few (some Error) t f = zero-le
-  fields-few (some Unknown) t f = zero-le
+  fields_few : (row : Option MirType) (t : ℕ) → ((T : MirType) → row ≡ some T → FitMirType c.list t T) → length (struct_fields_of row) ≤ c.list
+  unfolding struct_fields_of
+  fields_few none t f = zero-le
+  fields_few (some Felt) t f = zero-le
+  fields_few (some Bool) t f = zero-le
+  fields_few (some U32) t f = zero-le
+  fields_few (some (Tuple ts)) t f = zero-le
+  fields_few (some (Struct n fs)) t f = (f (Struct n fs) refl).1
+  fields_few (some (FixedArray e size)) t f = zero-le
+  fields_few (some (Pointer e)) t f = zero-le
+  fields_few (some (Function ps r)) t f = zero-le
+  fields_few (some Unit) t f = zero-le
+  fields_few (some Error) t f = zero-le
+  fields_few (some Unknown) t f = zero-le
 
-  row-few : (o : Option TypeId) → length (structFieldsOf (row_of τ o)) ≤ c.list
+  row_few : (o : Option TypeId) → length (struct_fields_of (row_of τ o)) ≤ c.list
   unfolding row_of
-  row-few none = fields-few none 0 (λ T e. absurd (none-ne-some T e))
-  row-few (some t) = fields-few (get_elem? τ.rows t.0) t.0 (λ T e. g.rows t.0 T e)
+  row_few none = fields_few none 0 (λ T e. absurd (none-ne-some T e))
+  row_few (some t) = fields_few (get_elem? τ.rows t.0) t.0 (λ T e. g.rows t.0 T e)
 
-  or-few : (p q : Option MirType) → length (structFieldsOf p) ≤ c.list → length (structFieldsOf q) ≤ c.list → length (structFieldsOf (or_else p q)) ≤ c.list
+  or_few : (p q : Option MirType) → length (struct_fields_of p) ≤ c.list → length (struct_fields_of q) ≤ c.list → length (struct_fields_of (or_else p q)) ≤ c.list
   unfolding or_else
-  or-few none q a b = b
-  or-few (some T) q a b = a
+  or_few none q a b = b
+  or_few (some T) q a b = a
 
-  struct-few : (d : ValueId) (t : TypeId) → length (structFieldsOf (structRow τ d t)) ≤ c.list
-  unfolding structRow valueRow
-  struct-few d t = or-few (row_of τ (recordedType τ d)) (row_of τ (some t)) (row-few (recordedType τ d)) (row-few (some t))
+  struct_few : (d : ValueId) (t : TypeId) → length (struct_fields_of (struct_row τ d t)) ≤ c.list
+  unfolding struct_row value_row
+  struct_few d t = or_few (row_of τ (recorded_type τ d)) (row_of τ (some t)) (row_few (recorded_type τ d)) (row_few (some t))
 
-  pub struct_parts : (d : ValueId) (fs : List FieldInit) (t : TypeId) → Each (FitInit c) fs → Holds parts (structParts τ d fs t)
-  unfolding structParts
-  struct_parts d fs t h = at (isStruct (structRow τ d t)) (few (fromStructFields fs (structFieldsOf (structRow τ d t))) (fields_fit c fs (structFieldsOf (structRow τ d t)) h))
+  pub struct_parts_lem : (d : ValueId) (fs : List FieldInit) (t : TypeId) → Each (FitInit c) fs → Holds PartsFit (struct_parts τ d fs t)
+  unfolding struct_parts
+  struct_parts_lem d fs t h = at (is_struct (struct_row τ d t)) (few (from_struct_fields fs (struct_fields_of (struct_row τ d t))) (fields_fit c fs (struct_fields_of (struct_row τ d t)) h))
     where
-      few : (o : Option (List Value)) → Holds (λ ys. (length ys ≡ length (structFieldsOf (structRow τ d t))) × Each fit ys) o → Holds parts o
+      few : (o : Option (List Value)) → Holds (λ ys. (length ys ≡ length (struct_fields_of (struct_row τ d t))) × Each fit ys) o → Holds PartsFit o
       few none q = tt
-      few (some ys) q = (omega (arith, q.0, struct-few d t), q.1)
+      few (some ys) q = (omega (arith, q.0, struct_few d t), q.1)
 
-      at : (x : B.Bool) → Holds parts (fromStructFields fs (structFieldsOf (structRow τ d t))) → Holds parts (cond x (fromStructFields fs (structFieldsOf (structRow τ d t))) none)
+      at : (x : B.Bool) → Holds PartsFit (from_struct_fields fs (struct_fields_of (struct_row τ d t))) → Holds PartsFit (cond x (from_struct_fields fs (struct_fields_of (struct_row τ d t))) none)
       at true q = q
       at false q = tt

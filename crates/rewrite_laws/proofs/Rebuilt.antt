@@ -15,27 +15,27 @@ use Rattle.mir.specs.declared.Value.{Value}
 use Rattle.mir.specs.MirType.{StructField, MirType, Felt, Bool, U32, Tuple, Struct, FixedArray, Pointer, Function, Unit, Error, Unknown}
 use Rattle.bytes_types.specs.WellFormed.{FitFields, FitMirType}
 use Rattle.mir.specs.Syntax.{Instruction}
-use Rattle.mir.specs.Reads.{dests, isPhi}
+use Rattle.mir.specs.Reads.{dests, is_phi}
 use Rattle.bytes_field.specs.declared.Bounds.{Bounds}
 use Rattle.bytes_laws.specs.WellFormed.{FitType, FitOption, FitNews, FitInit, FitMeta, FitKind}
 use Rattle.mir.specs.Lists.{Each}
-use Rattle.mir.specs.Lookup.{Types, row_of, recordedType, isAggregate}
+use Rattle.mir.specs.Lookup.{Types, row_of, recorded_type, is_aggregate}
 use Rattle.rewrite.specs.State.{AggStates, state_of}
-use Rattle.rewrite.specs.Rebuild.{fitted, named, rebuildAt, Rebuilt, keepValue, rebuildValue, oneValue, Wanted, rebuildAll, aggregateType, wantedArguments, returnType, wantedReturns}
-use Rattle.rewrite_laws.proofs.Parts.{Parts, FitStates, Holds, state-fit}
-use Rattle.bytes_laws_whole.proofs.Whole.{both-lists}
+use Rattle.rewrite.specs.Rebuild.{fitted, named, rebuild_at, Rebuilt, keep_value, rebuild_value, one_value, Wanted, rebuild_all, aggregate_type, wanted_arguments, return_type, wanted_returns}
+use Rattle.rewrite_laws.proofs.Parts.{Parts, FitStates, Holds, state_fit}
+use Rattle.bytes_laws_whole.proofs.Whole.{both_lists}
 
 -- an instruction fits wherever its dests are new; it is no Phi
 pub record Loose (c : Bounds) (i : Instruction) : Type 0 where
   pub beside : FitMeta i.meta
-  pub other : isPhi i.kind ≡ false
+  pub other : is_phi i.kind ≡ false
   pub fits : (marks : List B.Bool) → FitNews c marks (dests i.kind) → FitKind c marks i.kind
 
 -- the types of a routine, as its byte form bounds them
 pub record Typed (c : Bounds) (τ : Types) : Type 0 where
   pub rows : (t : ℕ) (T : MirType) → get_elem? τ.rows t ≡ some T → FitMirType c.list t T
   pub count : length τ.rows ≤ c.types
-  pub recorded : (v : ValueId) → FitOption (FitType c) (recordedType τ v)
+  pub recorded : (v : ValueId) → FitOption (FitType c) (recorded_type τ v)
 
 module _ (c : Bounds) (top : c.next ≤ 65536) where
   abbrev fit : Value → Type 0
@@ -43,39 +43,39 @@ module _ (c : Bounds) (top : c.next ≤ 65536) where
 
   -- ---- one rebuild
 
-  fitted-fit : (k : ℕ) (xs : List Value) → Each fit xs → (length (fitted k xs) ≡ k) × Each fit (fitted k xs)
+  fitted_fit : (k : ℕ) (xs : List Value) → Each fit xs → (length (fitted k xs) ≡ k) × Each fit (fitted k xs)
   unfolding fitted
-  fitted-fit zero xs h = (refl, tt)
-  fitted-fit (suc k) [] h = let r = fitted-fit k [] tt in (ap (λ n. suc n) r.0, (tt, r.1))
-  fitted-fit (suc k) (x ∷ xs) h = let r = fitted-fit k xs h.1 in (ap (λ n. suc n) r.0, (h.0, r.1))
+  fitted_fit zero xs h = (refl, tt)
+  fitted_fit (suc k) [] h = let r = fitted_fit k [] tt in (ap (λ n. suc n) r.0, (tt, r.1))
+  fitted_fit (suc k) (x ∷ xs) h = let r = fitted_fit k xs h.1 in (ap (λ n. suc n) r.0, (h.0, r.1))
 
-  named-fit : (own : ℕ) (names : List NameId) (fs : List StructField) (xs : List Value) → FitFields own names fs → Each fit xs → (length (named fs xs) ≡ length fs) × Each (FitInit c) (named fs xs)
+  named_fit : (own : ℕ) (names : List NameId) (fs : List StructField) (xs : List Value) → FitFields own names fs → Each fit xs → (length (named fs xs) ≡ length fs) × Each (FitInit c) (named fs xs)
   unfolding named
-  named-fit own names [] xs f h = (refl, tt)
-  named-fit own names (t ∷ ts) [] f h = let r = named-fit own (t.name ∷ names) ts [] f.3 tt in (ap (λ n. suc n) r.0, ((f.0, tt), r.1))
-  named-fit own names (t ∷ ts) (x ∷ xs) f h = let r = named-fit own (t.name ∷ names) ts xs f.3 h.1 in (ap (λ n. suc n) r.0, ((f.0, h.0), r.1))
+  named_fit own names [] xs f h = (refl, tt)
+  named_fit own names (t ∷ ts) [] f h = let r = named_fit own (t.name ∷ names) ts [] f.3 tt in (ap (λ n. suc n) r.0, ((f.0, tt), r.1))
+  named_fit own names (t ∷ ts) (x ∷ xs) f h = let r = named_fit own (t.name ∷ names) ts xs f.3 h.1 in (ap (λ n. suc n) r.0, ((f.0, h.0), r.1))
 
-  rebuild-fit : (d : ValueId) (xs : List Value) (t : TypeId) (row : Option MirType) → ((T : MirType) → row ≡ some T → FitMirType c.list t.0 T) → t.0 < c.types → Parts c.list c.next xs
-      → Each (Loose c) (rebuildAt d xs t row)
-  unfolding rebuildAt
-  rebuild-fit d xs t none f l p = tt
-  rebuild-fit d xs t (some Felt) f l p = tt
-  rebuild-fit d xs t (some Bool) f l p = tt
-  rebuild-fit d xs t (some U32) f l p = tt
-  rebuild-fit d xs t (some (Tuple ts)) f l p =
-      let r = fitted-fit (length ts) xs p.1 in
+  rebuild_fit : (d : ValueId) (xs : List Value) (t : TypeId) (row : Option MirType) → ((T : MirType) → row ≡ some T → FitMirType c.list t.0 T) → t.0 < c.types → Parts c.list c.next xs
+      → Each (Loose c) (rebuild_at d xs t row)
+  unfolding rebuild_at
+  rebuild_fit d xs t none f l p = tt
+  rebuild_fit d xs t (some Felt) f l p = tt
+  rebuild_fit d xs t (some Bool) f l p = tt
+  rebuild_fit d xs t (some U32) f l p = tt
+  rebuild_fit d xs t (some (Tuple ts)) f l p =
+      let r = fitted_fit (length ts) xs p.1 in
       (record { beside = (tt, tt, tt); other = refl; fits = λ m n. (n.0, (omega (arith, r.0, (f (Tuple ts) refl).0), r.1)) }, tt)
-  rebuild-fit d xs t (some (Struct n fs)) f l p =
-      let r = named-fit t.0 [] fs xs (f (Struct n fs) refl).2 p.1 in
+  rebuild_fit d xs t (some (Struct n fs)) f l p =
+      let r = named_fit t.0 [] fs xs (f (Struct n fs) refl).2 p.1 in
       (record { beside = (tt, tt, tt); other = refl; fits = λ m n'. (n'.0, (omega (arith, r.0, (f (Struct n fs) refl).1), r.1), l) }, tt)
-  rebuild-fit d xs t (some (FixedArray e size)) f l p =
+  rebuild_fit d xs t (some (FixedArray e size)) f l p =
       let g = f (FixedArray e size) refl in
       (record { beside = (tt, tt, tt); other = refl; fits = λ m n. (n.0, p, omega (arith, g.0, l)) }, tt)
-  rebuild-fit d xs t (some (Pointer e)) f l p = tt
-  rebuild-fit d xs t (some (Function ps r)) f l p = tt
-  rebuild-fit d xs t (some Unit) f l p = tt
-  rebuild-fit d xs t (some Error) f l p = tt
-  rebuild-fit d xs t (some Unknown) f l p = tt
+  rebuild_fit d xs t (some (Pointer e)) f l p = tt
+  rebuild_fit d xs t (some (Function ps r)) f l p = tt
+  rebuild_fit d xs t (some Unit) f l p = tt
+  rebuild_fit d xs t (some Error) f l p = tt
+  rebuild_fit d xs t (some Unknown) f l p = tt
 
   -- ---- values in a list
 
@@ -86,61 +86,61 @@ module _ (c : Bounds) (top : c.next ≤ 65536) where
     pub fresh : Each (FitType c) r.fresh
 
   module _ (τ : Types) (g : Typed c τ) where
-    keep-fit : (x : Value) (many : ℕ) (r : Rebuilt) → fit x → RebuiltFit many r → RebuiltFit (suc many) (keepValue x r)
-    unfolding keepValue
-    keep-fit x many r p h = record { before = h.before; values = (p, h.values); same = ap (λ n. suc n) h.same; fresh = h.fresh }
+    keep_fit : (x : Value) (many : ℕ) (r : Rebuilt) → fit x → RebuiltFit many r → RebuiltFit (suc many) (keep_value x r)
+    unfolding keep_value
+    keep_fit x many r p h = record { before = h.before; values = (p, h.values); same = ap (λ n. suc n) h.same; fresh = h.fresh }
 
-    anew-fit : (n : ℕ) (t : TypeId) (xs : List Value) (many : ℕ) (r : Rebuilt) → n < c.next → t.0 < c.types → Parts c.list c.next xs → RebuiltFit many r → RebuiltFit (suc many) (rebuildValue τ n t xs r)
-    unfolding rebuildValue row_of
-    anew-fit n t xs many r l k p h =
+    anew_fit : (n : ℕ) (t : TypeId) (xs : List Value) (many : ℕ) (r : Rebuilt) → n < c.next → t.0 < c.types → Parts c.list c.next xs → RebuiltFit many r → RebuiltFit (suc many) (rebuild_value τ n t xs r)
+    unfolding rebuild_value row_of
+    anew_fit n t xs many r l k p h =
         record {
-          before = both-lists (Loose c) (rebuildAt (record { 0 = n }) xs t (get_elem? τ.rows t.0)) r.before (rebuild-fit (record { 0 = n }) xs t (get_elem? τ.rows t.0) (λ T e. g.rows t.0 T e) k p) h.before;
+          before = both_lists (Loose c) (rebuild_at (record { 0 = n }) xs t (get_elem? τ.rows t.0)) r.before (rebuild_fit (record { 0 = n }) xs t (get_elem? τ.rows t.0) (λ T e. g.rows t.0 T e) k p) h.before;
           values = ((l, top), h.values);
           same = ap (λ n. suc n) h.same;
           fresh = (k, h.fresh);
         }
 
-    one-fit : (n : ℕ) (x : Value) (rest : ℕ → Rebuilt) (o : Option TypeId) (s : Option (List Value)) (many : ℕ) → fit x → FitOption (FitType c) o → Holds (Parts c.list c.next) s
-        → n + length (oneValue τ n x rest o s).fresh ≤ c.next → ((m : ℕ) → m + length (rest m).fresh ≤ c.next → RebuiltFit many (rest m)) → RebuiltFit (suc many) (oneValue τ n x rest o s)
-    unfolding oneValue keepValue rebuildValue
-    one-fit n x rest none s many p q h l f = keep-fit x many (rest n) p (f n l)
-    one-fit n x rest (some t) none many p q h l f = keep-fit x many (rest n) p (f n l)
-    one-fit n x rest (some t) (some xs) many p q h l f = anew-fit n t xs many (rest (suc n)) (omega (arith, l)) q h (f (suc n) (omega (arith, l)))
+    one_fit : (n : ℕ) (x : Value) (rest : ℕ → Rebuilt) (o : Option TypeId) (s : Option (List Value)) (many : ℕ) → fit x → FitOption (FitType c) o → Holds (Parts c.list c.next) s
+        → n + length (one_value τ n x rest o s).fresh ≤ c.next → ((m : ℕ) → m + length (rest m).fresh ≤ c.next → RebuiltFit many (rest m)) → RebuiltFit (suc many) (one_value τ n x rest o s)
+    unfolding one_value keep_value rebuild_value
+    one_fit n x rest none s many p q h l f = keep_fit x many (rest n) p (f n l)
+    one_fit n x rest (some t) none many p q h l f = keep_fit x many (rest n) p (f n l)
+    one_fit n x rest (some t) (some xs) many p q h l f = anew_fit n t xs many (rest (suc n)) (omega (arith, l)) q h (f (suc n) (omega (arith, l)))
 
     -- a wanted value: it fits, and so does its type
     abbrev pub FitWanted : Wanted → Type 0
     FitWanted w = fit w.value × FitOption (FitType c) w.at
 
-    pub all_fit : (S : AggStates) → FitStates c.list c.next S → (n : ℕ) (ws : List Wanted) → Each FitWanted ws → n + length (rebuildAll τ S n ws).fresh ≤ c.next → RebuiltFit (length ws) (rebuildAll τ S n ws)
-    unfolding rebuildAll
+    pub all_fit : (S : AggStates) → FitStates c.list c.next S → (n : ℕ) (ws : List Wanted) → Each FitWanted ws → n + length (rebuild_all τ S n ws).fresh ≤ c.next → RebuiltFit (length ws) (rebuild_all τ S n ws)
+    unfolding rebuild_all
     all_fit S h n [] e l = record { before = tt; values = tt; same = refl; fresh = tt }
     all_fit S h n (w ∷ ws) e l =
-        one-fit n w.value (λ m. rebuildAll τ S m ws) w.at (state_of S w.value) (length ws) e.0.0 e.0.1 (state-fit c.list c.next S w.value h) l
+        one_fit n w.value (λ m. rebuild_all τ S m ws) w.at (state_of S w.value) (length ws) e.0.0 e.0.1 (state_fit c.list c.next S w.value h) l
         (λ m k. all_fit S h m ws e.1 k)
 
     -- ---- what Calls and Returns want
 
-    aggregate-fit : (t : TypeId) → FitType c t → FitOption (FitType c) (aggregateType τ t)
-    unfolding aggregateType
-    aggregate-fit t h = at (isAggregate (row_of τ (some t)))
+    aggregate_fit : (t : TypeId) → FitType c t → FitOption (FitType c) (aggregate_type τ t)
+    unfolding aggregate_type
+    aggregate_fit t h = at (is_aggregate (row_of τ (some t)))
       where
         at : (x : B.Bool) → FitOption (FitType c) (cond x (some t) none)
         at true = h
         at false = tt
 
-    pub arguments-fit : (xs : List Value) (ts : List TypeId) → Each fit xs → Each (FitType c) ts → Each FitWanted (wantedArguments τ xs ts) × (length (wantedArguments τ xs ts) ≡ length xs)
-    unfolding wantedArguments
-    arguments-fit [] ts h k = (tt, refl)
-    arguments-fit (x ∷ xs) [] h k = let r = arguments-fit xs [] h.1 tt in (((h.0, tt), r.0), ap (λ n. suc n) r.1)
-    arguments-fit (x ∷ xs) (t ∷ ts) h k = let r = arguments-fit xs ts h.1 k.1 in (((h.0, aggregate-fit t k.0), r.0), ap (λ n. suc n) r.1)
+    pub arguments_fit_lem : (xs : List Value) (ts : List TypeId) → Each fit xs → Each (FitType c) ts → Each FitWanted (wanted_arguments τ xs ts) × (length (wanted_arguments τ xs ts) ≡ length xs)
+    unfolding wanted_arguments
+    arguments_fit_lem [] ts h k = (tt, refl)
+    arguments_fit_lem (x ∷ xs) [] h k = let r = arguments_fit_lem xs [] h.1 tt in (((h.0, tt), r.0), ap (λ n. suc n) r.1)
+    arguments_fit_lem (x ∷ xs) (t ∷ ts) h k = let r = arguments_fit_lem xs ts h.1 k.1 in (((h.0, aggregate_fit t k.0), r.0), ap (λ n. suc n) r.1)
 
-    return-fit : (x : Value) → FitOption (FitType c) (returnType τ x)
-    unfolding returnType
-    return-fit (Value.Literal l) = tt
-    return-fit (Value.Operand v) = g.recorded v
-    return-fit Value.Error = tt
+    return_fit : (x : Value) → FitOption (FitType c) (return_type τ x)
+    unfolding return_type
+    return_fit (Value.Literal l) = tt
+    return_fit (Value.Operand v) = g.recorded v
+    return_fit Value.Error = tt
 
-    pub returns-fit : (xs : List Value) → Each fit xs → Each FitWanted (wantedReturns τ xs) × (length (wantedReturns τ xs) ≡ length xs)
-    unfolding wantedReturns
-    returns-fit [] h = (tt, refl)
-    returns-fit (x ∷ xs) h = let r = returns-fit xs h.1 in (((h.0, return-fit x), r.0), ap (λ n. suc n) r.1)
+    pub returns_fit : (xs : List Value) → Each fit xs → Each FitWanted (wanted_returns τ xs) × (length (wanted_returns τ xs) ≡ length xs)
+    unfolding wanted_returns
+    returns_fit [] h = (tt, refl)
+    returns_fit (x ∷ xs) h = let r = returns_fit xs h.1 in (((h.0, return_fit x), r.0), ap (λ n. suc n) r.1)

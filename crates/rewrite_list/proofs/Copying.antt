@@ -8,25 +8,25 @@ use borrow.Author.Tests.{eqb-true, eq-eqb}
 use lib.ListN.{length, take, length-append}
 use lib.Seq.{sets, slice, length-take-le}
 use lib.Dec.{eqb}
-use Rattle.bytes_emit.proofs.Sets.{sets-append}
+use Rattle.bytes_emit.proofs.Sets.{sets_append}
 use Rattle.bytes_emit.specs.Written.{Writes}
-use Rattle.rewrite_list.specs.Lists.{lineCount}
+use Rattle.rewrite_list.specs.Lists.{line_count}
 
 -- the first bytes
 pub copied : (s out out' : List ℕ) (to n r : ℕ) → n ≤ length s → r ≡ to + (n - 0) → out' ≡ sets out to (slice 0 n s) → Writes (take n s) out out' to r
 copied s out out' to n r h e f = (omega (arith, e, length-take-le n s h), f)
 
 -- one run behind another
-pub writes-and : (a b out out₁ out₂ : List ℕ) (to p q : ℕ) → Writes a out out₁ to p → Writes b out₁ out₂ p q → Writes (a ++ b) out out₂ to q
-writes-and a b out out₁ out₂ to p q v w =
-    (omega (arith, v.0, w.0, length-append a b), w.1 ∙ ap (λ l. sets l p b) v.1 ∙ ap (λ k. sets (sets out to a) k b) v.0 ∙ sym (sets-append out to a b))
+pub writes_and : (a b out out₁ out₂ : List ℕ) (to p q : ℕ) → Writes a out out₁ to p → Writes b out₁ out₂ p q → Writes (a ++ b) out out₂ to q
+writes_and a b out out₁ out₂ to p q v w =
+    (omega (arith, v.0, w.0, length-append a b), w.1 ∙ ap (λ l. sets l p b) v.1 ∙ ap (λ k. sets (sets out to a) k b) v.0 ∙ sym (sets_append out to a b))
 
 -- no line, and one
-pub line-none : (a b : ℕ) → a ≡ b → lineCount a b ≡ 0
-line-none a b e = rw (eq-eqb a b e) refl
+pub line_none : (a b : ℕ) → a ≡ b → line_count a b ≡ 0
+line_none a b e = rw (eq-eqb a b e) refl
 
-pub line-one : (a b : ℕ) → (a ≡ b → ⊥) → lineCount a b ≡ 1
-line-one a b f = go (eqb a b) refl
+pub line_one : (a b : ℕ) → (a ≡ b → ⊥) → line_count a b ≡ 1
+line_one a b f = go (eqb a b) refl
   where
     go : (c : Bool) → eqb a b ≡ c → ◌≡◌ {A = ℕ} (cond c 0 1) 1
     go true e = absurd (f (eqb-true a b e))

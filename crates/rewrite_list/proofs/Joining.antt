@@ -11,11 +11,11 @@ use lib.ListN.{length, length-append}
 use Rattle.mir.specs.declared.ValueId.{ValueId}
 use Rattle.mir.specs.declared.TypeId.{TypeId}
 use Rattle.mir.specs.declared.Value.{Value}
-use Rattle.bytes_field.specs.Encode.{instructionBytes}
+use Rattle.bytes_field.specs.Encode.{instruction_bytes}
 use Rattle.mir.specs.Lookup.{Types}
 use Rattle.rewrite.specs.State.{AggStates, state_of}
-use Rattle.rewrite.specs.Rebuild.{Rebuilt, Wanted, untouched, keepValue, rebuildValue, oneValue, rebuildAll}
-use Rattle.rewrite_progress.specs.Effect.{rebuiltEffect, thenEffect}
+use Rattle.rewrite.specs.Rebuild.{Rebuilt, Wanted, untouched, keep_value, rebuild_value, one_value, rebuild_all}
+use Rattle.rewrite_progress.specs.Effect.{rebuilt_effect, then_effect}
 use Rattle.rewrite_progress.proofs.Laws.{each_append}
 use Rattle.rewrite_wanted.specs.declared.Wants.{Wants}
 use Rattle.rewrite_wanted.specs.Asked.{Told, stays, build}
@@ -24,40 +24,40 @@ use Rattle.rewrite_wanted.specs.Asked.{Told, stays, build}
 abbrev pub joined : Rebuilt → Rebuilt → Rebuilt
 joined a b = record { before = a.before ++ b.before; values = a.values ++ b.values; fresh = a.fresh ++ b.fresh; clash = a.clash || b.clash }
 
-or-none : (b c : Bool) → (b || false) || c ≡ b || c
-or-none true c = refl
-or-none false c = refl
+or_none : (b c : Bool) → (b || false) || c ≡ b || c
+or_none true c = refl
+or_none false c = refl
 
 -- the first value, then the others
-join_one : (τ : Types) (n : ℕ) (x : Value) (rest : ℕ → Rebuilt) (o : Option TypeId) (s : Option (List Value)) → oneValue τ n x rest o s ≡ joined (oneValue τ n x (λ m. untouched []) o s) (rest (n + length (oneValue τ n x (λ m. untouched []) o s).fresh))
-unfolding oneValue keepValue rebuildValue
+join_one : (τ : Types) (n : ℕ) (x : Value) (rest : ℕ → Rebuilt) (o : Option TypeId) (s : Option (List Value)) → one_value τ n x rest o s ≡ joined (one_value τ n x (λ m. untouched []) o s) (rest (n + length (one_value τ n x (λ m. untouched []) o s).fresh))
+unfolding one_value keep_value rebuild_value
 join_one τ n x rest none s = rw (add-zero n) refl
 join_one τ n x rest (some t) none = rw (add-zero n) refl
-join_one τ n x rest (some t) (some xs) = rw (add-one n, append-nil, or-none) refl
+join_one τ n x rest (some t) (some xs) = rw (add-one n, append-nil, or_none) refl
 
-pub join_first : (τ : Types) (S : AggStates) (n : ℕ) (w : Wanted) (ws : List Wanted) → rebuildAll τ S n (w ∷ ws) ≡ joined (rebuildAll τ S n (w ∷ [])) (rebuildAll τ S (n + length (rebuildAll τ S n (w ∷ [])).fresh) ws)
-unfolding rebuildAll
-join_first τ S n w ws = join_one τ n w.value (λ m. rebuildAll τ S m ws) w.at (state_of S w.value)
+pub join_first : (τ : Types) (S : AggStates) (n : ℕ) (w : Wanted) (ws : List Wanted) → rebuild_all τ S n (w ∷ ws) ≡ joined (rebuild_all τ S n (w ∷ [])) (rebuild_all τ S (n + length (rebuild_all τ S n (w ∷ [])).fresh) ws)
+unfolding rebuild_all
+join_first τ S n w ws = join_one τ n w.value (λ m. rebuild_all τ S m ws) w.at (state_of S w.value)
 
 -- their effects, one after the other
-pub join-effect : (a b : Rebuilt) → rebuiltEffect (joined a b) ≡ thenEffect (rebuiltEffect a) (rebuiltEffect b)
-unfolding rebuiltEffect thenEffect
-join-effect a b = rw (each_append instructionBytes a.before b.before, length-append a.before b.before) refl
+pub join_effect : (a b : Rebuilt) → rebuilt_effect (joined a b) ≡ then_effect (rebuilt_effect a) (rebuilt_effect b)
+unfolding rebuilt_effect then_effect
+join_effect a b = rw (each_append instruction_bytes a.before b.before, length-append a.before b.before) refl
 
 -- one value that stays
-pub one-stays : (τ : Types) (S : AggStates) (n : ℕ) (x : Value) (o : Option TypeId) {w : Wants} → Told τ S x o w → w ≡ Wants.Nothing → rebuildAll τ S n (record { value = x; at = o } ∷ []) ≡ untouched (x ∷ [])
-unfolding rebuildAll keepValue
-one-stays τ S n x o (stays f) e = f n (λ m. untouched [])
-one-stays τ S n x o (build v t xs p q r l) e = absurd (let z : ◌≡◌ {A = ℕ} 0 1 = cc in omega arith)
+pub one_stays : (τ : Types) (S : AggStates) (n : ℕ) (x : Value) (o : Option TypeId) {w : Wants} → Told τ S x o w → w ≡ Wants.Nothing → rebuild_all τ S n (record { value = x; at = o } ∷ []) ≡ untouched (x ∷ [])
+unfolding rebuild_all keep_value
+one_stays τ S n x o (stays f) e = f n (λ m. untouched [])
+one_stays τ S n x o (build v t xs p q r l) e = absurd (let z : ◌≡◌ {A = ℕ} 0 1 = cc in omega arith)
 
 -- one that is rebuilt
 pub data OneBuilt (τ : Types) (S : AggStates) (n : ℕ) (x : Value) (o : Option TypeId) (v : ValueId) (t : TypeId) : Type 0 where
-  built : (xs : List Value) → S v.0 ≡ some xs → t.0 < length τ.rows → rebuildAll τ S n (record { value = x; at = o } ∷ []) ≡ rebuildValue τ n t xs (untouched []) → OneBuilt τ S n x o v t
+  built : (xs : List Value) → S v.0 ≡ some xs → t.0 < length τ.rows → rebuild_all τ S n (record { value = x; at = o } ∷ []) ≡ rebuild_value τ n t xs (untouched []) → OneBuilt τ S n x o v t
 
-pub one-built : (τ : Types) (S : AggStates) (n : ℕ) (x : Value) (o : Option TypeId) (v : ValueId) (t : TypeId) {w : Wants} → Told τ S x o w → w ≡ Wants.Build v t → OneBuilt τ S n x o v t
-unfolding rebuildAll oneValue state_of
-one-built τ S n x o v t (stays f) e = absurd (let z : ◌≡◌ {A = ℕ} 0 1 = cc in omega arith)
-one-built τ S n x o v t (build v' t' xs p q r l) e =
+pub one_built : (τ : Types) (S : AggStates) (n : ℕ) (x : Value) (o : Option TypeId) (v : ValueId) (t : TypeId) {w : Wants} → Told τ S x o w → w ≡ Wants.Build v t → OneBuilt τ S n x o v t
+unfolding rebuild_all one_value state_of
+one_built τ S n x o v t (stays f) e = absurd (let z : ◌≡◌ {A = ℕ} 0 1 = cc in omega arith)
+one_built τ S n x o v t (build v' t' xs p q r l) e =
     let a : v' ≡ v = cc in
     let b : t' ≡ t = cc in
     let r' : S v.0 ≡ some xs = rw (← a) r in

@@ -8,87 +8,87 @@ use native.Mathlib.Numerals.{add-one}
 use native.Mathlib.Omega.{arith}
 use lib.ListN.{length, length-append}
 use lib.Seq.{sets}
-use Rattle.bytes_wire.specs.Value.{valueBytes}
+use Rattle.bytes_wire.specs.Value.{value_bytes}
 use Rattle.mir.specs.declared.ValueId.{ValueId}
 use Rattle.mir.specs.declared.TypeId.{TypeId}
 use Rattle.mir.specs.declared.Value.{Value}
-use Rattle.bytes_field.specs.Encode.{eachBytes}
+use Rattle.bytes_field.specs.Encode.{each_bytes}
 use Rattle.bytes_field.specs.declared.Bounds.{Bounds}
-use Rattle.bytes_operands.specs.Fields.{valueEnd}
-use Rattle.bytes_emit.proofs.Sets.{sets-append}
+use Rattle.bytes_operands.specs.Fields.{value_end}
+use Rattle.bytes_emit.proofs.Sets.{sets_append}
 use Rattle.mir.specs.Lookup.{Types}
 use Rattle.fold.specs.Family.{Marks}
 use Rattle.rewrite.specs.State.{AggStates}
-use Rattle.rewrite.specs.Rebuild.{Rebuilt, untouched, rebuildValue, rebuildAll}
+use Rattle.rewrite.specs.Rebuild.{Rebuilt, untouched, rebuild_value, rebuild_all}
 use Rattle.rewrite_parts.specs.Rows.{ValueAt}
 use Rattle.bytes_emit.specs.Written.{Writes}
 use Rattle.rewrite_progress.proofs.Laws.{each_append}
 use Rattle.rewrite_wanted.specs.declared.Asks.{Asks}
 use Rattle.rewrite_wanted.specs.declared.Wants.{Wants}
-use Rattle.rewrite_wanted.specs.Asked.{Setting, askedAt, askedList, Told}
+use Rattle.rewrite_wanted.specs.Asked.{Setting, asked_at, asked_list, Told}
 use Rattle.rewrite_list.specs.declared.ValueList.{ValueList}
 use Rattle.rewrite_list.specs.declared.Written.{Written}
-use Rattle.rewrite_list.specs.Lists.{Lies, ◌&◌, oneWanted, OfList, WantedWritten, AllWritten}
-use Rattle.rewrite_list.proofs.Joining.{joined, join_first, built, one-built}
+use Rattle.rewrite_list.specs.Lists.{Lies, ◌&◌, one_wanted, OfList, WantedWritten, AllWritten}
+use Rattle.rewrite_list.proofs.Joining.{joined, join_first, built, one_built}
 
 -- what is left to write: values from number i on, which stand from `here` on
 pub record Unwritten (next : ℕ) (t : List ℕ) (asks : Asks) (τ : Types) (S : AggStates) (many : ℕ) (out₀ : List ℕ) (to₀ taken₀ : ℕ) (R₀ : Rebuilt) (out : List ℕ) (to taken here i : ℕ) : Type 0 where
   pub rest : List Value
   pub lies : Lies next t here rest
   pub left : i + length rest ≡ many
-  pub place : to + length (eachBytes valueBytes (rebuildAll τ S (next + taken) (askedList τ t asks i rest)).values) ≡ to₀ + length (eachBytes valueBytes R₀.values)
-  pub same : sets out to (eachBytes valueBytes (rebuildAll τ S (next + taken) (askedList τ t asks i rest)).values) ≡ sets out₀ to₀ (eachBytes valueBytes R₀.values)
-  pub number : taken + length (rebuildAll τ S (next + taken) (askedList τ t asks i rest)).fresh ≡ taken₀ + length R₀.fresh
+  pub place : to + length (each_bytes value_bytes (rebuild_all τ S (next + taken) (asked_list τ t asks i rest)).values) ≡ to₀ + length (each_bytes value_bytes R₀.values)
+  pub same : sets out to (each_bytes value_bytes (rebuild_all τ S (next + taken) (asked_list τ t asks i rest)).values) ≡ sets out₀ to₀ (each_bytes value_bytes R₀.values)
+  pub number : taken + length (rebuild_all τ S (next + taken) (asked_list τ t asks i rest)).fresh ≡ taken₀ + length R₀.fresh
 
 module _ (next : ℕ) (t : List ℕ) (asks : Asks) (τ : Types) (S : AggStates) (many : ℕ) (out₀ : List ℕ) (to₀ taken₀ : ℕ) (R₀ : Rebuilt) where
   -- all of it
-  pub unwritten-start : (first : ℕ) (xs : List Value) → Lies next t first xs → length xs ≡ many → R₀ ≡ rebuildAll τ S (next + taken₀) (askedList τ t asks 0 xs) → Unwritten next t asks τ S many out₀ to₀ taken₀ R₀ out₀ to₀ taken₀ first 0
-  unwritten-start first xs l m e =
-      record { rest = xs; lies = l; left = omega (arith, m); place = ap (λ R. to₀ + length (eachBytes valueBytes R.values)) (sym e); same = ap (λ R. sets out₀ to₀ (eachBytes valueBytes R.values)) (sym e); number = ap (λ R. taken₀ + length R.fresh) (sym e) }
+  pub unwritten_start : (first : ℕ) (xs : List Value) → Lies next t first xs → length xs ≡ many → R₀ ≡ rebuild_all τ S (next + taken₀) (asked_list τ t asks 0 xs) → Unwritten next t asks τ S many out₀ to₀ taken₀ R₀ out₀ to₀ taken₀ first 0
+  unwritten_start first xs l m e =
+      record { rest = xs; lies = l; left = omega (arith, m); place = ap (λ R. to₀ + length (each_bytes value_bytes R.values)) (sym e); same = ap (λ R. sets out₀ to₀ (each_bytes value_bytes R.values)) (sym e); number = ap (λ R. taken₀ + length R.fresh) (sym e) }
 
   module _ (out : List ℕ) (to taken here i : ℕ) (c : Unwritten next t asks τ S many out₀ to₀ taken₀ R₀ out to taken here i) where
     -- one more is written
-    pub unwritten-again : (out' : List ℕ) (to' taken' there : ℕ) → i < many → there ≡ valueEnd t here → next + taken₀ + length R₀.fresh < 65536
-        → ((x : Value) → ValueAt next t here x → next + taken + length (oneWanted τ S (next + taken) x (askedAt τ t asks i x)).fresh < 65536 → Writes (eachBytes valueBytes (oneWanted τ S (next + taken) x (askedAt τ t asks i x)).values) out out' to to' × (taken' ≡ taken + length (oneWanted τ S (next + taken) x (askedAt τ t asks i x)).fresh))
+    pub unwritten_again : (out' : List ℕ) (to' taken' there : ℕ) → i < many → there ≡ value_end t here → next + taken₀ + length R₀.fresh < 65536
+        → ((x : Value) → ValueAt next t here x → next + taken + length (one_wanted τ S (next + taken) x (asked_at τ t asks i x)).fresh < 65536 → Writes (each_bytes value_bytes (one_wanted τ S (next + taken) x (asked_at τ t asks i x)).values) out out' to to' × (taken' ≡ taken + length (one_wanted τ S (next + taken) x (asked_at τ t asks i x)).fresh))
         → Unwritten next t asks τ S many out₀ to₀ taken₀ R₀ out' to' taken' there (i + 1)
-    unfolding askedList
-    unwritten-again out' to' taken' there h e small f = go c.rest c.lies c.left c.place c.same c.number
+    unfolding asked_list
+    unwritten_again out' to' taken' there h e small f = go c.rest c.lies c.left c.place c.same c.number
       where
         go : (ys : List Value) → Lies next t here ys → i + length ys ≡ many
-            → to + length (eachBytes valueBytes (rebuildAll τ S (next + taken) (askedList τ t asks i ys)).values) ≡ to₀ + length (eachBytes valueBytes R₀.values)
-            → sets out to (eachBytes valueBytes (rebuildAll τ S (next + taken) (askedList τ t asks i ys)).values) ≡ sets out₀ to₀ (eachBytes valueBytes R₀.values)
-            → taken + length (rebuildAll τ S (next + taken) (askedList τ t asks i ys)).fresh ≡ taken₀ + length R₀.fresh
+            → to + length (each_bytes value_bytes (rebuild_all τ S (next + taken) (asked_list τ t asks i ys)).values) ≡ to₀ + length (each_bytes value_bytes R₀.values)
+            → sets out to (each_bytes value_bytes (rebuild_all τ S (next + taken) (asked_list τ t asks i ys)).values) ≡ sets out₀ to₀ (each_bytes value_bytes R₀.values)
+            → taken + length (rebuild_all τ S (next + taken) (asked_list τ t asks i ys)).fresh ≡ taken₀ + length R₀.fresh
             → Unwritten next t asks τ S many out₀ to₀ taken₀ R₀ out' to' taken' there (i + 1)
         go [] l m k b u = absurd (omega arith)
         go (x ∷ ys) (v & l) m k b u =
             let n = next + taken in
-            let A = oneWanted τ S n x (askedAt τ t asks i x) in
-            let B = rebuildAll τ S (n + length A.fresh) (askedList τ t asks (suc i) ys) in
-            let j : rebuildAll τ S n (askedList τ t asks i (x ∷ ys)) ≡ joined A B = join_first τ S n (record { value = x; at = askedAt τ t asks i x }) (askedList τ t asks (suc i) ys) in
+            let A = one_wanted τ S n x (asked_at τ t asks i x) in
+            let B = rebuild_all τ S (n + length A.fresh) (asked_list τ t asks (suc i) ys) in
+            let j : rebuild_all τ S n (asked_list τ t asks i (x ∷ ys)) ≡ joined A B = join_first τ S n (record { value = x; at = asked_at τ t asks i x }) (asked_list τ t asks (suc i) ys) in
             let u' : taken + length (A.fresh ++ B.fresh) ≡ taken₀ + length R₀.fresh = rw j at u in
             let g = f x v (omega (arith, u', length-append A.fresh B.fresh)) in
-            let a = eachBytes valueBytes A.values in
-            let z = eachBytes valueBytes B.values in
-            let w : eachBytes valueBytes (rebuildAll τ S n (askedList τ t asks i (x ∷ ys))).values ≡ a ++ z = ap (λ R. eachBytes valueBytes R.values) j ∙ each_append valueBytes A.values B.values in
+            let a = each_bytes value_bytes A.values in
+            let z = each_bytes value_bytes B.values in
+            let w : each_bytes value_bytes (rebuild_all τ S n (asked_list τ t asks i (x ∷ ys))).values ≡ a ++ z = ap (λ R. each_bytes value_bytes R.values) j ∙ each_append value_bytes A.values B.values in
             let same : next + taken' ≡ n + length A.fresh = ap (λ y. next + y) g.1 ∙ sym (add_assoc next taken (length A.fresh)) in
             record {
               rest = ys;
               lies = rw e l;
               left = omega arith;
               place = rw (same, add-one i) (omega (arith, k, ap length w, length-append a z, g.0.0));
-              same = rw (same, add-one i) (rw (g.0.1, g.0.0) (sym (sets-append out to a z)) ∙ ap (sets out to) (sym w) ∙ b);
+              same = rw (same, add-one i) (rw (g.0.1, g.0.0) (sym (sets_append out to a z)) ∙ ap (sets out to) (sym w) ∙ b);
               number = rw (same, add-one i) (omega (arith, g.1, u', length-append A.fresh B.fresh));
             }
 
     -- all are written
-    pub unwritten-done : many ≤ i → Writes (eachBytes valueBytes R₀.values) out₀ out to₀ to
-    unfolding askedList rebuildAll
-    unwritten-done h = go c.rest c.left c.place c.same
+    pub unwritten_done : many ≤ i → Writes (each_bytes value_bytes R₀.values) out₀ out to₀ to
+    unfolding asked_list rebuild_all
+    unwritten_done h = go c.rest c.left c.place c.same
       where
         go : (ys : List Value) → i + length ys ≡ many
-            → to + length (eachBytes valueBytes (rebuildAll τ S (next + taken) (askedList τ t asks i ys)).values) ≡ to₀ + length (eachBytes valueBytes R₀.values)
-            → sets out to (eachBytes valueBytes (rebuildAll τ S (next + taken) (askedList τ t asks i ys)).values) ≡ sets out₀ to₀ (eachBytes valueBytes R₀.values)
-            → Writes (eachBytes valueBytes R₀.values) out₀ out to₀ to
+            → to + length (each_bytes value_bytes (rebuild_all τ S (next + taken) (asked_list τ t asks i ys)).values) ≡ to₀ + length (each_bytes value_bytes R₀.values)
+            → sets out to (each_bytes value_bytes (rebuild_all τ S (next + taken) (asked_list τ t asks i ys)).values) ≡ sets out₀ to₀ (each_bytes value_bytes R₀.values)
+            → Writes (each_bytes value_bytes R₀.values) out₀ out to₀ to
         go [] m k b = (omega (arith, k), b)
         go (x ∷ ys) m k b = absurd (omega arith)
 
@@ -103,33 +103,33 @@ pub record Valuing (b : Bounds) (s facts t : List ℕ) (tracked : Marks) (l : Va
 
 module _ (b : Bounds) (s facts t : List ℕ) (tracked : Marks) (l : ValueList) (out₀ : List ℕ) (w₀ : Written) where
   pub valuing : Valuing b s facts t tracked l out₀ w₀ out₀ w₀ l.first 0
-  valuing = record { under = zero-le; bound = omega arith; spent = omega arith; near = omega arith; len = refl; left = λ rows τ S xs e y m h. unwritten-start b.next t l.asks τ S l.many out₀ w₀.to w₀.fresh _ l.first xs y m refl }
+  valuing = record { under = zero-le; bound = omega arith; spent = omega arith; near = omega arith; len = refl; left = λ rows τ S xs e y m h. unwritten_start b.next t l.asks τ S l.many out₀ w₀.to w₀.fresh _ l.first xs y m refl }
 
   module _ (out : List ℕ) (w : Written) (here i : ℕ) (c : Valuing b s facts t tracked l out₀ w₀ out w here i) where
-    pub valuing-again : (wants : Wants) (out' : List ℕ) (w' : Written) (there : ℕ) → i < l.many → length out' ≡ length out → (w'.to ≤ w.to + 5) × (w'.fresh ≤ w.fresh + 1) → there ≡ valueEnd t here → there ≤ here + 5
-        → ((τ : Types) (S : AggStates) (rows : List ℕ) (x : Value) → Setting b s facts tracked rows τ S → ValueAt b.next t here x → Told τ S x (askedAt τ t l.asks i x) wants) → WantedWritten b.next t here wants out w out' w'
+    pub valuing_again : (wants : Wants) (out' : List ℕ) (w' : Written) (there : ℕ) → i < l.many → length out' ≡ length out → (w'.to ≤ w.to + 5) × (w'.fresh ≤ w.fresh + 1) → there ≡ value_end t here → there ≤ here + 5
+        → ((τ : Types) (S : AggStates) (rows : List ℕ) (x : Value) → Setting b s facts tracked rows τ S → ValueAt b.next t here x → Told τ S x (asked_at τ t l.asks i x) wants) → WantedWritten b.next t here wants out w out' w'
         → Valuing b s facts t tracked l out₀ w₀ out' w' there (i + 1)
-    valuing-again wants out' w' there h k p e r d f = record {
+    valuing_again wants out' w' there h k p e r d f = record {
       under = omega arith;
       bound = omega (arith, c.bound, p.0);
       spent = omega (arith, c.spent, p.1);
       near = omega (arith, c.near);
       len = k ∙ c.len;
-      left = λ rows τ S xs g y m small. unwritten-again b.next t l.asks τ S l.many out₀ w₀.to w₀.fresh _ out w.to w.fresh here i (c.left rows τ S xs g y m small) out' w'.to w'.fresh there h e small (λ x v n. f τ S x (askedAt τ t l.asks i x) (d τ S rows x g v) n v);
+      left = λ rows τ S xs g y m small. unwritten_again b.next t l.asks τ S l.many out₀ w₀.to w₀.fresh _ out w.to w.fresh here i (c.left rows τ S xs g y m small) out' w'.to w'.fresh there h e small (λ x v n. f τ S x (asked_at τ t l.asks i x) (d τ S rows x g v) n v);
     }
 
-    pub valuing-done : l.many ≤ i → AllWritten b s facts t tracked l w₀.fresh out₀ out w₀.to w.to
-    valuing-done h rows τ S xs g y m small = unwritten-done b.next t l.asks τ S l.many out₀ w₀.to w₀.fresh _ out w.to w.fresh here i (c.left rows τ S xs g y m small) h
+    pub valuing_done : l.many ≤ i → AllWritten b s facts t tracked l w₀.fresh out₀ out w₀.to w.to
+    valuing_done h rows τ S xs g y m small = unwritten_done b.next t l.asks τ S l.many out₀ w₀.to w₀.fresh _ out w.to w.fresh here i (c.left rows τ S xs g y m small) h
 
 -- one value as it stands, and one under a fresh number
-pub value_stays : (R : Rebuilt) (x : Value) (out out' : List ℕ) (to to' taken : ℕ) → R ≡ untouched (x ∷ []) → Writes (valueBytes x) out out' to to' → Writes (eachBytes valueBytes R.values) out out' to to' × (taken ≡ taken + length R.fresh)
+pub value_stays : (R : Rebuilt) (x : Value) (out out' : List ℕ) (to to' taken : ℕ) → R ≡ untouched (x ∷ []) → Writes (value_bytes x) out out' to to' → Writes (each_bytes value_bytes R.values) out out' to to' × (taken ≡ taken + length R.fresh)
 value_stays R x out out' to to' taken e w = rw (e, append-nil) (w, sym (add-zero taken))
 
-pub value-built : (R : Rebuilt) (τ : Types) (n d : ℕ) (t : TypeId) (xs : List Value) (out out' : List ℕ) (to to' taken : ℕ) → R ≡ rebuildValue τ n t xs (untouched []) → d ≡ n → Writes (valueBytes (Value.Operand (record { 0 = d }))) out out' to to' → Writes (eachBytes valueBytes R.values) out out' to to' × (taken + 1 ≡ taken + length R.fresh)
-unfolding rebuildValue
-value-built R τ n d t xs out out' to to' taken e f w = rw (e, ← f) (w, refl)
+pub value_built : (R : Rebuilt) (τ : Types) (n d : ℕ) (t : TypeId) (xs : List Value) (out out' : List ℕ) (to to' taken : ℕ) → R ≡ rebuild_value τ n t xs (untouched []) → d ≡ n → Writes (value_bytes (Value.Operand (record { 0 = d }))) out out' to to' → Writes (each_bytes value_bytes R.values) out out' to to' × (taken + 1 ≡ taken + length R.fresh)
+unfolding rebuild_value
+value_built R τ n d t xs out out' to to' taken e f w = rw (e, ← f) (w, refl)
 
-pub one-valued : (τ : Types) (S : AggStates) (n : ℕ) (x : Value) (o : Option TypeId) (v : ValueId) (u : TypeId) (out out' : List ℕ) (to to' taken : ℕ) (d : ValueId) (w : Wants) → Told τ S x o w → w ≡ Wants.Build v u → n + length (rebuildAll τ S n (record { value = x; at = o } ∷ [])).fresh < 65536 → (n < 65536 → d.0 ≡ n) → Writes (valueBytes (Value.Operand d)) out out' to to'
-    → Writes (eachBytes valueBytes (rebuildAll τ S n (record { value = x; at = o } ∷ [])).values) out out' to to' × (taken + 1 ≡ taken + length (rebuildAll τ S n (record { value = x; at = o } ∷ [])).fresh)
-one-valued τ S n x o v u out out' to to' taken d w a e h f q =
-    elim (one-built τ S n x o v u a e) [ built xs y l z ↦ value-built _ τ n d.0 u xs out out' to to' taken z (f (omega arith)) q ]
+pub one_valued : (τ : Types) (S : AggStates) (n : ℕ) (x : Value) (o : Option TypeId) (v : ValueId) (u : TypeId) (out out' : List ℕ) (to to' taken : ℕ) (d : ValueId) (w : Wants) → Told τ S x o w → w ≡ Wants.Build v u → n + length (rebuild_all τ S n (record { value = x; at = o } ∷ [])).fresh < 65536 → (n < 65536 → d.0 ≡ n) → Writes (value_bytes (Value.Operand d)) out out' to to'
+    → Writes (each_bytes value_bytes (rebuild_all τ S n (record { value = x; at = o } ∷ [])).values) out out' to to' × (taken + 1 ≡ taken + length (rebuild_all τ S n (record { value = x; at = o } ∷ [])).fresh)
+one_valued τ S n x o v u out out' to to' taken d w a e h f q =
+    elim (one_built τ S n x o v u a e) [ built xs y l z ↦ value_built _ τ n d.0 u xs out out' to to' taken z (f (omega arith)) q ]

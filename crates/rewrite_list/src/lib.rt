@@ -2,12 +2,12 @@
 #![tactic(auto)]
 
 ghost use Rattle.std.specs.Prelude.{◌≡◌, ◌+◌, ◌≤◌, ◌<◌, length, take};
-ghost use Rattle.rewrite_parts.specs.Rows.{rowsIn};
-ghost use Rattle.bytes_emit.specs.Written.{Writes, valueRoom, instructionRoom, buildRoom, rebuiltRoom};
-ghost use Rattle.rewrite_build.specs.Written.{rebuildMost};
-ghost use Rattle.table.specs.Number.{numbersBelow};
-ghost use Rattle.rewrite_progress.specs.Effect.{lowEnough, Low, countsBelow};
-ghost use Rattle.rewrite_list.specs.Lists.{mostCopied, PutFew, Roomy, lineCount, freshBelow, valuesMost};
+ghost use Rattle.rewrite_parts.specs.Rows.{rows_in};
+ghost use Rattle.bytes_emit.specs.Written.{Writes, value_room, instruction_room, build_room, rebuilt_room};
+ghost use Rattle.rewrite_build.specs.Written.{rebuild_most};
+ghost use Rattle.table.specs.Number.{numbers_below};
+ghost use Rattle.rewrite_progress.specs.Effect.{low_enough, Low, counts_below};
+ghost use Rattle.rewrite_list.specs.Lists.{most_copied, PutFew, Roomy, line_count, fresh_below, values_most};
 ghost use Rattle.rewrite_list.specs.Lists.{TrackedPut, WantedPut, AllPut, WantedWritten, AllWritten};
 
 use bytes_field::Bounds;
@@ -40,23 +40,23 @@ pub struct Written {
 
 // Fresh value k, of those from number `next` on.
 fn fresh_value(next: u16, k: u32) -> ValueId
-    ensures { next + k < numbersBelow → result.0 ≡ next + k }
+    ensures { next + k < numbers_below → result.0 ≡ next + k }
 {
     ValueId(((next as u32 + k % NUMBERS) % NUMBERS) as u16)
 }
 
 // 1 where a place moved, else 0.
 fn moved(from: usize, to: usize) -> u32
-    ensures { (result ≡ lineCount from to) × (result ≤ 1) }
+    ensures { (result ≡ line_count from to) × (result ≤ 1) }
 {
     if from == to { 0 } else { 1 }
 }
 
 // Copies the first n bytes of s, where so many stand there and may be copied at once, and returns the place behind them.
 pub fn copy_bytes(out: &mut [u8], to: usize, s: &[u8], n: usize) -> usize
-    requires { to < valueRoom }
-    ensures upper_bound { result ≤ to + mostCopied }
-    ensures writes { n ≤ mostCopied → n ≤ length s.now
+    requires { to < value_room }
+    ensures upper_bound { result ≤ to + most_copied }
+    ensures writes { n ≤ most_copied → n ≤ length s.now
         → Writes (take n s.now) out.old out.new to result }
 {
     if MOST_COPIED < n {
@@ -70,7 +70,7 @@ pub fn copy_bytes(out: &mut [u8], to: usize, s: &[u8], n: usize) -> usize
 
 // The rows of the working table.
 fn rows(work: &[u16]) -> &[u16]
-    ensures { result.now ≡ rowsIn work.now }
+    ensures { result.now ≡ rows_in work.now }
 {
     if ROWS < work.len() {
         return &work[..ROWS];
@@ -90,8 +90,8 @@ fn put_tracked(
     t: TypeId,
     d: ValueId,
 ) -> Rebuilt
-    requires { to < rebuiltRoom }
-    ensures to_bound { result.to ≤ to + rebuildMost }
+    requires { to < rebuilt_room }
+    ensures to_bound { result.to ≤ to + rebuild_most }
     ensures tracked_put { TrackedPut b s.now facts.now work.now v t d
         out.old out.new to result }
 {
@@ -113,7 +113,7 @@ fn put_wanted(
 ) -> Put
     requires { Roomy p }
     ensures put_few { PutFew p 1 result }
-    ensures work_unchanged { rowsIn work.new ≡ rowsIn work.old }
+    ensures work_unchanged { rows_in work.new ≡ rows_in work.old }
     ensures wanted_put { WantedPut b s.now facts.now wants
         out.old work.old p out.new work.new result }
 {
@@ -149,9 +149,9 @@ pub fn put_builds(
     tracked: &[bool],
     work: &mut [u16],
 ) -> Put
-    requires { Low lowEnough p × (list.first < countsBelow) }
+    requires { Low low_enough p × (list.first < counts_below) }
     ensures put_few { PutFew p 255 result }
-    ensures work_unchanged { rowsIn work.new ≡ rowsIn work.old }
+    ensures work_unchanged { rows_in work.new ≡ rows_in work.old }
     ensures all_put { AllPut b s.now facts.now t.now tracked.now list
         out.old work.old p out.new work.new result }
 {
@@ -180,7 +180,7 @@ fn put_wanted_value(
     next: u16,
     wants: Wants,
 ) -> Written
-    requires { (w.to < instructionRoom) × (w.fresh < freshBelow) }
+    requires { (w.to < instruction_room) × (w.fresh < fresh_below) }
     ensures to_bound { (result.to ≤ w.to + 5) × (result.fresh ≤ w.fresh + 1) }
     ensures wanted_written { WantedWritten next t.now at wants out.old w out.new result }
 {
@@ -215,8 +215,8 @@ pub fn put_values(
     list: ValueList,
     tracked: &[bool],
 ) -> usize
-    requires { (to < buildRoom) × ((taken < countsBelow) × (list.first < countsBelow)) }
-    ensures upper_bound { result ≤ to + valuesMost }
+    requires { (to < build_room) × ((taken < counts_below) × (list.first < counts_below)) }
+    ensures upper_bound { result ≤ to + values_most }
     ensures all_written { AllWritten b s.now facts.now t.now tracked.now list taken
         out.old out.new to result }
 {

@@ -6,14 +6,14 @@ use native.Mathlib.Omega.{arith}
 use lib.ListN.{length, get_or}
 use Rattle.bytes_field.specs.declared.Bounds.{Bounds}
 use Rattle.bytes_emit.specs.Written.{Writes}
-use Rattle.rewrite_head.specs.Head.{frontEnd}
-use Rattle.rewrite_head.proofs.Front.{front-within}
+use Rattle.rewrite_head.specs.Head.{front_end}
+use Rattle.rewrite_head.proofs.Front.{front_within}
 use Rattle.rewrite_opening.specs.Opens.{Opens, Opening}
 use Rattle.rewrite_opening.specs.declared.Opened.{Opened}
 
 -- what the head's writer asks for
-pub head-asks : {s facts fresh : List ℕ} {b : Bounds} {many size : ℕ} (h : Opens s facts fresh b many size) (at : ℕ) → at ≡ get_or facts b.types 0 → (frontEnd s at ≤ length s) × (length s < 1073741824) × (b.next + many < 65536)
-head-asks {s = s} h at e = (front-within h.routine s at h.reads (sym (e ∙ h.behind)), omega (arith, h.short), h.few)
+pub head_asks : {s facts fresh : List ℕ} {b : Bounds} {many size : ℕ} (h : Opens s facts fresh b many size) (at : ℕ) → at ≡ get_or facts b.types 0 → (front_end s at ≤ length s) × (length s < 1073741824) × (b.next + many < 65536)
+head_asks {s = s} h at e = (front_within h.routine s at h.reads (sym (e ∙ h.behind)), omega (arith, h.short), h.few)
 
 place : Opened → ℕ
 place Opened.NoRoom = 0
@@ -28,9 +28,9 @@ unfolding flag
 no_room e = let z : ◌≡◌ {A = ℕ} 1 0 = ap flag e in absurd (omega arith)
 
 module _ (head : List ℕ) (size n : ℕ) (out : List ℕ) (e : n ≡ 0 + length head) where
-  pub opening-long : length out < n + size → Opening head size out out Opened.NoRoom
-  opening-long l = record { long = λ q. (omega (arith, e), refl); fits = λ to q. absurd (no_room (sym q)) }
+  pub opening_long : length out < n + size → Opening head size out out Opened.NoRoom
+  opening_long l = record { long = λ q. (omega (arith, e), refl); fits = λ to q. absurd (no_room (sym q)) }
 
-  pub opening-fits : n + size ≤ length out → (out' : List ℕ) (to : ℕ) → to ≤ 204800 → Writes head out out' 0 to → Opening head size out out' (Opened.Head to)
+  pub opening_fits : n + size ≤ length out → (out' : List ℕ) (to : ℕ) → to ≤ 204800 → Writes head out out' 0 to → Opening head size out out' (Opened.Head to)
   unfolding place
-  opening-fits l out' to k w = record { long = λ q. absurd (no_room q); fits = λ to' q. let z : to ≡ to' = ap place q in (rw (← z) k, (omega (arith, e), rw (← z) w)) }
+  opening_fits l out' to k w = record { long = λ q. absurd (no_room q); fits = λ to' q. let z : to ≡ to' = ap place q in (rw (← z) k, (omega (arith, e), rw (← z) w)) }

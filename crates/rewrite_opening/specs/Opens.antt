@@ -2,8 +2,8 @@
 use Rattle.std.specs.Prelude.{ℕ, ◌+◌, ◌≤◌, ◌<◌, ◌≡◌, List, length, get_or}
 use Rattle.mir.specs.declared.TypeId.{TypeId}
 use Rattle.bytes_field.specs.declared.Bounds.{Bounds}
-use Rattle.bytes_index.specs.Table.{recordedIn}
-use Rattle.bytes_types.specs.Encode.{typesBytes}
+use Rattle.bytes_index.specs.Table.{recorded_in}
+use Rattle.bytes_types.specs.Encode.{types_bytes}
 use Rattle.mir.specs.Routine.{Routine}
 use Rattle.bytes_sections.specs.Encode.{encode}
 use Rattle.bytes_emit.specs.Written.{Writes}
@@ -15,9 +15,9 @@ pub record Opens (s facts fresh : List ℕ) (b : Bounds) (many size : ℕ) : Typ
   pub routine : Routine
   pub types : List TypeId
   pub reads : encode routine ≡ s
-  pub behind : get_or facts b.types 0 ≡ length (typesBytes routine.types)
+  pub behind : get_or facts b.types 0 ≡ length (types_bytes routine.types)
   pub next : routine.next ≡ b.next
-  pub tabled : Tabled (recordedIn facts) fresh b.next many routine.recorded types
+  pub tabled : Tabled (recorded_in facts) fresh b.next many routine.recorded types
   pub few : b.next + many < 65536
   pub short : length s < 65536
   pub low : size ≤ 4508876800

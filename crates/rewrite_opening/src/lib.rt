@@ -2,7 +2,7 @@
 #![tactic(auto)]
 
 ghost use Rattle.std.specs.Prelude.{◌≡◌};
-ghost use Rattle.rewrite_head.specs.Head.{headBytes, widened};
+ghost use Rattle.rewrite_head.specs.Head.{head_bytes, widened};
 ghost use Rattle.rewrite_opening.specs.Opens.{Opens, Opening};
 
 use bytes_field::Bounds;
@@ -28,7 +28,7 @@ pub fn put_opening(
 ) -> Opened
     requires { Opens s.now facts.now fresh.now b many size }
     ensures { (h : Opens s.now facts.now fresh.now b many size)
-        → Opening (headBytes (widened h.routine h.types)) size out.old out.new result }
+        → Opening (head_bytes (widened h.routine h.types)) size out.old out.new result }
 {
     let at = table::place(facts, b.types as usize);
     let recorded = bytes_index::recorded(facts);

@@ -13,7 +13,7 @@ use Rattle.mir.specs.declared.Value.{Value}
 use Rattle.mir.specs.declared.ValueId.{ValueId}
 use Rattle.mir.specs.Lookup.{is_some}
 use Rattle.fold.specs.Family.{Marks}
-use Rattle.rewrite.specs.State.{AggStates, noStates, insertState, replaced, consSome}
+use Rattle.rewrite.specs.State.{AggStates, no_states, insert_state, replaced, cons_some}
 use Rattle.rewrite_parts.specs.Rows.{RowAt, Entry, untracked, row, Rep, Room}
 use Rattle.rewrite_parts.specs.Filled.{Grown, Filled}
 
@@ -26,31 +26,31 @@ pub record Held (next : ℕ) (s rows : List ℕ) (from used : ℕ) (xs : List Va
   pub most : length xs ≤ 16
 
 -- an entry's mark is that of its state
-entry-marked : {next : ℕ} {s rows : List ℕ} {from used : ℕ} {m : Bool} {o : Option (List Value)} → Entry next s rows from used m o → m ≡ is_some o
+entry_marked : {next : ℕ} {s rows : List ℕ} {from used : ℕ} {m : Bool} {o : Option (List Value)} → Entry next s rows from used m o → m ≡ is_some o
 unfolding is_some
-entry-marked untracked = refl
-entry-marked (row xs f c r b m) = refl
+entry_marked untracked = refl
+entry_marked (row xs f c r b m) = refl
 
 -- the row of an entry
-entry-held : {next : ℕ} {s rows : List ℕ} {from used : ℕ} {m : Bool} {o : Option (List Value)} {xs : List Value} → Entry next s rows from used m o → o ≡ some xs → Held next s rows from used xs
-entry-held {xs} untracked e = absurd (let z : ◌≡◌ {A = ℕ} 0 1 = cc in omega arith)
-entry-held {xs} (row ys f c r b m) e =
+entry_held : {next : ℕ} {s rows : List ℕ} {from used : ℕ} {m : Bool} {o : Option (List Value)} {xs : List Value} → Entry next s rows from used m o → o ≡ some xs → Held next s rows from used xs
+entry_held {xs} untracked e = absurd (let z : ◌≡◌ {A = ℕ} 0 1 = cc in omega arith)
+entry_held {xs} (row ys f c r b m) e =
     let z : xs ≡ ys = cc in
     rw z (record { behind = f; many = c; parts = r; below = b; most = m })
 
 -- a value is marked where it has a state
-pub found-mark : {next : ℕ} {s : List ℕ} {tracked : Marks} {rows : List ℕ} {used : ℕ} {S : AggStates} → Rep next s tracked rows used S → (v : ℕ) → get_or tracked v false ≡ is_some (S v)
-found-mark r v = entry-marked (r.entries v)
+pub found_mark : {next : ℕ} {s : List ℕ} {tracked : Marks} {rows : List ℕ} {used : ℕ} {S : AggStates} → Rep next s tracked rows used S → (v : ℕ) → get_or tracked v false ≡ is_some (S v)
+found_mark r v = entry_marked (r.entries v)
 
 -- a tracked value has a row
-pub found-row : {next : ℕ} {s : List ℕ} {tracked : Marks} {rows : List ℕ} {used : ℕ} {S : AggStates} {xs : List Value} → Rep next s tracked rows used S → (v : ℕ) → S v ≡ some xs → Held next s rows (get_or rows v 0) used xs
-found-row r v e = entry-held (r.entries v) e
+pub found_row : {next : ℕ} {s : List ℕ} {tracked : Marks} {rows : List ℕ} {used : ℕ} {S : AggStates} {xs : List Value} → Rep next s tracked rows used S → (v : ℕ) → S v ≡ some xs → Held next s rows (get_or rows v 0) used xs
+found_row r v e = entry_held (r.entries v) e
 
 -- part k of a list
-pub element-some : (xs : List Value) (k : ℕ) → k < length xs → get_elem? xs k ≡ some (get_or xs k Value.Error)
-element-some [] k h = absurd (omega arith)
-element-some (x ∷ xs) zero h = refl
-element-some (x ∷ xs) (suc k) h = element-some xs k (omega arith)
+pub element_some : (xs : List Value) (k : ℕ) → k < length xs → get_elem? xs k ≡ some (get_or xs k Value.Error)
+element_some [] k h = absurd (omega arith)
+element_some (x ∷ xs) zero h = refl
+element_some (x ∷ xs) (suc k) h = element_some xs k (omega arith)
 
 -- nothing moves among the rows
 abbrev Still : List ℕ → ℕ → List ℕ → Type 0
@@ -68,18 +68,18 @@ entry_old {from} g h w (row xs f c r b m) = rw (w refl) (row xs f (g from f (ome
 
 module _ {next : ℕ} {s : List ℕ} {tracked : Marks} {rows : List ℕ} {used : ℕ} {S : AggStates} (r : Rep next s tracked rows used S) where
   -- a marked value is one of the first 256
-  marked-below : (v : ℕ) → get_or tracked v false ≡ true → v < 256
-  marked-below v e = go (ltb v (length tracked)) refl
+  marked_below : (v : ℕ) → get_or tracked v false ≡ true → v < 256
+  marked_below v e = go (ltb v (length tracked)) refl
     where
       go : (b : Bool) → ltb v (length tracked) ≡ b → v < 256
       go true z = let l : v < length tracked = ltb-true v (length tracked) z in omega (arith, r.marks)
       go false z = absurd (let y : false ≡ true = sym (get_or-eq_default tracked false {n = v} (ltb-false v (length tracked) z)) ∙ e in let u : ◌≡◌ {A = ℕ} 0 1 = cc in omega arith)
 
   -- the states stay where rows are written behind the others
-  pub rep-old : {rows' : List ℕ} → Grown rows used rows' → Rep next s tracked rows' used S
-  rep-old {rows'} g =
+  pub rep_old : {rows' : List ℕ} → Grown rows used rows' → Rep next s tracked rows' used S
+  rep_old {rows'} g =
       record {
-        entries = λ v. entry_old (λ j l m. g.old j m) (omega arith) (λ e. let l = marked-below v e in g.old v (omega (arith, r.behind))) (r.entries v);
+        entries = λ v. entry_old (λ j l m. g.old j m) (omega arith) (λ e. let l = marked_below v e in g.old v (omega (arith, r.behind))) (r.entries v);
         room = omega (arith, r.room, g.size);
         behind = r.behind;
         marks = r.marks;
@@ -87,10 +87,10 @@ module _ {next : ℕ} {s : List ℕ} {tracked : Marks} {rows : List ℕ} {used :
       }
 
   -- a new entry for d: where its row stands, the parts are its state
-  rep-put : {rows' : List ℕ} {used' : ℕ} {xs : List Value} (from : ℕ) (d : ValueId) → Grown rows used rows' → d.0 < 256 → used ≤ used' → used' ≤ length rows → Held next s rows' from used' xs
-      → Rep next s (set tracked d.0 true) (set rows' d.0 from) used' (insertState S d xs)
-  unfolding insertState
-  rep-put {rows'} {used'} {xs} from d g hd hu hp h =
+  rep_put : {rows' : List ℕ} {used' : ℕ} {xs : List Value} (from : ℕ) (d : ValueId) → Grown rows used rows' → d.0 < 256 → used ≤ used' → used' ≤ length rows → Held next s rows' from used' xs
+      → Rep next s (set tracked d.0 true) (set rows' d.0 from) used' (insert_state S d xs)
+  unfolding insert_state
+  rep_put {rows'} {used'} {xs} from d g hd hu hp h =
       record {
         entries = λ v. one v (eqb v d.0) refl;
         room = omega (arith, g.size, length-set rows' d.0 from);
@@ -102,7 +102,7 @@ module _ {next : ℕ} {s : List ℕ} {tracked : Marks} {rows : List ℕ} {used :
       still : {u : ℕ} → Still rows' u (set rows' d.0 from)
       still j l m = get_or-set_other rows' d.0 j from 0 (λ e. omega arith)
 
-      one : (v : ℕ) (b : Bool) → eqb v d.0 ≡ b → Entry next s (set rows' d.0 from) (get_or (set rows' d.0 from) v 0) used' (get_or (set tracked d.0 true) v false) (insertState S d xs v)
+      one : (v : ℕ) (b : Bool) → eqb v d.0 ≡ b → Entry next s (set rows' d.0 from) (get_or (set rows' d.0 from) v 0) used' (get_or (set tracked d.0 true) v false) (insert_state S d xs v)
       one v true e =
           let z : v ≡ d.0 = eqb-true v d.0 e in
           rw (e, z, get_or-set_same tracked d.0 true false (omega (arith, r.marks)), get_or-set_same rows' d.0 from 0 (omega (arith, r.behind, r.room, g.size)))
@@ -110,42 +110,42 @@ module _ {next : ℕ} {s : List ℕ} {tracked : Marks} {rows : List ℕ} {used :
       one v false e =
           let z : (v ≡ d.0 → ⊥) = eqb-false v d.0 e in
           rw (e, get_or-set_other tracked d.0 v true false z)
-          (entry_old (λ j l m. still {u = used} j l m ∙ g.old j m) hu (λ q. let l = marked-below v q in get_or-set_other rows' d.0 v from 0 z ∙ g.old v (omega (arith, r.behind))) (r.entries v))
+          (entry_old (λ j l m. still {u = used} j l m ∙ g.old j m) hu (λ q. let l = marked_below v q in get_or-set_other rows' d.0 v from 0 z ∙ g.old v (omega (arith, r.behind))) (r.entries v))
 
   -- d takes the row of v
-  pub rep-share : {xs : List Value} (d v : ValueId) → S v.0 ≡ some xs → d.0 < 256 → Rep next s (set tracked d.0 true) (set rows d.0 (get_or rows v.0 0)) used (insertState S d xs)
-  rep-share d v e h = rep-put (get_or rows v.0 0) d (record { size = refl; old = λ j l. refl }) h (omega arith) r.room (found-row r v.0 e)
+  pub rep_share : {xs : List Value} (d v : ValueId) → S v.0 ≡ some xs → d.0 < 256 → Rep next s (set tracked d.0 true) (set rows d.0 (get_or rows v.0 0)) used (insert_state S d xs)
+  rep_share d v e h = rep_put (get_or rows v.0 0) d (record { size = refl; old = λ j l. refl }) h (omega arith) r.room (found_row r v.0 e)
 
   -- d has a new row, written behind the others: the number of its parts, then their places
-  pub rep-track : {rows' : List ℕ} (xs : List Value) (n : ℕ) (d : ValueId) → Room rows used → d.0 < 256 → Grown rows used rows' → length xs ≡ n → n ≤ 16 → get_or rows' used 0 ≡ n → Filled next s rows' (used + 1) xs n
-      → Rep next s (set tracked d.0 true) (set rows' d.0 used) (used + 1 + n) (insertState S d xs)
-  rep-track xs n d q h g l m c f =
-      rep-put used d g h (omega arith) (omega (arith, q))
+  pub rep_track : {rows' : List ℕ} (xs : List Value) (n : ℕ) (d : ValueId) → Room rows used → d.0 < 256 → Grown rows used rows' → length xs ≡ n → n ≤ 16 → get_or rows' used 0 ≡ n → Filled next s rows' (used + 1) xs n
+      → Rep next s (set tracked d.0 true) (set rows' d.0 used) (used + 1 + n) (insert_state S d xs)
+  rep_track xs n d q h g l m c f =
+      rep_put used d g h (omega arith) (omega (arith, q))
       (record { behind = r.behind; many = c ∙ sym l; parts = record { each = λ k p. f.each k (omega arith) }; below = omega arith; most = omega arith })
 
 -- nothing is tracked where no mark stands
-pub rep-clear : {next : ℕ} {s : List ℕ} {tracked : Marks} {rows : List ℕ} {used : ℕ} → ((v : ℕ) → get_or tracked v false ≡ false) → used ≤ length rows → 256 ≤ used → length tracked ≡ 256 → length s < 65536 → Rep next s tracked rows used noStates
-unfolding noStates
-rep-clear z h b m l = record { entries = λ v. rw (z v) untracked; room = h; behind = b; marks = m; short = l }
+pub rep_clear : {next : ℕ} {s : List ℕ} {tracked : Marks} {rows : List ℕ} {used : ℕ} → ((v : ℕ) → get_or tracked v false ≡ false) → used ≤ length rows → 256 ≤ used → length tracked ≡ 256 → length s < 65536 → Rep next s tracked rows used no_states
+unfolding no_states
+rep_clear z h b m l = record { entries = λ v. rw (z v) untracked; room = h; behind = b; marks = m; short = l }
 
 -- part k replaced, where there is such a part
-pub replaced-set : (xs : List Value) (k : ℕ) (y : Value) → k < length xs → replaced xs k y ≡ some (set xs k y)
-unfolding replaced consSome
-replaced-set [] k y h = absurd (omega arith)
-replaced-set (x ∷ xs) zero y h = refl
-replaced-set (x ∷ xs) (suc k) y h = rw (replaced-set xs k y (omega arith))
+pub replaced_set : (xs : List Value) (k : ℕ) (y : Value) → k < length xs → replaced xs k y ≡ some (set xs k y)
+unfolding replaced cons_some
+replaced_set [] k y h = absurd (omega arith)
+replaced_set (x ∷ xs) zero y h = refl
+replaced_set (x ∷ xs) (suc k) y h = rw (replaced_set xs k y (omega arith))
 
 -- there is none past their number
-pub replaced-past : (xs : List Value) (k : ℕ) (y : Value) → length xs ≤ k → replaced xs k y ≡ none
-unfolding replaced consSome
-replaced-past [] k y h = refl
-replaced-past (x ∷ xs) zero y h = absurd (omega arith)
-replaced-past (x ∷ xs) (suc k) y h = rw (replaced-past xs k y (omega arith))
+pub replaced_past : (xs : List Value) (k : ℕ) (y : Value) → length xs ≤ k → replaced xs k y ≡ none
+unfolding replaced cons_some
+replaced_past [] k y h = refl
+replaced_past (x ∷ xs) zero y h = absurd (omega arith)
+replaced_past (x ∷ xs) (suc k) y h = rw (replaced_past xs k y (omega arith))
 
 -- so there is such a part where one is replaced
-pub replaced-below : (xs : List Value) (k : ℕ) (y : Value) {ys : List Value} → replaced xs k y ≡ some ys → k < length xs
-replaced-below xs k y {ys} e = go (ltb k (length xs)) refl
+pub replaced_below : (xs : List Value) (k : ℕ) (y : Value) {ys : List Value} → replaced xs k y ≡ some ys → k < length xs
+replaced_below xs k y {ys} e = go (ltb k (length xs)) refl
   where
     go : (b : Bool) → ltb k (length xs) ≡ b → k < length xs
     go true z = ltb-true k (length xs) z
-    go false z = absurd (let w : none ≡ some ys = sym (replaced-past xs k y (ltb-false k (length xs) z)) ∙ e in let u : ◌≡◌ {A = ℕ} 0 1 = cc in omega arith)
+    go false z = absurd (let w : none ≡ some ys = sym (replaced_past xs k y (ltb-false k (length xs) z)) ∙ e in let u : ◌≡◌ {A = ℕ} 0 1 = cc in omega arith)

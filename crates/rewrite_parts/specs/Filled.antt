@@ -5,12 +5,12 @@ use Rattle.mir.specs.declared.Value.{Value}
 use Rattle.mir.specs.declared.ValueId.{ValueId}
 use Rattle.mir.specs.MirType.{StructField}
 use Rattle.mir.specs.Syntax.{FieldInit}
-use Rattle.mir.specs.Parts.{fromStructFields}
+use Rattle.mir.specs.Parts.{from_struct_fields}
 use Rattle.mir.specs.Lookup.{is_some}
 use Rattle.fold.specs.Family.{Marks}
-use Rattle.rewrite.specs.State.{AggStates, noStates, insertState, replaced}
-use Rattle.mir.specs.Most.{mostValues}
-use Rattle.rewrite_parts.specs.Rows.{rows_from, mostParts, mostBytes, ValueAt, Rep, Room, Values, Inits, givenParts}
+use Rattle.rewrite.specs.State.{AggStates, no_states, insert_state, replaced}
+use Rattle.mir.specs.Most.{most_values}
+use Rattle.rewrite_parts.specs.Rows.{rows_from, most_parts, most_bytes, ValueAt, Rep, Room, Values, Inits, given_parts}
 use Rattle.bytes_struct.specs.Fields.{Names}
 use Rattle.rewrite_parts.specs.declared.Named.{Named}
 
@@ -36,9 +36,9 @@ NamesPut s at n types names m rows to rows' all =
     → length fs ≡ n
     → Names types names ts
     → length ts ≡ m
-    → length s < mostBytes
+    → length s < most_bytes
     → to + m ≤ length rows
-    → NamedRow next s rows' to m (fromStructFields fs ts) all
+    → NamedRow next s rows' to m (from_struct_fields fs ts) all
 
 -- d has the parts of v
 abbrev pub Shared : ValueId → ValueId → Marks → List ℕ → Marks → List ℕ → Type 0
@@ -46,8 +46,8 @@ Shared d v tracked rows tracked' rows' =
     (next : ℕ) (s : List ℕ) (used : ℕ) (S : AggStates) (xs : List Value)
     → Rep next s tracked rows used S
     → S v.0 ≡ some xs
-    → d.0 < mostValues
-    → Rep next s tracked' rows' used (insertState S d xs)
+    → d.0 < most_values
+    → Rep next s tracked' rows' used (insert_state S d xs)
 
 -- d has the n values that stand from `at` on
 abbrev pub ValuesTracked : List ℕ → ValueId → ℕ → ℕ → ℕ → Marks → List ℕ → ℕ → Marks → List ℕ → ℕ → Type 0
@@ -55,11 +55,11 @@ ValuesTracked s d at n before tracked rows used tracked' rows' used' =
     (next : ℕ) (S : AggStates) (xs : List Value)
     → Rep next s tracked rows used S
     → Room rows used
-    → d.0 < mostValues
+    → d.0 < most_values
     → Values next s before at xs
     → length xs ≡ n
-    → n ≤ mostParts
-    → Rep next s tracked' rows' used' (insertState S d xs)
+    → n ≤ most_parts
+    → Rep next s tracked' rows' used' (insert_state S d xs)
 
 -- d has the parts of v, with the value at a place as part k
 abbrev pub Replaced : ValueId → ValueId → ℕ → ℕ → Marks → List ℕ → ℕ → Marks → List ℕ → ℕ → Type 0
@@ -67,11 +67,11 @@ Replaced d v k place tracked rows used tracked' rows' used' =
     (next : ℕ) (s : List ℕ) (S : AggStates) (xs ys : List Value) (y : Value)
     → Rep next s tracked rows used S
     → Room rows used
-    → d.0 < mostValues
+    → d.0 < most_values
     → S v.0 ≡ some xs
     → replaced xs k y ≡ some ys
     → ValueAt next s place y
-    → Rep next s tracked' rows' used' (insertState S d ys)
+    → Rep next s tracked' rows' used' (insert_state S d ys)
 
 -- d has the values of n inits in the order of a type's m names, where each is given
 abbrev pub NamesTracked : List ℕ → ValueId → ℕ → ℕ → List ℕ → ℕ → ℕ → Marks → List ℕ → ℕ → Marks → List ℕ → Named → Type 0
@@ -79,14 +79,14 @@ NamesTracked s d at n types names m tracked rows used tracked' rows' r =
     (next : ℕ) (S : AggStates) (fs : List FieldInit) (ts : List StructField)
     → Rep next s tracked rows used S
     → Room rows used
-    → d.0 < mostValues
+    → d.0 < most_values
     → Inits next s at fs
     → length fs ≡ n
     → Names types names ts
     → length ts ≡ m
-    → m ≤ mostParts
-    → (r.given ≡ is_some (fromStructFields fs ts))
-    × Rep next s tracked' rows' r.used (givenParts S d (fromStructFields fs ts))
+    → m ≤ most_parts
+    → (r.given ≡ is_some (from_struct_fields fs ts))
+    × Rep next s tracked' rows' r.used (given_parts S d (from_struct_fields fs ts))
 
 -- of n values that stand from `at` on, `before` bytes before each, the places stand from `to` on
 abbrev pub PlacesPut : List ℕ → ℕ → ℕ → ℕ → List ℕ → ℕ → List ℕ → Type 0
@@ -94,7 +94,7 @@ PlacesPut s at n before rows to rows' =
     (next : ℕ) (xs : List Value)
     → Values next s before at xs
     → length xs ≡ n
-    → length s < mostBytes
+    → length s < most_bytes
     → to + n ≤ length rows
     → Filled next s rows' to xs n
 
@@ -113,9 +113,9 @@ Cleared tracked tracked' =
     (next : ℕ) (s rows : List ℕ) (used : ℕ)
     → used ≤ length rows
     → rows_from ≤ used
-    → length tracked ≡ mostValues
-    → length s < mostBytes
-    → Rep next s tracked' rows used noStates
+    → length tracked ≡ most_values
+    → length s < most_bytes
+    → Rep next s tracked' rows used no_states
 
 -- n is the number of v's parts, and a place that of part k
 abbrev pub PartsCounted : List ℕ → ValueId → ℕ → Type 0

@@ -11,7 +11,7 @@ ghost use Rattle.mir.specs.Parts.{given};
 ghost use Rattle.mir.specs.Lookup.{is_some};
 ghost use Rattle.fold.specs.Family.{Marks};
 ghost use Rattle.rewrite.specs.State.{AggStates};
-ghost use Rattle.rewrite_parts.specs.Rows.{mostParts, rowMost, usedBelow, Addressable, Rep, Inits, InitAt};
+ghost use Rattle.rewrite_parts.specs.Rows.{most_parts, row_most, used_below, Addressable, Rep, Inits, InitAt};
 ghost use Rattle.rewrite_parts.specs.Filled.{PartsCounted, PartPlaced, Cleared, Grown, PlacesPut, RowCopied};
 ghost use Rattle.rewrite_parts.specs.Filled.{Shared, ValuesTracked, Replaced, NamesPut, NamesTracked};
 
@@ -49,7 +49,7 @@ pub fn tracked(tracked: &[bool], v: ValueId) -> bool
 
 // The number of parts of a tracked value.
 pub fn part_count(rows: &[u16], v: ValueId) -> u16
-    ensures upper_bound { result ≤ mostParts }
+    ensures upper_bound { result ≤ most_parts }
     ensures parts_counted { PartsCounted rows.now v result }
 {
     let n = table::number(rows, table::number(rows, v.0 as usize) as usize);
@@ -116,8 +116,8 @@ pub fn track_values(
     n: u8,
     before: u8,
 ) -> usize
-    requires { (used < usedBelow) × Addressable at }
-    ensures upper_bound { result ≤ used + rowMost }
+    requires { (used < used_below) × Addressable at }
+    ensures upper_bound { result ≤ used + row_most }
     ensures values_tracked { ValuesTracked s.now d at n before tracked.old rows.old used
         tracked.new rows.new result }
 {
@@ -155,8 +155,8 @@ pub fn replace(
     k: u32,
     place: usize,
 ) -> usize
-    requires { used < usedBelow }
-    ensures upper_bound { result ≤ used + rowMost }
+    requires { used < used_below }
+    ensures upper_bound { result ≤ used + row_most }
     ensures replaced { Replaced d v k place tracked.old rows.old used tracked.new rows.new result }
 {
     let n = part_count(rows, v);
@@ -242,8 +242,8 @@ pub fn track_named(
     names: usize,
     m: u8,
 ) -> Named
-    requires { (used < usedBelow) × (Addressable at × Addressable names) }
-    ensures used_bound { result.used ≤ used + rowMost }
+    requires { (used < used_below) × (Addressable at × Addressable names) }
+    ensures used_bound { result.used ≤ used + row_most }
     ensures names_tracked { NamesTracked s.now d at n types.now names m tracked.old rows.old used
         tracked.new rows.new result }
 {

@@ -7,26 +7,26 @@ use native.Mathlib.Omega.{arith}
 use lib.ListN.{length, length-append}
 use lib.Seq.{sets}
 use Rattle.bytes_wire.specs.Number.{to_bytes}
-use Rattle.bytes_field.specs.Encode.{eachBytes, instructionBytes, terminatorBytes}
-use Rattle.bytes_block.specs.Encode.{blockBytes}
-use Rattle.bytes_emit.proofs.Sets.{sets-front}
+use Rattle.bytes_field.specs.Encode.{each_bytes, instruction_bytes, terminator_bytes}
+use Rattle.bytes_block.specs.Encode.{block_bytes}
+use Rattle.bytes_emit.proofs.Sets.{sets_front}
 use Rattle.fold.specs.Family.{Marks}
-use Rattle.rewrite.specs.Run.{Walked, addCounts}
+use Rattle.rewrite.specs.Run.{Walked, add_counts}
 use Rattle.rewrite_progress.specs.declared.Progress.{Progress}
 use Rattle.rewrite_progress.specs.declared.Put.{Put}
-use Rattle.rewrite_progress.specs.Effect.{Effect, Output, outputOf, behind, further, walkedEffect, markAll, typeNumbers, Puts, Low, PutLow}
-use Rattle.rewrite_progress.proofs.Laws.{no-went, no-clash}
-use Rattle.rewrite_perform.specs.Performed.{moved_to, blockEffect, CountPut}
+use Rattle.rewrite_progress.specs.Effect.{Effect, Output, output_of, behind, further, walked_effect, mark_all, type_numbers, Puts, Low, PutLow}
+use Rattle.rewrite_progress.proofs.Laws.{no_went, no_clash}
+use Rattle.rewrite_perform.specs.Performed.{moved_to, block_effect, CountPut}
 
 transfer : {A : Type 0} (P : A → Type 0) (x y : A) → x ≡ y → P x → P y
 transfer P x y e h = rw e at h
 
 -- a writer that went, or clashed
-pub puts-went : (o : Output) (e : Effect) (clash : Bool) (buffer types : List ℕ) (dropped : Marks) (p : Progress) → clash ≡ false → outputOf buffer types dropped p ≡ behind o e → Puts o e clash buffer types dropped (Put.Went p)
-puts-went o e clash buffer types dropped p h f = record { clashed = λ z. absurd (no-clash z); went = λ q z. let y : q ≡ p = cc in rw y (h, f) }
+pub puts_went : (o : Output) (e : Effect) (clash : Bool) (buffer types : List ℕ) (dropped : Marks) (p : Progress) → clash ≡ false → output_of buffer types dropped p ≡ behind o e → Puts o e clash buffer types dropped (Put.Went p)
+puts_went o e clash buffer types dropped p h f = record { clashed = λ z. absurd (no_clash z); went = λ q z. let y : q ≡ p = cc in rw y (h, f) }
 
-pub puts-clash : (o : Output) (e : Effect) (clash : Bool) (buffer types : List ℕ) (dropped : Marks) → clash ≡ true → Puts o e clash buffer types dropped Put.Clash
-puts-clash o e clash buffer types dropped h = record { clashed = λ z. h; went = λ p z. absurd (no-went z) }
+pub puts_clash : (o : Output) (e : Effect) (clash : Bool) (buffer types : List ℕ) (dropped : Marks) → clash ≡ true → Puts o e clash buffer types dropped Put.Clash
+puts_clash o e clash buffer types dropped h = record { clashed = λ z. h; went = λ p z. absurd (no_went z) }
 
 -- multiples of 256 do not change the lowest byte
 low_byte : (a b : ℕ) → (a + 256 * b) % 256 ≡ a % 256
@@ -42,28 +42,28 @@ two_bytes n =
 
 -- the count is stored last, in front of the body
 pub block_out : (out₀ out out' types₀ types : List ℕ) (dropped₀ dropped : Marks) (p q v : Progress) (w : Walked) → p.lines ≡ 0
-    → outputOf out types dropped q ≡ behind (outputOf out₀ types₀ dropped₀ (moved_to p (p.to + 2) 0)) (walkedEffect w)
+    → output_of out types dropped q ≡ behind (output_of out₀ types₀ dropped₀ (moved_to p (p.to + 2) 0)) (walked_effect w)
     → out' ≡ sets out p.to (to_bytes 2 (q.lines % 65536)) → v ≡ moved_to q q.to 0
-    → outputOf out' types dropped v ≡ behind (outputOf out₀ types₀ dropped₀ p) (blockEffect w)
-unfolding behind further walkedEffect blockEffect blockBytes
+    → output_of out' types dropped v ≡ behind (output_of out₀ types₀ dropped₀ p) (block_effect w)
+unfolding behind further walked_effect block_effect block_bytes
 block_out out₀ out out' types₀ types dropped₀ dropped p q v w z e f g =
-    let bytes = eachBytes instructionBytes w.out ++ terminatorBytes w.terminator in
+    let bytes = each_bytes instruction_bytes w.out ++ terminator_bytes w.terminator in
     let b1 : out ≡ sets out₀ (p.to + 2) bytes = ap (λ o. o.buffer) e in
-    let b2 : types ≡ sets types₀ p.fresh (typeNumbers w.fresh) = ap (λ o. o.types) e in
-    let b3 : dropped ≡ markAll dropped₀ w.dropped = ap (λ o. o.dropped) e in
+    let b2 : types ≡ sets types₀ p.fresh (type_numbers w.fresh) = ap (λ o. o.types) e in
+    let b3 : dropped ≡ mark_all dropped₀ w.dropped = ap (λ o. o.dropped) e in
     let b4' : q.lines ≡ 0 + length w.out = ap (λ o. o.progress.lines) e in
     let b4 : q.lines ≡ length w.out = omega (arith, b4') in
     let b5 : q.to ≡ p.to + 2 + length bytes = ap (λ o. o.progress.to) e in
     let b6 : q.fresh ≡ p.fresh + length w.fresh = ap (λ o. o.progress.fresh) e in
-    let b7 : q.counts ≡ addCounts p.counts w.counts = ap (λ o. o.progress.counts) e in
+    let b7 : q.counts ≡ add_counts p.counts w.counts = ap (λ o. o.progress.counts) e in
     let front : out' ≡ sets out₀ p.to (to_bytes 2 (length w.out) ++ bytes) =
-    f ∙ ap (λ n. sets out p.to n) (two_bytes q.lines ∙ ap (λ n. to_bytes 2 n) b4) ∙ ap (λ l. sets l p.to (to_bytes 2 (length w.out))) b1 ∙ sets-front out₀ p.to (to_bytes 2 (length w.out)) bytes in
+    f ∙ ap (λ n. sets out p.to n) (two_bytes q.lines ∙ ap (λ n. to_bytes 2 n) b4) ∙ ap (λ l. sets l p.to (to_bytes 2 (length w.out))) b1 ∙ sets_front out₀ p.to (to_bytes 2 (length w.out)) bytes in
     let far : q.to ≡ p.to + length (to_bytes 2 (length w.out) ++ bytes) = omega (arith, b5, length-append (to_bytes 2 (length w.out)) bytes) in
     rw (g, front, b2, b3, far, b6, b7, z) refl
 
 -- at the same place with no instruction
-low-reset : (k : ℕ) (q r : Progress) → r ≡ moved_to q q.to 0 → Low k q → Low k r
-low-reset k q r e l =
+low_reset : (k : ℕ) (q r : Progress) → r ≡ moved_to q q.to 0 → Low k q → Low k r
+low_reset k q r e l =
     rw e
     (record {
       to = l.to;
@@ -77,9 +77,9 @@ low-reset k q r e l =
     })
 
 -- the count of a block whose body clashed, and of one whose body went
-pub count-clash : (p : Progress) (out : List ℕ) (r : Put) → r ≡ Put.Clash → ((k : ℕ) → PutLow k r → PutLow k Put.Clash) × CountPut p out r out Put.Clash
-count-clash p out r e = (λ k l. tt, λ out₀ types₀ types dropped₀ dropped w z h. puts-clash _ _ _ out types dropped (h.clashed e))
+pub count_clash : (p : Progress) (out : List ℕ) (r : Put) → r ≡ Put.Clash → ((k : ℕ) → PutLow k r → PutLow k Put.Clash) × CountPut p out r out Put.Clash
+count_clash p out r e = (λ k l. tt, λ out₀ types₀ types dropped₀ dropped w z h. puts_clash _ _ _ out types dropped (h.clashed e))
 
-pub count-went : (p q v : Progress) (out out' : List ℕ) (r : Put) → r ≡ Put.Went q → out' ≡ sets out p.to (to_bytes 2 (q.lines % 65536)) → v ≡ moved_to q q.to 0 → ((k : ℕ) → PutLow k r → PutLow k (Put.Went v)) × CountPut p out r out' (Put.Went v)
-count-went p q v out out' r e f g =
-    (λ k l. low-reset k q v g (transfer (λ x. PutLow k x) r (Put.Went q) e l), λ out₀ types₀ types dropped₀ dropped w z h. let y = h.went q e in puts-went _ _ _ out' types dropped v y.0 (block_out out₀ out out' types₀ types dropped₀ dropped p q v w z y.1 f g))
+pub count_went : (p q v : Progress) (out out' : List ℕ) (r : Put) → r ≡ Put.Went q → out' ≡ sets out p.to (to_bytes 2 (q.lines % 65536)) → v ≡ moved_to q q.to 0 → ((k : ℕ) → PutLow k r → PutLow k (Put.Went v)) × CountPut p out r out' (Put.Went v)
+count_went p q v out out' r e f g =
+    (λ k l. low_reset k q v g (transfer (λ x. PutLow k x) r (Put.Went q) e l), λ out₀ types₀ types dropped₀ dropped w z h. let y = h.went q e in puts_went _ _ _ out' types dropped v y.0 (block_out out₀ out out' types₀ types dropped₀ dropped p q v w z y.1 f g))

@@ -7,31 +7,31 @@ use native.Mathlib.Omega.{arith}
 use native.Mathlib.Nat.{add-zero}
 use lib.ListN.{length, length-append, take, drop}
 use lib.Seq.{sets, slice, take-length}
-use Rattle.bytes_wire.specs.Value.{valueBytes}
+use Rattle.bytes_wire.specs.Value.{value_bytes}
 use Rattle.mir.specs.declared.TypeId.{TypeId}
 use Rattle.mir.specs.declared.ValueId.{ValueId}
 use Rattle.mir.specs.declared.Value.{Value}
-use Rattle.bytes_wire.proofs.Canon.{bytes_drop, value-short}
+use Rattle.bytes_wire.proofs.Canon.{bytes_drop, value_short}
 use Rattle.mir.specs.Syntax.{Instruction, Assign, plain}
-use Rattle.bytes_field.specs.Encode.{instructionBytes, fieldBytes, valueIdBytes, typeIdBytes}
+use Rattle.bytes_field.specs.Encode.{instruction_bytes, field_bytes, value_id_bytes, type_id_bytes}
 use Rattle.bytes_field.specs.declared.Bounds.{Bounds}
-use Rattle.bytes_laws.proofs.Instruction.{instruction-canon}
-use Rattle.bytes_index.specs.Table.{recordedIn, place_in, end_in}
+use Rattle.bytes_laws.proofs.Instruction.{instruction_canon}
+use Rattle.bytes_index.specs.Table.{recorded_in, place_in, end_in}
 use Rattle.bytes_index.specs.Code.{InstructionIn}
 use Rattle.mir.specs.Lookup.{Types}
 use Rattle.fold.specs.Family.{Marks, mark}
 use Rattle.rewrite.specs.declared.Counts.{Counts}
 use Rattle.rewrite.specs.State.{AggStates}
-use Rattle.rewrite.specs.Step.{Piece, kept, left, assigned, oneExtract}
-use Rattle.rewrite.specs.Run.{addCounts}
+use Rattle.rewrite.specs.Step.{Piece, kept, left, assigned, one_extract}
+use Rattle.rewrite.specs.Run.{add_counts}
 use Rattle.rewrite_parts.specs.Rows.{ValueAt}
 use Rattle.rewrite_progress.specs.declared.Progress.{Progress}
 use Rattle.rewrite_progress.specs.Ground.{Ground}
-use Rattle.rewrite_progress.specs.Effect.{outputOf, behind, further, pieceEffect, markAll, typeNumbers}
+use Rattle.rewrite_progress.specs.Effect.{output_of, behind, further, piece_effect, mark_all, type_numbers}
 use Rattle.rewrite_arms.specs.declared.Counted.{Counted}
 use Rattle.rewrite_arms.specs.declared.Action.{Action}
-use Rattle.rewrite_arms.specs.Decided.{countedAs, Does, Assigned, assigned-from}
-use Rattle.rewrite_perform.specs.Performed.{moved_to, raisedBy}
+use Rattle.rewrite_arms.specs.Decided.{counted_as, Does, Assigned, assigned_from}
+use Rattle.rewrite_perform.specs.Performed.{moved_to, raised_by}
 
 -- all of a part is copied
 pub copied_all : (part out out' : List ℕ) (p r : Progress) (to lines : ℕ) → (to ≡ p.to + (length part - 0)) × (out' ≡ sets out p.to (slice 0 (length part) part)) → r ≡ moved_to p to lines → (r ≡ moved_to p (p.to + length part) lines) × (out' ≡ sets out p.to part)
@@ -42,78 +42,78 @@ copied_all part out out' p r to lines w e =
 
 -- a kept instruction: its bytes as they stand
 kept_out : (b : Bounds) (τ : Types) (S : AggStates) (i : Instruction) (s facts : List ℕ) (slot : ℕ) (out out' types : List ℕ) (dropped : Marks) (p r : Progress) (at end : ℕ) (part : List ℕ)
-    → Ground b s facts (recordedIn facts) τ → InstructionIn b s facts slot i → at ≡ place_in facts slot → (end ≡ end_in facts slot) × (end < 65536)
+    → Ground b s facts (recorded_in facts) τ → InstructionIn b s facts slot i → at ≡ place_in facts slot → (end ≡ end_in facts slot) × (end < 65536)
     → part ≡ take (end - at) (drop at s) → (length part ≤ 65536 → (r ≡ moved_to p (p.to + length part) (p.lines + 1)) × (out' ≡ sets out p.to part))
-    → outputOf out' types dropped r ≡ behind (outputOf out types dropped p) (pieceEffect (kept S i))
-unfolding behind further pieceEffect kept markAll typeNumbers
+    → output_of out' types dropped r ≡ behind (output_of out types dropped p) (piece_effect (kept S i))
+unfolding behind further piece_effect kept mark_all type_numbers
 kept_out b τ S i s facts slot out out' types dropped p r at end part g line ea ee f w =
-    let c = instruction-canon b [] false (drop (place_in facts slot) s) (bytes_drop s (place_in facts slot) g.bytes) line.read in
-    let own : part ≡ instructionBytes i = f ∙ ap (λ n. take (end - n) (drop n s)) ea ∙ ap (λ n. take (n - place_in facts slot) (drop (place_in facts slot) s)) ee.0 ∙ sym c.same in
+    let c = instruction_canon b [] false (drop (place_in facts slot) s) (bytes_drop s (place_in facts slot) g.bytes) line.read in
+    let own : part ≡ instruction_bytes i = f ∙ ap (λ n. take (end - n) (drop n s)) ea ∙ ap (λ n. take (n - place_in facts slot) (drop (place_in facts slot) s)) ee.0 ∙ sym c.same in
     let z = w (omega (arith, ap length own, c.size, ee.0, ee.1)) in
     rw (z.0, z.1, own) (simp (append-nil, add-zero))
 
 -- an instruction left out, its dest marked
-left_out : (c : Counts) (d : ValueId) (S : AggStates) (out types : List ℕ) (dropped dropped' : Marks) (p r : Progress) → dropped' ≡ mark dropped d → r ≡ raisedBy p c → outputOf out types dropped' r ≡ behind (outputOf out types dropped p) (pieceEffect (left c (d ∷ []) S))
-unfolding behind further pieceEffect left markAll typeNumbers
+left_out : (c : Counts) (d : ValueId) (S : AggStates) (out types : List ℕ) (dropped dropped' : Marks) (p r : Progress) → dropped' ≡ mark dropped d → r ≡ raised_by p c → output_of out types dropped' r ≡ behind (output_of out types dropped p) (piece_effect (left c (d ∷ []) S))
+unfolding behind further piece_effect left mark_all type_numbers
 left_out c d S out types dropped dropped' p r e f = rw (e, f) (simp (add-zero))
 
 -- no value dropped
-pub left-none : (c : Counts) (S : AggStates) (out types : List ℕ) (dropped : Marks) (p r : Progress) → r ≡ raisedBy p c → outputOf out types dropped r ≡ behind (outputOf out types dropped p) (pieceEffect (left c [] S))
-unfolding behind further pieceEffect left markAll typeNumbers
-left-none c S out types dropped p r f = rw f (simp (add-zero))
+pub left_none : (c : Counts) (S : AggStates) (out types : List ℕ) (dropped : Marks) (p r : Progress) → r ≡ raised_by p c → output_of out types dropped r ≡ behind (output_of out types dropped p) (piece_effect (left c [] S))
+unfolding behind further piece_effect left mark_all type_numbers
+left_none c S out types dropped p r f = rw f (simp (add-zero))
 
 -- an Assign
-assigned-out : (S : AggStates) (d : ValueId) (x y : Value) (t : TypeId) (out out' types : List ℕ) (dropped : Marks) (p q r : Progress) (to : ℕ)
-    → y ≡ x → (to ≡ p.to + length (instructionBytes (plain (Assign d y t)))) × (out' ≡ sets out p.to (instructionBytes (plain (Assign d y t))))
-    → q ≡ raisedBy p oneExtract → r ≡ moved_to q to (q.lines + 1)
-    → outputOf out' types dropped r ≡ behind (outputOf out types dropped p) (pieceEffect (assigned oneExtract S d x t))
-unfolding behind further pieceEffect assigned markAll typeNumbers
-assigned-out S d x y t out out' types dropped p q r to e w f g =
-    let z : r ≡ record { to = to; lines = p.lines + 1; fresh = p.fresh; counts = addCounts p.counts oneExtract } = g ∙ ap (λ u. moved_to u to (u.lines + 1)) f in
+assigned_out : (S : AggStates) (d : ValueId) (x y : Value) (t : TypeId) (out out' types : List ℕ) (dropped : Marks) (p q r : Progress) (to : ℕ)
+    → y ≡ x → (to ≡ p.to + length (instruction_bytes (plain (Assign d y t)))) × (out' ≡ sets out p.to (instruction_bytes (plain (Assign d y t))))
+    → q ≡ raised_by p one_extract → r ≡ moved_to q to (q.lines + 1)
+    → output_of out' types dropped r ≡ behind (output_of out types dropped p) (piece_effect (assigned one_extract S d x t))
+unfolding behind further piece_effect assigned mark_all type_numbers
+assigned_out S d x y t out out' types dropped p q r to e w f g =
+    let z : r ≡ record { to = to; lines = p.lines + 1; fresh = p.fresh; counts = add_counts p.counts one_extract } = g ∙ ap (λ u. moved_to u to (u.lines + 1)) f in
     rw (z, w.0, w.1, e) (simp (append-nil, add-zero))
 
 -- an Assign is short
-assign-short : (d : ValueId) (x : Value) (t : TypeId) → length (instructionBytes (plain (Assign d x t))) ≤ 20
-unfolding instructionBytes fieldBytes
-assign-short d x t = omega (arith, length-append (valueIdBytes d) (valueBytes x ++ typeIdBytes t), length-append (valueBytes x) (typeIdBytes t), value-short x)
+assign_short : (d : ValueId) (x : Value) (t : TypeId) → length (instruction_bytes (plain (Assign d x t))) ≤ 20
+unfolding instruction_bytes field_bytes
+assign_short d x t = omega (arith, length-append (value_id_bytes d) (value_bytes x ++ type_id_bytes t), length-append (value_bytes x) (type_id_bytes t), value_short x)
 
-pub assign-low : (d : ValueId) (x : Value) (t : TypeId) (from to : ℕ) → to ≡ from + length (instructionBytes (plain (Assign d x t))) → to ≤ from + 1048576
-assign-low d x t from to e = omega (arith, e, assign-short d x t)
+pub assign_low : (d : ValueId) (x : Value) (t : TypeId) (from to : ℕ) → to ≡ from + length (instruction_bytes (plain (Assign d x t))) → to ≤ from + 1048576
+assign_low d x t from to e = omega (arith, e, assign_short d x t)
 
 -- the three actions: what each does is the piece q
 module _ (b : Bounds) (s : List ℕ) (S : AggStates) (i : Instruction) (q : Piece) (act : Action) (does : Does b.next s S i q act) (out out' types : List ℕ) (dropped dropped' : Marks) (p r : Progress) where
   abbrev Done : Type 0
-  Done = (q.clash ≡ false) × (outputOf out' types dropped' r ≡ behind (outputOf out types dropped p) (pieceEffect q))
+  Done = (q.clash ≡ false) × (output_of out' types dropped' r ≡ behind (output_of out types dropped p) (piece_effect q))
 
-  as-piece : (q' : Piece) → q ≡ q' → q'.clash ≡ false → outputOf out' types dropped' r ≡ behind (outputOf out types dropped p) (pieceEffect q') → Done
-  as-piece q' e c f = (ap (λ x. x.clash) e ∙ c, f ∙ sym (ap (λ x. behind (outputOf out types dropped p) (pieceEffect x)) e))
+  as_piece : (q' : Piece) → q ≡ q' → q'.clash ≡ false → output_of out' types dropped' r ≡ behind (output_of out types dropped p) (piece_effect q') → Done
+  as_piece q' e c f = (ap (λ x. x.clash) e ∙ c, f ∙ sym (ap (λ x. behind (output_of out types dropped p) (piece_effect x)) e))
 
-  pub does-keep : (τ : Types) (facts : List ℕ) (slot at end : ℕ) (part : List ℕ) → act ≡ Action.Keep → dropped' ≡ dropped
-      → Ground b s facts (recordedIn facts) τ → InstructionIn b s facts slot i → at ≡ place_in facts slot → (end ≡ end_in facts slot) × (end < 65536)
+  pub does_keep : (τ : Types) (facts : List ℕ) (slot at end : ℕ) (part : List ℕ) → act ≡ Action.Keep → dropped' ≡ dropped
+      → Ground b s facts (recorded_in facts) τ → InstructionIn b s facts slot i → at ≡ place_in facts slot → (end ≡ end_in facts slot) × (end < 65536)
       → part ≡ take (end - at) (drop at s) → (length part ≤ 65536 → (r ≡ moved_to p (p.to + length part) (p.lines + 1)) × (out' ≡ sets out p.to part))
       → Done
   unfolding kept
-  does-keep τ facts slot at end part z m g line ea ee f w =
+  does_keep τ facts slot at end part z m g line ea ee f w =
       let e : q ≡ kept S i = rw z at does in
-      as-piece (kept S i) e refl (rw m (kept_out b τ S i s facts slot out out' types dropped p r at end part g line ea ee f w))
+      as_piece (kept S i) e refl (rw m (kept_out b τ S i s facts slot out out' types dropped p r at end part g line ea ee f w))
 
-  pub does-track : (c : Counted) (d : ValueId) → act ≡ Action.Track d c → out' ≡ out → dropped' ≡ mark dropped d → r ≡ raisedBy p (countedAs c) → Done
+  pub does_track : (c : Counted) (d : ValueId) → act ≡ Action.Track d c → out' ≡ out → dropped' ≡ mark dropped d → r ≡ raised_by p (counted_as c) → Done
   unfolding left
-  does-track c d z o m f =
-      let e : q ≡ left (countedAs c) (d ∷ []) q.states = rw z at does in
-      as-piece (left (countedAs c) (d ∷ []) q.states) e refl (rw o (left_out (countedAs c) d q.states out types dropped dropped' p r m f))
+  does_track c d z o m f =
+      let e : q ≡ left (counted_as c) (d ∷ []) q.states = rw z at does in
+      as_piece (left (counted_as c) (d ∷ []) q.states) e refl (rw o (left_out (counted_as c) d q.states out types dropped dropped' p r m f))
 
-  assigned-does : (d : ValueId) (place : ℕ) (t : TypeId) (y : Value) (v : Progress) (to : ℕ) → Assigned b.next s S q d place t → dropped' ≡ dropped
+  assigned_does : (d : ValueId) (place : ℕ) (t : TypeId) (y : Value) (v : Progress) (to : ℕ) → Assigned b.next s S q d place t → dropped' ≡ dropped
       → ((x : Value) → ValueAt b.next s place x → y ≡ x)
-      → (to ≡ p.to + length (instructionBytes (plain (Assign d y t)))) × (out' ≡ sets out p.to (instructionBytes (plain (Assign d y t))))
-      → v ≡ raisedBy p oneExtract → r ≡ moved_to v to (v.lines + 1) → Done
+      → (to ≡ p.to + length (instruction_bytes (plain (Assign d y t)))) × (out' ≡ sets out p.to (instruction_bytes (plain (Assign d y t))))
+      → v ≡ raised_by p one_extract → r ≡ moved_to v to (v.lines + 1) → Done
   unfolding assigned
-  assigned-does d place t y v to (assigned-from x h e) m f w k n = as-piece (assigned oneExtract S d x t) e refl (rw m (assigned-out S d x y t out out' types dropped p v r to (f x h) w k n))
+  assigned_does d place t y v to (assigned_from x h e) m f w k n = as_piece (assigned one_extract S d x t) e refl (rw m (assigned_out S d x y t out out' types dropped p v r to (f x h) w k n))
 
-  pub does-assign : (d : ValueId) (place : ℕ) (t : TypeId) (y : Value) (v : Progress) (to : ℕ) → act ≡ Action.Assign d place t → dropped' ≡ dropped
+  pub does_assign : (d : ValueId) (place : ℕ) (t : TypeId) (y : Value) (v : Progress) (to : ℕ) → act ≡ Action.Assign d place t → dropped' ≡ dropped
       → ((x : Value) → ValueAt b.next s place x → y ≡ x)
-      → (to ≡ p.to + length (instructionBytes (plain (Assign d y t)))) × (out' ≡ sets out p.to (instructionBytes (plain (Assign d y t))))
-      → v ≡ raisedBy p oneExtract → r ≡ moved_to v to (v.lines + 1) → Done
-  does-assign d place t y v to z m f w k n =
+      → (to ≡ p.to + length (instruction_bytes (plain (Assign d y t)))) × (out' ≡ sets out p.to (instruction_bytes (plain (Assign d y t))))
+      → v ≡ raised_by p one_extract → r ≡ moved_to v to (v.lines + 1) → Done
+  does_assign d place t y v to z m f w k n =
       let e : Assigned b.next s S q d place t = rw z at does in
-      assigned-does d place t y v to e m f w k n
+      assigned_does d place t y v to e m f w k n

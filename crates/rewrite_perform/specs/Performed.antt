@@ -3,20 +3,20 @@ use Rattle.std.specs.Prelude.{ℕ, ◌+◌, ◌≤◌, ◌<◌, ◌≡◌, List,
 use Rattle.std.proofs.lemmas.List.Edits.{sets}
 use Rattle.mir.specs.Syntax.{Instruction}
 use Rattle.bytes_field.specs.declared.Bounds.{Bounds}
-use Rattle.bytes_block.specs.Encode.{blockBytes}
-use Rattle.bytes_index.specs.Table.{recordedIn}
+use Rattle.bytes_block.specs.Encode.{block_bytes}
+use Rattle.bytes_index.specs.Table.{recorded_in}
 use Rattle.bytes_index.specs.Code.{InstructionIn}
 use Rattle.mir.specs.Lookup.{Types}
 use Rattle.fold.specs.Family.{Marks}
 use Rattle.rewrite.specs.declared.Counts.{Counts}
 use Rattle.rewrite.specs.State.{AggStates}
 use Rattle.rewrite.specs.Step.{Piece}
-use Rattle.rewrite.specs.Run.{Walked, addCounts}
-use Rattle.rewrite_parts.specs.Rows.{mostBytes}
+use Rattle.rewrite.specs.Run.{Walked, add_counts}
+use Rattle.rewrite_parts.specs.Rows.{most_bytes}
 use Rattle.rewrite_progress.specs.declared.Progress.{Progress}
 use Rattle.rewrite_progress.specs.declared.Put.{Put}
 use Rattle.rewrite_progress.specs.Ground.{Ground}
-use Rattle.rewrite_progress.specs.Effect.{Effect, Output, outputOf, behind, pieceEffect, walkedEffect, Puts}
+use Rattle.rewrite_progress.specs.Effect.{Effect, Output, output_of, behind, piece_effect, walked_effect, Puts}
 use Rattle.rewrite_arms.specs.declared.Action.{Action}
 use Rattle.rewrite_arms.specs.Decided.{Does}
 
@@ -25,13 +25,13 @@ abbrev pub moved_to : Progress → ℕ → ℕ → Progress
 moved_to p to lines = record { to = to; lines = lines; fresh = p.fresh; counts = p.counts }
 
 -- a progress with other counts
-abbrev pub raisedBy : Progress → Counts → Progress
-raisedBy p c = record { to = p.to; lines = p.lines; fresh = p.fresh; counts = addCounts p.counts c }
+abbrev pub raised_by : Progress → Counts → Progress
+raised_by p c = record { to = p.to; lines = p.lines; fresh = p.fresh; counts = add_counts p.counts c }
 
 -- a part that is no longer than an input is copied, with so many instructions
 abbrev pub PartPut : Progress → List ℕ → ℕ → List ℕ → List ℕ → Progress → Type 0
 PartPut p part lines out out' r =
-    length part ≤ mostBytes →
+    length part ≤ most_bytes →
     (r ≡ moved_to p (p.to + length part) (p.lines + lines)) × (out' ≡ sets out p.to part)
 
 -- one more of each count does not overflow
@@ -45,16 +45,16 @@ pub record CountsLow (c : Counts) : Type 0 where
 abbrev pub Performs : Bounds → List ℕ → List ℕ → ℕ → Action → (List ℕ → Output) → (List ℕ → Output) → Type 0
 Performs b s facts slot action before after =
     (τ : Types) (S : AggStates) (i : Instruction) (q : Piece) (types : List ℕ) →
-    Ground b s facts (recordedIn facts) τ →
+    Ground b s facts (recorded_in facts) τ →
     InstructionIn b s facts slot i →
     Does b.next s S i q action →
-    (q.clash ≡ false) × (after types ≡ behind (before types) (pieceEffect q))
+    (q.clash ≡ false) × (after types ≡ behind (before types) (piece_effect q))
 
 -- a walked block: its count in front, no instruction of the next block yet
-unfoldable pub blockEffect : Walked → Effect
-blockEffect w =
+unfoldable pub block_effect : Walked → Effect
+block_effect w =
     record {
-      bytes = blockBytes (record { instructions = w.out; terminator = w.terminator });
+      bytes = block_bytes (record { instructions = w.out; terminator = w.terminator });
       lines = 0;
       dropped = w.dropped;
       fresh = w.fresh;
@@ -66,5 +66,5 @@ abbrev pub CountPut : Progress → List ℕ → Put → List ℕ → Put → Typ
 CountPut p out r out' r' =
     (out₀ types₀ types : List ℕ) (dropped₀ dropped : Marks) (w : Walked) →
     p.lines ≡ 0 →
-    Puts (outputOf out₀ types₀ dropped₀ (moved_to p (p.to + 2) 0)) (walkedEffect w) w.clash out types dropped r →
-    Puts (outputOf out₀ types₀ dropped₀ p) (blockEffect w) w.clash out' types dropped r'
+    Puts (output_of out₀ types₀ dropped₀ (moved_to p (p.to + 2) 0)) (walked_effect w) w.clash out types dropped r →
+    Puts (output_of out₀ types₀ dropped₀ p) (block_effect w) w.clash out' types dropped r'

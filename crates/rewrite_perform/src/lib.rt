@@ -2,10 +2,10 @@
 #![tactic(auto)]
 
 ghost use Rattle.std.specs.Prelude.{◌≡◌, ℕ, ◌+◌, ◌≤◌};
-ghost use Rattle.rewrite.specs.Run.{addCounts};
-ghost use Rattle.rewrite_progress.specs.Effect.{outputOf, lowEnough, Low, PutLow, mostLines};
-ghost use Rattle.rewrite_arms.specs.Decided.{countedAs};
-ghost use Rattle.rewrite_perform.specs.Performed.{moved_to, raisedBy, PartPut, CountsLow, Performs, CountPut};
+ghost use Rattle.rewrite.specs.Run.{add_counts};
+ghost use Rattle.rewrite_progress.specs.Effect.{output_of, low_enough, Low, PutLow, most_lines};
+ghost use Rattle.rewrite_arms.specs.Decided.{counted_as};
+ghost use Rattle.rewrite_perform.specs.Performed.{moved_to, raised_by, PartPut, CountsLow, Performs, CountPut};
 
 use bytes_field::Bounds;
 use rewrite::Counts;
@@ -30,7 +30,7 @@ const MOST_BYTES: usize = 65536;
 
 // Copies a part that has so many instructions, at most 1,024; of one that is longer than an input, nothing.
 pub fn put_part(out: &mut [u8], p: Progress, part: &[u8], lines: u32) -> Progress
-    requires { Low lowEnough p × (lines ≤ mostLines) }
+    requires { Low low_enough p × (lines ≤ most_lines) }
     ensures by_index { (k : ℕ) → Low k p → Low (k + 1) result }
     ensures part_put { PartPut p part.now lines out.old out.new result }
 {
@@ -45,7 +45,7 @@ pub fn put_part(out: &mut [u8], p: Progress, part: &[u8], lines: u32) -> Progres
 // One more build, extract, insert or assign.
 fn one_more(c: Counts, what: Counted) -> Counts
     requires { CountsLow c }
-    ensures { result ≡ addCounts c (countedAs what) }
+    ensures { result ≡ add_counts c (counted_as what) }
 {
     let mut r = c;
     match what {
@@ -67,8 +67,8 @@ fn one_more(c: Counts, what: Counted) -> Counts
 
 // Nothing is put out, and the instruction is counted.
 pub fn left_out(p: Progress, what: Counted) -> Progress
-    requires { Low lowEnough p }
-    ensures { result ≡ raisedBy p (countedAs what) }
+    requires { Low low_enough p }
+    ensures { result ≡ raised_by p (counted_as what) }
 {
     let before = p.counts;
     let counts = one_more(before, what);
@@ -91,11 +91,11 @@ pub fn perform(
     p: Progress,
     dropped: &mut [bool],
 ) -> Progress
-    requires { Low lowEnough p }
+    requires { Low low_enough p }
     ensures by_index { (k : ℕ) → Low k p → Low (k + 1) result }
     ensures performs { Performs b s.now facts.now slot action
-        (λ types. outputOf out.old types dropped.old p)
-        (λ types. outputOf out.new types dropped.new result) }
+        (λ types. output_of out.old types dropped.old p)
+        (λ types. output_of out.new types dropped.new result) }
 {
     match action {
         Action::Keep => {
@@ -133,7 +133,7 @@ const NUMBERS: u32 = 65536;
 
 // A block that begins at `p` is written from two bytes behind it on: its count of instructions goes in front.
 pub fn put_count(out: &mut [u8], p: Progress, r: Put) -> Put
-    requires { Low lowEnough p }
+    requires { Low low_enough p }
     ensures by_index { (k : ℕ) → PutLow k r → PutLow k result }
     ensures count_put { CountPut p out.old r out.new result }
 {

@@ -3,20 +3,20 @@ use Rattle.std.specs.Prelude.{ℕ, ◌+◌, ◌<◌, ◌≡◌, List, Bool, fals
 use Rattle.std.proofs.Math.Option.{some}
 use Rattle.mir.specs.declared.ValueId.{ValueId}
 use Rattle.mir.specs.Syntax.{Block}
-use Rattle.bytes_index.specs.Table.{startsIn}
-use Rattle.bytes_index.specs.Code.{noInstruction, no_block}
-use Rattle.fold.specs.Family.{buildDest}
+use Rattle.bytes_index.specs.Table.{starts_in}
+use Rattle.bytes_index.specs.Code.{no_instruction, no_block}
+use Rattle.fold.specs.Family.{build_dest}
 use Rattle.rewrite.specs.Run.{Choice}
 
 -- the flags of the slots go up to here: 256 instructions and 32 terminators
-abbrev pub skipsFrom : ℕ
-skipsFrom = 288
+abbrev pub skips_from : ℕ
+skips_from = 288
 
 pub record Follows (c : Choice) (facts : List ℕ) (choice : List Bool) (ks : List Block) : Type 0 where
-  pub skip : (k : ℕ) → k < length ks → get_or choice (skipsFrom + k) false ≡ c.skips (get_or ks k no_block)
+  pub skip : (k : ℕ) → k < length ks → get_or choice (skips_from + k) false ≡ c.skips (get_or ks k no_block)
   pub fold : (k j : ℕ) (d : ValueId)
       → k < length ks
       → c.skips (get_or ks k no_block) ≡ false
       → j < length (get_or ks k no_block).instructions
-      → buildDest (get_or (get_or ks k no_block).instructions j noInstruction).kind ≡ some d
-      → get_or choice (get_or (startsIn facts) k 0 + j) false ≡ c.folds (get_or ks k no_block) d
+      → build_dest (get_or (get_or ks k no_block).instructions j no_instruction).kind ≡ some d
+      → get_or choice (get_or (starts_in facts) k 0 + j) false ≡ c.folds (get_or ks k no_block) d

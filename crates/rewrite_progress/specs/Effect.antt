@@ -1,17 +1,17 @@
 -- What an instruction, a terminator, a block or a routine adds to the output.
 use Rattle.std.specs.Prelude.{ℕ, ◌+◌, ◌*◌, ◌≤◌, ◌<◌, ◌≡◌, List, [], ◌∷◌, ◌++◌, Bool, true, false, length}
 use Rattle.std.proofs.lemmas.List.Edits.{sets}
-use Rattle.table.specs.Number.{numbersBelow}
+use Rattle.table.specs.Number.{numbers_below}
 use Rattle.mir.specs.declared.ValueId.{ValueId}
 use Rattle.mir.specs.declared.TypeId.{TypeId}
 use Rattle.bytes_field.specs.declared.Bounds.{Bounds}
-use Rattle.bytes_field.specs.Encode.{eachBytes, instructionBytes, terminatorBytes}
-use Rattle.bytes_block.specs.Encode.{blockBytes}
+use Rattle.bytes_field.specs.Encode.{each_bytes, instruction_bytes, terminator_bytes}
+use Rattle.bytes_block.specs.Encode.{block_bytes}
 use Rattle.fold.specs.Family.{Marks, mark}
 use Rattle.rewrite.specs.declared.Counts.{Counts}
 use Rattle.rewrite.specs.Rebuild.{Rebuilt}
-use Rattle.rewrite.specs.Step.{Piece, noCounts}
-use Rattle.rewrite.specs.Run.{Walked, Rewritten, addCounts}
+use Rattle.rewrite.specs.Step.{Piece, no_counts}
+use Rattle.rewrite.specs.Run.{Walked, Rewritten, add_counts}
 use Rattle.rewrite_progress.specs.declared.Progress.{Progress}
 use Rattle.rewrite_progress.specs.declared.Put.{Put}
 
@@ -29,18 +29,18 @@ pub record Output : Type 0 where
   pub dropped : Marks
   pub progress : Progress
 
-abbrev pub outputOf : List ℕ → List ℕ → Marks → Progress → Output
-outputOf buffer types dropped p = record { buffer = buffer; types = types; dropped = dropped; progress = p }
+abbrev pub output_of : List ℕ → List ℕ → Marks → Progress → Output
+output_of buffer types dropped p = record { buffer = buffer; types = types; dropped = dropped; progress = p }
 
 -- the values are marked, one after another
-unfoldable pub markAll : Marks → List ValueId → Marks
-markAll m [] = m
-markAll m (d ∷ ds) = markAll (mark m d) ds
+unfoldable pub mark_all : Marks → List ValueId → Marks
+mark_all m [] = m
+mark_all m (d ∷ ds) = mark_all (mark m d) ds
 
 -- types by their numbers
-unfoldable pub typeNumbers : List TypeId → List ℕ
-typeNumbers [] = []
-typeNumbers (t ∷ ts) = t.0 ∷ typeNumbers ts
+unfoldable pub type_numbers : List TypeId → List ℕ
+type_numbers [] = []
+type_numbers (t ∷ ts) = t.0 ∷ type_numbers ts
 
 -- how far the output is behind an effect
 unfoldable pub further : Progress → Effect → Progress
@@ -49,7 +49,7 @@ further p e =
       to = p.to + length e.bytes;
       lines = p.lines + e.lines;
       fresh = p.fresh + length e.fresh;
-      counts = addCounts p.counts e.counts;
+      counts = add_counts p.counts e.counts;
     }
 
 -- the output behind an effect
@@ -57,31 +57,31 @@ unfoldable pub behind : Output → Effect → Output
 behind o e =
     record {
       buffer = sets o.buffer o.progress.to e.bytes;
-      types = sets o.types o.progress.fresh (typeNumbers e.fresh);
-      dropped = markAll o.dropped e.dropped;
+      types = sets o.types o.progress.fresh (type_numbers e.fresh);
+      dropped = mark_all o.dropped e.dropped;
       progress = further o.progress e;
     }
 
 -- one effect, then another
-unfoldable pub thenEffect : Effect → Effect → Effect
-thenEffect e f =
+unfoldable pub then_effect : Effect → Effect → Effect
+then_effect e f =
     record {
       bytes = e.bytes ++ f.bytes;
       lines = e.lines + f.lines;
       dropped = e.dropped ++ f.dropped;
       fresh = e.fresh ++ f.fresh;
-      counts = addCounts e.counts f.counts;
+      counts = add_counts e.counts f.counts;
     }
 
 -- nothing at all
-abbrev pub noEffect : Effect
-noEffect = record { bytes = []; lines = 0; dropped = []; fresh = []; counts = noCounts }
+abbrev pub no_effect : Effect
+no_effect = record { bytes = []; lines = 0; dropped = []; fresh = []; counts = no_counts }
 
 -- what one instruction gives
-unfoldable pub pieceEffect : Piece → Effect
-pieceEffect p =
+unfoldable pub piece_effect : Piece → Effect
+piece_effect p =
     record {
-      bytes = eachBytes instructionBytes p.out;
+      bytes = each_bytes instruction_bytes p.out;
       lines = length p.out;
       dropped = p.dropped;
       fresh = p.fresh;
@@ -89,21 +89,21 @@ pieceEffect p =
     }
 
 -- the builds before what needs them
-unfoldable pub rebuiltEffect : Rebuilt → Effect
-rebuiltEffect r =
+unfoldable pub rebuilt_effect : Rebuilt → Effect
+rebuilt_effect r =
     record {
-      bytes = eachBytes instructionBytes r.before;
+      bytes = each_bytes instruction_bytes r.before;
       lines = length r.before;
       dropped = [];
       fresh = r.fresh;
-      counts = noCounts;
+      counts = no_counts;
     }
 
 -- what is left of a block, its terminator too
-unfoldable pub walkedEffect : Walked → Effect
-walkedEffect w =
+unfoldable pub walked_effect : Walked → Effect
+walked_effect w =
     record {
-      bytes = eachBytes instructionBytes w.out ++ terminatorBytes w.terminator;
+      bytes = each_bytes instruction_bytes w.out ++ terminator_bytes w.terminator;
       lines = length w.out;
       dropped = w.dropped;
       fresh = w.fresh;
@@ -111,10 +111,10 @@ walkedEffect w =
     }
 
 -- whole blocks
-unfoldable pub rewrittenEffect : Rewritten → Effect
-rewrittenEffect w =
+unfoldable pub rewritten_effect : Rewritten → Effect
+rewritten_effect w =
     record {
-      bytes = eachBytes blockBytes w.blocks;
+      bytes = each_bytes block_bytes w.blocks;
       lines = 0;
       dropped = w.dropped;
       fresh = w.fresh;
@@ -124,7 +124,7 @@ rewrittenEffect w =
 -- what a writer answers: Clash only where there is one, else the output behind the effect
 pub record Puts (o : Output) (e : Effect) (clash : Bool) (buffer types : List ℕ) (dropped : Marks) (r : Put) : Type 0 where
   pub clashed : r ≡ Put.Clash → clash ≡ true
-  pub went : (p : Progress) → r ≡ Put.Went p → (clash ≡ false) × (outputOf buffer types dropped p ≡ behind o e)
+  pub went : (p : Progress) → r ≡ Put.Went p → (clash ≡ false) × (output_of buffer types dropped p ≡ behind o e)
 
 -- the numbers of a progress are at most these: one thing put out adds at most 2^20 bytes and 1,024 of anything else
 pub record Low (k : ℕ) (p : Progress) : Type 0 where
@@ -138,29 +138,29 @@ pub record Low (k : ℕ) (p : Progress) : Type 0 where
   pub materializations : p.counts.materializations ≤ k * 1024
 
 -- as many instructions as are put out at once
-abbrev pub mostLines : ℕ
-mostLines = 1024
+abbrev pub most_lines : ℕ
+most_lines = 1024
 
 -- as low as a writer needs it; a whole routine stays below
-abbrev pub lowEnough : ℕ
-lowEnough = 8000
+abbrev pub low_enough : ℕ
+low_enough = 8000
 
 -- before the blocks, before a block, behind a block and behind all of them
-abbrev pub startLow : ℕ
-startLow = 64
+abbrev pub start_low : ℕ
+start_low = 64
 
-abbrev pub blockLow : ℕ
-blockLow = 4800
+abbrev pub block_low : ℕ
+block_low = 4800
 
-abbrev pub blockRise : ℕ
-blockRise = 130
+abbrev pub block_rise : ℕ
+block_rise = 130
 
-abbrev pub routineLow : ℕ
-routineLow = 4300
+abbrev pub routine_low : ℕ
+routine_low = 4300
 
 -- a count, or a place within an instruction, to which another can be added
-abbrev pub countsBelow : ℕ
-countsBelow = 1073741824
+abbrev pub counts_below : ℕ
+counts_below = 1073741824
 
 -- a writer's answer stays low
 abbrev pub PutLow : ℕ → Put → Type 0
@@ -168,8 +168,8 @@ PutLow k Put.Clash = Unit {0}
 PutLow k (Put.Went p) = Low k p
 
 -- the fresh numbers begin with the next one, and are enough for the types ts
-abbrev pub freshFrom : Bounds → Progress → ℕ
-freshFrom b p = b.next + p.fresh
+abbrev pub fresh_from : Bounds → Progress → ℕ
+fresh_from b p = b.next + p.fresh
 
 abbrev pub Enough : Bounds → Progress → List TypeId → Type 0
-Enough b p ts = freshFrom b p + length ts < numbersBelow
+Enough b p ts = fresh_from b p + length ts < numbers_below

@@ -6,18 +6,18 @@ use Rattle.mir.specs.declared.Value.{Value}
 use Rattle.mir.specs.declared.ValueId.{ValueId}
 use Rattle.mir.specs.Syntax.{Place, Instruction, Call, Store}
 use Rattle.bytes_field.specs.declared.Bounds.{Bounds}
-use Rattle.mir.specs.Lookup.{Types, onSome}
-use Rattle.fold.specs.Family.{Marks, buildDest}
+use Rattle.mir.specs.Lookup.{Types, on_some}
+use Rattle.fold.specs.Family.{Marks, build_dest}
 use Rattle.rewrite.specs.State.{AggStates, state_of}
-use Rattle.rewrite.specs.Rebuild.{rebuildAll, wantedArguments, aggregateType}
-use Rattle.rewrite.specs.Step.{Piece, step, left, stepCall, storeKept, oneInsert}
-use Rattle.rewrite_parts.specs.Rows.{Rep, Room, rowsIn, freshIn}
+use Rattle.rewrite.specs.Rebuild.{rebuild_all, wanted_arguments, aggregate_type}
+use Rattle.rewrite.specs.Step.{Piece, step, left, step_call, store_kept, one_insert}
+use Rattle.rewrite_parts.specs.Rows.{Rep, Room, rows_in, fresh_in}
 use Rattle.rewrite_parts.specs.Here.{Here}
 use Rattle.rewrite_progress.specs.declared.Progress.{Progress}
 use Rattle.rewrite_progress.specs.declared.Put.{Put}
 use Rattle.rewrite_progress.specs.declared.Setup.{Setup}
-use Rattle.rewrite_progress.specs.Effect.{Effect, Output, outputOf, behind, pieceEffect, Puts, Low}
-pub use Rattle.rewrite_progress.specs.Effect.{freshFrom, Enough}
+use Rattle.rewrite_progress.specs.Effect.{Effect, Output, output_of, behind, piece_effect, Puts, Low}
+pub use Rattle.rewrite_progress.specs.Effect.{fresh_from, Enough}
 use Rattle.rewrite_arms.specs.Decided.{Does}
 use Rattle.rewrite_step.specs.declared.Rewrite.{Rewrite}
 use Rattle.rewrite_step.specs.declared.Settled.{Settled}
@@ -35,34 +35,34 @@ abbrev pub lent_as : Marks → Marks → List ℕ → List ℕ → Lent
 lent_as tracked dropped work out = record { tracked = tracked; dropped = dropped; work = work; out = out }
 
 -- the output in them
-abbrev pub outputIn : Lent → Progress → Output
-outputIn l p = outputOf l.out (freshIn l.work) l.dropped p
+abbrev pub output_in : Lent → Progress → Output
+output_in l p = output_of l.out (fresh_in l.work) l.dropped p
 
 -- what a writer into them answers
 abbrev pub PutsIn : Output → Effect → Bool → Lent → Put → Type 0
-PutsIn o e clash l r = Puts o e clash l.out (freshIn l.work) l.dropped r
+PutsIn o e clash l r = Puts o e clash l.out (fresh_in l.work) l.dropped r
 
 -- the flag of a build says whether it is folded
 abbrev pub FoldsAs : Bool → (ValueId → Bool) → Instruction → Type 0
-FoldsAs fold folds i = (d : ValueId) → buildDest i.kind ≡ some d → fold ≡ folds d
+FoldsAs fold folds i = (d : ValueId) → build_dest i.kind ≡ some d → fold ≡ folds d
 
 -- the piece q of a Call, and of a Store that is not forwarded
 pub data CallPiece (τ : Types) (S : AggStates) (n : ℕ) (i : Instruction) (q : Piece) : Type 0 where
-  call-piece : (ds : List ValueId) (f : ℕ) (xs : List Value) (ps rs : List TypeId)
+  call_piece : (ds : List ValueId) (f : ℕ) (xs : List Value) (ps rs : List TypeId)
       → i.kind ≡ Call ds f xs ps rs
-      → q ≡ stepCall S i ds f ps rs (rebuildAll τ S n (wantedArguments τ xs ps)) (rebuildAll τ S n (wantedArguments τ xs ps)).fresh
+      → q ≡ step_call S i ds f ps rs (rebuild_all τ S n (wanted_arguments τ xs ps)) (rebuild_all τ S n (wanted_arguments τ xs ps)).fresh
       → CallPiece τ S n i q
 
 pub data StorePiece (τ : Types) (S : AggStates) (n : ℕ) (i : Instruction) (q : Piece) : Type 0 where
-  store-piece : (p : Place) (x : Value) (t : TypeId)
+  store_piece : (p : Place) (x : Value) (t : TypeId)
       → i.kind ≡ Store p x t
-      → q ≡ storeKept τ S n i p x t (onSome (aggregateType τ t) (λ u. state_of S x))
+      → q ≡ store_kept τ S n i p x t (on_some (aggregate_type τ t) (λ u. state_of S x))
       → StorePiece τ S n i q
 
 -- what becomes of an instruction is the piece q
 abbrev pub Becomes : Types → ℕ → List ℕ → AggStates → ℕ → Instruction → Piece → Rewrite → Type 0
 Becomes τ next s S n i q (Rewrite.Does a) = Does next s S i q a
-Becomes τ next s S n i q Rewrite.Forwarded = q ≡ left oneInsert [] q.states
+Becomes τ next s S n i q Rewrite.Forwarded = q ≡ left one_insert [] q.states
 Becomes τ next s S n i q Rewrite.Call = CallPiece τ S n i q
 Becomes τ next s S n i q Rewrite.Store = StorePiece τ S n i q
 
@@ -73,9 +73,9 @@ pub record Settles (τ : Types) (next : ℕ) (s : List ℕ) (tracked : Marks) (r
   pub becomes : Becomes τ next s S n i q r.rewrite
 
 -- a writer's answer, with how much of the rows is used
-abbrev pub withUsed : Put → ℕ → Stepped
-withUsed Put.Clash used = Stepped.Clash
-withUsed (Put.Went p) used = Stepped.Went (record { progress = p; used = used })
+abbrev pub with_used : Put → ℕ → Stepped
+with_used Put.Clash used = Stepped.Clash
+with_used (Put.Went p) used = Stepped.Went (record { progress = p; used = used })
 
 -- a step's answer stays low
 abbrev pub SteppedLow : ℕ → ℕ → Stepped → Type 0
@@ -85,8 +85,8 @@ SteppedLow k used (Stepped.Went w) = Low k w.progress × (w.used ≤ used)
 -- a piece is put out, and the tables hold its states
 pub record Gone (next : ℕ) (s : List ℕ) (o : Output) (q : Piece) (l : Lent) (w : Reached) : Type 0 where
   pub safe : q.clash ≡ false
-  pub out : outputIn l w.progress ≡ behind o (pieceEffect q)
-  pub rep : Rep next s l.tracked (rowsIn l.work) w.used q.states
+  pub out : output_in l w.progress ≡ behind o (piece_effect q)
+  pub rep : Rep next s l.tracked (rows_in l.work) w.used q.states
 
 -- what a step answers
 pub record Steps (next : ℕ) (s : List ℕ) (o : Output) (q : Piece) (l : Lent) (r : Stepped) : Type 0 where
@@ -106,18 +106,18 @@ SettlesAll setup s facts slot fold tracked rows used tracked' rows' r =
 abbrev pub PutsPiece : Bounds → List ℕ → List ℕ → ℕ → Rewrite → Lent → Progress → Lent → Put → Type 0
 PutsPiece b s facts slot rewrite l p l' r =
     (τ : Types) (S : AggStates) (used : ℕ) (i : Instruction) (q : Piece) →
-    Here b s facts slot l.tracked (rowsIn l.work) used τ q.states i →
-    Becomes τ b.next s S (freshFrom b p) i q rewrite →
+    Here b s facts slot l.tracked (rows_in l.work) used τ q.states i →
+    Becomes τ b.next s S (fresh_from b p) i q rewrite →
     Enough b p q.fresh →
-    PutsIn (outputIn l p) (pieceEffect q) q.clash l' r
+    PutsIn (output_in l p) (piece_effect q) q.clash l' r
 
 -- a whole step: one instruction is settled and put out
 abbrev pub StepsOn : Setup → List ℕ → List ℕ → ℕ → Bool → Lent → Reached → Lent → Stepped → Type 0
 StepsOn setup s facts slot fold l w l' r =
     (τ : Types) (S : AggStates) (folds : ValueId → Bool) (i : Instruction) →
-    Here setup.bounds s facts slot l.tracked (rowsIn l.work) w.used τ S i →
-    Room (rowsIn l.work) w.used →
+    Here setup.bounds s facts slot l.tracked (rows_in l.work) w.used τ S i →
+    Room (rows_in l.work) w.used →
     FoldsAs fold folds i →
-    let q = step setup.settings τ folds S (freshFrom setup.bounds w.progress) i in
+    let q = step setup.settings τ folds S (fresh_from setup.bounds w.progress) i in
     Enough setup.bounds w.progress q.fresh →
-    Steps setup.bounds.next s (outputIn l w.progress) q l' r
+    Steps setup.bounds.next s (output_in l w.progress) q l' r

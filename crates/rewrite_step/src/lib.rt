@@ -2,9 +2,9 @@
 #![tactic(auto)]
 
 ghost use Rattle.std.specs.Prelude.{◌≡◌, ℕ, ◌+◌, ◌≤◌, ◌<◌, length};
-ghost use Rattle.rewrite_parts.specs.Rows.{rowMost, rowsSize, usedBelow, rowsIn};
-ghost use Rattle.rewrite_progress.specs.Effect.{lowEnough, Low, PutLow};
-ghost use Rattle.rewrite_step.specs.Stepping.{lent_as, withUsed, SteppedLow, SettlesAll, PutsPiece, StepsOn};
+ghost use Rattle.rewrite_parts.specs.Rows.{row_most, rows_size, used_below, rows_in};
+ghost use Rattle.rewrite_progress.specs.Effect.{low_enough, Low, PutLow};
+ghost use Rattle.rewrite_step.specs.Stepping.{lent_as, with_used, SteppedLow, SettlesAll, PutsPiece, StepsOn};
 
 use bytes_field::Bounds;
 use mir::kind;
@@ -56,8 +56,8 @@ fn settle(
     rows: &mut [u16],
     used: usize,
 ) -> Settled
-    requires { used < usedBelow }
-    ensures used_bound { result.used ≤ used + rowMost }
+    requires { used < used_below }
+    ensures used_bound { result.used ≤ used + row_most }
     ensures settles_all { SettlesAll setup s.now facts.now slot fold
         tracked.old rows.old used tracked.new rows.new result }
 {
@@ -110,9 +110,9 @@ fn carry_out(
     out: &mut [u8],
     p: Progress,
 ) -> Put
-    requires { Low lowEnough p }
+    requires { Low low_enough p }
     ensures by_index { (k : ℕ) → Low k p → PutLow (k + 1) result }
-    ensures work_unchanged { rowsIn work.new ≡ rowsIn work.old }
+    ensures work_unchanged { rows_in work.new ≡ rows_in work.old }
     ensures puts_piece { PutsPiece b s.now facts.now slot rewrite
         (lent_as tracked.now dropped.old work.old out.old) p
         (lent_as tracked.now dropped.new work.new out.new) result }
@@ -130,7 +130,7 @@ fn carry_out(
 
 // A writer's answer, with how much of the rows is used.
 fn with_used(r: Put, used: usize) -> Stepped
-    ensures { result ≡ withUsed r used }
+    ensures { result ≡ with_used r used }
 {
     match r {
         Put::Clash => Stepped::Clash,
@@ -154,8 +154,8 @@ pub fn step(
     out: &mut [u8],
     w: Reached,
 ) -> Stepped
-    requires { Low lowEnough w.progress × ((w.used < usedBelow) × (rowsSize ≤ length work.old)) }
-    ensures by_index { (k : ℕ) → Low k w.progress → SteppedLow (k + 1) (w.used + rowMost) result }
+    requires { Low low_enough w.progress × ((w.used < used_below) × (rows_size ≤ length work.old)) }
+    ensures by_index { (k : ℕ) → Low k w.progress → SteppedLow (k + 1) (w.used + row_most) result }
     ensures steps_on { StepsOn setup s.now facts.now slot fold
         (lent_as tracked.old dropped.old work.old out.old) w
         (lent_as tracked.new dropped.new work.new out.new) result }

@@ -6,13 +6,13 @@ use Rattle.mir.specs.declared.ValueId.{ValueId}
 use Rattle.mir.specs.declared.TypeId.{TypeId}
 use Rattle.mir.specs.declared.Value.{Value}
 use Rattle.bytes_field.specs.declared.Bounds.{Bounds}
-use Rattle.bytes_index.specs.Table.{recordedIn}
+use Rattle.bytes_index.specs.Table.{recorded_in}
 use Rattle.bytes_lookup.specs.declared.TypeFound.{TypeFound}
-use Rattle.bytes_lookup.specs.Found.{asType}
+use Rattle.bytes_lookup.specs.Found.{as_type}
 use Rattle.fold.specs.Family.{Marks}
 use Rattle.mir.specs.Lookup.{Types}
 use Rattle.rewrite.specs.State.{AggStates, state_of}
-use Rattle.rewrite.specs.Rebuild.{Rebuilt, Wanted, keepValue, oneValue, aggregateType, returnType}
+use Rattle.rewrite.specs.Rebuild.{Rebuilt, Wanted, keep_value, one_value, aggregate_type, return_type}
 use Rattle.rewrite_parts.specs.Rows.{ValueAt, Rep}
 use Rattle.rewrite_progress.specs.Ground.{Ground}
 use Rattle.rewrite_wanted.specs.declared.Asks.{Asks}
@@ -21,22 +21,22 @@ use Rattle.rewrite_wanted.specs.declared.Wants.{Wants}
 -- the tables say what is tracked, and which types there are and which are recorded
 pub record Setting (b : Bounds) (s facts : List ℕ) (tracked : Marks) (rows : List ℕ) (τ : Types) (S : AggStates) : Type 0 where
   pub used : ℕ
-  pub ground : Ground b s facts (recordedIn facts) τ
+  pub ground : Ground b s facts (recorded_in facts) τ
   pub rep : Rep b.next s tracked rows used S
 
 -- the type asked of value i, which is x: the i-th of the types that stand in t, or its recorded type
-abbrev pub askedAt : Types → List ℕ → Asks → ℕ → Value → Option TypeId
-askedAt τ t (Asks.Types at n) i x = cond (ltb i n) (aggregateType τ (record { 0 = at16 (drop at t) (2 * i) })) none
-askedAt τ t Asks.Recorded i x = returnType τ x
+abbrev pub asked_at : Types → List ℕ → Asks → ℕ → Value → Option TypeId
+asked_at τ t (Asks.Types at n) i x = cond (ltb i n) (aggregate_type τ (record { 0 = at16 (drop at t) (2 * i) })) none
+asked_at τ t Asks.Recorded i x = return_type τ x
 
 -- values from number i on, each with the type asked for
-unfoldable pub askedList : Types → List ℕ → Asks → ℕ → List Value → List Wanted
-askedList τ t a i [] = []
-askedList τ t a i (x ∷ xs) = record { value = x; at = askedAt τ t a i x } ∷ askedList τ t a (suc i) xs
+unfoldable pub asked_list : Types → List ℕ → Asks → ℕ → List Value → List Wanted
+asked_list τ t a i [] = []
+asked_list τ t a i (x ∷ xs) = record { value = x; at = asked_at τ t a i x } ∷ asked_list τ t a (suc i) xs
 
 -- what is told of the value x where o is asked for: it stays, or it is an operand that is rebuilt
 pub data Told (τ : Types) (S : AggStates) (x : Value) (o : Option TypeId) : Wants → Type 0 where
-  stays : ((n : ℕ) (rest : ℕ → Rebuilt) → oneValue τ n x rest o (state_of S x) ≡ keepValue x (rest n)) → Told τ S x o Wants.Nothing
+  stays : ((n : ℕ) (rest : ℕ → Rebuilt) → one_value τ n x rest o (state_of S x) ≡ keep_value x (rest n)) → Told τ S x o Wants.Nothing
   build : (v : ValueId) (t : TypeId) (xs : List Value)
       → x ≡ Value.Operand v
       → o ≡ some t
@@ -50,12 +50,12 @@ WantedAt b s facts t at tracked asks i r =
     (τ : Types) (S : AggStates) (rows : List ℕ) (x : Value)
     → Setting b s facts tracked rows τ S
     → ValueAt b.next t at x
-    → Told τ S x (askedAt τ t asks i x) r
+    → Told τ S x (asked_at τ t asks i x) r
 
 -- the type asked of value i, the operand v
 abbrev pub TypeAsked : Bounds → List ℕ → List ℕ → List ℕ → Asks → ValueId → ℕ → TypeFound → Type 0
 TypeAsked b s facts t asks v i r =
     (τ : Types)
-    → Ground b s facts (recordedIn facts) τ
+    → Ground b s facts (recorded_in facts) τ
     → v.0 < b.next
-    → asType r ≡ askedAt τ t asks i (Value.Operand v)
+    → as_type r ≡ asked_at τ t asks i (Value.Operand v)

@@ -17,6 +17,6 @@ both true b s t = t
 both false b s t = s
 
 -- a weaker test passes where the other does
-pub every-imp : {A : Type 0} (p q : A → Bool) → ((x : A) → T (p x) → T (q x)) → (xs : List A) → T (every p xs) → T (every q xs)
-every-imp p q f [] t = tt
-every-imp p q f (x ∷ xs) t = both (q x) (every q xs) (f x (both_l (p x) (every p xs) t)) (every-imp p q f xs (both_r (p x) (every p xs) t))
+pub every_imp : {A : Type 0} (p q : A → Bool) → ((x : A) → T (p x) → T (q x)) → (xs : List A) → T (every p xs) → T (every q xs)
+every_imp p q f [] t = tt
+every_imp p q f (x ∷ xs) t = both (q x) (every q xs) (f x (both_l (p x) (every p xs) t)) (every_imp p q f xs (both_r (p x) (every p xs) t))

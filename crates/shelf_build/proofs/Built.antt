@@ -10,33 +10,33 @@ use Rattle.mir.specs.declared.ValueId.{ValueId}
 use Rattle.mir.specs.declared.TypeId.{TypeId}
 use Rattle.mir.specs.declared.Value.{Value}
 use Rattle.mir.specs.Syntax.{FieldInit, InstructionKind}
-use Rattle.bytes_field.specs.Decode.{makeTupleOf, makeStructOf, makeArrayOf}
+use Rattle.bytes_field.specs.Decode.{make_tuple_of, make_struct_of, make_array_of}
 use Rattle.bytes_field.specs.declared.Bounds.{Bounds}
-use Rattle.bytes_operands.specs.Fields.{after, valueStep}
+use Rattle.bytes_operands.specs.Fields.{after, value_step}
 use Rattle.bytes_operands.proofs.Places.{Stand, then, last}
 use Rattle.rewrite_parts.specs.Rows.{Inits}
-use Rattle.mir.specs.Lookup.{Types, row_of, recordedType, valueRow, shape, isTuple, isArray}
+use Rattle.mir.specs.Lookup.{Types, row_of, recorded_type, value_row, shape, is_tuple, is_array}
 use Rattle.mir.specs.Parts.{part_type}
-use Rattle.shelf.specs.Fits.{sameType, partsFit}
+use Rattle.shelf.specs.Fits.{same_type, parts_fit}
 use Rattle.shelf.specs.Agrees.{agrees}
 use Rattle.shelf_field.specs.Fields.{IdAt, TypeAt}
-use Rattle.shelf_field.proofs.Standing.{dest-field, type-field}
+use Rattle.shelf_field.proofs.Standing.{dest_field, type_field}
 use Rattle.shelf_list.specs.Lists.{ValuesAt}
-use Rattle.shelf_list.proofs.Standing.{values-field, inits-here}
+use Rattle.shelf_list.proofs.Standing.{values_field, inits_here}
 
 module _ (b : Bounds) (t : List ℕ) where
   module _ (seen : List Bool) (τ : Types) {r : Bool} where
-    pub make-tuple-agrees : ((d : ValueId) (xs : List Value) → IdAt b.next t 0 d → ValuesAt b.next t 3 xs → length xs ≡ get_or t 2 0 → r ≡ (eqb (shape (row_of τ (recordedType τ d))) 1 && partsFit τ (recordedType τ d) xs)) → Stand t 0 (makeTupleOf b seen) (λ i e. r ≡ agrees τ i)
-    unfolding makeTupleOf agrees isTuple valueRow
-    make-tuple-agrees f = then (dest-field b t seen) (λ d u. last _ (values-field b t) (λ xs q. f d xs u q.0 q.1))
+    pub make_tuple_agrees : ((d : ValueId) (xs : List Value) → IdAt b.next t 0 d → ValuesAt b.next t 3 xs → length xs ≡ get_or t 2 0 → r ≡ (eqb (shape (row_of τ (recorded_type τ d))) 1 && parts_fit τ (recorded_type τ d) xs)) → Stand t 0 (make_tuple_of b seen) (λ i e. r ≡ agrees τ i)
+    unfolding make_tuple_of agrees is_tuple value_row
+    make_tuple_agrees f = then (dest_field b t seen) (λ d u. last _ (values_field b t) (λ xs q. f d xs u q.0 q.1))
 
-    pub make-array-agrees : (c : Bool) → ((d : ValueId) (xs : List Value) (y : TypeId) → IdAt b.next t 0 d → ValuesAt b.next t 3 xs
-        → length xs ≡ get_or t 2 0 → TypeAt b.types t (after (valueStep t 0 0) (get_or t 2 0) 3) y
-        → r ≡ (eqb (shape (row_of τ (recordedType τ d))) 3 && (sameType (part_type (row_of τ (recordedType τ d)) 0) (some y) && partsFit τ (recordedType τ d) xs))) → Stand t 0 (makeArrayOf b seen c) (λ i e. r ≡ agrees τ i)
-    unfolding makeArrayOf agrees isArray valueRow
-    make-array-agrees c f = then (dest-field b t seen) (λ d u. then (values-field b t) (λ xs q. last _ (type-field b t) (λ y v. f d xs y u q.0 q.1 v)))
+    pub make_array_agrees : (c : Bool) → ((d : ValueId) (xs : List Value) (y : TypeId) → IdAt b.next t 0 d → ValuesAt b.next t 3 xs
+        → length xs ≡ get_or t 2 0 → TypeAt b.types t (after (value_step t 0 0) (get_or t 2 0) 3) y
+        → r ≡ (eqb (shape (row_of τ (recorded_type τ d))) 3 && (same_type (part_type (row_of τ (recorded_type τ d)) 0) (some y) && parts_fit τ (recorded_type τ d) xs))) → Stand t 0 (make_array_of b seen c) (λ i e. r ≡ agrees τ i)
+    unfolding make_array_of agrees is_array value_row
+    make_array_agrees c f = then (dest_field b t seen) (λ d u. then (values_field b t) (λ xs q. last _ (type_field b t) (λ y v. f d xs y u q.0 q.1 v)))
 
-    pub make-struct-agrees : ((d : ValueId) (fs : List FieldInit) (y : TypeId) → IdAt b.next t 0 d → Inits b.next t 3 fs → length fs ≡ get_or t 2 0 → TypeAt b.types t (after (valueStep t 2 0) (get_or t 2 0) 3) y → r ≡ agrees τ (InstructionKind.MakeStruct d fs y)) → Stand t 0 (makeStructOf b seen) (λ i e. r ≡ agrees τ i)
-    unfolding makeStructOf
-    make-struct-agrees f =
-        then (dest-field b t seen) (λ d u. then (inits-here b t) (λ fs q. last _ (type-field b t) (λ y v. f d fs y u q.0 q.1 v)))
+    pub make_struct_agrees : ((d : ValueId) (fs : List FieldInit) (y : TypeId) → IdAt b.next t 0 d → Inits b.next t 3 fs → length fs ≡ get_or t 2 0 → TypeAt b.types t (after (value_step t 2 0) (get_or t 2 0) 3) y → r ≡ agrees τ (InstructionKind.MakeStruct d fs y)) → Stand t 0 (make_struct_of b seen) (λ i e. r ≡ agrees τ i)
+    unfolding make_struct_of
+    make_struct_agrees f =
+        then (dest_field b t seen) (λ d u. then (inits_here b t) (λ fs q. last _ (type_field b t) (λ y v. f d fs y u q.0 q.1 v)))

@@ -2,7 +2,7 @@
 #![tactic(auto)]
 
 ghost use Rattle.std.specs.Prelude.{Bool};
-ghost use Rattle.bytes_field.specs.Decode.{makeTupleOf, makeArrayOf, makeStructOf};
+ghost use Rattle.bytes_field.specs.Decode.{make_tuple_of, make_array_of, make_struct_of};
 ghost use Rattle.shelf_field.specs.Asked.{Judged};
 
 use bytes_field::Bounds;
@@ -19,7 +19,7 @@ const NAME_SIZE: u8 = 2;
 
 // A MakeTuple: the dest is recorded as a tuple, and the values are its parts.
 pub fn make_tuple(s: &[u8], b: Bounds, types: &[u16], recorded: &[u16], t: &[u8]) -> bool
-    ensures { Judged makeTupleOf b s.now types.now recorded.now t.now result }
+    ensures { Judged make_tuple_of b s.now types.now recorded.now t.now result }
 {
     let y = shelf_field::id_type(b, recorded, t, DEST);
     let shaped = shelf_field::has_shape(s, b, types, y, shape::TUPLE);
@@ -30,7 +30,7 @@ pub fn make_tuple(s: &[u8], b: Bounds, types: &[u16], recorded: &[u16], t: &[u8]
 
 // A MakeFixedArray: the dest is recorded as an array of the type that is named, and the values are its parts.
 pub fn make_array(s: &[u8], b: Bounds, types: &[u16], recorded: &[u16], t: &[u8]) -> bool
-    ensures { (c : Bool) → Judged (λ b seen. makeArrayOf b seen c) b s.now types.now recorded.now
+    ensures { (c : Bool) → Judged (λ b seen. make_array_of b seen c) b s.now types.now recorded.now
         t.now result }
 {
     let y = shelf_field::id_type(b, recorded, t, DEST);
@@ -45,7 +45,7 @@ pub fn make_array(s: &[u8], b: Bounds, types: &[u16], recorded: &[u16], t: &[u8]
 
 // A MakeStruct: the dest has the struct type that is named, and each of its fields is given a value that fits.
 pub fn make_struct(s: &[u8], b: Bounds, types: &[u16], recorded: &[u16], t: &[u8]) -> bool
-    ensures { Judged makeStructOf b s.now types.now recorded.now t.now result }
+    ensures { Judged make_struct_of b s.now types.now recorded.now t.now result }
 {
     let n = bytes_wire::byte_at(t, COUNT);
     let e = bytes_operands::values_end(t, PARTS, NAME_SIZE, 0, n);

@@ -2,7 +2,7 @@
 #![tactic(auto)]
 
 ghost use Rattle.std.specs.Prelude.{List, ℕ};
-ghost use Rattle.bytes_field.specs.Decode.{call_of, phi_of, debugOf};
+ghost use Rattle.bytes_field.specs.Decode.{call_of, phi_of, debug_of};
 ghost use Rattle.shelf_field.specs.Asked.{Judged};
 
 use bytes_field::Bounds;
@@ -60,7 +60,7 @@ pub fn phi(s: &[u8], b: Bounds, types: &[u16], recorded: &[u16], t: &[u8]) -> bo
 
 // Each value of a Debug has a recorded type or is a literal.
 pub fn debug(b: Bounds, recorded: &[u16], t: &[u8]) -> bool
-    ensures { (s types : List ℕ) → Judged debugOf b s types recorded.now t.now result }
+    ensures { (s types : List ℕ) → Judged debug_of b s types recorded.now t.now result }
 {
     let n = bytes_wire::byte_at(t, SHOWN_COUNT);
     shelf_list::all_known(b, recorded, t, SHOWN, n)

@@ -7,70 +7,70 @@ use Rattle.shelf_corners.specs.Words.{counts, Says}
 use Rattle.shelf_corners.proofs.Open.{answering}
 
 -- Error is printed
-pub prints-error : Says
+pub prints_error : Says
     (0 ∷ 0 ∷ 0 ∷ 0 ∷ 1 ∷ 0 ∷ 0 ∷ 0 ∷ 0 ∷ 1 ∷ 0 ∷ 0 ∷ 7 ∷ 0 ∷ 0 ∷ 0 ∷ 0 ∷ 1 ∷ 4 ∷ 3 ∷ 0 ∷ [])
     false (counts 0 0 0 0 0) 0 1
 unfolding answering
-prints-error = (refl, refl)
+prints_error = (refl, refl)
 
 -- a value without a recorded type
-pub prints-unrecorded : Says
+pub prints_unrecorded : Says
     (0 ∷ 0 ∷ 1 ∷ 0 ∷ 1 ∷ 0 ∷ 0 ∷ 0 ∷ 0 ∷ 0 ∷ 1 ∷ 0 ∷ 0 ∷ 7 ∷ 0 ∷ 0 ∷ 0 ∷ 0 ∷ 1 ∷ 3 ∷ 0 ∷ 0 ∷ 3 ∷ 0 ∷ [])
     false (counts 0 0 0 0 0) 0 1
 unfolding answering
-prints-unrecorded = (refl, refl)
+prints_unrecorded = (refl, refl)
 
 -- a value that the block defines later
-pub prints-later : Says
+pub prints_later : Says
     (1 ∷ 0 ∷ 0 ∷ 1 ∷ 0 ∷ 1 ∷ 0 ∷ 0 ∷ 0 ∷ 0 ∷ 1 ∷ 0 ∷ 0 ∷ 2 ∷ 0 ∷ 0 ∷ 7 ∷ 0 ∷ 0 ∷ 0 ∷ 0 ∷ 1 ∷ 3 ∷ 0 ∷ 0 ∷ 0 ∷ 0 ∷ 0 ∷ 0 ∷ 0 ∷ 7 ∷ 0 ∷ 0 ∷ 0
     ∷ 0 ∷ 0 ∷ 3 ∷ 0 ∷ [])
     false (counts 0 0 0 0 0) 0 2
 unfolding answering
-prints-later = (refl, refl)
+prints_later = (refl, refl)
 
 -- a tuple whose build is left out
-pub prints-dropped : Says
+pub prints_dropped : Says
     (2 ∷ 0 ∷ 0 ∷ 3 ∷ 1 ∷ 0 ∷ 0 ∷ 1 ∷ 0 ∷ 1 ∷ 0 ∷ 0 ∷ 0 ∷ 0 ∷ 1 ∷ 1 ∷ 0 ∷ 2 ∷ 0 ∷ 0 ∷ 10 ∷ 0 ∷ 0 ∷ 1 ∷ 0 ∷ 7 ∷ 0 ∷ 0 ∷ 0 ∷ 0 ∷ 7 ∷ 0 ∷ 0 ∷ 0
     ∷ 0 ∷ 1 ∷ 3 ∷ 0 ∷ 0 ∷ 3 ∷ 0 ∷ [])
     true (counts 1 0 0 0 0) 0 5
 unfolding answering
-prints-dropped = (refl, refl)
+prints_dropped = (refl, refl)
 
 -- the same printed in another block alone, where the Rust's scan does not look
-pub prints-elsewhere : Says
+pub prints_elsewhere : Says
     (2 ∷ 0 ∷ 0 ∷ 3 ∷ 1 ∷ 0 ∷ 0 ∷ 1 ∷ 0 ∷ 2 ∷ 0 ∷ 0 ∷ 0 ∷ 0 ∷ 1 ∷ 1 ∷ 0 ∷ 1 ∷ 0 ∷ 0 ∷ 10 ∷ 0 ∷ 0 ∷ 1 ∷ 0 ∷ 1 ∷ 0 ∷ 0 ∷ 0 ∷ 0 ∷ 1 ∷ 0 ∷ 1 ∷ 0
     ∷ 0 ∷ 7 ∷ 0 ∷ 0 ∷ 0 ∷ 0 ∷ 1 ∷ 3 ∷ 0 ∷ 0 ∷ 3 ∷ 0 ∷ [])
     true (counts 1 0 0 0 0) 0 5
 unfolding answering
-prints-elsewhere = (refl, refl)
+prints_elsewhere = (refl, refl)
 
 -- printed and returned there: the Return keeps the build
-pub prints-returned : Says
+pub prints_returned : Says
     (2 ∷ 0 ∷ 0 ∷ 3 ∷ 1 ∷ 0 ∷ 0 ∷ 1 ∷ 0 ∷ 2 ∷ 0 ∷ 0 ∷ 0 ∷ 0 ∷ 1 ∷ 1 ∷ 0 ∷ 1 ∷ 0 ∷ 0 ∷ 10 ∷ 0 ∷ 0 ∷ 1 ∷ 0 ∷ 7 ∷ 0 ∷ 0 ∷ 0 ∷ 0 ∷ 1 ∷ 0 ∷ 1 ∷ 0
     ∷ 0 ∷ 7 ∷ 0 ∷ 0 ∷ 0 ∷ 0 ∷ 1 ∷ 3 ∷ 0 ∷ 0 ∷ 3 ∷ 1 ∷ 3 ∷ 0 ∷ 0 ∷ [])
     false (counts 0 0 0 0 0) 0 0
 unfolding answering
-prints-returned = (refl, refl)
+prints_returned = (refl, refl)
 
 -- literals, and a tuple that is a parameter
-pub prints-literals : Says
+pub prints_literals : Says
     (2 ∷ 0 ∷ 0 ∷ 3 ∷ 1 ∷ 0 ∷ 0 ∷ 1 ∷ 0 ∷ 1 ∷ 0 ∷ 0 ∷ 0 ∷ 1 ∷ 0 ∷ 0 ∷ 1 ∷ 1 ∷ 0 ∷ 1 ∷ 0 ∷ 0 ∷ 7 ∷ 5 ∷ 0 ∷ 0 ∷ 0 ∷ 4 ∷ 0 ∷ 7 ∷ 0 ∷ 0 ∷ 0 ∷ 1
     ∷ 1 ∷ 2 ∷ 3 ∷ 0 ∷ 0 ∷ 3 ∷ 0 ∷ [])
     false (counts 0 0 0 0 0) 0 0
 unfolding answering
-prints-literals = (refl, refl)
+prints_literals = (refl, refl)
 
 -- a part of a tuple whose build is left out
-pub prints-part : Says
+pub prints_part : Says
     (2 ∷ 0 ∷ 0 ∷ 3 ∷ 1 ∷ 0 ∷ 0 ∷ 2 ∷ 0 ∷ 1 ∷ 0 ∷ 0 ∷ 0 ∷ 0 ∷ 3 ∷ 1 ∷ 0 ∷ 0 ∷ 0 ∷ 3 ∷ 0 ∷ 0 ∷ 10 ∷ 0 ∷ 0 ∷ 1 ∷ 0 ∷ 7 ∷ 0 ∷ 0 ∷ 0 ∷ 0 ∷ 11
     ∷ 1 ∷ 0 ∷ 3 ∷ 0 ∷ 0 ∷ 0 ∷ 0 ∷ 0 ∷ 0 ∷ 0 ∷ 0 ∷ 0 ∷ 7 ∷ 0 ∷ 0 ∷ 0 ∷ 0 ∷ 1 ∷ 3 ∷ 1 ∷ 0 ∷ 3 ∷ 0 ∷ [])
     true (counts 1 1 0 0 0) 0 0
 unfolding answering
-prints-part = (refl, refl)
+prints_part = (refl, refl)
 
 -- a value that is recorded and defined nowhere: the run stops there, and nothing is claimed behind it
-pub prints-nowhere : Says
+pub prints_nowhere : Says
     (1 ∷ 0 ∷ 0 ∷ 1 ∷ 0 ∷ 1 ∷ 0 ∷ 0 ∷ 0 ∷ 0 ∷ 1 ∷ 0 ∷ 0 ∷ 1 ∷ 0 ∷ 0 ∷ 7 ∷ 0 ∷ 0 ∷ 0 ∷ 0 ∷ 1 ∷ 3 ∷ 0 ∷ 0 ∷ 3 ∷ 0 ∷ [])
     false (counts 0 0 0 0 0) 0 0
 unfolding answering
-prints-nowhere = (refl, refl)
+prints_nowhere = (refl, refl)

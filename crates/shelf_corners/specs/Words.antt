@@ -13,12 +13,12 @@ use Rattle.mir.specs.Lookup.{Types}
 use Rattle.fold.specs.declared.Settings.{Settings}
 use Rattle.fold.specs.Scalarizable.{defaults}
 use Rattle.rewrite.specs.declared.Counts.{Counts}
-use Rattle.rewrite.specs.State.{AggStates, forwardStore}
-use Rattle.rewrite.specs.Step.{kept, stepKind}
-use Rattle.rewrite.specs.Run.{rewrittenBlocks}
+use Rattle.rewrite.specs.State.{AggStates, forward_store}
+use Rattle.rewrite.specs.Step.{kept, step_kind}
+use Rattle.rewrite.specs.Run.{rewritten_blocks}
 use Rattle.bytes_sections.specs.Decode.{mosts, whole_of}
-use Rattle.shelf.specs.Reads.{withDebug}
-use Rattle.shelf.specs.Reason.{shelfReason}
+use Rattle.shelf.specs.Reads.{with_debug}
+use Rattle.shelf.specs.Reason.{shelf_reason}
 use Rattle.shelf.specs.Answer.{Answer, refused, lowered, answer}
 
 -- ## The types, one table for all rows
@@ -59,8 +59,8 @@ single = record { 0 = 10 }
 abbrev pub pointer : TypeId
 pointer = record { 0 = 11 }
 
-abbrev pub ninePairs : TypeId
-ninePairs = record { 0 = 12 }
+abbrev pub nine_pairs : TypeId
+nine_pairs = record { 0 = 12 }
 
 abbrev pub table : List MirType
 table =
@@ -158,12 +158,12 @@ abbrev pub block : List Instruction → List Value → Block
 block is xs = record { instructions = is; terminator = Return xs }
 
 -- what is recorded of its values 0, 1, ..
-abbrev pub recordedRoutine : List (Option TypeId) → List Instruction → List Value → Routine
-recordedRoutine ts is xs = record { types = table; next = length ts; entry = record { 0 = 0 }; parameters = []; recorded = ts; blocks = block is xs ∷ [] }
+abbrev pub recorded_routine : List (Option TypeId) → List Instruction → List Value → Routine
+recorded_routine ts is xs = record { types = table; next = length ts; entry = record { 0 = 0 }; parameters = []; recorded = ts; blocks = block is xs ∷ [] }
 
 -- its values 0, 1, .. have these types
 abbrev pub routine : List TypeId → List Instruction → List Value → Routine
-routine ts is xs = recordedRoutine (map some ts) is xs
+routine ts is xs = recorded_routine (map some ts) is xs
 
 -- ## What a row shows
 
@@ -179,7 +179,7 @@ counts b e i a m = record { builds = b; extracts = e; inserts = i; assigns = a; 
 
 -- what the pass makes of a routine
 abbrev pub pass : Settings → Routine → Shown
-pass σ r = let w = rewrittenBlocks σ r in record { blocks = w.blocks; dropped = w.dropped; counts = w.counts }
+pass σ r = let w = rewritten_blocks σ r in record { blocks = w.blocks; dropped = w.dropped; counts = w.counts }
 
 -- one block of these instructions and returned values, these values dropped, these counts
 abbrev pub shows : List Instruction → List Value → List ℕ → Counts → Shown
@@ -191,7 +191,7 @@ Untouched σ r = pass σ r ≡ record { blocks = r.blocks; dropped = []; counts 
 
 -- its shelf reason
 abbrev pub reason : Routine → ℕ
-reason r = shelfReason withDebug r (rewrittenBlocks defaults r)
+reason r = shelf_reason with_debug r (rewritten_blocks defaults r)
 
 -- ## What is answered of bytes, the output's aside
 
@@ -205,14 +205,14 @@ summary (refused n o) = none
 summary (lowered w c k bytes) = some (record { changed = w; counts = c; reason = k })
 
 -- the shelf reason with Debug left aside, as it was before document 02
-unfoldable pub asideOf : Parse Routine → ℕ
-asideOf (ok r n) = shelfReason false r (rewrittenBlocks defaults r)
-asideOf (bad c o) = 0
+unfoldable pub aside_of : Parse Routine → ℕ
+aside_of (ok r n) = shelf_reason false r (rewritten_blocks defaults r)
+aside_of (bad c o) = 0
 
 -- under the usual settings: result, counts and shelf reason, and what the reason was
 abbrev pub Says : List ℕ → Bool → Counts → ℕ → ℕ → Type 0
 Says s w c before after =
-    (asideOf (whole_of mosts s) ≡ before)
+    (aside_of (whole_of mosts s) ≡ before)
     × (summary (answer defaults (length s) s) ≡ some (record { changed = w; counts = c; reason = after }))
 
 -- ## A step that comes first
@@ -222,10 +222,10 @@ abbrev pub LoadStays : Projection → Type 0
 LoadStays p =
     (τ : Types) (folds : ValueId → Bool) (S : AggStates) (n : ℕ) (i : Instruction)
     (d b : ValueId) (ps : List Projection) (t : TypeId)
-    → stepKind defaults τ folds S n i (InstructionKind.Load d (record { base = b; projections = p ∷ ps }) t) ≡ kept S i
+    → step_kind defaults τ folds S n i (InstructionKind.Load d (record { base = b; projections = p ∷ ps }) t) ≡ kept S i
 
 -- a Store whose first step it is is not forwarded
 abbrev pub StoreStays : Projection → Type 0
 StoreStays p =
     (τ : Types) (S : AggStates) (b : ValueId) (ps : List Projection) (y : Value)
-    → forwardStore τ S (record { base = b; projections = p ∷ ps }) y ≡ none
+    → forward_store τ S (record { base = b; projections = p ∷ ps }) y ≡ none

@@ -11,54 +11,54 @@ use Rattle.mir.specs.declared.ValueId.{ValueId}
 use Rattle.mir.specs.declared.TypeId.{TypeId}
 use Rattle.mir.specs.declared.Value.{Value}
 use Rattle.mir.specs.declared.Literal.{Literal}
-use Rattle.bytes_wire.proofs.Canon.{value-fit, bytes_drop}
+use Rattle.bytes_wire.proofs.Canon.{value_fit, bytes_drop}
 use Rattle.bytes_field.specs.declared.Bounds.{Bounds}
-use Rattle.bytes_sections.specs.Index.{recordedNumber, RecordedAt}
+use Rattle.bytes_sections.specs.Index.{recorded_number, RecordedAt}
 use Rattle.rewrite_parts.specs.Rows.{ValueAt, stands}
-use Rattle.mir.specs.Lookup.{Types, recordedType}
+use Rattle.mir.specs.Lookup.{Types, recorded_type}
 use Rattle.rewrite_progress.specs.Ground.{Ground}
-use Rattle.rewrite.specs.Rebuild.{returnType}
+use Rattle.rewrite.specs.Rebuild.{return_type}
 use Rattle.shelf_field.specs.Fields.{IdAt, TypeAt}
 
 -- a value that stands somewhere fits
-pub value-fits : (next : ℕ) (t : List ℕ) (at : ℕ) {x : Value} → Bytes t → next ≤ 65536 → ValueAt next t at x → FitValue next x
-value-fits next t at h l (stands n f) = value-fit next (drop at t) (bytes_drop t at h) f l
+pub value_fits : (next : ℕ) (t : List ℕ) (at : ℕ) {x : Value} → Bytes t → next ≤ 65536 → ValueAt next t at x → FitValue next x
+value_fits next t at h l (stands n f) = value_fit next (drop at t) (bytes_drop t at h) f l
 
 -- elsewhere
-pub type-moved : {types : ℕ} {t : List ℕ} {p q : ℕ} {y : TypeId} → p ≡ q → TypeAt types t q y → TypeAt types t p y
-type-moved e u = rw e u
+pub type_moved : {types : ℕ} {t : List ℕ} {p q : ℕ} {y : TypeId} → p ≡ q → TypeAt types t q y → TypeAt types t p y
+type_moved e u = rw e u
 
-pub value-moved : {next : ℕ} {t : List ℕ} {p q : ℕ} {x : Value} → p ≡ q → ValueAt next t q x → ValueAt next t p x
-value-moved e u = rw e u
+pub value_moved : {next : ℕ} {t : List ℕ} {p q : ℕ} {x : Value} → p ≡ q → ValueAt next t q x → ValueAt next t p x
+value_moved e u = rw e u
 
 -- a type's number
-pub type-below : {types x : ℕ} {t : List ℕ} {at : ℕ} {y : TypeId} → x ≡ at16 t at → TypeAt types t at y → x + 1 ≡ recordedNumber (some y)
-type-below e u = ap (λ z. z + 1) (e ∙ sym u.told)
+pub type_below : {types x : ℕ} {t : List ℕ} {at : ℕ} {y : TypeId} → x ≡ at16 t at → TypeAt types t at y → x + 1 ≡ recorded_number (some y)
+type_below e u = ap (λ z. z + 1) (e ∙ sym u.told)
 
-pub type-above : {types x : ℕ} {t : List ℕ} {at : ℕ} {y : TypeId} → x ≡ at16 t at → types ≤ x → TypeAt types t at y → ◌≡◌ {A = ℕ} 0 (recordedNumber (some y))
-type-above {types} {x} {y} e h u = absurd (let l = u.low in let z : y.0 ≡ x = u.told ∙ sym e in omega (arith, h, l, z))
+pub type_above : {types x : ℕ} {t : List ℕ} {at : ℕ} {y : TypeId} → x ≡ at16 t at → types ≤ x → TypeAt types t at y → ◌≡◌ {A = ℕ} 0 (recorded_number (some y))
+type_above {types} {x} {y} e h u = absurd (let l = u.low in let z : y.0 ≡ x = u.told ∙ sym e in omega (arith, h, l, z))
 
 -- a recorded type
-pub recorded-told : {b : Bounds} {s types recorded : List ℕ} {τ : Types} (v : ValueId) {r : ℕ} → Ground b s types recorded τ → v.0 < b.next → (RecordedAt recorded τ.recorded → length τ.recorded ≤ length recorded → v.0 < length τ.recorded → r ≡ recordedNumber (recordedType τ v)) → r ≡ recordedNumber (recordedType τ v)
-recorded-told {b} {τ} v g h f = let z : v.0 < length τ.recorded = omega (arith, h, g.values) in f g.known.recorded-types g.known.long z
+pub recorded_told : {b : Bounds} {s types recorded : List ℕ} {τ : Types} (v : ValueId) {r : ℕ} → Ground b s types recorded τ → v.0 < b.next → (RecordedAt recorded τ.recorded → length τ.recorded ≤ length recorded → v.0 < length τ.recorded → r ≡ recorded_number (recorded_type τ v)) → r ≡ recorded_number (recorded_type τ v)
+recorded_told {b} {τ} v g h f = let z : v.0 < length τ.recorded = omega (arith, h, g.values) in f g.known.recorded_types g.known.long z
 
-pub id-told : {b : Bounds} {s types recorded : List ℕ} {τ : Types} {t : List ℕ} {at : ℕ} {d : ValueId} (x : ℕ) {r : ℕ} → Ground b s types recorded τ → IdAt b.next t at d → x ≡ at16 t at → (RecordedAt recorded τ.recorded → length τ.recorded ≤ length recorded → x < length τ.recorded → r ≡ recordedNumber (recordedType τ (record { 0 = x }))) → r ≡ recordedNumber (recordedType τ d)
-unfolding recordedType
-id-told {b} {τ} {d} x g i e f =
+pub id_told : {b : Bounds} {s types recorded : List ℕ} {τ : Types} {t : List ℕ} {at : ℕ} {d : ValueId} (x : ℕ) {r : ℕ} → Ground b s types recorded τ → IdAt b.next t at d → x ≡ at16 t at → (RecordedAt recorded τ.recorded → length τ.recorded ≤ length recorded → x < length τ.recorded → r ≡ recorded_number (recorded_type τ (record { 0 = x }))) → r ≡ recorded_number (recorded_type τ d)
+unfolding recorded_type
+id_told {b} {τ} {d} x g i e f =
     let w : x ≡ d.0 = e ∙ sym i.told in
     let z : x < length τ.recorded = omega (arith, w, i.low, g.values) in
-    f g.known.recorded-types g.known.long z ∙ ap (λ k. recordedNumber (get_or τ.recorded k none)) w
+    f g.known.recorded_types g.known.long z ∙ ap (λ k. recorded_number (get_or τ.recorded k none)) w
 
-pub operand-literal : (τ : Types) {x : Value} {l : Literal} → x ≡ Value.Literal l → ◌≡◌ {A = ℕ} 0 (recordedNumber (returnType τ x))
-unfolding returnType
-operand-literal τ e = rw e refl
+pub operand_literal : (τ : Types) {x : Value} {l : Literal} → x ≡ Value.Literal l → ◌≡◌ {A = ℕ} 0 (recorded_number (return_type τ x))
+unfolding return_type
+operand_literal τ e = rw e refl
 
-pub operand-error : (τ : Types) {x : Value} → x ≡ Value.Error → ◌≡◌ {A = ℕ} 0 (recordedNumber (returnType τ x))
-unfolding returnType
-operand-error τ e = rw e refl
+pub operand_error : (τ : Types) {x : Value} → x ≡ Value.Error → ◌≡◌ {A = ℕ} 0 (recorded_number (return_type τ x))
+unfolding return_type
+operand_error τ e = rw e refl
 
-pub operand-told : {b : Bounds} {s types recorded : List ℕ} {τ : Types} {x : Value} {v : ValueId} {r : ℕ} → Ground b s types recorded τ → x ≡ Value.Operand v → FitValue b.next x → (RecordedAt recorded τ.recorded → length τ.recorded ≤ length recorded → v.0 < length τ.recorded → r ≡ recordedNumber (recordedType τ v)) → r ≡ recordedNumber (returnType τ x)
-unfolding returnType
-operand-told {b} {v} g e h f =
+pub operand_told : {b : Bounds} {s types recorded : List ℕ} {τ : Types} {x : Value} {v : ValueId} {r : ℕ} → Ground b s types recorded τ → x ≡ Value.Operand v → FitValue b.next x → (RecordedAt recorded τ.recorded → length τ.recorded ≤ length recorded → v.0 < length τ.recorded → r ≡ recorded_number (recorded_type τ v)) → r ≡ recorded_number (return_type τ x)
+unfolding return_type
+operand_told {b} {v} g e h f =
     let k : FitValue b.next (Value.Operand v) = rw e at h in
-    rw e (recorded-told v g k.0 f)
+    rw e (recorded_told v g k.0 f)

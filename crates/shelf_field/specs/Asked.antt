@@ -9,9 +9,9 @@ use Rattle.mir.specs.declared.ValueId.{ValueId}
 use Rattle.mir.specs.Syntax.{InstructionKind}
 use Rattle.bytes_field.specs.declared.Bounds.{Bounds}
 use Rattle.rewrite_parts.specs.Rows.{ValueAt}
-use Rattle.mir.specs.Lookup.{Types, row_of, recordedType, shape}
+use Rattle.mir.specs.Lookup.{Types, row_of, recorded_type, shape}
 use Rattle.rewrite_progress.specs.Ground.{Ground}
-use Rattle.shelf.specs.Fits.{fits, sameType}
+use Rattle.shelf.specs.Fits.{fits, same_type}
 use Rattle.shelf.specs.Agrees.{agrees}
 use Rattle.shelf_rows.specs.Rows.{Is}
 use Rattle.shelf_field.specs.Fields.{IdAt}
@@ -31,7 +31,7 @@ IdHas b recorded t at number r =
     → Ground b s types recorded τ
     → IdAt b.next t at d
     → Is number o
-    → r ≡ sameType (recordedType τ d) o
+    → r ≡ same_type (recorded_type τ d) o
 
 -- what holds of the value that stands at a place
 abbrev pub OfValueAt : Bounds → List ℕ → List ℕ → List ℕ → List ℕ → ℕ → (Types → Value → Type 0) → Type 0

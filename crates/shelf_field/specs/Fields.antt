@@ -5,7 +5,7 @@ use Rattle.bytes_wire.specs.Number.{at16}
 use Rattle.mir.specs.declared.ValueId.{ValueId}
 use Rattle.mir.specs.declared.TypeId.{TypeId}
 use Rattle.mir.specs.Syntax.{Projection}
-use Rattle.bytes_field.specs.Decode.{projectionOf}
+use Rattle.bytes_field.specs.Decode.{projection_of}
 
 -- a value's number, and a type's
 pub record IdAt (next : ℕ) (t : List ℕ) (p : ℕ) (d : ValueId) : Type 0 where
@@ -18,7 +18,7 @@ pub record TypeAt (types : ℕ) (t : List ℕ) (p : ℕ) (y : TypeId) : Type 0 w
 
 -- a projection
 pub data StepAt (next : ℕ) (t : List ℕ) (p : ℕ) (q : Projection) : Type 0 where
-  stepping : (n : ℕ) → projectionOf next (drop p t) ≡ ok q n → StepAt next t p q
+  stepping : (n : ℕ) → projection_of next (drop p t) ≡ ok q n → StepAt next t p q
 
 -- things one behind another from a place on, each of which has Q where it stands
 infixr 67 ◌&◌

@@ -7,12 +7,12 @@ ghost use Rattle.bytes_wire.specs.WellFormed.{FitValue};
 ghost use Rattle.mir.specs.declared.TypeId.{TypeId as AnyType};
 ghost use Rattle.mir.specs.declared.Value.{Value as AnyValue};
 ghost use Rattle.mir.specs.Syntax.{Projection};
-ghost use Rattle.bytes_operands.specs.Fields.{asStep};
+ghost use Rattle.bytes_operands.specs.Fields.{as_step};
 ghost use Rattle.rewrite_parts.specs.Rows.{ValueAt};
-ghost use Rattle.mir.specs.Lookup.{Types, recordedType};
-ghost use Rattle.rewrite.specs.Rebuild.{returnType};
+ghost use Rattle.mir.specs.Lookup.{Types, recorded_type};
+ghost use Rattle.rewrite.specs.Rebuild.{return_type};
 ghost use Rattle.rewrite_progress.specs.Ground.{Ground};
-ghost use Rattle.shelf.specs.Agrees.{isScalarType, is_scalar};
+ghost use Rattle.shelf.specs.Agrees.{is_scalar_type, is_scalar};
 ghost use Rattle.shelf_rows.specs.Rows.{Is};
 ghost use Rattle.shelf_field.specs.Fields.{TypeAt, StepAt};
 ghost use Rattle.shelf_field.specs.Asked.{OfId, IdHas, OfValueAt, ValueFits, HasShape};
@@ -49,7 +49,7 @@ pub fn type_at(t: &[u8], b: Bounds, at: usize) -> Recorded
 // The recorded type of the value whose number stands at a place.
 pub fn id_type(b: Bounds, recorded: &[u16], t: &[u8], at: usize) -> Recorded
     ensures { (s types : List ℕ)
-        → OfId b s types recorded.now t.now at (λ τ d. Is result (recordedType τ d)) }
+        → OfId b s types recorded.now t.now at (λ τ d. Is result (recorded_type τ d)) }
 {
     shelf_types::recorded_number(recorded, ValueId(bytes_wire::u16_at(t, at)))
 }
@@ -64,7 +64,7 @@ pub fn id_has(b: Bounds, recorded: &[u16], t: &[u8], at: usize, number: Recorded
 // The value whose number stands at a place is recorded as a scalar.
 pub fn id_scalar(s: &[u8], b: Bounds, types: &[u16], recorded: &[u16], t: &[u8], at: usize) -> bool
     ensures { OfId b s.now types.now recorded.now t.now at
-        (λ τ d. result ≡ isScalarType τ (recordedType τ d)) }
+        (λ τ d. result ≡ is_scalar_type τ (recorded_type τ d)) }
 {
     shelf_types::is_scalar_type(s, b, types, id_type(b, recorded, t, at))
 }
@@ -72,7 +72,7 @@ pub fn id_scalar(s: &[u8], b: Bounds, types: &[u16], recorded: &[u16], t: &[u8],
 // The recorded type of an operand; none of any other value.
 fn operand_number(recorded: &[u16], x: Value) -> Recorded
     ensures { (b : Bounds) (s types : List ℕ) (τ : Types) → Ground b s types recorded.now τ
-        → FitValue b.next x → Is result (returnType τ x) }
+        → FitValue b.next x → Is result (return_type τ x) }
 {
     match x {
         Value::Literal(_) => Recorded(0),
@@ -84,7 +84,7 @@ fn operand_number(recorded: &[u16], x: Value) -> Recorded
 // The recorded type of the operand at a place; none of any other value.
 pub fn operand_type(b: Bounds, recorded: &[u16], t: &[u8], at: usize) -> Recorded
     ensures { (s types : List ℕ)
-        → OfValueAt b s types recorded.now t.now at (λ τ x. Is result (returnType τ x)) }
+        → OfValueAt b s types recorded.now t.now at (λ τ x. Is result (return_type τ x)) }
 {
     operand_number(recorded, value_at(t, at, b.next))
 }
@@ -128,7 +128,7 @@ pub fn has_shape(s: &[u8], b: Bounds, types: &[u16], number: Recorded, k: u8) ->
 
 // The projection at a place.
 pub fn step_at(t: &[u8], at: usize, next: u16) -> Step
-    ensures { (q : Projection) → StepAt next t.now at q → asStep result ≡ some q }
+    ensures { (q : Projection) → StepAt next t.now at q → as_step result ≡ some q }
 {
     bytes_operands::step_at(t, at, next)
 }

@@ -13,7 +13,7 @@ use Rattle.rewrite_parts.specs.declared.Init.{Init}
 use Rattle.mir.specs.Lookup.{Types, row_of}
 use Rattle.mir.specs.Parts.{part_type}
 use Rattle.rewrite_progress.specs.Ground.{Ground}
-use Rattle.shelf.specs.Fits.{givenFits, fieldsFit}
+use Rattle.shelf.specs.Fits.{given_fits, fields_fit}
 use Rattle.shelf_rows.specs.Rows.{Is}
 use Rattle.shelf_list.specs.Lists.{TypesIn}
 
@@ -56,7 +56,7 @@ GivenFits b s types recorded t init number r =
     → Ground b s types recorded τ
     → InitAt b.next t o init
     → Is number (some y)
-    → r ≡ givenFits τ o y
+    → r ≡ given_fits τ o y
 
 -- each of the n fields of the struct type `number`, whose row is `row`, is given a value that fits by n inits
 abbrev pub FieldsFit : Bounds → List ℕ → List ℕ → List ℕ → List ℕ → ℕ → ℕ → Recorded → List ℕ → Bool → Type 0
@@ -69,4 +69,4 @@ FieldsFit b s types recorded t at n number row r =
     → Names row 4 ss
     → length ss ≡ n
     → ((k : ℕ) → k < length ss → part_type (row_of τ o) k ≡ some (get_or ss k no_field).part)
-    → r ≡ fieldsFit τ fs ss
+    → r ≡ fields_fit τ fs ss

@@ -2,11 +2,11 @@
 #![tactic(auto)]
 
 ghost use Rattle.std.specs.Prelude.{◌≡◌, List, ℕ};
-ghost use Rattle.mir.specs.Lookup.{is_some, row_of, recordedType};
+ghost use Rattle.mir.specs.Lookup.{is_some, row_of, recorded_type};
 ghost use Rattle.mir.specs.Parts.{part_type};
 ghost use Rattle.shelf.specs.Lists.{every};
-ghost use Rattle.shelf.specs.Fits.{fits, all_fit, partsFit, argumentsFit};
-ghost use Rattle.shelf.specs.Agrees.{destsFit, isKnown};
+ghost use Rattle.shelf.specs.Fits.{fits, all_fit, parts_fit, arguments_fit};
+ghost use Rattle.shelf.specs.Agrees.{dests_fit, is_known};
 ghost use Rattle.shelf_field.specs.Fields.{Inner, Later, Late};
 ghost use Rattle.shelf_field.specs.Asked.{OfValueAt};
 ghost use Rattle.shelf_list.specs.Lists.{ValuesAt, SourcesAt, IdsAt};
@@ -63,7 +63,7 @@ pub fn parts_fit(
 ) -> bool
     requires { Inner at }
     ensures { AgainstType b s.now types.now recorded.now (ValuesAt b.next t.now at) n number
-        partsFit result }
+        parts_fit result }
 {
     let counted = shelf_rows::has_parts(s, b, types, number, n as u32);
     let all = all_fit(s, b, types, recorded, t, at, n, number);
@@ -110,7 +110,7 @@ pub fn arguments_fit(
 ) -> bool
     requires { Inner at × Later parameters }
     ensures { AgainstTypes b s.now types.now recorded.now (ValuesAt b.next t.now at) n
-        t.now parameters argumentsFit result }
+        t.now parameters arguments_fit result }
 {
     let mut here = at;
     let mut there = parameters;
@@ -131,7 +131,7 @@ pub fn arguments_fit(
 pub fn dests_fit(b: Bounds, recorded: &[u16], t: &[u8], at: usize, n: u8, returns: usize) -> bool
     requires { Inner at × Late returns }
     ensures { (s types : List ℕ) → AgainstTypes b s types recorded.now (IdsAt b.next t.now at) n
-        t.now returns destsFit result }
+        t.now returns dests_fit result }
 {
     let mut here = at;
     let mut there = returns;
@@ -199,7 +199,7 @@ pub fn fields_fit(
 
 // The value at a place has a recorded type or is a literal.
 fn value_known(b: Bounds, recorded: &[u16], t: &[u8], at: usize) -> bool
-    ensures { (s types : List ℕ) → OfValueAt b s types recorded.now t.now at (λ τ x. result ≡ isKnown τ x) }
+    ensures { (s types : List ℕ) → OfValueAt b s types recorded.now t.now at (λ τ x. result ≡ is_known τ x) }
 {
     shelf_types::is_known(recorded, shelf_field::value_at(t, at, b.next))
 }
@@ -207,7 +207,7 @@ fn value_known(b: Bounds, recorded: &[u16], t: &[u8], at: usize) -> bool
 // Each of a Return's or a Debug's `n` values has a recorded type or is a literal.
 pub fn all_known(b: Bounds, recorded: &[u16], t: &[u8], at: usize, n: u8) -> bool
     requires { Inner at }
-    ensures { OfEach b recorded.now (ValuesAt b.next t.now at) n (λ τ xs. every (isKnown τ) xs) result }
+    ensures { OfEach b recorded.now (ValuesAt b.next t.now at) n (λ τ xs. every (is_known τ) xs) result }
 {
     let mut here = at;
     let mut i: u8 = 0;
@@ -225,7 +225,7 @@ pub fn all_known(b: Bounds, recorded: &[u16], t: &[u8], at: usize, n: u8) -> boo
 pub fn all_typed(b: Bounds, recorded: &[u16], t: &[u8], at: usize, n: u8) -> bool
     requires { Inner at }
     ensures { OfEach b recorded.now (IdsAt b.next t.now at) n
-        (λ τ ds. every (λ v. is_some (recordedType τ v)) ds) result }
+        (λ τ ds. every (λ v. is_some (recorded_type τ v)) ds) result }
 {
     let mut here = at;
     let mut i: u8 = 0;

@@ -11,23 +11,23 @@ use Rattle.mir.specs.declared.Value.{Value}
 use Rattle.mir.specs.Syntax.{Place}
 use Rattle.bytes_field.specs.Decode.{load_of, store_of}
 use Rattle.bytes_field.specs.declared.Bounds.{Bounds}
-use Rattle.bytes_operands.specs.Fields.{valueEnd, projectionEnd, after}
+use Rattle.bytes_operands.specs.Fields.{value_end, projection_end, after}
 use Rattle.bytes_operands.proofs.Places.{Stand, then, last}
 use Rattle.rewrite_parts.specs.Rows.{ValueAt}
-use Rattle.mir.specs.Lookup.{Types, recordedType}
-use Rattle.shelf.specs.Fits.{sameType, fits}
-use Rattle.shelf.specs.Agrees.{agrees, placeFits}
+use Rattle.mir.specs.Lookup.{Types, recorded_type}
+use Rattle.shelf.specs.Fits.{same_type, fits}
+use Rattle.shelf.specs.Agrees.{agrees, place_fits}
 use Rattle.shelf_field.specs.Fields.{IdAt, TypeAt}
-use Rattle.shelf_field.proofs.Standing.{dest-field, type-field, value-field}
+use Rattle.shelf_field.proofs.Standing.{dest_field, type_field, value_field}
 use Rattle.shelf_place.specs.Places.{PlaceAt}
-use Rattle.shelf_place.proofs.Places.{place-field}
+use Rattle.shelf_place.proofs.Places.{place_field}
 
 module _ (b : Bounds) (t : List ℕ) where
   module _ (seen : List Bool) (τ : Types) {r : Bool} where
-    pub load-agrees : ((d : ValueId) (p : Place) (y : TypeId) → IdAt b.next t 0 d → PlaceAt b.next t 2 p → TypeAt b.types t (after (projectionEnd t) (get_or t 4 0) 5) y → r ≡ (sameType (recordedType τ d) (some y) && placeFits τ p y)) → Stand t 0 (load_of b seen) (λ i e. r ≡ agrees τ i)
+    pub load_agrees : ((d : ValueId) (p : Place) (y : TypeId) → IdAt b.next t 0 d → PlaceAt b.next t 2 p → TypeAt b.types t (after (projection_end t) (get_or t 4 0) 5) y → r ≡ (same_type (recorded_type τ d) (some y) && place_fits τ p y)) → Stand t 0 (load_of b seen) (λ i e. r ≡ agrees τ i)
     unfolding load_of agrees
-    load-agrees f = then (dest-field b t seen) (λ d u. then (place-field b t) (λ x p. last _ (type-field b t) (λ y v. f d x y u p v)))
+    load_agrees f = then (dest_field b t seen) (λ d u. then (place_field b t) (λ x p. last _ (type_field b t) (λ y v. f d x y u p v)))
 
-    pub store-agrees : ((p : Place) (x : Value) (y : TypeId) → PlaceAt b.next t 0 p → ValueAt b.next t (after (projectionEnd t) (get_or t 2 0) 3) x → TypeAt b.types t (valueEnd t (after (projectionEnd t) (get_or t 2 0) 3)) y → r ≡ (fits τ x (some y) && placeFits τ p y)) → Stand t 0 (store_of b seen) (λ i e. r ≡ agrees τ i)
+    pub store_agrees : ((p : Place) (x : Value) (y : TypeId) → PlaceAt b.next t 0 p → ValueAt b.next t (after (projection_end t) (get_or t 2 0) 3) x → TypeAt b.types t (value_end t (after (projection_end t) (get_or t 2 0) 3)) y → r ≡ (fits τ x (some y) && place_fits τ p y)) → Stand t 0 (store_of b seen) (λ i e. r ≡ agrees τ i)
     unfolding store_of agrees
-    store-agrees f = then (place-field b t) (λ x p. then (value-field b t) (λ y q. last _ (type-field b t) (λ z v. f x y z p q v)))
+    store_agrees f = then (place_field b t) (λ x p. then (value_field b t) (λ y q. last _ (type_field b t) (λ z v. f x y z p q v)))

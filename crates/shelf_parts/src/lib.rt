@@ -1,7 +1,7 @@
 // The kinds that take a part out of an aggregate or put one in; `t` are the own fields of an instruction.
 #![tactic(auto)]
 
-ghost use Rattle.bytes_field.specs.Decode.{extractTupleOf, extractFieldOf, insertFieldOf, insertTupleOf};
+ghost use Rattle.bytes_field.specs.Decode.{extract_tuple_of, extract_field_of, insert_field_of, insert_tuple_of};
 ghost use Rattle.shelf_field.specs.Asked.{Judged};
 
 use bytes_field::Bounds;
@@ -18,7 +18,7 @@ const NAME_SIZE: usize = 2;
 
 // An ExtractTupleElement takes the part with its index from a tuple; the dest and the part have the type that is named.
 pub fn extract_tuple(s: &[u8], b: Bounds, types: &[u16], recorded: &[u16], t: &[u8]) -> bool
-    ensures { Judged extractTupleOf b s.now types.now recorded.now t.now result }
+    ensures { Judged extract_tuple_of b s.now types.now recorded.now t.now result }
 {
     let e = bytes_operands::value_end(t, AGGREGATE);
     let y = shelf_field::type_at(t, b, e + INDEX_SIZE);
@@ -33,7 +33,7 @@ pub fn extract_tuple(s: &[u8], b: Bounds, types: &[u16], recorded: &[u16], t: &[
 
 // An ExtractStructField takes the field of its name from a struct; the dest and the field have the type that is named.
 pub fn extract_field(s: &[u8], b: Bounds, types: &[u16], recorded: &[u16], t: &[u8]) -> bool
-    ensures { Judged extractFieldOf b s.now types.now recorded.now t.now result }
+    ensures { Judged extract_field_of b s.now types.now recorded.now t.now result }
 {
     let e = bytes_operands::value_end(t, AGGREGATE);
     let y = shelf_field::type_at(t, b, e + NAME_SIZE);
@@ -46,7 +46,7 @@ pub fn extract_field(s: &[u8], b: Bounds, types: &[u16], recorded: &[u16], t: &[
 
 // An InsertField: the dest and the old struct have the type that is named, the new value has that of its field.
 pub fn insert_field(s: &[u8], b: Bounds, types: &[u16], recorded: &[u16], t: &[u8]) -> bool
-    ensures { Judged insertFieldOf b s.now types.now recorded.now t.now result }
+    ensures { Judged insert_field_of b s.now types.now recorded.now t.now result }
 {
     let e = bytes_operands::value_end(t, AGGREGATE);
     let y = shelf_field::type_at(t, b, bytes_operands::value_end(t, e + NAME_SIZE));
@@ -60,7 +60,7 @@ pub fn insert_field(s: &[u8], b: Bounds, types: &[u16], recorded: &[u16], t: &[u
 
 // An InsertTuple: the dest and the old tuple have the type that is named, the new value has that of its part.
 pub fn insert_tuple(s: &[u8], b: Bounds, types: &[u16], recorded: &[u16], t: &[u8]) -> bool
-    ensures { Judged insertTupleOf b s.now types.now recorded.now t.now result }
+    ensures { Judged insert_tuple_of b s.now types.now recorded.now t.now result }
 {
     let e = bytes_operands::value_end(t, AGGREGATE);
     let y = shelf_field::type_at(t, b, bytes_operands::value_end(t, e + INDEX_SIZE));

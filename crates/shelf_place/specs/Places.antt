@@ -5,16 +5,16 @@ use Rattle.mir.specs.declared.Recorded.{Recorded}
 use Rattle.mir.specs.declared.TypeId.{TypeId}
 use Rattle.mir.specs.Syntax.{Projection, Place}
 use Rattle.bytes_field.specs.declared.Bounds.{Bounds}
-use Rattle.bytes_operands.specs.Fields.{projectionEnd}
+use Rattle.bytes_operands.specs.Fields.{projection_end}
 use Rattle.mir.specs.Lookup.{Types}
 use Rattle.rewrite_progress.specs.Ground.{Ground}
 use Rattle.shelf.specs.Lists.{every}
-use Rattle.shelf.specs.Agrees.{indexFits, reached, placeFits}
+use Rattle.shelf.specs.Agrees.{index_fits, reached, place_fits}
 use Rattle.shelf_rows.specs.Rows.{Is}
 use Rattle.shelf_field.specs.Fields.{IdAt, StepAt, Lined}
 
 abbrev pub StepsIn : ℕ → List ℕ → ℕ → List Projection → Type 0
-StepsIn next t at ps = Lined (StepAt next t) (projectionEnd t) at ps
+StepsIn next t at ps = Lined (StepAt next t) (projection_end t) at ps
 
 -- a place: its base, the count of its projections, and these
 pub record PlaceAt (next : ℕ) (t : List ℕ) (at : ℕ) (p : Place) : Type 0 where
@@ -38,7 +38,7 @@ IndexFits b s types recorded t at r =
     (τ : Types) (q : Projection)
     → Ground b s types recorded τ
     → StepAt b.next t at q
-    → r ≡ indexFits τ q
+    → r ≡ index_fits τ q
 
 -- and so of each of n projections
 abbrev pub IndexesFit : Bounds → List ℕ → List ℕ → List ℕ → List ℕ → ℕ → ℕ → Bool → Type 0
@@ -47,7 +47,7 @@ IndexesFit b s types recorded t at n r =
     → Ground b s types recorded τ
     → StepsIn b.next t at ps
     → length ps ≡ n
-    → r ≡ every (indexFits τ) ps
+    → r ≡ every (index_fits τ) ps
 
 -- the type at the end of a place
 abbrev pub Reaches : Bounds → List ℕ → List ℕ → List ℕ → List ℕ → ℕ → Recorded → Type 0
@@ -64,4 +64,4 @@ PlaceFits b s types recorded t at number r =
     → Ground b s types recorded τ
     → PlaceAt b.next t at p
     → Is number (some y)
-    → r ≡ placeFits τ p y
+    → r ≡ place_fits τ p y

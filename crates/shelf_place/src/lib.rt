@@ -1,7 +1,7 @@
 // The place of a Load or a Store: the types along its projections.
 #![tactic(auto)]
 
-ghost use Rattle.shelf.specs.Fits.{placeType};
+ghost use Rattle.shelf.specs.Fits.{place_type};
 ghost use Rattle.shelf.specs.Agrees.{pointed};
 ghost use Rattle.shelf_field.specs.Fields.{Front, Near, Inner};
 ghost use Rattle.shelf_place.specs.Places.{LeadsTo, IndexFits, IndexesFit, Reaches, PlaceFits};
@@ -26,7 +26,7 @@ fn end_type(
     number: Recorded,
 ) -> Recorded
     requires { Inner at }
-    ensures { LeadsTo b s.now types.now t.now at n number placeType result }
+    ensures { LeadsTo b s.now types.now t.now at n number place_type result }
 {
     let mut here = at;
     let mut there = number;

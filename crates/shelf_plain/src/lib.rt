@@ -1,7 +1,7 @@
 // Operations, copies and assertions; `t` are the own fields of an instruction.
 #![tactic(auto)]
 
-ghost use Rattle.bytes_field.specs.Decode.{assignOf, unaryOf, binaryOf, castOf, heapAllocOf, assertEqOf};
+ghost use Rattle.bytes_field.specs.Decode.{assign_of, unary_of, binary_of, cast_of, heap_alloc_of, assert_eq_of};
 ghost use Rattle.shelf_field.specs.Asked.{Judged};
 
 use bytes_field::Bounds;
@@ -17,7 +17,7 @@ const OPERAND: usize = 3;
 
 // An Assign: the dest and the source have the type that is named.
 pub fn assign(s: &[u8], b: Bounds, types: &[u16], recorded: &[u16], t: &[u8]) -> bool
-    ensures { Judged assignOf b s.now types.now recorded.now t.now result }
+    ensures { Judged assign_of b s.now types.now recorded.now t.now result }
 {
     let y = shelf_field::type_at(t, b, bytes_operands::value_end(t, SOURCE));
     let dest = shelf_field::id_has(b, recorded, t, DEST, y);
@@ -27,7 +27,7 @@ pub fn assign(s: &[u8], b: Bounds, types: &[u16], recorded: &[u16], t: &[u8]) ->
 
 // A UnaryOp gives a scalar and takes one.
 pub fn unary(s: &[u8], b: Bounds, types: &[u16], recorded: &[u16], t: &[u8]) -> bool
-    ensures { Judged unaryOf b s.now types.now recorded.now t.now result }
+    ensures { Judged unary_of b s.now types.now recorded.now t.now result }
 {
     let result = shelf_field::id_scalar(s, b, types, recorded, t, RESULT);
     let operand = shelf_field::value_scalar(s, b, types, recorded, t, OPERAND);
@@ -36,7 +36,7 @@ pub fn unary(s: &[u8], b: Bounds, types: &[u16], recorded: &[u16], t: &[u8]) -> 
 
 // A BinaryOp gives a scalar and takes two.
 pub fn binary(s: &[u8], b: Bounds, types: &[u16], recorded: &[u16], t: &[u8]) -> bool
-    ensures { Judged binaryOf b s.now types.now recorded.now t.now result }
+    ensures { Judged binary_of b s.now types.now recorded.now t.now result }
 {
     let result = shelf_field::id_scalar(s, b, types, recorded, t, RESULT);
     let left = shelf_field::value_scalar(s, b, types, recorded, t, OPERAND);
@@ -54,7 +54,7 @@ pub fn binary(s: &[u8], b: Bounds, types: &[u16], recorded: &[u16], t: &[u8]) ->
 
 // A Cast gives a scalar and takes one.
 pub fn cast(s: &[u8], b: Bounds, types: &[u16], recorded: &[u16], t: &[u8]) -> bool
-    ensures { Judged castOf b s.now types.now recorded.now t.now result }
+    ensures { Judged cast_of b s.now types.now recorded.now t.now result }
 {
     let to = shelf_field::id_scalar(s, b, types, recorded, t, DEST);
     let from = shelf_field::value_scalar(s, b, types, recorded, t, SOURCE);
@@ -63,7 +63,7 @@ pub fn cast(s: &[u8], b: Bounds, types: &[u16], recorded: &[u16], t: &[u8]) -> b
 
 // A HeapAllocCells gives a scalar and takes one.
 pub fn heap_alloc(s: &[u8], b: Bounds, types: &[u16], recorded: &[u16], t: &[u8]) -> bool
-    ensures { Judged heapAllocOf b s.now types.now recorded.now t.now result }
+    ensures { Judged heap_alloc_of b s.now types.now recorded.now t.now result }
 {
     let pointer = shelf_field::id_scalar(s, b, types, recorded, t, DEST);
     let cells = shelf_field::value_scalar(s, b, types, recorded, t, SOURCE);
@@ -72,7 +72,7 @@ pub fn heap_alloc(s: &[u8], b: Bounds, types: &[u16], recorded: &[u16], t: &[u8]
 
 // The sides of an AssertEq are of equal types.
 pub fn assert_eq(s: &[u8], b: Bounds, types: &[u16], recorded: &[u16], t: &[u8]) -> bool
-    ensures { Judged assertEqOf b s.now types.now recorded.now t.now result }
+    ensures { Judged assert_eq_of b s.now types.now recorded.now t.now result }
 {
     let x = shelf_field::value_at(t, 0, b.next);
     let y = shelf_field::value_at(t, bytes_operands::value_end(t, 0), b.next);

@@ -7,7 +7,7 @@ use Rattle.bytes_field.specs.Decode.{kinds}
 use Rattle.bytes_field.specs.declared.Bounds.{Bounds}
 use Rattle.mir.specs.Lookup.{Types}
 use Rattle.rewrite_progress.specs.Ground.{Ground}
-use Rattle.shelf.specs.Agrees.{agrees, endAgrees}
+use Rattle.shelf.specs.Agrees.{agrees, end_agrees}
 
 -- of an instruction of a kind, whose fields are t
 abbrev pub OfKind : Bounds → List ℕ → List ℕ → List ℕ → List ℕ → ℕ → Bool → Type 0
@@ -19,4 +19,4 @@ OfKind b s types recorded t kind r =
 
 -- of the terminator that is decoded
 abbrev pub OfEnd : Bounds → List ℕ → List ℕ → List ℕ → Parse Terminator → Bool → Type 0
-OfEnd b s types recorded d r = (τ : Types) (i : Terminator) (n : ℕ) → Ground b s types recorded τ → d ≡ ok i n → r ≡ endAgrees τ i
+OfEnd b s types recorded d r = (τ : Types) (i : Terminator) (n : ℕ) → Ground b s types recorded τ → d ≡ ok i n → r ≡ end_agrees τ i

@@ -4,16 +4,16 @@
 ghost use Rattle.std.specs.Prelude.{◌≡◌, false, List, ℕ, ◌+◌, get_or, drop, replicate};
 ghost use Rattle.bytes_wire.specs.Parse.{ok};
 ghost use Rattle.mir.specs.Syntax.{Terminator};
-ghost use Rattle.bytes_field.specs.Decode.{definedsOf, ifOf, branchOf, returnOf};
+ghost use Rattle.bytes_field.specs.Decode.{defineds_of, if_of, branch_of, return_of};
 ghost use Rattle.mir.specs.Routine.{Routine};
-ghost use Rattle.bytes_index.specs.Table.{recordedIn};
+ghost use Rattle.bytes_index.specs.Table.{recorded_in};
 ghost use Rattle.bytes_index.specs.Code.{TerminatorIn};
 ghost use Rattle.mir.specs.Lookup.{Types, types_in};
 ghost use Rattle.rewrite_progress.specs.Ground.{Ground, Coded};
-ghost use Rattle.shelf.specs.Reads.{withDebug};
+ghost use Rattle.shelf.specs.Reads.{with_debug};
 ghost use Rattle.shelf.specs.Lists.{every};
-ghost use Rattle.shelf.specs.Agrees.{agrees, endAgrees, blockAgrees};
-ghost use Rattle.shelf.specs.Reason.{typesAgree};
+ghost use Rattle.shelf.specs.Agrees.{agrees, end_agrees, block_agrees};
+ghost use Rattle.shelf.specs.Reason.{types_agree};
 ghost use Rattle.shelf_marks.specs.Tests.{OfSlot, OfBlock, OfRoutine};
 ghost use Rattle.shelf_reason1.specs.Told.{OfKind, OfEnd};
 
@@ -75,14 +75,14 @@ fn one_agrees(s: &[u8], b: Bounds, facts: &[u16], slot: u16) -> bool
 
 // The value of an If is a condition.
 fn condition(s: &[u8], b: Bounds, types: &[u16], recorded: &[u16], t: &[u8]) -> bool
-    ensures { OfEnd b s.now types.now recorded.now (ifOf b t.now) result }
+    ensures { OfEnd b s.now types.now recorded.now (if_of b t.now) result }
 {
     shelf_types::is_condition(s, b, types, recorded, shelf_field::value_at(t, 0, b.next))
 }
 
 // The operands of a BranchCmp are scalars.
 fn branch(s: &[u8], b: Bounds, types: &[u16], recorded: &[u16], t: &[u8]) -> bool
-    ensures { OfEnd b s.now types.now recorded.now (branchOf b t.now) result }
+    ensures { OfEnd b s.now types.now recorded.now (branch_of b t.now) result }
 {
     let left = shelf_field::value_scalar(s, b, types, recorded, t, COMPARED);
     let right = shelf_field::value_scalar(
@@ -98,15 +98,15 @@ fn branch(s: &[u8], b: Bounds, types: &[u16], recorded: &[u16], t: &[u8]) -> boo
 
 // Each value of a Return has a recorded type or is a literal.
 fn leave(b: Bounds, recorded: &[u16], t: &[u8]) -> bool
-    ensures { (s types : List ℕ) → OfEnd b s types recorded.now (returnOf b t.now) result }
+    ensures { (s types : List ℕ) → OfEnd b s types recorded.now (return_of b t.now) result }
 {
     shelf_list::all_known(b, recorded, t, FIRST, bytes_wire::byte_at(t, 0))
 }
 
 // The terminator in a slot agrees with them.
 fn end_agrees(s: &[u8], b: Bounds, facts: &[u16], slot: u16) -> bool
-    ensures { (τ : Types) (x : Terminator) → Ground b s.now facts.now (recordedIn facts.now) τ
-        → TerminatorIn b s.now facts.now slot x → result ≡ endAgrees τ x }
+    ensures { (τ : Types) (x : Terminator) → Ground b s.now facts.now (recorded_in facts.now) τ
+        → TerminatorIn b s.now facts.now slot x → result ≡ end_agrees τ x }
 {
     let u = bytes_field::tail(s, bytes_index::place(facts, slot));
     let t = bytes_field::tail(u, FIELDS);
@@ -122,7 +122,7 @@ fn end_agrees(s: &[u8], b: Bounds, facts: &[u16], slot: u16) -> bool
 
 // Each instruction of block `k` and its terminator agree.
 fn block_agrees(s: &[u8], b: Bounds, facts: &[u16], k: BlockId) -> bool
-    ensures { OfBlock b s.now facts.now k.0 (blockAgrees withDebug) result }
+    ensures { OfBlock b s.now facts.now k.0 (block_agrees with_debug) result }
 {
     let block = k.0;
     let last = bytes_index::last_slot(facts, k);
@@ -138,7 +138,7 @@ fn block_agrees(s: &[u8], b: Bounds, facts: &[u16], k: BlockId) -> bool
 
 // So do all blocks.
 fn blocks_agree(s: &[u8], b: Bounds, facts: &[u16]) -> bool
-    ensures { OfRoutine b s.now facts.now (λ τ ks. every (blockAgrees withDebug τ) ks) result }
+    ensures { OfRoutine b s.now facts.now (λ τ ks. every (block_agrees with_debug τ) ks) result }
 {
     let mut k: u16 = 0;
     while k < b.blocks {
@@ -153,9 +153,9 @@ fn blocks_agree(s: &[u8], b: Bounds, facts: &[u16]) -> bool
 // Shelf reason 1 of a routine: its parameters stand 6 bytes behind its type table.
 pub fn types_agree(s: &[u8], b: Bounds, facts: &[u16]) -> bool
     ensures { (x : Routine) (n : ℕ) → Coded b s.now facts.now (types_in x) x.blocks
-        → definedsOf b.list b.next (replicate b.next false)
+        → defineds_of b.list b.next (replicate b.next false)
         (drop (get_or facts.now b.types 0 + 6) s.now) ≡ ok x.parameters n
-        → result ≡ typesAgree withDebug x }
+        → result ≡ types_agree with_debug x }
 {
     let behind = table::place(facts, b.types as usize);
     let t = bytes_field::tail(s, behind + PARAMETERS);

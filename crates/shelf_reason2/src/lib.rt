@@ -2,16 +2,16 @@
 #![tactic(auto)]
 
 ghost use Rattle.std.specs.Prelude.{◌≡◌, false, ◌<◌};
-ghost use Rattle.bytes_block.specs.Decode.{marks as marksOf};
+ghost use Rattle.bytes_block.specs.Decode.{marks as marks_of};
 ghost use Rattle.bytes_field.specs.declared.Bounds.{Bounds as AnyBounds};
-ghost use Rattle.shelf_marks.specs.Tests.{OfBlock, OfRoutine, BehindPhis, orderedBehind, allOrdered, destCount, destFirst, destsOf};
+ghost use Rattle.shelf_marks.specs.Tests.{OfBlock, OfRoutine, BehindPhis, ordered_behind, all_ordered, dest_count, dest_first, dests_of};
 
 use bytes_field::Bounds;
 use mir::{BlockId, kind, most};
 
 // How many dests an instruction of a kind has, whose fields are `u`.
 fn dest_count(u: &[u8], kind: u16) -> u8
-    ensures { result ≡ destCount u.now kind }
+    ensures { result ≡ dest_count u.now kind }
 {
     match kind {
         kind::CALL => bytes_wire::byte_at(u, 0),
@@ -25,7 +25,7 @@ fn dest_count(u: &[u8], kind: u16) -> u8
 
 // Where the first dest of an instruction of a kind stands.
 fn dest_first(kind: u16) -> usize
-    ensures { (result ≡ destFirst kind) × (result < 2) }
+    ensures { (result ≡ dest_first kind) × (result < 2) }
 {
     match kind {
         kind::UNARY_OP => 1,
@@ -37,7 +37,7 @@ fn dest_first(kind: u16) -> usize
 
 // Marks the dests of the instruction of a kind at the head of `t`.
 fn mark_dests(t: &[u8], kind: u16, marks: &mut [bool])
-    ensures { marks.new ≡ marksOf marks.old (destsOf t.now kind) }
+    ensures { marks.new ≡ marks_of marks.old (dests_of t.now kind) }
 {
     let u = bytes_field::tail(t, bytes_operands::fields_place(t));
     let n = dest_count(u, kind);
@@ -68,7 +68,7 @@ fn behind_phis(facts: &[u16], k: BlockId) -> u16
 
 // Whether no instruction of block `k`, phis aside, reads a value that it or a later one defines: from the last to the first.
 fn block_ordered(s: &[u8], facts: &[u16], k: BlockId) -> bool
-    ensures { (b : AnyBounds) → OfBlock b s.now facts.now k.0 (λ τ x. orderedBehind x.instructions) result }
+    ensures { (b : AnyBounds) → OfBlock b s.now facts.now k.0 (λ τ x. ordered_behind x.instructions) result }
 {
     let block = k.0;
     let front = behind_phis(facts, BlockId(block));
@@ -88,7 +88,7 @@ fn block_ordered(s: &[u8], facts: &[u16], k: BlockId) -> bool
 
 // Whether no block reads a value that it defines there or later, phis aside (reason 2).
 pub fn in_order(s: &[u8], b: Bounds, facts: &[u16]) -> bool
-    ensures { OfRoutine b s.now facts.now (λ τ. allOrdered) result }
+    ensures { OfRoutine b s.now facts.now (λ τ. all_ordered) result }
 {
     let mut k: u16 = 0;
     while k < b.blocks {

@@ -2,13 +2,13 @@
 #![tactic(auto)]
 
 ghost use Rattle.std.specs.Prelude.{◌≡◌};
-ghost use Rattle.mir.specs.Reads.{storeBase};
-ghost use Rattle.bytes_block.specs.Decode.{marks as marksOf};
-ghost use Rattle.bytes_index.specs.Table.{recordedIn};
-ghost use Rattle.mir.specs.Lookup.{Types, valueRow, isAggregate};
+ghost use Rattle.mir.specs.Reads.{store_base};
+ghost use Rattle.bytes_block.specs.Decode.{marks as marks_of};
+ghost use Rattle.bytes_index.specs.Table.{recorded_in};
+ghost use Rattle.mir.specs.Lookup.{Types, value_row, is_aggregate};
 ghost use Rattle.rewrite_progress.specs.Ground.{Ground};
-ghost use Rattle.shelf.specs.Reads.{aggregateBase, basesIn, bases};
-ghost use Rattle.shelf_marks.specs.Tests.{OfSlot, OfBlock, OfRoutine, partsClear, eachKind, allApart};
+ghost use Rattle.shelf.specs.Reads.{aggregate_base, bases_in, bases};
+ghost use Rattle.shelf_marks.specs.Tests.{OfSlot, OfBlock, OfRoutine, parts_clear, each_kind, all_apart};
 
 use bytes_field::Bounds;
 use mir::{BlockId, TypeId, ValueId, kind, most, shape};
@@ -19,8 +19,8 @@ const BASE: u16 = 0;
 
 // Whether the recorded type of value `v` is an aggregate.
 fn is_aggregate(s: &[u8], b: Bounds, facts: &[u16], v: ValueId) -> bool
-    ensures { (τ : Types) → Ground b s.now facts.now (recordedIn facts.now) τ
-        → result ≡ isAggregate (valueRow τ v) }
+    ensures { (τ : Types) → Ground b s.now facts.now (recorded_in facts.now) τ
+        → result ≡ is_aggregate (value_row τ v) }
 {
     if b.next <= v.0 {
         return false;
@@ -36,7 +36,7 @@ fn is_aggregate(s: &[u8], b: Bounds, facts: &[u16], v: ValueId) -> bool
 // Marks the base of the instruction in a slot where that is a Store and the base an aggregate.
 fn mark_base(s: &[u8], b: Bounds, facts: &[u16], slot: u16, marks: &mut [bool])
     ensures { OfSlot b s.now facts.now slot
-        (λ τ i. marksOf marks.old (aggregateBase τ (storeBase i))) marks.new }
+        (λ τ i. marks_of marks.old (aggregate_base τ (store_base i))) marks.new }
 {
     let kind = bytes_index::kind(facts, slot);
     if kind != kind::STORE {
@@ -51,7 +51,7 @@ fn mark_base(s: &[u8], b: Bounds, facts: &[u16], slot: u16, marks: &mut [bool])
 // Marks the bases of block `k` so: aggregates that a Store changes.
 fn mark_block(s: &[u8], b: Bounds, facts: &[u16], k: BlockId, marks: &mut [bool])
     ensures { OfBlock b s.now facts.now k.0
-        (λ τ x. marksOf marks.old (basesIn τ x.instructions)) marks.new }
+        (λ τ x. marks_of marks.old (bases_in τ x.instructions)) marks.new }
 {
     let block = k.0;
     let last = bytes_index::last_slot(facts, k);
@@ -64,7 +64,7 @@ fn mark_block(s: &[u8], b: Bounds, facts: &[u16], k: BlockId, marks: &mut [bool]
 
 // Marks the bases of all blocks so.
 fn mark_bases(s: &[u8], b: Bounds, facts: &[u16], marks: &mut [bool])
-    ensures { OfRoutine b s.now facts.now (λ τ ks. marksOf marks.old (bases τ ks)) marks.new }
+    ensures { OfRoutine b s.now facts.now (λ τ ks. marks_of marks.old (bases τ ks)) marks.new }
 {
     let mut k: u16 = 0;
     while k < b.blocks {
@@ -75,7 +75,7 @@ fn mark_bases(s: &[u8], b: Bounds, facts: &[u16], marks: &mut [bool])
 
 // Whether no instruction of block `k` takes a marked value as a part.
 fn parts_block(s: &[u8], b: Bounds, facts: &[u16], k: BlockId, marks: &[bool]) -> bool
-    ensures { OfBlock b s.now facts.now k.0 (λ τ x. eachKind (partsClear marks.now) x.instructions) result }
+    ensures { OfBlock b s.now facts.now k.0 (λ τ x. each_kind (parts_clear marks.now) x.instructions) result }
 {
     let block = k.0;
     let last = bytes_index::last_slot(facts, k);
@@ -91,7 +91,7 @@ fn parts_block(s: &[u8], b: Bounds, facts: &[u16], k: BlockId, marks: &[bool]) -
 
 // Whether no aggregate that is a Store's base is also taken as a part (reason 3).
 pub fn kept_apart(s: &[u8], b: Bounds, facts: &[u16]) -> bool
-    ensures { OfRoutine b s.now facts.now allApart result }
+    ensures { OfRoutine b s.now facts.now all_apart result }
 {
     let mut marks: [bool; most::VALUES] = [false; most::VALUES];
     mark_bases(s, b, facts, &mut marks);

@@ -4,7 +4,7 @@
 ghost use Rattle.std.specs.Prelude.{◌≡◌, List, false, ℕ, get_or};
 ghost use Rattle.mir.specs.declared.ValueId.{ValueId as AnyId};
 ghost use Rattle.shelf.specs.Lists.{among};
-ghost use Rattle.shelf_marks.specs.Tests.{OfSlot, OfBlock, OfRoutine, shallowIn, eachKind, allShallow};
+ghost use Rattle.shelf_marks.specs.Tests.{OfSlot, OfBlock, OfRoutine, shallow_in, each_kind, all_shallow};
 
 use bytes_field::Bounds;
 use bytes_operands::Step;
@@ -17,7 +17,7 @@ const DEEPER: u8 = 1;
 
 // Whether the instruction in a slot is no deep Store on a dropped base: one of two or more projections.
 fn is_shallow(s: &[u8], b: Bounds, facts: &[u16], slot: u16, dropped: &[bool]) -> bool
-    ensures { OfSlot b s.now facts.now slot (λ τ. shallowIn dropped.now) result }
+    ensures { OfSlot b s.now facts.now slot (λ τ. shallow_in dropped.now) result }
 {
     if bytes_index::kind(facts, slot) != kind::STORE {
         return true;
@@ -37,7 +37,7 @@ fn is_shallow(s: &[u8], b: Bounds, facts: &[u16], slot: u16, dropped: &[bool]) -
 
 // Whether block `k` has no deep Store on a dropped base.
 fn shallow_block(s: &[u8], b: Bounds, facts: &[u16], k: BlockId, dropped: &[bool]) -> bool
-    ensures { OfBlock b s.now facts.now k.0 (λ τ x. eachKind (shallowIn dropped.now) x.instructions) result }
+    ensures { OfBlock b s.now facts.now k.0 (λ τ x. each_kind (shallow_in dropped.now) x.instructions) result }
 {
     let block = k.0;
     let last = bytes_index::last_slot(facts, k);
@@ -54,7 +54,7 @@ fn shallow_block(s: &[u8], b: Bounds, facts: &[u16], k: BlockId, dropped: &[bool
 // Whether no Store of two or more projections has a dropped base (reason 4).
 pub fn no_deep_store(s: &[u8], b: Bounds, facts: &[u16], dropped: &[bool]) -> bool
     ensures { (ds : List AnyId) → ((v : ℕ) → get_or dropped.now v false ≡ among v ds)
-        → OfRoutine b s.now facts.now (λ τ. allShallow ds) result }
+        → OfRoutine b s.now facts.now (λ τ. all_shallow ds) result }
 {
     let mut k: u16 = 0;
     while k < b.blocks {

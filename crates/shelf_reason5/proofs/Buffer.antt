@@ -9,52 +9,52 @@ use native.Mathlib.Omega.{arith}
 use borrow.Author.Tests.{lt-ltb}
 use lib.ListN.{length, get_or, set, drop, length-drop, length-set}
 use lib.Seq.{drop-cons, drop-length, get_or-set_same, get_or-set_other}
-use Rattle.bytes_wire.specs.Parse.{Parse, ok, later, mapParse}
+use Rattle.bytes_wire.specs.Parse.{Parse, ok, later, map_parse}
 use Rattle.bytes_wire.specs.declared.Cause.{Cause}
 use Rattle.mir.specs.declared.ValueId.{ValueId}
-use Rattle.bytes_wire.proofs.Laws.{size, size-map}
+use Rattle.bytes_wire.proofs.Laws.{size, size_map}
 use Rattle.bytes_wire.proofs.Inv.{no_ok}
 use Rattle.mir.specs.Syntax.{Instruction, Terminator}
-use Rattle.mir.specs.Reads.{reads, dests, terminatorReads}
-use Rattle.bytes_field.specs.Decode.{mark, instructionOf, terminatorOf}
-use Rattle.bytes_field.specs.Walk.{Walk, walk_of, uses, defines, fold, passes, leaves, asScan, bytes_of}
+use Rattle.mir.specs.Reads.{reads, dests, terminator_reads}
+use Rattle.bytes_field.specs.Decode.{mark, instruction_of, terminator_of}
+use Rattle.bytes_field.specs.Walk.{Walk, walk_of, uses, defines, fold, passes, leaves, as_scan, bytes_of}
 use Rattle.bytes_field.specs.declared.Bounds.{Bounds}
 use Rattle.bytes_field.specs.declared.Scan.{Scan}
 use Rattle.bytes_block.specs.Decode.{marks}
-use Rattle.bytes_block.proofs.Sizes.{size-instruction, size-terminator}
-use Rattle.shelf.specs.Reads.{cleanTerminator}
+use Rattle.bytes_block.proofs.Sizes.{size_instruction, size_terminator}
+use Rattle.shelf.specs.Reads.{clean_terminator}
 use Rattle.shelf_reason5.specs.Unread.{Buffered, marked, walked, Judges}
 use Rattle.shelf_reason5.specs.declared.Walked.{Walked}
 use Rattle.shelf.specs.Lists.{clear}
 
-abbrev noValue : ValueId
-noValue = record { 0 = 0 }
+abbrev no_value : ValueId
+no_value = record { 0 = 0 }
 
 -- k values were looked up, and none of them is marked
 pub record Sought (buffer : List ℕ) (n : ℕ) (ms : List Bool) (k : ℕ) : Type 0 where
   pub under : k ≤ n
   pub left : (vs : List ValueId) → Buffered buffer n vs → clear ms vs ≡ clear ms (drop k vs)
 
-pub sought-start : (buffer : List ℕ) (n : ℕ) (ms : List Bool) → Sought buffer n ms 0
-sought-start buffer n ms = record { under = zero-le; left = λ vs a. refl }
+pub sought_start : (buffer : List ℕ) (n : ℕ) (ms : List Bool) → Sought buffer n ms 0
+sought_start buffer n ms = record { under = zero-le; left = λ vs a. refl }
 
 module _ (buffer : List ℕ) (n : ℕ) (ms : List Bool) (k x : ℕ) (f : Bool) (u : Sought buffer n ms k) (h : k < n) (e : x ≡ get_or buffer k 0) (g : f ≡ get_or ms x false) where
   -- the next value
   next : (vs : List ValueId) → Buffered buffer n vs → clear ms vs ≡ (not f && clear ms (drop (k + 1) vs))
   next vs a =
       let p : k < length vs = omega (arith, a.many) in
-      let q : drop k vs ≡ get_or vs k noValue ∷ drop (k + 1) vs = rw (add-one k) (drop-cons vs k noValue p) in
-      let z : get_or ms (get_or vs k noValue).0 false ≡ f = ap (λ y. get_or ms y false) (sym (e ∙ a.each k h)) ∙ sym g in
+      let q : drop k vs ≡ get_or vs k no_value ∷ drop (k + 1) vs = rw (add-one k) (drop-cons vs k no_value p) in
+      let z : get_or ms (get_or vs k no_value).0 false ≡ f = ap (λ y. get_or ms y false) (sym (e ∙ a.each k h)) ∙ sym g in
       u.left vs a ∙ ap (λ y. clear ms y) q ∙ ap (λ y. not y && clear ms (drop (k + 1) vs)) z
 
-  pub sought-again : f ≡ false → Sought buffer n ms (k + 1)
-  sought-again z = record { under = omega arith; left = λ vs a. next vs a ∙ ap (λ y. not y && clear ms (drop (k + 1) vs)) z }
+  pub sought_again : f ≡ false → Sought buffer n ms (k + 1)
+  sought_again z = record { under = omega arith; left = λ vs a. next vs a ∙ ap (λ y. not y && clear ms (drop (k + 1) vs)) z }
 
-  pub sought-found : f ≡ true → (vs : List ValueId) → Buffered buffer n vs → false ≡ clear ms vs
-  sought-found z vs a = sym (next vs a ∙ ap (λ y. not y && clear ms (drop (k + 1) vs)) z)
+  pub sought_found : f ≡ true → (vs : List ValueId) → Buffered buffer n vs → false ≡ clear ms vs
+  sought_found z vs a = sym (next vs a ∙ ap (λ y. not y && clear ms (drop (k + 1) vs)) z)
 
-pub sought-done : (buffer : List ℕ) (n : ℕ) (ms : List Bool) (k : ℕ) → Sought buffer n ms k → n ≤ k → (vs : List ValueId) → Buffered buffer n vs → true ≡ clear ms vs
-sought-done buffer n ms k u h vs a =
+pub sought_done : (buffer : List ℕ) (n : ℕ) (ms : List Bool) (k : ℕ) → Sought buffer n ms k → n ≤ k → (vs : List ValueId) → Buffered buffer n vs → true ≡ clear ms vs
+sought_done buffer n ms k u h vs a =
     let q : k ≡ length vs = omega (arith, u.under, a.many) in
     sym (u.left vs a ∙ ap (λ y. clear ms (drop y vs)) q ∙ ap (λ y. clear ms y) (drop-length vs))
 
@@ -62,7 +62,7 @@ sought-done buffer n ms k u h vs a =
 record Filled (w v : Walk) (vs : List ValueId) : Type 0 where
   count : v.count ≡ w.count + length vs
   old : (j : ℕ) → j < w.count → get_or v.buffer j 0 ≡ get_or w.buffer j 0
-  new : (j : ℕ) → j < length vs → get_or v.buffer (w.count + j) 0 ≡ (get_or vs j noValue).0
+  new : (j : ℕ) → j < length vs → get_or v.buffer (w.count + j) 0 ≡ (get_or vs j no_value).0
 
 filled : (seen : List Bool) (u : List ℕ) (n : ℕ) (late : Bool) (vs : List ValueId) → n + length vs ≤ length u → Filled (walk_of seen u n late) (fold uses (walk_of seen u n late) vs) vs
 filled seen u n late [] h = record { count = omega arith; old = λ j q. refl; new = λ j q. absurd (omega arith) }
@@ -79,7 +79,7 @@ filled seen u n late (v ∷ vs) h =
           new = at;
         }
       where
-        at : (j : ℕ) → j < length (v ∷ vs) → get_or x.buffer (n + j) 0 ≡ (get_or (v ∷ vs) j noValue).0
+        at : (j : ℕ) → j < length (v ∷ vs) → get_or x.buffer (n + j) 0 ≡ (get_or (v ∷ vs) j no_value).0
         at zero q = rw add-zero (f.old n (omega arith) ∙ get_or-set_same u n v.0 0 room)
         at (suc j) q = let z : n + suc j ≡ n + 1 + j = omega arith in rw z (f.new j (omega arith))
 
@@ -99,60 +99,60 @@ defined seen u n late (d ∷ ds) = defined (mark seen d) u n late ds
 
 -- what is answered of a scan, by what it was
 module _ (v : List ℕ) (ms : List Bool) (r : Scan) where
-  pub refused-told : {c : Cause} {o : ℕ} → r ≡ Scan.Refused c o → Judges r v ms Walked.Reads
-  refused-told e = rw e refl
+  pub refused_told : {c : Cause} {o : ℕ} → r ≡ Scan.Refused c o → Judges r v ms Walked.Reads
+  refused_told e = rw e refl
 
   module _ {end n : ℕ} {late : Bool} (e : r ≡ Scan.Used end n late) {c : Bool} (says : (vs : List ValueId) → Buffered v n vs → c ≡ clear ms vs) where
-    pub clean-told : c ≡ true → Judges r v ms (Walked.Behind end)
-    clean-told z = rw e (λ vs b. rw (← says vs b, z) refl)
+    pub clean_told : c ≡ true → Judges r v ms (Walked.Behind end)
+    clean_told z = rw e (λ vs b. rw (← says vs b, z) refl)
 
-    pub dropped-told : c ≡ false → Judges r v ms Walked.Reads
-    dropped-told z = rw e (λ vs b. rw (← says vs b, z) refl)
+    pub dropped_told : c ≡ false → Judges r v ms Walked.Reads
+    dropped_told z = rw e (λ vs b. rw (← says vs b, z) refl)
 
 -- a scan that leaves w behind what it reads, and what stands behind it
 module _ {X : Type 0} (w : X → Walk) (d : Parse X) (v : List ℕ) (seen : List Bool) where
-  scan-size : (r : Scan) → asScan r seen v ≡ mapParse w d → bytes_of r ≡ size d
-  scan-size (Scan.Used k n late) e = ap (λ q. size q) e ∙ size-map w d
-  scan-size (Scan.Refused c o) e = ap (λ q. size q) e ∙ size-map w d
+  scan_size : (r : Scan) → as_scan r seen v ≡ map_parse w d → bytes_of r ≡ size d
+  scan_size (Scan.Used k n late) e = ap (λ q. size q) e ∙ size_map w d
+  scan_size (Scan.Refused c o) e = ap (λ q. size q) e ∙ size_map w d
 
   -- further on: the reads of what it reads stand in the buffer
-  scan-judged : (reads_of : X → List ValueId) (at : ℕ) (ms : List Bool) → ((x : X) (m : ℕ) (late : Bool) → length (reads_of x) ≤ 32 → walk_of seen v m late ≡ w x → Buffered v m (reads_of x))
-      → (r : Scan) → asScan r seen v ≡ later at (mapParse w d) → (a : Walked) → Judges r v ms a → (x : X) (n : ℕ) → d ≡ ok x n → length (reads_of x) ≤ 32 → a ≡ walked (clear ms (reads_of x)) (at + n)
-  scan-judged reads_of at ms fill (Scan.Refused c o) e a j x n t k = absurd (no_ok (e ∙ ap (λ q. later at (mapParse w q)) t))
-  scan-judged reads_of at ms fill (Scan.Used end m late) e a j x n t k =
-      let z : ok (walk_of seen v m late) end ≡ ok (w x) (at + n) = e ∙ ap (λ q. later at (mapParse w q)) t in
+  scan_judged : (reads_of : X → List ValueId) (at : ℕ) (ms : List Bool) → ((x : X) (m : ℕ) (late : Bool) → length (reads_of x) ≤ 32 → walk_of seen v m late ≡ w x → Buffered v m (reads_of x))
+      → (r : Scan) → as_scan r seen v ≡ later at (map_parse w d) → (a : Walked) → Judges r v ms a → (x : X) (n : ℕ) → d ≡ ok x n → length (reads_of x) ≤ 32 → a ≡ walked (clear ms (reads_of x)) (at + n)
+  scan_judged reads_of at ms fill (Scan.Refused c o) e a j x n t k = absurd (no_ok (e ∙ ap (λ q. later at (map_parse w q)) t))
+  scan_judged reads_of at ms fill (Scan.Used end m late) e a j x n t k =
+      let z : ok (walk_of seen v m late) end ≡ ok (w x) (at + n) = e ∙ ap (λ q. later at (map_parse w q)) t in
       let y : walk_of seen v m late ≡ w x = cc in
       let g : end ≡ at + n = ap (λ q. size q) z in
       rw g at (j (reads_of x) (fill x m late k y))
 
 -- of an instruction, and of a terminator
-module _ (b : Bounds) (s t : List ℕ) (at : ℕ) (ms : List Bool) (u v : List ℕ) (seen : List Bool) (r q : Scan) (h : t ≡ drop at s) (lu : length u ≡ 32) (f : asScan q seen v ≡ later at (asScan r seen v)) (a : Walked) (j : Judges q v ms a) where
-  module _ (e : asScan r seen v ≡ mapParse (passes (walk_of [] u 0 false)) (instructionOf b [] false t)) where
-    next-buffered : (i : Instruction) (m : ℕ) (late : Bool) → length (reads i.kind) ≤ 32 → walk_of seen v m late ≡ passes (walk_of [] u 0 false) i → Buffered v m (reads i.kind)
-    next-buffered i m late k y =
-        let w : behindOf ≡ fold uses (walk_of (marks [] (dests i.kind)) u 0 false) (reads i.kind) = ap (λ q. fold uses q (reads i.kind)) (defined [] u 0 false (dests i.kind)) in
-        let p : m ≡ behindOf.count = ap (λ q. q.count) y in
-        let o : v ≡ behindOf.buffer = ap (λ q. q.buffer) y in
+module _ (b : Bounds) (s t : List ℕ) (at : ℕ) (ms : List Bool) (u v : List ℕ) (seen : List Bool) (r q : Scan) (h : t ≡ drop at s) (lu : length u ≡ 32) (f : as_scan q seen v ≡ later at (as_scan r seen v)) (a : Walked) (j : Judges q v ms a) where
+  module _ (e : as_scan r seen v ≡ map_parse (passes (walk_of [] u 0 false)) (instruction_of b [] false t)) where
+    next_buffered : (i : Instruction) (m : ℕ) (late : Bool) → length (reads i.kind) ≤ 32 → walk_of seen v m late ≡ passes (walk_of [] u 0 false) i → Buffered v m (reads i.kind)
+    next_buffered i m late k y =
+        let w : behind_of ≡ fold uses (walk_of (marks [] (dests i.kind)) u 0 false) (reads i.kind) = ap (λ q. fold uses q (reads i.kind)) (defined [] u 0 false (dests i.kind)) in
+        let p : m ≡ behind_of.count = ap (λ q. q.count) y in
+        let o : v ≡ behind_of.buffer = ap (λ q. q.buffer) y in
         buffered (marks [] (dests i.kind)) u (reads i.kind) lu k (p ∙ ap (λ q. q.count) w) (o ∙ ap (λ q. q.buffer) w)
       where
-        behindOf : Walk
-        behindOf = fold uses (fold defines (walk_of [] u 0 false) (dests i.kind)) (reads i.kind)
+        behind_of : Walk
+        behind_of = fold uses (fold defines (walk_of [] u 0 false) (dests i.kind)) (reads i.kind)
 
-    pub next-told : (i : Instruction) (n : ℕ) → instructionOf b [] false (drop at s) ≡ ok i n → length (reads i.kind) ≤ 32 → a ≡ walked (clear ms (reads i.kind)) (at + n)
-    next-told i n g = scan-judged (passes (walk_of [] u 0 false)) (instructionOf b [] false t) v seen (λ i. reads i.kind) at ms next-buffered q (f ∙ ap (later at) e) a j i n (ap (λ q. instructionOf b [] false q) h ∙ g)
+    pub next_told : (i : Instruction) (n : ℕ) → instruction_of b [] false (drop at s) ≡ ok i n → length (reads i.kind) ≤ 32 → a ≡ walked (clear ms (reads i.kind)) (at + n)
+    next_told i n g = scan_judged (passes (walk_of [] u 0 false)) (instruction_of b [] false t) v seen (λ i. reads i.kind) at ms next_buffered q (f ∙ ap (later at) e) a j i n (ap (λ q. instruction_of b [] false q) h ∙ g)
 
-  module _ (e : asScan r seen v ≡ mapParse (leaves (walk_of [] u 0 false)) (terminatorOf b t)) where
-    last-buffered : (x : Terminator) (m : ℕ) (late : Bool) → length (terminatorReads x) ≤ 32 → walk_of seen v m late ≡ leaves (walk_of [] u 0 false) x → Buffered v m (terminatorReads x)
-    last-buffered x m late k y = buffered [] u (terminatorReads x) lu k (ap (λ q. q.count) y) (ap (λ q. q.buffer) y)
+  module _ (e : as_scan r seen v ≡ map_parse (leaves (walk_of [] u 0 false)) (terminator_of b t)) where
+    last_buffered : (x : Terminator) (m : ℕ) (late : Bool) → length (terminator_reads x) ≤ 32 → walk_of seen v m late ≡ leaves (walk_of [] u 0 false) x → Buffered v m (terminator_reads x)
+    last_buffered x m late k y = buffered [] u (terminator_reads x) lu k (ap (λ q. q.count) y) (ap (λ q. q.buffer) y)
 
-    pub last-told : (x : Terminator) (n : ℕ) → terminatorOf b (drop at s) ≡ ok x n → length (terminatorReads x) ≤ 32 → a ≡ walked (cleanTerminator (marked ms) x) (at + n)
-    unfolding cleanTerminator
-    last-told x n g = scan-judged (leaves (walk_of [] u 0 false)) (terminatorOf b t) v seen terminatorReads at ms last-buffered q (f ∙ ap (later at) e) a j x n (ap (λ q. terminatorOf b q) h ∙ g)
+    pub last_told : (x : Terminator) (n : ℕ) → terminator_of b (drop at s) ≡ ok x n → length (terminator_reads x) ≤ 32 → a ≡ walked (clean_terminator (marked ms) x) (at + n)
+    unfolding clean_terminator
+    last_told x n g = scan_judged (leaves (walk_of [] u 0 false)) (terminator_of b t) v seen terminator_reads at ms last_buffered q (f ∙ ap (later at) e) a j x n (ap (λ q. terminator_of b q) h ∙ g)
 
 -- their places do not wrap
 module _ (b : Bounds) (s t : List ℕ) (at : ℕ) (u v : List ℕ) (seen : List Bool) (r : Scan) (h : t ≡ drop at s) where
-  pub next-within : asScan r seen v ≡ mapParse (passes (walk_of [] u 0 false)) (instructionOf b [] false t) → bytes_of r ≤ length s - at
-  next-within e = omega (arith, scan-size (passes (walk_of [] u 0 false)) (instructionOf b [] false t) v seen r e, size-instruction b [] false t, ap (λ q. length q) h, length-drop at s)
+  pub next_within : as_scan r seen v ≡ map_parse (passes (walk_of [] u 0 false)) (instruction_of b [] false t) → bytes_of r ≤ length s - at
+  next_within e = omega (arith, scan_size (passes (walk_of [] u 0 false)) (instruction_of b [] false t) v seen r e, size_instruction b [] false t, ap (λ q. length q) h, length-drop at s)
 
-  pub last_within : asScan r seen v ≡ mapParse (leaves (walk_of [] u 0 false)) (terminatorOf b t) → bytes_of r ≤ length s - at
-  last_within e = omega (arith, scan-size (leaves (walk_of [] u 0 false)) (terminatorOf b t) v seen r e, size-terminator b t, ap (λ q. length q) h, length-drop at s)
+  pub last_within : as_scan r seen v ≡ map_parse (leaves (walk_of [] u 0 false)) (terminator_of b t) → bytes_of r ≤ length s - at
+  last_within e = omega (arith, scan_size (leaves (walk_of [] u 0 false)) (terminator_of b t) v seen r e, size_terminator b t, ap (λ q. length q) h, length-drop at s)

@@ -3,18 +3,18 @@ use Rattle.std.specs.Prelude.{ℕ, ◌+◌, ◌≤◌, ◌<◌, ◌≡◌, List,
 use Rattle.bytes_wire.specs.Parse.{ok}
 use Rattle.mir.specs.declared.ValueId.{ValueId}
 use Rattle.mir.specs.Syntax.{Instruction, Block}
-use Rattle.bytes_field.specs.Decode.{instructionOf, terminatorOf}
-use Rattle.mir.specs.Reads.{reads, terminatorReads}
-use Rattle.bytes_field.specs.Encode.{eachBytes, instructionBytes, terminatorBytes}
+use Rattle.bytes_field.specs.Decode.{instruction_of, terminator_of}
+use Rattle.mir.specs.Reads.{reads, terminator_reads}
+use Rattle.bytes_field.specs.Encode.{each_bytes, instruction_bytes, terminator_bytes}
 use Rattle.bytes_field.specs.declared.Bounds.{Bounds}
 use Rattle.bytes_field.specs.declared.Scan.{Scan}
 use Rattle.mir.specs.Lists.{Each}
 use Rattle.bytes_laws.specs.WellFormed.{Wide}
-use Rattle.bytes_block.specs.Encode.{blockBytes}
+use Rattle.bytes_block.specs.Encode.{block_bytes}
 use Rattle.bytes_block.specs.declared.Mosts.{Mosts}
 use Rattle.bytes_laws_whole.specs.WellFormed.{FitBlocks}
 use Rattle.shelf.specs.Lists.{clear}
-use Rattle.shelf.specs.Reads.{clean, cleanTerminator, withDebug}
+use Rattle.shelf.specs.Reads.{clean, clean_terminator, with_debug}
 use Rattle.shelf_reason5.specs.declared.Walked.{Walked}
 
 -- the reads that stand in a buffer
@@ -27,8 +27,8 @@ abbrev pub marked : List Bool → ℕ → Bool
 marked ms v = get_or ms v false
 
 -- a block reads no marked value
-abbrev pub cleanBlock : List Bool → Block → Bool
-cleanBlock ms k = clean withDebug (marked ms) k.instructions && cleanTerminator (marked ms) k.terminator
+abbrev pub clean_block : List Bool → Block → Bool
+clean_block ms k = clean with_debug (marked ms) k.instructions && clean_terminator (marked ms) k.terminator
 
 -- what a walk answers: the place behind, or that a marked value is read
 abbrev pub walked : Bool → ℕ → Walked
@@ -41,20 +41,20 @@ Judges (Scan.Used end n late) buffer ms r = (vs : List ValueId) → Buffered buf
 
 -- an instruction's bytes are read as it, whatever was defined before and whatever follows; its reads are few
 pub record Alone (b : Bounds) (i : Instruction) : Type 0 where
-  pub read : (t : List ℕ) → instructionOf b [] false (instructionBytes i ++ t) ≡ ok i (length (instructionBytes i))
+  pub read : (t : List ℕ) → instruction_of b [] false (instruction_bytes i ++ t) ≡ ok i (length (instruction_bytes i))
   pub few : length (reads i.kind) ≤ 32
 
 -- and so are a block's
 pub record Legible (b : Bounds) (x : Block) : Type 0 where
   pub many : length x.instructions < 65536
   pub each : Each (Alone b) x.instructions
-  pub last : (t : List ℕ) → terminatorOf b (terminatorBytes x.terminator ++ t) ≡ ok x.terminator (length (terminatorBytes x.terminator))
-  pub few : length (terminatorReads x.terminator) ≤ 32
+  pub last : (t : List ℕ) → terminator_of b (terminator_bytes x.terminator ++ t) ≡ ok x.terminator (length (terminator_bytes x.terminator))
+  pub few : length (terminator_reads x.terminator) ≤ 32
 
 -- the blocks ks, as many as `many`, stand in `out` from `at` on, and their numbers stay below b
 pub record Written (b : Bounds) (out : List ℕ) (at many : ℕ) (ks : List Block) : Type 0 where
   pub rest : List ℕ
-  pub bytes : drop at out ≡ eachBytes blockBytes ks ++ rest
+  pub bytes : drop at out ≡ each_bytes block_bytes ks ++ rest
   pub as_many : length ks ≡ many
   pub mosts : Mosts
   pub total : ℕ

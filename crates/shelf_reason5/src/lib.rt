@@ -5,13 +5,13 @@ ghost use Rattle.std.specs.Prelude.{◌≡◌, List, [], ◌++◌, false, ℕ, �
 ghost use Rattle.bytes_wire.specs.Parse.{ok};
 ghost use Rattle.mir.specs.declared.ValueId.{ValueId};
 ghost use Rattle.mir.specs.Syntax.{Instruction, Terminator, Block};
-ghost use Rattle.bytes_field.specs.Decode.{instructionOf, terminatorOf};
-ghost use Rattle.mir.specs.Reads.{reads, terminatorReads};
-ghost use Rattle.bytes_block.specs.Encode.{blockBytes};
+ghost use Rattle.bytes_field.specs.Decode.{instruction_of, terminator_of};
+ghost use Rattle.mir.specs.Reads.{reads, terminator_reads};
+ghost use Rattle.bytes_block.specs.Encode.{block_bytes};
 ghost use Rattle.shelf.specs.Lists.{among, clear};
-ghost use Rattle.shelf.specs.Reads.{cleanTerminator, withDebug};
-ghost use Rattle.shelf.specs.Reason.{readsNoDropped};
-ghost use Rattle.shelf_reason5.specs.Unread.{Buffered, marked, cleanBlock, walked, Judges, Legible, Written};
+ghost use Rattle.shelf.specs.Reads.{clean_terminator, with_debug};
+ghost use Rattle.shelf.specs.Reason.{reads_no_dropped};
+ghost use Rattle.shelf_reason5.specs.Unread.{Buffered, marked, clean_block, walked, Judges, Legible, Written};
 
 use bytes_field::{Bounds, Scan};
 
@@ -56,7 +56,7 @@ fn judge(scan: Scan, buffer: &[u16], dropped: &[bool]) -> Walked
 
 // Walks the instruction that stands at `at`.
 fn walk_instruction(s: &[u8], at: usize, b: Bounds, dropped: &[bool]) -> Walked
-    ensures { (i : Instruction) (n : ℕ) → instructionOf b [] false (drop at s.now) ≡ ok i n → length (reads i.kind) ≤ 32
+    ensures { (i : Instruction) (n : ℕ) → instruction_of b [] false (drop at s.now) ≡ ok i n → length (reads i.kind) ≤ 32
         → result ≡ walked (clear dropped.now (reads i.kind)) (at + n) }
 {
     let mut none: [bool; 0] = [false; 0];
@@ -68,8 +68,8 @@ fn walk_instruction(s: &[u8], at: usize, b: Bounds, dropped: &[bool]) -> Walked
 
 // Walks the terminator that stands at `at`.
 fn walk_terminator(s: &[u8], at: usize, b: Bounds, dropped: &[bool]) -> Walked
-    ensures { (x : Terminator) (n : ℕ) → terminatorOf b (drop at s.now) ≡ ok x n → length (terminatorReads x) ≤ 32
-        → result ≡ walked (cleanTerminator (marked dropped.now) x) (at + n) }
+    ensures { (x : Terminator) (n : ℕ) → terminator_of b (drop at s.now) ≡ ok x n → length (terminator_reads x) ≤ 32
+        → result ≡ walked (clean_terminator (marked dropped.now) x) (at + n) }
 {
     let mut none: [bool; 0] = [false; 0];
     let mut buffer: [u16; READS] = [0; READS];
@@ -80,8 +80,8 @@ fn walk_terminator(s: &[u8], at: usize, b: Bounds, dropped: &[bool]) -> Walked
 
 // Walks the block that begins at `at`: its count, its instructions, its terminator.
 fn walk_block(s: &[u8], at: usize, b: Bounds, dropped: &[bool]) -> Walked
-    ensures { (x : Block) (rest : List ℕ) → drop at s.now ≡ blockBytes x ++ rest → Legible b x
-        → result ≡ walked (cleanBlock dropped.now x) (at + length (blockBytes x)) }
+    ensures { (x : Block) (rest : List ℕ) → drop at s.now ≡ block_bytes x ++ rest → Legible b x
+        → result ≡ walked (clean_block dropped.now x) (at + length (block_bytes x)) }
 {
     if s.len() < 2 {
         return Walked::Reads;
@@ -105,7 +105,7 @@ fn walk_block(s: &[u8], at: usize, b: Bounds, dropped: &[bool]) -> Walked
 // The `many` blocks that stand in `out` from `at` on read no dropped value.
 pub fn reads_no_dropped(out: &[u8], at: usize, b: Bounds, many: u16, dropped: &[bool]) -> bool
     ensures { (ks : List Block) (ds : List ValueId) → Written b out.now at many ks
-        → ((v : ℕ) → get_or dropped.now v false ≡ among v ds) → result ≡ readsNoDropped withDebug ds ks }
+        → ((v : ℕ) → get_or dropped.now v false ≡ among v ds) → result ≡ reads_no_dropped with_debug ds ks }
 {
     let mut here = at;
     let mut k: u16 = 0;

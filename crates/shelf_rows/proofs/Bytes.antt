@@ -16,17 +16,17 @@ no_kind [] h = refl
 no_kind (x ∷ t) h = absurd (omega arith)
 
 -- a kind that no literal fits
-pub no-scalar : (k : ℕ) → (k ≡ 0 → ⊥) → (k ≡ 1 → ⊥) → (k ≡ 2 → ⊥) → (k ≡ 8 → ⊥) → ◌≡◌ {A = ℕ} 0 (get_or (1 ∷ 2 ∷ 1 ∷ 0 ∷ 0 ∷ 0 ∷ 0 ∷ 0 ∷ 3 ∷ []) k 0)
-no-scalar zero a b c d = absurd (a refl)
-no-scalar (suc zero) a b c d = absurd (b refl)
-no-scalar (suc (suc zero)) a b c d = absurd (c refl)
-no-scalar (suc (suc (suc zero))) a b c d = refl
-no-scalar (suc (suc (suc (suc zero)))) a b c d = refl
-no-scalar (suc (suc (suc (suc (suc zero))))) a b c d = refl
-no-scalar (suc (suc (suc (suc (suc (suc zero)))))) a b c d = refl
-no-scalar (suc (suc (suc (suc (suc (suc (suc zero))))))) a b c d = refl
-no-scalar (suc (suc (suc (suc (suc (suc (suc (suc zero)))))))) a b c d = absurd (d refl)
-no-scalar (suc (suc (suc (suc (suc (suc (suc (suc (suc k))))))))) a b c d = refl
+pub no_scalar : (k : ℕ) → (k ≡ 0 → ⊥) → (k ≡ 1 → ⊥) → (k ≡ 2 → ⊥) → (k ≡ 8 → ⊥) → ◌≡◌ {A = ℕ} 0 (get_or (1 ∷ 2 ∷ 1 ∷ 0 ∷ 0 ∷ 0 ∷ 0 ∷ 0 ∷ 3 ∷ []) k 0)
+no_scalar zero a b c d = absurd (a refl)
+no_scalar (suc zero) a b c d = absurd (b refl)
+no_scalar (suc (suc zero)) a b c d = absurd (c refl)
+no_scalar (suc (suc (suc zero))) a b c d = refl
+no_scalar (suc (suc (suc (suc zero)))) a b c d = refl
+no_scalar (suc (suc (suc (suc (suc zero))))) a b c d = refl
+no_scalar (suc (suc (suc (suc (suc (suc zero)))))) a b c d = refl
+no_scalar (suc (suc (suc (suc (suc (suc (suc zero))))))) a b c d = refl
+no_scalar (suc (suc (suc (suc (suc (suc (suc (suc zero)))))))) a b c d = absurd (d refl)
+no_scalar (suc (suc (suc (suc (suc (suc (suc (suc (suc k))))))))) a b c d = refl
 
 -- a kind that is no Pointer
 pub no_pointer : (x k : ℕ) → (k ≡ 6 → ⊥) → ◌≡◌ {A = ℕ} 0 (get_or (0 ∷ 0 ∷ 0 ∷ 0 ∷ 0 ∷ 0 ∷ x ∷ []) k 0)

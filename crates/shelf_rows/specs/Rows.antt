@@ -7,10 +7,10 @@ use Rattle.mir.specs.declared.Recorded.{Recorded}
 use Rattle.mir.specs.MirType.{MirType}
 use Rattle.bytes_field.specs.declared.Bounds.{Bounds}
 use Rattle.bytes_types.specs.Index.{TypesAt}
-use Rattle.bytes_sections.specs.Index.{recordedNumber}
+use Rattle.bytes_sections.specs.Index.{recorded_number}
 use Rattle.mir.specs.Lookup.{Types, row_of}
 use Rattle.mir.specs.Parts.{part_type, part_count, counts}
-use Rattle.shelf.specs.Fits.{scalarKind}
+use Rattle.shelf.specs.Fits.{scalar_kind}
 use Rattle.shelf.specs.Agrees.{pointee}
 
 -- the kind of a row; 11 where there is no row
@@ -22,38 +22,38 @@ abbrev pub numbered : ℕ → ℕ
 numbered x = cond (ltb x 65535) (x + 1) 0
 
 -- which literals fit the type
-abbrev pub rowScalar : List ℕ → ℕ
-rowScalar t = get_or (1 ∷ 2 ∷ 1 ∷ 0 ∷ 0 ∷ 0 ∷ 0 ∷ 0 ∷ 3 ∷ []) (kind_at t) 0
+abbrev pub row_scalar : List ℕ → ℕ
+row_scalar t = get_or (1 ∷ 2 ∷ 1 ∷ 0 ∷ 0 ∷ 0 ∷ 0 ∷ 0 ∷ 3 ∷ []) (kind_at t) 0
 
 -- a Tuple's types stand two bytes apart behind their count, a Struct's four bytes apart, each behind its name
-abbrev pub tuplePart : List ℕ → ℕ → ℕ
-tuplePart t k = cond (ltb k (get_or t 1 0)) (numbered (at16 t (2 + 2 * k))) 0
+abbrev pub tuple_part : List ℕ → ℕ → ℕ
+tuple_part t k = cond (ltb k (get_or t 1 0)) (numbered (at16 t (2 + 2 * k))) 0
 
-abbrev pub structPart : List ℕ → ℕ → ℕ
-structPart t k = cond (ltb k (get_or t 3 0)) (numbered (at16 t (6 + 4 * k))) 0
+abbrev pub struct_part : List ℕ → ℕ → ℕ
+struct_part t k = cond (ltb k (get_or t 3 0)) (numbered (at16 t (6 + 4 * k))) 0
 
 -- the type of part k; an array's element stands behind the kind
-abbrev pub rowPart : List ℕ → ℕ → ℕ
-rowPart t k = get_or (0 ∷ 0 ∷ 0 ∷ tuplePart t k ∷ structPart t k ∷ numbered (at16 t 1) ∷ []) (kind_at t) 0
+abbrev pub row_part : List ℕ → ℕ → ℕ
+row_part t k = get_or (0 ∷ 0 ∷ 0 ∷ tuple_part t k ∷ struct_part t k ∷ numbered (at16 t 1) ∷ []) (kind_at t) 0
 
 -- the row is of a type with n parts
-abbrev pub rowCounts : List ℕ → ℕ → Bool
-rowCounts t n = get_or (false ∷ false ∷ false ∷ eqb (get_or t 1 0) n ∷ eqb (get_or t 3 0) n ∷ eqb (at32 t 3) n ∷ []) (kind_at t) false
+abbrev pub row_counts : List ℕ → ℕ → Bool
+row_counts t n = get_or (false ∷ false ∷ false ∷ eqb (get_or t 1 0) n ∷ eqb (get_or t 3 0) n ∷ eqb (at32 t 3) n ∷ []) (kind_at t) false
 
 -- the type that a Pointer points to stands behind the kind
-abbrev pub rowPointee : List ℕ → ℕ
-rowPointee t = get_or (0 ∷ 0 ∷ 0 ∷ 0 ∷ 0 ∷ 0 ∷ numbered (at16 t 1) ∷ []) (kind_at t) 0
+abbrev pub row_pointee : List ℕ → ℕ
+row_pointee t = get_or (0 ∷ 0 ∷ 0 ∷ 0 ∷ 0 ∷ 0 ∷ numbered (at16 t 1) ∷ []) (kind_at t) 0
 
 -- the row `t` says all this of a type, or of none
 pub record Tells (o : Option MirType) (t : List ℕ) : Type 0 where
-  pub scalar : rowScalar t ≡ scalarKind o
-  pub part : (k : ℕ) → rowPart t k ≡ recordedNumber (part_type o k)
-  pub parts : (n : ℕ) → rowCounts t n ≡ counts (part_count o) n
-  pub points : rowPointee t ≡ recordedNumber (pointee o)
+  pub scalar : row_scalar t ≡ scalar_kind o
+  pub part : (k : ℕ) → row_part t k ≡ recorded_number (part_type o k)
+  pub parts : (n : ℕ) → row_counts t n ≡ counts (part_count o) n
+  pub points : row_pointee t ≡ recorded_number (pointee o)
 
 -- a recorded type is `o`: one more than the type's number, or 0 for none
 abbrev pub Is : Recorded → Option TypeId → Type 0
-Is r o = r.0 ≡ recordedNumber o
+Is r o = r.0 ≡ recorded_number o
 
 -- what holds of a recorded type in the type table, where that stands at `types`
 abbrev pub Typed : Bounds → List ℕ → List ℕ → Recorded → (Types → Option TypeId → Type 0) → Type 0

@@ -4,9 +4,9 @@
 ghost use Rattle.std.specs.Prelude.{◌≡◌};
 ghost use Rattle.mir.specs.Lookup.{shape};
 ghost use Rattle.mir.specs.Parts.{part_type, part_count, counts};
-ghost use Rattle.shelf.specs.Fits.{scalarKind};
-ghost use Rattle.shelf.specs.Agrees.{pointee as pointeeOf};
-ghost use Rattle.shelf_rows.specs.Rows.{kind_at, numbered, rowScalar, tuplePart, structPart, rowPart, rowCounts, rowPointee};
+ghost use Rattle.shelf.specs.Fits.{scalar_kind};
+ghost use Rattle.shelf.specs.Agrees.{pointee as pointee_of};
+ghost use Rattle.shelf_rows.specs.Rows.{kind_at, numbered, row_scalar, tuple_part, struct_part, row_part, row_counts, row_pointee};
 ghost use Rattle.shelf_rows.specs.Rows.{OfRow, TypeInRow, RowAt};
 
 use bytes_field::Bounds;
@@ -50,7 +50,7 @@ pub fn numbered(t: TypeId) -> Recorded
 
 // Which literals fit the type of a row.
 fn row_scalar(t: &[u8]) -> u8
-    ensures { result ≡ rowScalar t.now }
+    ensures { result ≡ row_scalar t.now }
 {
     let kind = kind_at(t);
     match kind {
@@ -64,7 +64,7 @@ fn row_scalar(t: &[u8]) -> u8
 
 // The type of part `k` in a Tuple's row.
 fn tuple_part(t: &[u8], k: u32) -> Recorded
-    ensures { result.0 ≡ tuplePart t.now k }
+    ensures { result.0 ≡ tuple_part t.now k }
 {
     if k < bytes_wire::byte_at(t, layout::TUPLE_COUNT) as u32 {
         return numbered(TypeId(bytes_wire::u16_at(
@@ -77,7 +77,7 @@ fn tuple_part(t: &[u8], k: u32) -> Recorded
 
 // The type of field `k` in a Struct's row.
 fn struct_part(t: &[u8], k: u32) -> Recorded
-    ensures { result.0 ≡ structPart t.now k }
+    ensures { result.0 ≡ struct_part t.now k }
 {
     if k < bytes_wire::byte_at(t, layout::STRUCT_COUNT) as u32 {
         return numbered(TypeId(bytes_wire::u16_at(
@@ -90,7 +90,7 @@ fn struct_part(t: &[u8], k: u32) -> Recorded
 
 // The type of part `k` of the type of a row; none where it has no such part.
 fn row_part(t: &[u8], k: u32) -> Recorded
-    ensures { result.0 ≡ rowPart t.now k }
+    ensures { result.0 ≡ row_part t.now k }
 {
     let kind = kind_at(t);
     match kind {
@@ -103,7 +103,7 @@ fn row_part(t: &[u8], k: u32) -> Recorded
 
 // The type of a row has parts, and `n` of them.
 fn row_counts(t: &[u8], n: u32) -> bool
-    ensures { result ≡ rowCounts t.now n }
+    ensures { result ≡ row_counts t.now n }
 {
     let kind = kind_at(t);
     match kind {
@@ -116,7 +116,7 @@ fn row_counts(t: &[u8], n: u32) -> bool
 
 // The type that the type of a row points to, where it is a Pointer.
 fn row_pointee(t: &[u8]) -> Recorded
-    ensures { result.0 ≡ rowPointee t.now }
+    ensures { result.0 ≡ row_pointee t.now }
 {
     if kind_at(t) == type_kind::POINTER {
         return numbered(TypeId(bytes_wire::u16_at(t, layout::POINTED)));
@@ -126,7 +126,7 @@ fn row_pointee(t: &[u8]) -> Recorded
 
 // Which literals fit a type: INTEGERS, BOOLEANS, UNITS, NO_LITERAL.
 pub fn scalar_kind(s: &[u8], b: Bounds, types: &[u16], number: Recorded) -> u8
-    ensures { OfRow b s.now types.now number scalarKind result }
+    ensures { OfRow b s.now types.now number scalar_kind result }
 {
     row_scalar(bytes_field::tail(s, row_place(s, b, types, number)))
 }
@@ -158,7 +158,7 @@ pub fn has_parts(s: &[u8], b: Bounds, types: &[u16], number: Recorded, n: u32) -
 
 // The type that a Pointer points to.
 pub fn pointee(s: &[u8], b: Bounds, types: &[u16], number: Recorded) -> Recorded
-    ensures { TypeInRow b s.now types.now number pointeeOf result }
+    ensures { TypeInRow b s.now types.now number pointee_of result }
 {
     row_pointee(bytes_field::tail(s, row_place(s, b, types, number)))
 }

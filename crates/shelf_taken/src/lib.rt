@@ -2,9 +2,9 @@
 #![tactic(auto)]
 
 ghost use Rattle.std.specs.Prelude.{◌≡◌};
-ghost use Rattle.bytes_operands.specs.Fields.{asFound};
+ghost use Rattle.bytes_operands.specs.Fields.{as_found};
 ghost use Rattle.shelf.specs.Lists.{clear};
-ghost use Rattle.shelf_marks.specs.Tests.{OfSlot, foundReads, partsClear};
+ghost use Rattle.shelf_marks.specs.Tests.{OfSlot, found_reads, parts_clear};
 
 use bytes_field::Bounds;
 use bytes_operands::Found;
@@ -17,7 +17,7 @@ const INSERTED: u8 = 1;
 
 // Whether a value that was found is no marked operand.
 fn value_clear(f: Found, marks: &[bool]) -> bool
-    ensures { result ≡ clear marks.now (foundReads (asFound f)) }
+    ensures { result ≡ clear marks.now (found_reads (as_found f)) }
 {
     match f {
         Found::Nothing => true,
@@ -31,7 +31,7 @@ fn value_clear(f: Found, marks: &[bool]) -> bool
 
 // Whether the instruction in a slot takes no marked value: as a part, an insert's new value, a Store's value.
 pub fn parts_clear(s: &[u8], b: Bounds, facts: &[u16], slot: u16, marks: &[bool]) -> bool
-    ensures { OfSlot b s.now facts.now slot (λ τ. partsClear marks.now) result }
+    ensures { OfSlot b s.now facts.now slot (λ τ. parts_clear marks.now) result }
 {
     let t = bytes_field::tail(s, bytes_index::place(facts, slot));
     let kind = bytes_index::kind(facts, slot);

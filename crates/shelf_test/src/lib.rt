@@ -4,10 +4,10 @@
 ghost use Rattle.std.specs.Prelude.{◌≡◌};
 ghost use Rattle.mir.specs.Routine.{Routine};
 ghost use Rattle.rewrite.specs.Run.{Rewritten};
-ghost use Rattle.shelf.specs.Reads.{withDebug};
-ghost use Rattle.shelf.specs.Reason.{shelfReason};
-ghost use Rattle.shelf_test.specs.Number.{numberOfReason};
-ghost use Rattle.shelf_test.specs.Shelved.{Input, inputReason, Shelved};
+ghost use Rattle.shelf.specs.Reads.{with_debug};
+ghost use Rattle.shelf.specs.Reason.{shelf_reason};
+ghost use Rattle.shelf_test.specs.Number.{number_of_reason};
+ghost use Rattle.shelf_test.specs.Shelved.{Input, input_reason, Shelved};
 
 use bytes_field::Bounds;
 
@@ -24,7 +24,7 @@ pub enum ShelfReason {
 
 // The number document 01 gives the reason.
 pub fn reason_number(k: ShelfReason) -> u8
-    ensures { result ≡ numberOfReason k }
+    ensures { result ≡ number_of_reason k }
 {
     match k {
         ShelfReason::Passed => 0,
@@ -38,7 +38,7 @@ pub fn reason_number(k: ShelfReason) -> u8
 
 // The lowest of the reasons 1, 2 and 3, which are reasons of the input alone; else passed.
 pub fn input_reason(s: &[u8], b: Bounds, facts: &[u16]) -> ShelfReason
-    ensures { (x : Routine) → Input s.now b facts.now x → numberOfReason result ≡ inputReason x }
+    ensures { (x : Routine) → Input s.now b facts.now x → number_of_reason result ≡ input_reason x }
 {
     if !shelf_reason1::types_agree(s, b, facts) {
         return ShelfReason::TypesDisagree;
@@ -64,7 +64,7 @@ pub fn reason(
     dropped: &[bool],
 ) -> ShelfReason
     ensures { (x : Routine) (w : Rewritten) → Shelved s.now b facts.now out.now at next dropped.now x w
-        → numberOfReason result ≡ shelfReason withDebug x w }
+        → number_of_reason result ≡ shelf_reason with_debug x w }
 {
     let first = input_reason(s, b, facts);
     if reason_number(first) != 0 {

@@ -12,17 +12,17 @@ use Rattle.mir.specs.Syntax.{Projection}
 use Rattle.bytes_field.specs.declared.Bounds.{Bounds}
 use Rattle.bytes_types.specs.Index.{TypesAt}
 use Rattle.bytes_sections.specs.Index.{RecordedAt}
-use Rattle.bytes_operands.specs.Fields.{asStep}
+use Rattle.bytes_operands.specs.Fields.{as_step}
 use Rattle.bytes_operands.specs.declared.Step.{Step}
-use Rattle.mir.specs.Lookup.{Types, row_of, recordedType, shape}
+use Rattle.mir.specs.Lookup.{Types, row_of, recorded_type, shape}
 use Rattle.mir.specs.Parts.{part_type}
 use Rattle.rewrite_progress.specs.Ground.{Ground}
-use Rattle.shelf.specs.Fits.{fits, sameType, stepType}
+use Rattle.shelf.specs.Fits.{fits, same_type, step_type}
 use Rattle.shelf_rows.specs.Rows.{Is}
 
 -- the type of part k of a type of that shape
-abbrev pub shapedPart : Option MirType → ℕ → ℕ → Option TypeId
-shapedPart row kind k = cond (eqb (shape row) kind) (part_type row k) none
+abbrev pub shaped_part : Option MirType → ℕ → ℕ → Option TypeId
+shaped_part row kind k = cond (eqb (shape row) kind) (part_type row k) none
 
 -- the type behind one step of a place
 abbrev pub StepTo : Bounds → List ℕ → List ℕ → Recorded → Step → Recorded → Type 0
@@ -31,8 +31,8 @@ StepTo b s types number p r =
     → TypesAt b.list s types τ.rows
     → length τ.rows ≡ b.types
     → Is number o
-    → asStep p ≡ some q
-    → Is r (stepType (row_of τ o) q)
+    → as_step p ≡ some q
+    → Is r (step_type (row_of τ o) q)
 
 -- what holds where the table of recorded types stands at `recorded`
 abbrev pub Noted : List ℕ → (Types → Type 0) → Type 0
@@ -44,11 +44,11 @@ Noted recorded P =
 
 -- the recorded type of a value
 abbrev pub TypeOfValue : List ℕ → ValueId → Recorded → Type 0
-TypeOfValue recorded v r = Noted recorded (λ τ. v.0 < length τ.recorded → Is r (recordedType τ v))
+TypeOfValue recorded v r = Noted recorded (λ τ. v.0 < length τ.recorded → Is r (recorded_type τ v))
 
 -- two recorded types are the same
 abbrev pub Same : Recorded → Recorded → B.Bool → Type 0
-Same a c r = (o q : Option TypeId) → Is a o → Is c q → r ≡ sameType o q
+Same a c r = (o q : Option TypeId) → Is a o → Is c q → r ≡ same_type o q
 
 -- a value of the routine fits a type
 abbrev pub Fits : Bounds → List ℕ → List ℕ → List ℕ → Value → Recorded → B.Bool → Type 0

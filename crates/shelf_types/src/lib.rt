@@ -4,11 +4,11 @@
 ghost use Rattle.std.specs.Prelude.{◌≡◌, length};
 ghost use Rattle.bytes_wire.specs.WellFormed.{FitValue};
 ghost use Rattle.mir.specs.declared.Value.{Value as AnyValue};
-ghost use Rattle.shelf.specs.Fits.{literalKind};
-ghost use Rattle.bytes_struct.specs.FindField.{fieldTypeOf};
-ghost use Rattle.shelf.specs.Agrees.{isScalarType, is_scalar, isIndex, isCondition, isKnown, equalTypes};
+ghost use Rattle.shelf.specs.Fits.{literal_kind};
+ghost use Rattle.bytes_struct.specs.FindField.{field_type_of};
+ghost use Rattle.shelf.specs.Agrees.{is_scalar_type, is_scalar, is_index, is_condition, is_known, equal_types};
 ghost use Rattle.shelf_rows.specs.Rows.{OfType, TypeInRow};
-ghost use Rattle.shelf_types.specs.Types.{shapedPart, StepTo, Noted, TypeOfValue, Same, Fits, OfValue, OfValues};
+ghost use Rattle.shelf_types.specs.Types.{shaped_part, StepTo, Noted, TypeOfValue, Same, Fits, OfValue, OfValues};
 
 use bytes_field::Bounds;
 use bytes_operands::Step;
@@ -35,7 +35,7 @@ pub fn same_type(a: Recorded, c: Recorded) -> bool
 
 // The type of a struct's field, by its name.
 pub fn field_type(s: &[u8], b: Bounds, types: &[u16], number: Recorded, name: NameId) -> Recorded
-    ensures { TypeInRow b s.now types.now number (λ row. fieldTypeOf row name) result }
+    ensures { TypeInRow b s.now types.now number (λ row. field_type_of row name) result }
 {
     if number.0 == 0 {
         return Recorded(0);
@@ -49,7 +49,7 @@ pub fn field_type(s: &[u8], b: Bounds, types: &[u16], number: Recorded, name: Na
 
 // The type of part `k` of a type of that shape.
 fn shaped_part(s: &[u8], b: Bounds, types: &[u16], number: Recorded, shape: u8, k: u32) -> Recorded
-    ensures { TypeInRow b s.now types.now number (λ row. shapedPart row shape k) result }
+    ensures { TypeInRow b s.now types.now number (λ row. shaped_part row shape k) result }
 {
     if shelf_rows::shape_of(s, b, types, number) == shape {
         return shelf_rows::part_type(s, b, types, number, k);
@@ -71,7 +71,7 @@ pub fn step_type(s: &[u8], b: Bounds, types: &[u16], number: Recorded, p: Step) 
 
 // Which types a literal fits: INTEGERS Felt and U32, BOOLEANS Bool, UNITS Unit.
 fn literal_kind(l: Literal) -> u8
-    ensures { result ≡ literalKind l }
+    ensures { result ≡ literal_kind l }
 {
     match l {
         Literal::Integer(_) => INTEGERS,
@@ -100,7 +100,7 @@ pub fn fits(
 
 // A type, and no aggregate.
 pub fn is_scalar_type(s: &[u8], b: Bounds, types: &[u16], number: Recorded) -> bool
-    ensures { OfType b s.now types.now number isScalarType result }
+    ensures { OfType b s.now types.now number is_scalar_type result }
 {
     if number.0 == 0 {
         return false;
@@ -121,7 +121,7 @@ pub fn is_scalar(s: &[u8], b: Bounds, types: &[u16], recorded: &[u16], x: Value)
 
 // An Integer, or an operand recorded as Felt or U32.
 pub fn is_index(s: &[u8], b: Bounds, types: &[u16], recorded: &[u16], x: Value) -> bool
-    ensures { OfValue b s.now types.now recorded.now x isIndex result }
+    ensures { OfValue b s.now types.now recorded.now x is_index result }
 {
     match x {
         Value::Literal(l) => literal_kind(l) == INTEGERS,
@@ -134,7 +134,7 @@ pub fn is_index(s: &[u8], b: Bounds, types: &[u16], recorded: &[u16], x: Value) 
 
 // A Boolean, or an operand recorded as Bool.
 pub fn is_condition(s: &[u8], b: Bounds, types: &[u16], recorded: &[u16], x: Value) -> bool
-    ensures { OfValue b s.now types.now recorded.now x isCondition result }
+    ensures { OfValue b s.now types.now recorded.now x is_condition result }
 {
     match x {
         Value::Literal(l) => literal_kind(l) == BOOLEANS,
@@ -147,7 +147,7 @@ pub fn is_condition(s: &[u8], b: Bounds, types: &[u16], recorded: &[u16], x: Val
 
 // A literal, or an operand with a recorded type.
 pub fn is_known(recorded: &[u16], x: Value) -> bool
-    ensures { Noted recorded.now (λ τ. FitValue (length τ.recorded) x → result ≡ isKnown τ x) }
+    ensures { Noted recorded.now (λ τ. FitValue (length τ.recorded) x → result ≡ is_known τ x) }
 {
     match x {
         Value::Literal(_) => true,
@@ -158,7 +158,7 @@ pub fn is_known(recorded: &[u16], x: Value) -> bool
 
 // A literal and another value are of equal types.
 fn literal_fits(s: &[u8], b: Bounds, types: &[u16], recorded: &[u16], l: Literal, y: Value) -> bool
-    ensures { OfValues b s.now types.now recorded.now (AnyValue.Literal l) y equalTypes result }
+    ensures { OfValues b s.now types.now recorded.now (AnyValue.Literal l) y equal_types result }
 {
     match y {
         Value::Literal(m) => literal_kind(l) == literal_kind(m),
@@ -171,7 +171,7 @@ fn literal_fits(s: &[u8], b: Bounds, types: &[u16], recorded: &[u16], l: Literal
 
 // An operand and another value are of equal types.
 fn operand_fits(s: &[u8], b: Bounds, types: &[u16], recorded: &[u16], v: ValueId, y: Value) -> bool
-    ensures { OfValues b s.now types.now recorded.now (AnyValue.Operand v) y equalTypes result }
+    ensures { OfValues b s.now types.now recorded.now (AnyValue.Operand v) y equal_types result }
 {
     match y {
         Value::Literal(m) => {
@@ -184,7 +184,7 @@ fn operand_fits(s: &[u8], b: Bounds, types: &[u16], recorded: &[u16], v: ValueId
 
 // Two values are of equal types.
 pub fn equal_types(s: &[u8], b: Bounds, types: &[u16], recorded: &[u16], x: Value, y: Value) -> bool
-    ensures { OfValues b s.now types.now recorded.now x y equalTypes result }
+    ensures { OfValues b s.now types.now recorded.now x y equal_types result }
 {
     match x {
         Value::Literal(l) => literal_fits(s, b, types, recorded, l, y),

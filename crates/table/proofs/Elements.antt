@@ -13,10 +13,10 @@ some_at [] k d h = absurd (omega arith)
 some_at (x ∷ xs) zero d h = refl
 some_at (x ∷ xs) (suc k) d h = some_at xs k d (omega arith)
 
-pub none-at : {A : Type 0} (xs : List A) (k : ℕ) → length xs ≤ k → get_elem? xs k ≡ none
-none-at [] k h = refl
-none-at (x ∷ xs) zero h = absurd (omega arith)
-none-at (x ∷ xs) (suc k) h = none-at xs k (omega arith)
+pub none_at : {A : Type 0} (xs : List A) (k : ℕ) → length xs ≤ k → get_elem? xs k ≡ none
+none_at [] k h = refl
+none_at (x ∷ xs) zero h = absurd (omega arith)
+none_at (x ∷ xs) (suc k) h = none_at xs k (omega arith)
 
 -- no flag of a clear table stands
 pub clear_at : (n k : ℕ) → get_or (replicate n false) k false ≡ false

@@ -2,6 +2,6 @@
 use Rattle.std.specs.Prelude.{List, [], ◌∷◌, Bool, false, ◌||◌}
 
 -- whether a flag stands
-unfoldable pub anyStands : List Bool → Bool
-anyStands [] = false
-anyStands (f ∷ fs) = f || anyStands fs
+unfoldable pub any_stands : List Bool → Bool
+any_stands [] = false
+any_stands (f ∷ fs) = f || any_stands fs

@@ -2,5 +2,5 @@
 use Rattle.std.specs.Prelude.{ℕ}
 
 -- a number of a table has 16 bits
-abbrev pub numbersBelow : ℕ
-numbersBelow = 65536
+abbrev pub numbers_below : ℕ
+numbers_below = 65536

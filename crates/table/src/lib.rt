@@ -3,8 +3,8 @@
 #![tactic(auto)]
 
 ghost use Rattle.std.specs.Prelude.{◌≡◌, false, ◌%◌, get_or, set};
-ghost use Rattle.table.specs.Flags.{anyStands};
-ghost use Rattle.table.specs.Number.{numbersBelow};
+ghost use Rattle.table.specs.Flags.{any_stands};
+ghost use Rattle.table.specs.Number.{numbers_below};
 
 // The number at a place.
 pub fn number(l: &[u16], i: usize) -> u16
@@ -38,7 +38,7 @@ pub fn set_number(l: &mut [u16], i: usize, n: u16)
 
 // Stores a place: its lowest 16 bits, which are all of it where the bytes are short.
 pub fn set_place(l: &mut [u16], i: usize, place: usize)
-    ensures { l.new ≡ set l.old i (place % numbersBelow) }
+    ensures { l.new ≡ set l.old i (place % numbers_below) }
 {
     set_number(l, i, (place % 65536) as u16)
 }
@@ -63,7 +63,7 @@ pub fn set_byte(l: &mut [u8], i: usize, b: u8)
 
 // Whether a flag stands.
 pub fn any(l: &[bool]) -> bool
-    ensures { result ≡ anyStands l.now }
+    ensures { result ≡ any_stands l.now }
 {
     let mut i = 0;
     while i < l.len() {

@@ -1,20 +1,20 @@
 -- The definitions, computed.
 use mathlib.Core.Path.{◌≡◌, refl}
 use mathlib.Core.List.{[], ◌∷◌}
-use Rattle.text.specs.Digits.{letters, digitOf, digitsOf, decimal, hexadecimal}
+use Rattle.text.specs.Digits.{letters, digit_of, digits_of, decimal, hexadecimal}
 
 nothing : decimal 0 ≡ letters "0"
-unfolding decimal digitsOf digitOf
+unfolding decimal digits_of digit_of
 nothing = refl
 
-zeros-inside : decimal 90010 ≡ letters "90010"
-unfolding decimal digitsOf digitOf
-zeros-inside = refl
+zeros_inside : decimal 90010 ≡ letters "90010"
+unfolding decimal digits_of digit_of
+zeros_inside = refl
 
 largest : decimal 18446744073709551615 ≡ letters "18446744073709551615"
-unfolding decimal digitsOf digitOf
+unfolding decimal digits_of digit_of
 largest = refl
 
 bytes : hexadecimal (0 ∷ 10 ∷ 175 ∷ 255 ∷ []) ≡ letters "000aafff"
-unfolding hexadecimal digitOf
+unfolding hexadecimal digit_of
 bytes = refl

@@ -3,23 +3,23 @@
 
 ghost use Rattle.std.specs.Prelude.{◌≡◌, [], ◌∷◌, ◌+◌, ◌<◌, ◌≤◌, length};
 ghost use Rattle.std.proofs.lemmas.List.Edits.{sets};
-ghost use Rattle.text.specs.Digits.{digitOf, decimal, hexadecimal};
+ghost use Rattle.text.specs.Digits.{digit_of, decimal, hexadecimal};
 ghost use Rattle.text.specs.Written.{Written};
-ghost use Rattle.bytes_emit.specs.Written.{numberRoom, valueRoom};
+ghost use Rattle.bytes_emit.specs.Written.{number_room, value_room};
 
 const DIGITS: [u8; 16] = *b"0123456789abcdef";
 
 // A digit below 16.
 fn digit(d: u8) -> u8
     requires { d < 16 }
-    ensures { result ≡ digitOf d }
+    ensures { result ≡ digit_of d }
 {
     DIGITS[d as usize]
 }
 
 // Writes bytes as they are, and returns the place behind them.
 pub fn put_bytes(text: &mut [u8], to: usize, bytes: &[u8]) -> usize
-    requires { (to < valueRoom) × (length bytes.now < valueRoom) }
+    requires { (to < value_room) × (length bytes.now < value_room) }
     ensures { Written bytes.now to text.old text.new result }
 {
     bytes_emit::copy(text, to, bytes, 0, bytes.len())
@@ -27,7 +27,7 @@ pub fn put_bytes(text: &mut [u8], to: usize, bytes: &[u8]) -> usize
 
 // Writes a number in decimal, and returns the place behind it.
 pub fn put_decimal(text: &mut [u8], to: usize, x: u64) -> usize
-    requires { to < valueRoom }
+    requires { to < value_room }
     ensures written { Written (decimal x) to text.old text.new result }
     ensures upper_bound { result ≤ to + 20 }
 {
@@ -42,7 +42,7 @@ pub fn put_decimal(text: &mut [u8], to: usize, x: u64) -> usize
 
 // Writes a byte in hexadecimal.
 fn put_byte(text: &mut [u8], to: usize, x: u8)
-    requires { to < numberRoom }
+    requires { to < number_room }
     ensures { text.new ≡ sets text.old to (hexadecimal (x ∷ [])) }
 {
     bytes_emit::put_u8(text, to, digit(x / 16));
@@ -51,7 +51,7 @@ fn put_byte(text: &mut [u8], to: usize, x: u8)
 
 // Writes bytes in hexadecimal, and returns the place behind them.
 pub fn put_hexadecimal(text: &mut [u8], to: usize, bytes: &[u8]) -> usize
-    requires { (to < valueRoom) × (length bytes.now < valueRoom) }
+    requires { (to < value_room) × (length bytes.now < value_room) }
     ensures { Written (hexadecimal bytes.now) to text.old text.new result }
 {
     let mut at = to;

@@ -1,17 +1,17 @@
 -- The definitions, computed: document 01's lines.
 use mathlib.Core.Path.{◌≡◌, refl}
 use mathlib.Core.List.{[], ◌∷◌}
-use Rattle.text.specs.Digits.{letters, digitOf, digitsOf, decimal, hexadecimal}
-use Rattle.text_lines.specs.Lines.{refusedLine, checkedLine, numbersLine, loweredLines, answerLines}
+use Rattle.text.specs.Digits.{letters, digit_of, digits_of, decimal, hexadecimal}
+use Rattle.text_lines.specs.Lines.{refused_line, checked_line, numbers_line, lowered_lines, answer_lines}
 
-rewritten : answerLines (0 ∷ 0 ∷ 1 ∷ 1 ∷ 1 ∷ 0 ∷ 0 ∷ 0 ∷ 0 ∷ 2 ∷ []) (2 ∷ 10 ∷ 0 ∷ []) ≡ letters "1 1 1 0 0 0 0\n020a\n"
-unfolding answerLines loweredLines numbersLine hexadecimal decimal digitsOf digitOf
+rewritten : answer_lines (0 ∷ 0 ∷ 1 ∷ 1 ∷ 1 ∷ 0 ∷ 0 ∷ 0 ∷ 0 ∷ 2 ∷ []) (2 ∷ 10 ∷ 0 ∷ []) ≡ letters "1 1 1 0 0 0 0\n020a\n"
+unfolding answer_lines lowered_lines numbers_line hexadecimal decimal digits_of digit_of
 rewritten = refl
 
-no_room : answerLines (11 ∷ 0 ∷ 0 ∷ 0 ∷ 0 ∷ 0 ∷ 0 ∷ 0 ∷ 0 ∷ 0 ∷ []) [] ≡ letters "refused 11 0\n"
-unfolding answerLines refusedLine decimal digitsOf digitOf
+no_room : answer_lines (11 ∷ 0 ∷ 0 ∷ 0 ∷ 0 ∷ 0 ∷ 0 ∷ 0 ∷ 0 ∷ 0 ∷ []) [] ≡ letters "refused 11 0\n"
+unfolding answer_lines refused_line decimal digits_of digit_of
 no_room = refl
 
-cut_off : checkedLine 1 54 ≡ letters "refused 1 54\n"
-unfolding checkedLine refusedLine decimal digitsOf digitOf
+cut_off : checked_line 1 54 ≡ letters "refused 1 54\n"
+unfolding checked_line refused_line decimal digits_of digit_of
 cut_off = refl

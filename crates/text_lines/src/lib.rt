@@ -3,9 +3,9 @@
 
 ghost use Rattle.std.specs.Prelude.{◌≡◌, ◌+◌, ◌*◌, ◌<◌, ◌≤◌, min, length};
 ghost use Rattle.text.specs.Written.{Written};
-ghost use Rattle.text_lines.specs.Lines.{refusedLine, checkedLine, behind, numbersLine, loweredLines, answerLines, replayedLine};
-ghost use Rattle.bytes_emit.specs.Written.{valueRoom};
-ghost use Rattle.text_lines.specs.Lines.{numberWidth, loweredWidth, checkedWidth, replayedWidth, numbersRoom, bytesRoom};
+ghost use Rattle.text_lines.specs.Lines.{refused_line, checked_line, behind, numbers_line, lowered_lines, answer_lines, replayed_line};
+ghost use Rattle.bytes_emit.specs.Written.{value_room};
+ghost use Rattle.text_lines.specs.Lines.{number_width, lowered_width, checked_width, replayed_width, numbers_room, bytes_room};
 
 // No line of the checker is longer.
 pub const LONGEST_CHECKED: usize = 50;
@@ -24,8 +24,8 @@ const SIZE: usize = 9;
 
 // `refused`, the number and the offset of a refusal.
 fn refused_line(text: &mut [u8], number: u64, offset: u64) -> usize
-    ensures written { Written (refusedLine number offset) 0 text.old text.new result }
-    ensures upper_bound { result ≤ checkedWidth }
+    ensures written { Written (refused_line number offset) 0 text.old text.new result }
+    ensures upper_bound { result ≤ checked_width }
 {
     let word = text::put_bytes(text, 0, b"refused ");
     let first = text::put_decimal(text, word, number);
@@ -36,8 +36,8 @@ fn refused_line(text: &mut [u8], number: u64, offset: u64) -> usize
 
 // `accepted` where a refusal's number is 0, or else the refusal.
 pub fn checked_line(text: &mut [u8], number: u64, offset: u64) -> usize
-    ensures written { Written (checkedLine number offset) 0 text.old text.new result }
-    ensures upper_bound { result ≤ checkedWidth }
+    ensures written { Written (checked_line number offset) 0 text.old text.new result }
+    ensures upper_bound { result ≤ checked_width }
 {
     if number == 0 {
         return text::put_bytes(text, 0, b"accepted\n");
@@ -47,7 +47,7 @@ pub fn checked_line(text: &mut [u8], number: u64, offset: u64) -> usize
 
 // What stands behind a number of a line when so many more follow.
 fn put_behind(text: &mut [u8], to: usize, more: usize) -> usize
-    requires { to < valueRoom }
+    requires { to < value_room }
     ensures { Written (behind more) to text.old text.new result }
 {
     if more == 0 {
@@ -58,9 +58,9 @@ fn put_behind(text: &mut [u8], to: usize, more: usize) -> usize
 
 // Numbers in decimal with single blanks.
 pub fn numbers_line(text: &mut [u8], numbers: &[u64]) -> usize
-    requires { length numbers.now < numbersRoom }
-    ensures written { Written (numbersLine numbers.now) 0 text.old text.new result }
-    ensures upper_bound { result ≤ numberWidth * length numbers.now }
+    requires { length numbers.now < numbers_room }
+    ensures written { Written (numbers_line numbers.now) 0 text.old text.new result }
+    ensures upper_bound { result ≤ number_width * length numbers.now }
 {
     let mut at = 0;
     let mut i = 0;
@@ -81,9 +81,9 @@ fn least(a: usize, b: usize) -> usize
 
 // A line of numbers, and a line of bytes in hexadecimal.
 fn lowered_lines(text: &mut [u8], numbers: &[u64], bytes: &[u8]) -> usize
-    requires { (length numbers.now < numbersRoom) × (length bytes.now < bytesRoom) }
-    ensures written { Written (loweredLines numbers.now bytes.now) 0 text.old text.new result }
-    ensures upper_bound { result ≤ numberWidth * length numbers.now + 2 * length bytes.now + 1 }
+    requires { (length numbers.now < numbers_room) × (length bytes.now < bytes_room) }
+    ensures written { Written (lowered_lines numbers.now bytes.now) 0 text.old text.new result }
+    ensures upper_bound { result ≤ number_width * length numbers.now + 2 * length bytes.now + 1 }
 {
     let line = numbers_line(text, numbers);
     let end = text::put_hexadecimal(text, line, bytes);
@@ -92,9 +92,9 @@ fn lowered_lines(text: &mut [u8], numbers: &[u64], bytes: &[u8]) -> usize
 
 // An answer of the pass: the refusal, or the numbers from the result to the shelf reason and the rewritten routine.
 pub fn answer_lines(text: &mut [u8], numbers: &[u64], output: &[u8]) -> usize
-    requires { (10 ≤ length numbers.now) × (length output.now < bytesRoom) }
-    ensures written { Written (answerLines numbers.now output.now) 0 text.old text.new result }
-    ensures upper_bound { result ≤ loweredWidth + 2 * length output.now }
+    requires { (10 ≤ length numbers.now) × (length output.now < bytes_room) }
+    ensures written { Written (answer_lines numbers.now output.now) 0 text.old text.new result }
+    ensures upper_bound { result ≤ lowered_width + 2 * length output.now }
 {
     if numbers[NUMBER] != 0 {
         return refused_line(text, numbers[NUMBER], numbers[OFFSET]);
@@ -105,8 +105,8 @@ pub fn answer_lines(text: &mut [u8], numbers: &[u64], output: &[u8]) -> usize
 
 // How many stored answers were replayed, and how many of them otherwise.
 pub fn replayed_line(text: &mut [u8], rows: u64, others: u64) -> usize
-    ensures written { Written (replayedLine rows others) 0 text.old text.new result }
-    ensures upper_bound { result ≤ replayedWidth }
+    ensures written { Written (replayed_line rows others) 0 text.old text.new result }
+    ensures upper_bound { result ≤ replayed_width }
 {
     let first = text::put_decimal(text, 0, rows);
     let words = text::put_bytes(text, first, b" stored answers, ");

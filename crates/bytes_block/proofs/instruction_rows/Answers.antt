@@ -1,5 +1,5 @@
 use Rattle.std.proofs.Common.{arith, rules}
-use Rattle.bytes_block.proofs.Filling.{filling-size, filling-stop, filling-reads, filling-again, filling-done}
+use Rattle.bytes_block.proofs.Filling.{filling_size, filling_stop, filling_reads, filling_again, filling_done}
 use Rattle.bytes_block.proofs.instruction_rows.Goals as goal
 
 pub overflow_add-result : goal.overflow_add-result
@@ -9,7 +9,7 @@ overflow_add-result c =
     let r = c.read_instruction in
     omega (
       arith,
-      filling-size a.b a.at a.count a.first a.s.now a.seen.now a.facts.now l.facts l.i l.here l.late l.seen l.invariant.2
+      filling_size a.b a.at a.count a.first a.s.now a.seen.now a.facts.now l.facts l.i l.here l.late l.seen l.invariant.2
           c.loop-i-test.true r.new.seen r.new.buffer (rw (c.tail-t.ensures, c.row_place.ensures) at r.ensures) c.in-Refused.is,
     )
 
@@ -18,7 +18,7 @@ returns-in-Refused c =
     let a = c.args in
     let l = c.loop-i in
     let r = c.read_instruction in
-    filling-stop a.b a.at a.count a.first a.s.now a.seen.now a.facts.now l.facts l.i l.here l.late l.seen l.invariant.2
+    filling_stop a.b a.at a.count a.first a.s.now a.seen.now a.facts.now l.facts l.i l.here l.late l.seen l.invariant.2
     c.loop-i-test.true r.new.seen r.new.buffer (rw (c.tail-t.ensures, c.row_place.ensures) at r.ensures) _ c.in-Refused.is
 
 pub overflow_add-end : goal.overflow_add-end
@@ -28,7 +28,7 @@ overflow_add-end c =
     let r = c.read_instruction in
     omega (
       arith,
-      filling-size a.b a.at a.count a.first a.s.now a.seen.now a.facts.now l.facts l.i l.here l.late l.seen l.invariant.2
+      filling_size a.b a.at a.count a.first a.s.now a.seen.now a.facts.now l.facts l.i l.here l.late l.seen l.invariant.2
           c.loop-i-test.true r.new.seen r.new.buffer (rw (c.tail-t.ensures, c.row_place.ensures) at r.ensures) c.in-Used.is,
     )
 
@@ -37,7 +37,7 @@ end_row-requires c =
     let a = c.args in
     let l = c.loop-i in
     let r = c.read_instruction in
-    filling-reads a.b a.at a.count a.first a.s.now a.seen.now a.facts.now l.facts l.i l.here l.late l.seen l.invariant.2
+    filling_reads a.b a.at a.count a.first a.s.now a.seen.now a.facts.now l.facts l.i l.here l.late l.seen l.invariant.2
     c.loop-i-test.true r.new.seen r.new.buffer (rw (c.tail-t.ensures, c.row_place.ensures) at r.ensures) c.in-Used.is
 
 pub loop-i-preserved : goal.loop-i-preserved
@@ -47,7 +47,7 @@ loop-i-preserved c =
     let r = c.read_instruction in (
       search rules,
       search rules,
-      filling-again a.b a.at a.count a.first a.s.now a.seen.now a.facts.now l.facts l.i l.here l.late l.seen l.invariant.2
+      filling_again a.b a.at a.count a.first a.s.now a.seen.now a.facts.now l.facts l.i l.here l.late l.seen l.invariant.2
           c.loop-i-test.true r.new.seen r.new.buffer (rw (c.tail-t.ensures, c.row_place.ensures) at r.ensures) c.in-Used.is _
           (rw (c.kind_at.ensures, c.tail-t.ensures) at c.end_row.ensures),
     )
@@ -56,5 +56,5 @@ pub returns : goal.returns
 returns c =
     let a = c.args in
     let l = c.loop-i in
-    filling-done a.b a.at a.count a.first a.s.now a.seen.now a.facts.now l.facts l.i l.here l.late l.seen l.invariant.2
+    filling_done a.b a.at a.count a.first a.s.now a.seen.now a.facts.now l.facts l.i l.here l.late l.seen l.invariant.2
     c.loop-i-test.false

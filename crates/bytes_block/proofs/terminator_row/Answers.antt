@@ -1,5 +1,5 @@
 use Rattle.std.proofs.Common.{arith}
-use Rattle.bytes_block.proofs.Blocks.{end-size, end_reads, end-some}
+use Rattle.bytes_block.proofs.Blocks.{end_size, end_reads, end_some}
 use Rattle.bytes_block.proofs.terminator_row.Goals as goal
 
 pub overflow_add-result : goal.overflow_add-result
@@ -8,7 +8,7 @@ overflow_add-result c =
     let r = c.read_terminator in
     omega (
       arith,
-      end-size a.b a.s.now a.facts.now r.new.buffer _ r.new.seen a.slot a.at c.requires _
+      end_size a.b a.s.now a.facts.now r.new.buffer _ r.new.seen a.slot a.at c.requires _
           (rw (c.tail.ensures, c.row_place.ensures) at r.ensures) c.in-Refused.is,
     )
 
@@ -18,7 +18,7 @@ overflow_add-end c =
     let r = c.read_terminator in
     omega (
       arith,
-      end-size a.b a.s.now a.facts.now r.new.buffer _ r.new.seen a.slot a.at c.requires _
+      end_size a.b a.s.now a.facts.now r.new.buffer _ r.new.seen a.slot a.at c.requires _
           (rw (c.tail.ensures, c.row_place.ensures) at r.ensures) c.in-Used.is,
     )
 
@@ -33,5 +33,5 @@ pub returns-in-Used : goal.returns-in-Used
 returns-in-Used c =
     let a = c.args in
     let r = c.read_terminator in
-    end-some a.b a.s.now a.facts.now r.new.buffer _ r.new.seen a.slot a.at c.requires _
+    end_some a.b a.s.now a.facts.now r.new.buffer _ r.new.seen a.slot a.at c.requires _
     (rw (c.tail.ensures, c.row_place.ensures) at r.ensures) c.in-Used.is _ c.end_row.ensures

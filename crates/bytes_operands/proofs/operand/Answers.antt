@@ -1,13 +1,13 @@
 use Rattle.std.proofs.Common.{arith, refl, ap, ◌∙◌}
 use Rattle.bytes_operands.proofs.Instruction.{no_operand, operand_at}
 use Rattle.std.proofs.Common.{drop}
-use Rattle.bytes_operands.specs.Fields.{fieldsPlace}
+use Rattle.bytes_operands.specs.Fields.{fields_place}
 use Rattle.bytes_operands.proofs.operand.Goals as goal
 
 pub returns-then-o-k : goal.returns-then-o-k
 returns-then-o-k c = λ seen late i n e.
     let a = c.args in
-    no_operand a.b seen late a.s.now i n e (drop (fieldsPlace a.s.now) a.s.now) c.byte_at-kind.result a.k refl c.byte_at-kind.ensures
+    no_operand a.b seen late a.s.now i n e (drop (fields_place a.s.now) a.s.now) c.byte_at-kind.result a.k refl c.byte_at-kind.ensures
     (omega (arith, ap (λ o. o.0) c.operands_of-o.ensures, c.if-o-k.true))
 
 pub returns : goal.returns

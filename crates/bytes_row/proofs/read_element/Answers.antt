@@ -1,32 +1,32 @@
 use Rattle.std.proofs.Common.{arith, ◌∙◌}
-use Rattle.bytes_wire.proofs.Laws.{and-nothing}
-use Rattle.bytes_field.specs.Walk.{walk_of, atomWalk, simpleWalk}
+use Rattle.bytes_wire.proofs.Laws.{and_nothing}
+use Rattle.bytes_field.specs.Walk.{walk_of, atom_walk, simple_walk}
 use Rattle.bytes_field.proofs.Atom.{projections}
 use Rattle.bytes_row.proofs.read_element.Goals as goal
 
 pub returns-in-0 : goal.returns-in-0
-unfolding atomWalk simpleWalk
-returns-in-0 c = simp (c.read_value.ensures c.args.seen.now, c.in-0.is, and-nothing)
+unfolding atom_walk simple_walk
+returns-in-0 c = simp (c.read_value.ensures c.args.seen.now, c.in-0.is, and_nothing)
 
 pub returns-in-1 : goal.returns-in-1
-unfolding atomWalk simpleWalk
-returns-in-1 c = simp (c.read_below.ensures c.args.seen.now c.args.buffer.now, c.in-1.is, and-nothing)
+unfolding atom_walk simple_walk
+returns-in-1 c = simp (c.read_below.ensures c.args.seen.now c.args.buffer.now, c.in-1.is, and_nothing)
 
 pub returns-in-2 : goal.returns-in-2
-unfolding atomWalk simpleWalk
-returns-in-2 c = simp (c.read_defined.ensures c.args.buffer.now, c.in-2.is, and-nothing)
+unfolding atom_walk simple_walk
+returns-in-2 c = simp (c.read_defined.ensures c.args.buffer.now, c.in-2.is, and_nothing)
 
 pub returns-in-3 : goal.returns-in-3
-unfolding atomWalk simpleWalk
+unfolding atom_walk simple_walk
 returns-in-3 c = let a = c.args in simp (c.then_value.ensures a.seen.now, c.read_number.ensures a.seen.now a.buffer.now, c.in-3.is)
 
 pub returns-in-4 : goal.returns-in-4
-unfolding atomWalk simpleWalk
+unfolding atom_walk simple_walk
 returns-in-4 c = let a = c.args in simp (c.then_value-in-4.ensures a.seen.now, c.read_below-in-4.ensures a.seen.now a.buffer.now, c.in-4.is)
 
 pub returns-in-5 : goal.returns-in-5
-unfolding atomWalk simpleWalk
-returns-in-5 c = simp (c.read_below-in-5.ensures c.args.seen.now c.args.buffer.now, c.in-5.is, and-nothing)
+unfolding atom_walk simple_walk
+returns-in-5 c = simp (c.read_below-in-5.ensures c.args.seen.now c.args.buffer.now, c.in-5.is, and_nothing)
 
 pub returns-in_default : goal.returns-in_default
 returns-in_default c =

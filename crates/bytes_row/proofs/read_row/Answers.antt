@@ -1,12 +1,12 @@
 use Rattle.std.proofs.Common.{arith, refl, sym, rules, ◌%◌}
-use Rattle.bytes_field.proofs.Sizes.{size-field}
+use Rattle.bytes_field.proofs.Sizes.{size_field}
 use Rattle.bytes_field.proofs.Laws.{passed, within}
-use Rattle.bytes_field.proofs.Fields.{row-begin, row-again, row_done}
-use Rattle.bytes_field.specs.Walk.{walk_of, fieldWalk}
+use Rattle.bytes_field.proofs.Fields.{row_begin, row_again, row_done}
+use Rattle.bytes_field.specs.Walk.{walk_of, field_walk}
 use Rattle.bytes_row.proofs.read_row.Goals as goal
 
 pub loop-left-init : goal.loop-left-init
-loop-left-init c = (refl, refl, omega arith, row-begin _ _ _ _ _)
+loop-left-init c = (refl, refl, omega arith, row_begin _ _ _ _ _)
 
 pub overflow_add-result : goal.overflow_add-result
 overflow_add-result c =
@@ -16,7 +16,7 @@ overflow_add-result c =
     let w = walk_of o.seen o.buffer o.n o.late in
     omega (
       arith,
-      within a.s.now o.at (λ t. fieldWalk a.b a.many (o.left % 16) w t) l.seen l.buffer (λ t. size-field a.b a.many (o.left % 16) w t)
+      within a.s.now o.at (λ t. field_walk a.b a.many (o.left % 16) w t) l.seen l.buffer (λ t. size_field a.b a.many (o.left % 16) w t)
           c.tail.ensures c.read_field.ensures c.in-Refused.is,
       o.invariant.2,
     )
@@ -27,7 +27,7 @@ returns-in-Refused c =
     let o = c.loop-left in
     let l = c.read_field.new in
     let w = walk_of o.seen o.buffer o.n o.late in
-    sym (row-again _ _ _ _ _ _ o.invariant.3 _ (passed a.s.now o.at (λ t. fieldWalk a.b a.many (o.left % 16) w t) l.seen l.buffer
+    sym (row_again _ _ _ _ _ _ o.invariant.3 _ (passed a.s.now o.at (λ t. field_walk a.b a.many (o.left % 16) w t) l.seen l.buffer
     c.tail.ensures c.read_field.ensures c.in-Refused.is)).left
 
 pub overflow_add-at : goal.overflow_add-at
@@ -38,7 +38,7 @@ overflow_add-at c =
     let w = walk_of o.seen o.buffer o.n o.late in
     omega (
       arith,
-      within a.s.now o.at (λ t. fieldWalk a.b a.many (o.left % 16) w t) l.seen l.buffer (λ t. size-field a.b a.many (o.left % 16) w t)
+      within a.s.now o.at (λ t. field_walk a.b a.many (o.left % 16) w t) l.seen l.buffer (λ t. size_field a.b a.many (o.left % 16) w t)
           c.tail.ensures c.read_field.ensures c.in-Used.is,
       o.invariant.2,
     )
@@ -53,11 +53,11 @@ loop-left-preserved c =
       search rules,
       omega (
         arith,
-        within a.s.now o.at (λ t. fieldWalk a.b a.many (o.left % 16) w t) l.seen l.buffer (λ t. size-field a.b a.many (o.left % 16) w t)
+        within a.s.now o.at (λ t. field_walk a.b a.many (o.left % 16) w t) l.seen l.buffer (λ t. size_field a.b a.many (o.left % 16) w t)
             c.tail.ensures c.read_field.ensures c.in-Used.is,
         o.invariant.2,
       ),
-      row-again _ _ _ _ _ _ o.invariant.3 _ (passed a.s.now o.at (λ t. fieldWalk a.b a.many (o.left % 16) w t) l.seen l.buffer
+      row_again _ _ _ _ _ _ o.invariant.3 _ (passed a.s.now o.at (λ t. field_walk a.b a.many (o.left % 16) w t) l.seen l.buffer
           c.tail.ensures c.read_field.ensures c.in-Used.is),
     )
 

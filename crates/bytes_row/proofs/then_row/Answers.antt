@@ -1,7 +1,7 @@
 use Rattle.std.proofs.Common.{arith}
-use Rattle.bytes_field.proofs.Sizes.{size-row}
-use Rattle.bytes_field.proofs.Laws.{bytes-within}
-use Rattle.bytes_field.specs.Walk.{walk_of, rowWalk}
+use Rattle.bytes_field.proofs.Sizes.{size_row}
+use Rattle.bytes_field.proofs.Laws.{bytes_within}
+use Rattle.bytes_field.specs.Walk.{walk_of, row_walk}
 use Rattle.bytes_row.proofs.then_row.Goals as goal
 
 pub further-requires : goal.further-requires
@@ -11,6 +11,6 @@ further-requires c =
     let w = walk_of a.seen.now a.buffer.now g.n g.late in
     omega (
       arith,
-      bytes-within a.s.now g.at c.read_row.result c.read_row.new.seen c.read_row.new.buffer (λ t. rowWalk a.b a.many 5 a.row w t)
-          c.tail-t.ensures c.read_row.ensures (λ u. size-row a.b a.many 5 a.row w u),
+      bytes_within a.s.now g.at c.read_row.result c.read_row.new.seen c.read_row.new.buffer (λ t. row_walk a.b a.many 5 a.row w t)
+          c.tail-t.ensures c.read_row.ensures (λ u. size_row a.b a.many 5 a.row w u),
     )

@@ -1,8 +1,8 @@
 use Rattle.std.proofs.Common.{[], arith}
-use Rattle.bytes_wire.specs.Parse.{mapParse}
-use Rattle.bytes_wire.proofs.Laws.{size-map, size-value}
-use Rattle.bytes_field.specs.Walk.{walk_of, usesValue}
-use Rattle.bytes_field.proofs.Laws.{bytes-within}
+use Rattle.bytes_wire.specs.Parse.{map_parse}
+use Rattle.bytes_wire.proofs.Laws.{size_map, size_value}
+use Rattle.bytes_field.specs.Walk.{walk_of, uses_value}
+use Rattle.bytes_field.proofs.Laws.{bytes_within}
 use Rattle.bytes_wire.specs.Value.{value_of}
 use Rattle.bytes_row.proofs.then_value.Goals as goal
 
@@ -12,7 +12,7 @@ further-requires c =
     let g = c.in-Used in
     omega (
       arith,
-      bytes-within a.s.now g.at c.read_value.result [] c.read_value.new.buffer
-          (λ t. mapParse (usesValue (walk_of [] a.buffer.now g.n g.late)) (value_of a.next t)) c.tail-t.ensures (c.read_value.ensures [])
-          (λ u. rw size-map (size-value a.next u)),
+      bytes_within a.s.now g.at c.read_value.result [] c.read_value.new.buffer
+          (λ t. map_parse (uses_value (walk_of [] a.buffer.now g.n g.late)) (value_of a.next t)) c.tail-t.ensures (c.read_value.ensures [])
+          (λ u. rw size_map (size_value a.next u)),
     )

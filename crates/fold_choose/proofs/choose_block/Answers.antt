@@ -1,14 +1,14 @@
 use Rattle.std.proofs.Common.{◌+◌, arith}
 use mathlib.Core.Bool.{false}
 use lib.ListN.{length-replicate}
-use Rattle.fold_choose.proofs.Buildless.{none-built}
+use Rattle.fold_choose.proofs.Buildless.{none_built}
 use Rattle.fold_choose.proofs.choose_block.Goals as goal
 
 pub returns-then-not-any_build-clause-decides_block : goal.returns-then-not-any_build-clause-decides_block
 returns-then-not-any_build-clause-decides_block c =
     let a = c.args in
     λ τ all g f st room long j d l e. absurd
-    (none-built a.b a.s.now a.facts.now a.at.first (a.at.first + a.at.count) all
+    (none_built a.b a.s.now a.facts.now a.at.first (a.at.first + a.at.count) all
     (c.any_build.ensures c.if-not-any_build.true) st.code (omega (arith, st.counted)) j d l e)
 
 pub returns-clause-decides_block : goal.returns-clause-decides_block

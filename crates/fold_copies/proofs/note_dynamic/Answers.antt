@@ -2,8 +2,8 @@ use native.Mathlib.Omega.{arith}
 use mathlib.Core.List.{[]}
 use mathlib.Core.Bool.{false}
 use mathlib.Core.Path.{ap, ◌∙◌}
-use Rattle.fold_family.specs.Copies.{dynamicStep}
-use Rattle.fold_copies.proofs.Fields.{noted_other, noted-static, noted-dynamic}
+use Rattle.fold_family.specs.Copies.{dynamic_step}
+use Rattle.fold_copies.proofs.Fields.{noted_other, noted_static, noted_dynamic}
 use Rattle.fold_copies.proofs.note_dynamic.Goals as goal
 
 pub returns-then-kind-lt-LOAD : goal.returns-then-kind-lt-LOAD
@@ -15,12 +15,12 @@ returns-then-kind-gt-STORE c = noted_other c.args.b c.args.t.now c.args.kind c.a
 pub returns-then-is_dynamic : goal.returns-then-is_dynamic
 returns-then-is_dynamic c =
     let a = c.args in
-    noted-dynamic a.b a.t.now a.kind a.dynamic.now _
-    (λ i n e. c.is_dynamic.ensures ∙ ap dynamicStep (c.projection.ensures [] false i n e)) c.if-is_dynamic.true _ _ _ _
+    noted_dynamic a.b a.t.now a.kind a.dynamic.now _
+    (λ i n e. c.is_dynamic.ensures ∙ ap dynamic_step (c.projection.ensures [] false i n e)) c.if-is_dynamic.true _ _ _ _
     c.fields_place.ensures c.tail-u.ensures c.base_place.ensures c.u16_at.ensures c.set_flag.ensures
 
 pub returns-else-is_dynamic : goal.returns-else-is_dynamic
 returns-else-is_dynamic c =
     let a = c.args in
-    noted-static a.b a.t.now a.kind a.dynamic.now _
-    (λ i n e. c.is_dynamic.ensures ∙ ap dynamicStep (c.projection.ensures [] false i n e)) c.if-is_dynamic.false
+    noted_static a.b a.t.now a.kind a.dynamic.now _
+    (λ i n e. c.is_dynamic.ensures ∙ ap dynamic_step (c.projection.ensures [] false i n e)) c.if-is_dynamic.false

@@ -1,11 +1,11 @@
-use Rattle.fold_cross.proofs.Crossing.{building-again, building-done}
+use Rattle.fold_cross.proofs.Crossing.{building_again, building_done}
 use Rattle.fold_cross.proofs.cross_builds.Goals as goal
 
 pub loop-j-preserved : goal.loop-j-preserved
 loop-j-preserved c =
     let a = c.args in
     let l = c.loop-j in
-    building-again a.b a.s.now a.facts.now a.shapes.now a.eligible.now a.readers.now a.copies.now a.k.0 _ _ _ _
+    building_again a.b a.s.now a.facts.now a.shapes.now a.eligible.now a.readers.now a.copies.now a.k.0 _ _ _ _
     c.block_number-own.ensures.1 c.first_slot.ensures c.row_place-rows.ensures c.instruction_count-count.ensures _ _
     l.family l.marks l.members l.j l.invariant c.loop-j-test.true
     c.eligible_build-d.result c.eligible_build-d.ensures _ _ _ c.find_family-n.ensures
@@ -15,7 +15,7 @@ pub returns : goal.returns
 returns c =
     let a = c.args in
     let l = c.loop-j in
-    λ τ ks p cp e σ r lc. building-done a.b a.s.now a.facts.now a.shapes.now a.eligible.now a.readers.now a.copies.now
+    λ τ ks p cp e σ r lc. building_done a.b a.s.now a.facts.now a.shapes.now a.eligible.now a.readers.now a.copies.now
     a.k.0 _ _ _ _ c.block_number-own.ensures.1 c.first_slot.ensures c.row_place-rows.ensures c.instruction_count-count.ensures _ _
     l.family l.marks l.members l.j l.invariant c.loop-j-test.false σ τ ks
     (record { ready = r; inside = p; rows = cp; clear = e; each = lc })

@@ -1,9 +1,9 @@
-use Rattle.fold_cross.proofs.Idle.{idling-again}
+use Rattle.fold_cross.proofs.Idle.{idling_again}
 use Rattle.fold_cross.proofs.has_build.Goals as goal
 
 pub loop-k-preserved : goal.loop-k-preserved
 loop-k-preserved c =
     let a = c.args in
     let l = c.loop-k in
-    idling-again a.s.now a.facts.now a.first a.count a.eligible.now _ l.k _ c.row_place-rows.ensures l.invariant
+    idling_again a.s.now a.facts.now a.first a.count a.eligible.now _ l.k _ c.row_place-rows.ensures l.invariant
     c.loop-k-test.true c.eligible_build.ensures c.in-Nothing.is

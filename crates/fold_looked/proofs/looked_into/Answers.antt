@@ -1,9 +1,9 @@
-use Rattle.fold_looked.proofs.Looking.{looks-into}
+use Rattle.fold_looked.proofs.Looking.{looks_into}
 use Rattle.fold_looked.proofs.looked_into.Goals as goal
 
 pub returns : goal.returns
 returns c =
     let a = c.args in
-    looks-into a.copies.now a.shape a.v a.dynamic.now a.family.now c.family-found.new.marks c.unmark.new.marks
+    looks_into a.copies.now a.shape a.v a.dynamic.now a.family.now c.family-found.new.marks c.unmark.new.marks
     a.members.now c.family-found.new.members c.family-found.result c.dynamic_index.result
     c.family-found.ensures c.unmark.ensures c.dynamic_index.ensures

@@ -2,7 +2,7 @@ use Rattle.std.proofs.Common.{true, ◌||◌, ℕ}
 use mathlib.Core.Path.{sym, ap}
 use lib.Dec.{eqb}
 use borrow.Author.Tests.{ne_eqb}
-use Rattle.fold_phis.proofs.FrontPhis.{tells_none, tells-phi}
+use Rattle.fold_phis.proofs.FrontPhis.{tells_none, tells_phi}
 use Rattle.fold_phis.proofs.aggregate_phi.Goals as goal
 
 pub returns-then-kind-ne-PHI : goal.returns-then-kind-ne-PHI
@@ -13,12 +13,12 @@ returns-then-kind-ne-PHI c =
 pub returns-then-shape-eq-TUPLE : goal.returns-then-shape-eq-TUPLE
 returns-then-shape-eq-TUPLE c =
     let a = c.args in
-    tells-phi a.s.now a.facts.now a.slot a.shapes.now c.kind.result c.kind.ensures c.if-kind-ne-PHI.false c.dest-d.result.0
+    tells_phi a.s.now a.facts.now a.slot a.shapes.now c.kind.result c.kind.ensures c.if-kind-ne-PHI.false c.dest-d.result.0
     c.byte_at-shape.result c.dest-d.ensures c.byte_at-shape.ensures true (sym (ap (λ (x : ℕ). eqb x 1 || eqb x 2) c.if-shape-eq-TUPLE.true))
 
 pub returns-else-shape-eq-TUPLE : goal.returns-else-shape-eq-TUPLE
 returns-else-shape-eq-TUPLE c =
     let a = c.args in
-    tells-phi a.s.now a.facts.now a.slot a.shapes.now c.kind.result c.kind.ensures c.if-kind-ne-PHI.false c.dest-d.result.0
+    tells_phi a.s.now a.facts.now a.slot a.shapes.now c.kind.result c.kind.ensures c.if-kind-ne-PHI.false c.dest-d.result.0
     c.byte_at-shape.result c.dest-d.ensures c.byte_at-shape.ensures (eqb c.byte_at-shape.result 2)
     (rw (ne_eqb c.byte_at-shape.result 1 c.if-shape-eq-TUPLE.false))

@@ -1,12 +1,12 @@
-use Rattle.fold_readers.proofs.Noting.{via-again, via-done}
+use Rattle.fold_readers.proofs.Noting.{via_again, via_done}
 use Rattle.fold_readers.proofs.note_reads.Goals as goal
 
 pub loop-k-preserved : goal.loop-k-preserved
 loop-k-preserved c =
     let a = c.args in
     let l = c.loop-k in
-    via-again a.own a.facts.now a.row _ _ l.readers _ l.k _ l.invariant c.loop-k-test.true c.number.ensures
+    via_again a.own a.facts.now a.row _ _ l.readers _ l.k _ l.invariant c.loop-k-test.true c.number.ensures
     c.note_reader.ensures c.note_reader.auto.readers
 
 pub returns : goal.returns
-returns c = let a = c.args in let l = c.loop-k in via-done a.own a.facts.now a.row _ _ l.readers l.k l.invariant c.loop-k-test.false
+returns c = let a = c.args in let l = c.loop-k in via_done a.own a.facts.now a.row _ _ l.readers l.k l.invariant c.loop-k-test.false

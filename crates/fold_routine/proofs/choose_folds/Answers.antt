@@ -1,5 +1,5 @@
 use Rattle.mir.specs.Lookup.{types_in}
-use Rattle.bytes_sections.proofs.Body.{none-marked}
+use Rattle.bytes_sections.proofs.Body.{none_marked}
 use Rattle.fold_routine.proofs.choose_folds.Goals as goal
 
 pub returns : goal.returns
@@ -8,4 +8,4 @@ returns c =
     λ r k fits l.
     let f = c.value_shapes.ensures a.setup.bounds.list (types_in r) (rw c.recorded.ensures k.ground.known) k.ground.rows
     k.ground.values c.requires c.requires in
-    c.choose_crossed.ensures r f (none-marked a.setup.bounds.next 256 c.requires) k fits l
+    c.choose_crossed.ensures r f (none_marked a.setup.bounds.next 256 c.requires) k fits l

@@ -1,12 +1,12 @@
 use Rattle.std.proofs.Common.{arith}
 use mathlib.Core.Path.{refl}
-use Rattle.fold_scan.proofs.Blocks.{scan-start, scan_step, scan-done}
+use Rattle.fold_scan.proofs.Blocks.{scan_start, scan_step, scan_done}
 use Rattle.fold_scan.proofs.scan_block.Goals as goal
 
 pub loop-k-init : goal.loop-k-init
 loop-k-init c =
     let a = c.args in
-    scan-start a.s.now a.b a.facts.now a.first a.count a.shapes.now a.eligible.now a.cross.now a.structs.now
+    scan_start a.s.now a.b a.facts.now a.first a.count a.shapes.now a.eligible.now a.cross.now a.structs.now
     c.clear.new.graph c.requires c.clear.new.graph refl c.clear.ensures
 
 pub loop-k-preserved : goal.loop-k-preserved
@@ -19,5 +19,5 @@ loop-k-preserved c =
 pub returns : goal.returns
 returns c =
     let a = c.args in
-    scan-done a.s.now a.b a.facts.now a.first a.count a.shapes.now a.eligible.now a.cross.now a.structs.now
+    scan_done a.s.now a.b a.facts.now a.first a.count a.shapes.now a.eligible.now a.cross.now a.structs.now
     c.clear.new.graph c.loop-k.k c.loop-k.graph c.loop-k.invariant c.loop-k-test.false a.graph.now (omega arith)

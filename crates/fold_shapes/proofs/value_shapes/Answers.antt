@@ -1,10 +1,10 @@
-use Rattle.fold_shapes.proofs.Values.{fill-again}
+use Rattle.fold_shapes.proofs.Values.{fill_again}
 use Rattle.fold_shapes.proofs.value_shapes.Goals as goal
 
 pub loop-v-preserved : goal.loop-v-preserved
 loop-v-preserved c =
     let a = c.args in
     let l = c.loop-v in
-    fill-again a.s.now a.types.now a.many a.recorded.now a.next a.settings _ _ l.shapes l.eligible l.v _ _ _ _ _
+    fill_again a.s.now a.types.now a.many a.recorded.now a.next a.settings _ _ l.shapes l.eligible l.v _ _ _ _ _
     l.invariant c.loop-v-test.true c.number.ensures c.recorded_shape.ensures c.recorded_eligible.ensures c.set_byte.ensures
     c.set_flag.ensures

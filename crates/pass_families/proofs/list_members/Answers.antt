@@ -1,4 +1,4 @@
-use Rattle.pass_families.proofs.Marked.{listing, listing-room, listing-on, listing-past, listed, listed-few}
+use Rattle.pass_families.proofs.Marked.{listing, listing_room, listing_on, listing_past, listed, listed_few}
 use Rattle.pass_families.proofs.list_members.Goals.{then-family-v, else-family-v}
 use Rattle.pass_families.proofs.list_members.Goals as goal
 
@@ -6,17 +6,17 @@ pub loop-v-init : goal.loop-v-init
 loop-v-init c = listing c.args.family.now c.args.line.now
 
 pub bounds-line-n : goal.bounds-line-n
-bounds-line-n c = listing-room _ _ _ _ _ c.loop-v.invariant c.requires c.loop-v-test.true
+bounds-line-n c = listing_room _ _ _ _ _ c.loop-v.invariant c.requires c.loop-v-test.true
 
 pub loop-v-preserved : goal.loop-v-preserved
 loop-v-preserved c =
     elim c.if-family-v.branch [
-      | then-family-v w ↦ rw (w.line-is, w.n-is) (listing-on _ _ _ _ _ c.loop-v.invariant c.loop-v-test.true w.if-family-v.true)
-      | else-family-v w ↦ rw (w.line-is, w.n-is) (listing-past _ _ _ _ _ c.loop-v.invariant c.loop-v-test.true w.if-family-v.false)
+      | then-family-v w ↦ rw (w.line-is, w.n-is) (listing_on _ _ _ _ _ c.loop-v.invariant c.loop-v-test.true w.if-family-v.true)
+      | else-family-v w ↦ rw (w.line-is, w.n-is) (listing_past _ _ _ _ _ c.loop-v.invariant c.loop-v-test.true w.if-family-v.false)
     ]
 
 pub returns-clause-listed : goal.returns-clause-listed
 returns-clause-listed c = listed _ _ _ _ _ c.loop-v.invariant c.loop-v-test.false
 
 pub returns-clause-upper_bound : goal.returns-clause-upper_bound
-returns-clause-upper_bound c = listed-few _ _ _ _ _ c.loop-v.invariant
+returns-clause-upper_bound c = listed_few _ _ _ _ _ c.loop-v.invariant

@@ -1,5 +1,5 @@
 use Rattle.std.proofs.Common.{arith}
-use Rattle.pass_families.proofs.Putting.{putting, putting-on, puts-all}
+use Rattle.pass_families.proofs.Putting.{putting, putting_on, puts_all}
 use Rattle.pass_families.proofs.put_all.Goals as goal
 
 pub loop-j-init : goal.loop-j-init
@@ -14,7 +14,7 @@ loop-j-preserved c =
     let i = l.invariant in (
       omega (arith, c.loop-j-test.true),
       omega (arith, i.1, c.put_one-to.ensures.upper_bound),
-      putting-on a.named a.s.now a.facts.now a.from.block a.shapes.now a.copies.now a.dynamic.now a.from.slot a.count a.text.now
+      putting_on a.named a.s.now a.facts.now a.from.block a.shapes.now a.copies.now a.dynamic.now a.from.slot a.count a.text.now
           l.text l.to l.j i.2 c.loop-j-test.true c.put_one-to.new.text c.put_one-to.result c.put_one-to.ensures.written,
     )
 
@@ -22,5 +22,5 @@ pub returns-clause-written : goal.returns-clause-written
 returns-clause-written c =
     let a = c.args in
     let l = c.loop-j in
-    puts-all a.named a.s.now a.facts.now a.from.block a.shapes.now a.copies.now a.dynamic.now a.from.slot a.count a.text.now
+    puts_all a.named a.s.now a.facts.now a.from.block a.shapes.now a.copies.now a.dynamic.now a.from.slot a.count a.text.now
     l.text l.to l.j l.invariant.2 c.loop-j-test.false

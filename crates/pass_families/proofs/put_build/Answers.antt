@@ -1,11 +1,11 @@
 use mathlib.Core.Path.{refl}
-use Rattle.bytes_sections.proofs.Body.{take-clear}
-use Rattle.pass_families.proofs.Showing.{puts-build}
+use Rattle.bytes_sections.proofs.Body.{take_clear}
+use Rattle.pass_families.proofs.Showing.{puts_build}
 use Rattle.pass_families.proofs.put_build.Goals as goal
 
 pub returns-clause-written : goal.returns-clause-written
 returns-clause-written c =
     let a = c.args in
-    puts-build a.named a.s.now a.facts.now a.at.block a.at.instruction a.at.slot a.shapes.now a.copies.now a.dynamic.now
+    puts_build a.named a.s.now a.facts.now a.at.block a.at.instruction a.at.slot a.shapes.now a.copies.now a.dynamic.now
     _ c.find_build-found.new.family _ c.find_build-found.result a.text.now c.put_line.new.text c.put_line.result
-    c.find_build-found.ensures (take-clear _ 256 c.requires) refl c.put_line.ensures.written
+    c.find_build-found.ensures (take_clear _ 256 c.requires) refl c.put_line.ensures.written

@@ -1,14 +1,14 @@
 use mathlib.Core.Path.{refl, ap}
 use Rattle.text.proofs.Writing.{written_as}
-use Rattle.text_lines.specs.Lines.{numbersLine}
-use Rattle.pass_families.proofs.Line.{with-members}
+use Rattle.text_lines.specs.Lines.{numbers_line}
+use Rattle.pass_families.proofs.Line.{with_members}
 use Rattle.pass_families.proofs.put_line.Goals as goal
 
 pub returns-clause-written : goal.returns-clause-written
 returns-clause-written c =
     let a = c.args in
     let m = c.list_members-many in
-    written_as (ap numbersLine
-    (with-members a.named a.at.block a.at.instruction a.found a.family.now _ m.new.line m.result
+    written_as (ap numbers_line
+    (with_members a.named a.at.block a.at.instruction a.found a.family.now _ m.new.line m.result
     c.if-not-named.false m.ensures.listed m.ensures.upper_bound c.requires refl))
     c.numbers_line-2.ensures.written

@@ -1,11 +1,11 @@
 use Rattle.mir.specs.Lookup.{types_in}
-use Rattle.pass_input.proofs.Accepted.{next-few, coded}
+use Rattle.pass_input.proofs.Accepted.{next_few, coded}
 use Rattle.pass_families.proofs.put_routine.Goals as goal
 
 pub returns-clause-written : goal.returns-clause-written
 returns-clause-written c =
     λ a.
     let g = (coded a).ground in
-    let n = next-few a in
+    let n = next_few a in
     c.put_blocks.ensures.written _ a _
     (c.value_shapes.ensures c.args.b.list (types_in a.routine) (rw c.recorded.ensures g.known) g.rows g.values n n)

@@ -1,9 +1,9 @@
 -- Each total by its own sum.
-use Rattle.pass_numbers.specs.Totals.{withCounts}
+use Rattle.pass_numbers.specs.Totals.{with_counts}
 use Rattle.pass_numbers.proofs.with_counts.Goals as goal
 
 pub returns : goal.returns
-unfolding withCounts
+unfolding with_counts
 returns c =
     simp (
       c.add-builds.ensures,

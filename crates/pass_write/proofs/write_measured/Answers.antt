@@ -1,4 +1,4 @@
-use Rattle.pass_write.proofs.Answered.{opens, headed, answers-long}
+use Rattle.pass_write.proofs.Answered.{opens, headed, answers_long}
 use Rattle.pass_write.proofs.write_measured.Goals as goal
 
 pub put_opening-requires : goal.put_opening-requires
@@ -12,7 +12,7 @@ write_body-requires c =
 pub returns-in-NoRoom : goal.returns-in-NoRoom
 returns-in-NoRoom c =
     let m = c.requires in
-    answers-long m c.args.out.now _ ((c.put_opening.ensures (opens m)).long c.in-NoRoom.is)
+    answers_long m c.args.out.now _ ((c.put_opening.ensures (opens m)).long c.in-NoRoom.is)
 
 pub returns-in-Head : goal.returns-in-Head
 returns-in-Head c =

@@ -1,5 +1,5 @@
 use Rattle.std.proofs.Common.{arith, ap, ◌∙◌, sym, ◌≡◌, List, ℕ, get_or, drop}
-use Rattle.rewrite_arms.proofs.Actions.{struct-built}
+use Rattle.rewrite_arms.proofs.Actions.{struct_built}
 use Rattle.rewrite_arms.proofs.build_fields.Goals as goal
 
 pub returns-clause-fields_built : goal.returns-clause-fields_built
@@ -11,4 +11,4 @@ returns-clause-fields_built c =
     let w =
     c.track_named-r.ensures.names_tracked next S f.inits f.fields r q d f.stand (f.many ∙ sym c.byte_at-n.ensures) (rw row f.named)
     (f.count ∙ sym m) (omega (arith, f.few, f.count, m)) in
-    struct-built _ _ _ f.piece c.built.ensures w.0 w.1
+    struct_built _ _ _ f.piece c.built.ensures w.0 w.1

@@ -1,22 +1,22 @@
 use Rattle.std.proofs.Common.{arith, ◌<◌, length}
-use Rattle.rewrite_arms.proofs.Actions.{no-parts, has, has_parts, insert-stays, insert-past, insert-replaces}
+use Rattle.rewrite_arms.proofs.Actions.{no_parts, has, has_parts, insert_stays, insert_past, insert_replaces}
 use Rattle.rewrite_arms.proofs.plan_insert.Goals as goal
 
 pub returns-then-part_count-k : goal.returns-then-part_count-k
 returns-then-part_count-k c =
     λ next s facts used S i p y r d w. elim (has_parts (c.tracked_source.ensures next s _ _ S r) c.in-Tracked.is) [
       | has xs e f ↦
-          insert-past _ _ y xs e (omega (arith, c.if-part_count-k.true, c.part_count.ensures.parts_counted next s _ _ S xs r f))
+          insert_past _ _ y xs e (omega (arith, c.if-part_count-k.true, c.part_count.ensures.parts_counted next s _ _ S xs r f))
     ]
 
 pub returns-in-Untracked : goal.returns-in-Untracked
 returns-in-Untracked c =
-    λ next s facts used S i p y r d w. insert-stays _ _ y (no-parts (c.tracked_source.ensures next s _ _ S r) c.in-Untracked.is)
+    λ next s facts used S i p y r d w. insert_stays _ _ y (no_parts (c.tracked_source.ensures next s _ _ S r) c.in-Untracked.is)
 
 pub returns-else-part_count-k : goal.returns-else-part_count-k
 returns-else-part_count-k c =
     λ next s facts used S i p y r d w. elim (has_parts (c.tracked_source.ensures next s _ _ S r) c.in-Tracked.is) [
       | has xs e f ↦
           let k : c.args.k < length xs = omega (arith, c.if-part_count-k.false, c.part_count.ensures.parts_counted next s _ _ S xs r f) in
-          insert-replaces d _ _ y _ xs e f k w
+          insert_replaces d _ _ y _ xs e f k w
     ]

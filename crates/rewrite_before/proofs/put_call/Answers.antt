@@ -1,26 +1,26 @@
 use Prim.Native.Nat.{◌+◌, ◌-◌}
 use native.Mathlib.Omega.{arith}
 use mathlib.Core.Path.{◌∙◌, ap}
-use Rattle.rewrite_list.proofs.Building.{few-put}
-use Rattle.rewrite_before.proofs.Calling.{call-clashed, call-stayed, call-built}
-use Rattle.rewrite_before.proofs.Effects.{low-on, made-few}
+use Rattle.rewrite_list.proofs.Building.{few_put}
+use Rattle.rewrite_before.proofs.Calling.{call_clashed, call_stayed, call_built}
+use Rattle.rewrite_before.proofs.Effects.{low_on, made_few}
 use Rattle.rewrite_before.proofs.put_call.Goals as goal
 
 pub returns-in-Clash : goal.returns-in-Clash
 returns-in-Clash c = record {
   by_index = λ k l. tt;
   work_unchanged = c.put_builds.ensures.work_unchanged;
-  call_put = call-clashed _ _ _ _ _ _ c.args.work.now _ _ _ _ _ _ c.place-at.ensures.0 c.tail-t.ensures c.fields_place-place.ensures
+  call_put = call_clashed _ _ _ _ _ _ c.args.work.now _ _ _ _ _ _ c.place-at.ensures.0 c.tail-t.ensures c.fields_place-place.ensures
       c.tail-f.ensures c.call_list-list.ensures.0 _ _ c.put_builds.new.work c.put_builds.ensures.all_put c.in-Clash.is;
 }
 
 pub returns-then-q-p : goal.returns-then-q-p
 returns-then-q-p c =
-    let f = few-put _ _ _ _ c.put_builds.ensures.put_few c.in-Went.is in record {
-      by_index = λ k l. low-on k _ _ _ _ _ _ c.put_further.ensures l f
+    let f = few_put _ _ _ _ c.put_builds.ensures.put_few c.in-Went.is in record {
+      by_index = λ k l. low_on k _ _ _ _ _ _ c.put_further.ensures l f
           (omega (arith, c.copy_instruction-kept.ensures.upper_bound)) (omega arith) (omega arith);
       work_unchanged = c.put_builds.ensures.work_unchanged;
-      call_put = call-stayed _ _ _ _ _ _ c.args.work.now _ _ _ _ _ _ c.place-at.ensures.0 c.tail-t.ensures
+      call_put = call_stayed _ _ _ _ _ _ c.args.work.now _ _ _ _ _ _ c.place-at.ensures.0 c.tail-t.ensures
           c.fields_place-place.ensures c.tail-f.ensures c.call_list-list.ensures.0 _ _ c.put_builds.new.work
           c.put_builds.ensures.all_put _ _ _ _ c.in-Went.is c.if-q-p.true c.copy_instruction-kept.ensures.instruction_written
           c.put_further.ensures;
@@ -28,11 +28,11 @@ returns-then-q-p c =
 
 pub returns : goal.returns
 returns c =
-    let f = few-put _ _ _ _ c.put_builds.ensures.put_few c.in-Went.is in record {
-      by_index = λ k l. low-on k _ _ _ _ _ _ c.put_further-2.ensures l f
-          (omega (arith, c.put_call_anew-to.ensures.upper_bound)) (omega arith) (made-few _ _ f);
+    let f = few_put _ _ _ _ c.put_builds.ensures.put_few c.in-Went.is in record {
+      by_index = λ k l. low_on k _ _ _ _ _ _ c.put_further-2.ensures l f
+          (omega (arith, c.put_call_anew-to.ensures.upper_bound)) (omega arith) (made_few _ _ f);
       work_unchanged = c.put_builds.ensures.work_unchanged;
-      call_put = call-built _ _ _ _ _ _ c.args.work.now _ _ _ _ _ _ c.place-at.ensures.0 c.tail-t.ensures
+      call_put = call_built _ _ _ _ _ _ c.args.work.now _ _ _ _ _ _ c.place-at.ensures.0 c.tail-t.ensures
           c.fields_place-place.ensures c.tail-f.ensures c.call_list-list.ensures.0 _ _ c.put_builds.new.work
           c.put_builds.ensures.all_put _ _ _ _ _ c.in-Went.is c.if-q-p.false
           (c.minus-end.ensures ∙ ap (λ k. k - (c.place-at.result + c.fields_place-place.result)) c.end.ensures.0) c.call_list-list.ensures.1

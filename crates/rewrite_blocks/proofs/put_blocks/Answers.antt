@@ -1,16 +1,16 @@
 use Prim.Native.Nat.{◌+◌, ◌*◌}
 use native.Mathlib.Omega.{arith}
 use Rattle.rewrite_step.specs.Stepping.{lent_as}
-use Rattle.rewrite_perform.proofs.Lows.{low-mono}
-use Rattle.rewrite_blocks.proofs.Rounds.{laid-clash, laid-again, laid-all}
+use Rattle.rewrite_perform.proofs.Lows.{low_mono}
+use Rattle.rewrite_blocks.proofs.Rounds.{laid_clash, laid_again, laid_all}
 use Rattle.rewrite_blocks.proofs.put_blocks.Goals as goal
 
 pub put_block-requires : goal.put_block-requires
 put_block-requires c =
     let l = c.loop-k in
     let q = c.requires in (
-      low-mono (64 + 130 * l.k) 4800 _ (omega (arith, c.loop-k-test.true, q.1.0)) (l.invariant.low 64 q.0),
-      (omega (arith, l.invariant.tracked-size, q.1.1.0), omega (arith, l.invariant.work-size, q.1.1.1)),
+      low_mono (64 + 130 * l.k) 4800 _ (omega (arith, c.loop-k-test.true, q.1.0)) (l.invariant.low 64 q.0),
+      (omega (arith, l.invariant.tracked_size, q.1.1.0), omega (arith, l.invariant.work_size, q.1.1.1)),
     )
 
 pub returns-in-Clash-clause-all_put : goal.returns-in-Clash-clause-all_put
@@ -18,7 +18,7 @@ returns-in-Clash-clause-all_put c =
     let a = c.args in
     let l = c.loop-k in
     let t = c.put_block in
-    λ τ ch ks co fo z en. laid-clash a.setup a.s.now a.facts.now a.choice.now
+    λ τ ch ks co fo z en. laid_clash a.setup a.s.now a.facts.now a.choice.now
     (lent_as a.tracked.now a.dropped.now a.work.now a.out.now) a.p (lent_as l.tracked l.dropped l.work l.out) l.q
     l.k l.invariant c.loop-k-test.true (lent_as t.new.tracked t.new.dropped t.new.work t.new.out)
     t.result t.ensures.one_put τ ch ks co fo z en c.in-Clash.is
@@ -28,7 +28,7 @@ loop-k-preserved c =
     let a = c.args in
     let l = c.loop-k in
     let t = c.put_block in
-    laid-again a.setup a.s.now a.facts.now a.choice.now (lent_as a.tracked.now a.dropped.now a.work.now a.out.now)
+    laid_again a.setup a.s.now a.facts.now a.choice.now (lent_as a.tracked.now a.dropped.now a.work.now a.out.now)
     a.p (lent_as l.tracked l.dropped l.work l.out) l.q l.k l.invariant c.loop-k-test.true
     (lent_as t.new.tracked t.new.dropped t.new.work t.new.out)
     t.result t.ensures.one_put _ c.in-Went.is t.ensures.by_index t.auto.tracked t.auto.dropped t.auto.work t.auto.out
@@ -38,7 +38,7 @@ returns c =
     let a = c.args in
     let l = c.loop-k in
     let q = c.requires in record {
-      put_low = low-mono (64 + 130 * l.k) 4300 _ (omega (arith, l.invariant.few, q.1.0)) (l.invariant.low 64 q.0);
-      all_put = laid-all a.setup a.s.now a.facts.now a.choice.now (lent_as a.tracked.now a.dropped.now a.work.now a.out.now) a.p
+      put_low = low_mono (64 + 130 * l.k) 4300 _ (omega (arith, l.invariant.few, q.1.0)) (l.invariant.low 64 q.0);
+      all_put = laid_all a.setup a.s.now a.facts.now a.choice.now (lent_as a.tracked.now a.dropped.now a.work.now a.out.now) a.p
           (lent_as l.tracked l.dropped l.work l.out) l.q l.k l.invariant c.loop-k-test.false;
     }

@@ -1,8 +1,8 @@
 use Prim.Native.Nat.{◌+◌}
 use native.Mathlib.Omega.{arith}
 use Rattle.rewrite_step.specs.Stepping.{lent_as}
-use Rattle.rewrite_perform.proofs.Lows.{low-mono}
-use Rattle.rewrite_blocks.proofs.Walks.{walking-long, walking-clash, walking-again, walking-done}
+use Rattle.rewrite_perform.proofs.Lows.{low_mono}
+use Rattle.rewrite_blocks.proofs.Walks.{walking_long, walking_clash, walking_again, walking_done}
 use Rattle.rewrite_blocks.proofs.put_instructions.Goals as goal
 
 pub overflow_add-slot : goal.overflow_add-slot
@@ -11,8 +11,8 @@ overflow_add-slot c = let r = c.requires in omega (arith, c.loop-j-test.true, r.
 pub step-requires : goal.step-requires
 step-requires c = let l = c.loop-j in
     let r = c.requires in (
-      low-mono (4801 + l.j) 8000 _ (omega (arith, c.loop-j-test.true, r.most)) (l.invariant.low 4801 r.low),
-      (omega (arith, l.invariant.used, r.used, c.loop-j-test.true, r.most), walking-long _ _ _ _ _ _ _ _ _ _ l.invariant r),
+      low_mono (4801 + l.j) 8000 _ (omega (arith, c.loop-j-test.true, r.most)) (l.invariant.low 4801 r.low),
+      (omega (arith, l.invariant.used, r.used, c.loop-j-test.true, r.most), walking_long _ _ _ _ _ _ _ _ _ _ l.invariant r),
     )
 
 pub returns-in-Clash-clause-instructions_put : goal.returns-in-Clash-clause-instructions_put
@@ -22,7 +22,7 @@ returns-in-Clash-clause-instructions_put c = let a = c.args in
     let l₀ = lent_as a.tracked.now a.dropped.now a.work.now a.out.now in
     let l₁ = lent_as l.tracked l.dropped l.work l.out in
     let l' = lent_as t.new.tracked t.new.dropped t.new.work t.new.out in
-    walking-clash a.setup a.s.now a.facts.now a.choice.now a.at l₀ a.w l₁ l.v l.j l.invariant c.requires
+    walking_clash a.setup a.s.now a.facts.now a.choice.now a.at l₀ a.w l₁ l.v l.j l.invariant c.requires
     c.loop-j-test.true _ c.flag-fold.ensures l' t.result t.ensures.steps_on c.in-Clash.is
 
 pub loop-j-preserved : goal.loop-j-preserved
@@ -32,7 +32,7 @@ loop-j-preserved c = let a = c.args in
     let l₀ = lent_as a.tracked.now a.dropped.now a.work.now a.out.now in
     let l₁ = lent_as l.tracked l.dropped l.work l.out in
     let l' = lent_as t.new.tracked t.new.dropped t.new.work t.new.out in
-    walking-again a.setup a.s.now a.facts.now a.choice.now a.at l₀ a.w l₁ l.v l.j l.invariant c.requires
+    walking_again a.setup a.s.now a.facts.now a.choice.now a.at l₀ a.w l₁ l.v l.j l.invariant c.requires
     c.loop-j-test.true _ c.flag-fold.ensures l' t.result t.ensures.steps_on _ c.in-Went.is t.ensures.by_index
     t.auto.tracked t.auto.dropped t.auto.work t.auto.out
 
@@ -40,10 +40,10 @@ pub returns : goal.returns
 returns c = let a = c.args in
     let l = c.loop-j in record {
       by_index = λ n y. (
-        low-mono (n + l.j) (n + a.at.count) _ (omega (arith, l.invariant.few)) (l.invariant.low n y),
+        low_mono (n + l.j) (n + a.at.count) _ (omega (arith, l.invariant.few)) (l.invariant.low n y),
         omega (arith, l.invariant.used, l.invariant.few),
       );
-      instructions_put = walking-done a.setup a.s.now a.facts.now a.choice.now a.at
+      instructions_put = walking_done a.setup a.s.now a.facts.now a.choice.now a.at
           (lent_as a.tracked.now a.dropped.now a.work.now a.out.now) a.w
           (lent_as l.tracked l.dropped l.work l.out) l.v l.j l.invariant c.loop-j-test.false;
     }

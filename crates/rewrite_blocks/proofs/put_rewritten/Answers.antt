@@ -3,8 +3,8 @@ use mathlib.Core.Path.{refl}
 use native.Mathlib.Omega.{arith}
 use Rattle.rewrite_step.specs.declared.Reached.{Reached}
 use Rattle.rewrite_step.specs.Stepping.{lent_as}
-use Rattle.rewrite_perform.proofs.Lows.{low-mono}
-use Rattle.rewrite_blocks.proofs.Laying.{block-clash, block-end, low-begun, low-walked, low_end}
+use Rattle.rewrite_perform.proofs.Lows.{low_mono}
+use Rattle.rewrite_blocks.proofs.Laying.{block_clash, block_end, low_begun, low_walked, low_end}
 use Rattle.rewrite_blocks.proofs.put_rewritten.Goals as goal
 
 pub put_instructions-requires : goal.put_instructions-requires
@@ -13,7 +13,7 @@ put_instructions-requires c =
     record {
       early = at.early;
       most = at.most;
-      low = low-begun 4800 c.args.p c.moved-body.result c.moved-body.ensures c.requires.0;
+      low = low_begun 4800 c.args.p c.moved-body.result c.moved-body.ensures c.requires.0;
       used = refl;
       long = c.requires.1.1;
     }
@@ -22,12 +22,12 @@ pub put_end-r-requires : goal.put_end-r-requires
 put_end-r-requires c =
     let t = c.put_instructions in
     let body = c.moved-body in
-    low-mono (4800 + 129) 8000 _ (omega arith)
-    (low-walked 4800 c.block_slots-at.result.count _ _ t.result c.block_slots-at.ensures.most c.in-Went.is
-    (t.ensures.by_index (4800 + 1) (low-begun 4800 c.args.p body.result body.ensures c.requires.0)))
+    low_mono (4800 + 129) 8000 _ (omega arith)
+    (low_walked 4800 c.block_slots-at.result.count _ _ t.result c.block_slots-at.ensures.most c.in-Went.is
+    (t.ensures.by_index (4800 + 1) (low_begun 4800 c.args.p body.result body.ensures c.requires.0)))
 
 pub put_count-requires : goal.put_count-requires
-put_count-requires c = low-mono 4800 8000 _ (omega arith) c.requires.0
+put_count-requires c = low_mono 4800 8000 _ (omega arith) c.requires.0
 
 pub returns-in-Clash-clause-one_put : goal.returns-in-Clash-clause-one_put
 returns-in-Clash-clause-one_put c = let a = c.args in
@@ -39,7 +39,7 @@ returns-in-Clash-clause-one_put c = let a = c.args in
     let l = lent_as cleared.new.tracked a.dropped.now a.work.now a.out.now in
     let w : Reached = record { progress = body.result; used = 256 } in
     let l' = lent_as t.new.tracked t.new.dropped t.new.work t.new.out in
-    λ off τ ch ks co fo h z en. block-clash a.setup a.s.now a.facts.now a.choice.now a.k.0 a.p off at.result at.ensures l w pre.1.1 body.ensures
+    λ off τ ch ks co fo h z en. block_clash a.setup a.s.now a.facts.now a.choice.now a.k.0 a.p off at.result at.ensures l w pre.1.1 body.ensures
     (λ next s rows x y. cleared.ensures next s rows 256 x (omega arith) pre.1.0 y) refl τ ch ks co fo h en l' t.result
     t.ensures.instructions_put c.in-Clash.is
 
@@ -57,9 +57,9 @@ returns-in-Went c = let a = c.args in
     let v = c.put_count in
     let got = c.in-Went.is in record {
       by_index = λ n y. low_end n _ e.result v.result
-          (low-walked n at.result.count _ _ t.result at.ensures.most got (t.ensures.by_index (n + 1) (low-begun n a.p body.result body.ensures y)))
+          (low_walked n at.result.count _ _ t.result at.ensures.most got (t.ensures.by_index (n + 1) (low_begun n a.p body.result body.ensures y)))
           e.ensures.by_index v.ensures.by_index;
-      one_put = λ off τ ch ks co fo h z en. block-end a.setup a.s.now a.facts.now a.choice.now a.k.0 a.p off at.result at.ensures l w pre.1.1
+      one_put = λ off τ ch ks co fo h z en. block_end a.setup a.s.now a.facts.now a.choice.now a.k.0 a.p off at.result at.ensures l w pre.1.1
           body.ensures (λ next s rows x y. cleared.ensures next s rows 256 x (omega arith) pre.1.0 y) refl τ ch ks co fo h en l' t.result
           t.ensures.instructions_put _ e.new.work _ _ e.result v.result got e.ensures.end_put v.ensures.count_put z;
     }

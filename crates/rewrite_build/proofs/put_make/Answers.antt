@@ -1,11 +1,11 @@
 use Rattle.std.proofs.Common.{◌∙◌, sym, arith}
-use Rattle.rewrite_build.proofs.Rebuilding.{tuple-made, struct_made, array_made, none_made}
+use Rattle.rewrite_build.proofs.Rebuilding.{tuple_made, struct_made, array_made, none_made}
 use Rattle.rewrite_build.proofs.put_make.Goals as goal
 
 pub returns-then-kind-eq-TUPLE-clause-of_type : goal.returns-then-kind-eq-TUPLE-clause-of_type
 returns-then-kind-eq-TUPLE-clause-of_type c =
     λ most own n T h e xs r l m.
-    tuple-made most own n _ T xs h e _ _ _ _ _ _ _ (sym c.byte_at-kind.ensures ∙ c.if-kind-eq-TUPLE.true) c.byte_at-want.ensures
+    tuple_made most own n _ T xs h e _ _ _ _ _ _ _ (sym c.byte_at-kind.ensures ∙ c.if-kind-eq-TUPLE.true) c.byte_at-want.ensures
     (c.put_tuple.ensures.of_parts xs r l)
 
 pub returns-then-kind-eq-STRUCT-clause-of_type : goal.returns-then-kind-eq-STRUCT-clause-of_type

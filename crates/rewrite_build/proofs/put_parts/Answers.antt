@@ -1,4 +1,4 @@
-use Rattle.rewrite_build.proofs.Writing.{parts_again, parts-done}
+use Rattle.rewrite_build.proofs.Writing.{parts_again, parts_done}
 use Rattle.rewrite_build.proofs.put_parts.Goals as goal
 
 pub loop-i-preserved : goal.loop-i-preserved
@@ -7,4 +7,4 @@ loop-i-preserved c =
     parts_again _ _ _ _ _ _ _ _ _ _ _ c.loop-i.invariant _ _ c.loop-i-test.true c.put_part-p.auto.out e.upper_bound e.of_parts
 
 pub returns-clause-of_parts : goal.returns-clause-of_parts
-returns-clause-of_parts c = parts-done _ _ _ _ _ _ _ _ _ _ _ c.loop-i.invariant c.loop-i-test.false
+returns-clause-of_parts c = parts_done _ _ _ _ _ _ _ _ _ _ _ c.loop-i.invariant c.loop-i-test.false

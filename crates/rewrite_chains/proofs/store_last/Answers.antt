@@ -1,5 +1,5 @@
 use Rattle.std.proofs.Common.{arith}
-use Rattle.rewrite_chains.proofs.Stored.{forwards-none, last_none, last_some}
+use Rattle.rewrite_chains.proofs.Stored.{forwards_none, last_none, last_some}
 use Rattle.rewrite_chains.proofs.store_last.Goals as goal
 
 pub returns-in-At-clause-last_stored : goal.returns-in-At-clause-last_stored
@@ -11,4 +11,4 @@ returns-in-At-clause-last_stored c =
 pub returns-in-Nothing-clause-last_stored : goal.returns-in-Nothing-clause-last_stored
 returns-in-Nothing-clause-last_stored c =
     λ τ S q y g r tb h e a.
-    forwards-none (last_none τ S _ q y (c.step_index.ensures τ q (rw c.recorded.ensures g) h e) c.in-Nothing.is) r
+    forwards_none (last_none τ S _ q y (c.step_index.ensures τ q (rw c.recorded.ensures g) h e) c.in-Nothing.is) r

@@ -1,6 +1,6 @@
 use Rattle.std.proofs.Common.{arith, ◌∙◌, sym}
-use Rattle.rewrite_parts.proofs.Loops.{grown-row, row_number}
-use Rattle.rewrite_parts.proofs.ByName.{rep-named, rep-missing}
+use Rattle.rewrite_parts.proofs.Loops.{grown_row, row_number}
+use Rattle.rewrite_parts.proofs.ByName.{rep_named, rep_missing}
 use Rattle.rewrite_parts.proofs.track_named.Goals as goal
 
 pub returns-then-not-all-clause-names_tracked : goal.returns-then-not-all-clause-names_tracked
@@ -8,7 +8,7 @@ returns-then-not-all-clause-names_tracked c =
     let a = c.args in
     let p = c.put_named-all.ensures in
     λ next S fs ts r q b v l w k m.
-    rep-missing _ _ r (grown-row a.rows.now a.used a.m c.set_number.ensures p.grown)
+    rep_missing _ _ r (grown_row a.rows.now a.used a.m c.set_number.ensures p.grown)
     (sym c.if-not-all.true ∙ (p.names_put next fs ts v l w k r.short (omega (arith, q, c.set_number.auto.l))).told)
 
 pub returns-clause-names_tracked : goal.returns-clause-names_tracked
@@ -18,6 +18,6 @@ returns-clause-names_tracked c =
     let p = c.put_named-all.ensures in
     λ next S fs ts r q b v l w k m.
     simp (c.set_number-2.ensures, c.set_flag.ensures)
-    (rep-named fs ts _ a.d r q b (grown-row a.rows.now a.used a.m e p.grown) k m
+    (rep_named fs ts _ a.d r q b (grown_row a.rows.now a.used a.m e p.grown) k m
     (row_number a.rows.now a.used a.m (omega (arith, q)) e p.grown) c.if-not-all.false
     (p.names_put next fs ts v l w k r.short (omega (arith, q, c.set_number.auto.l))))

@@ -1,11 +1,11 @@
 use mathlib.Core.Path.{◌∙◌, sym}
 use borrow.Author.Tests.{not-true, not-false}
-use Rattle.rewrite_step.proofs.Turns.{call-settles, store-off, store-forwarded, store-written}
+use Rattle.rewrite_step.proofs.Turns.{call_settles, store_off, store_forwarded, store_written}
 use Rattle.rewrite_step.proofs.settle.Goals as goal
 
 pub returns-then-kind-eq-CALL-clause-settles_all : goal.returns-then-kind-eq-CALL-clause-settles_all
 returns-then-kind-eq-CALL-clause-settles_all c = let a = c.args in λ τ S folds n i h room f.
-    call-settles a.setup.settings τ folds S n i a.setup.bounds.next a.s.now a.tracked.now a.rows.now a.used
+    call_settles a.setup.settings τ folds S n i a.setup.bounds.next a.s.now a.tracked.now a.rows.now a.used
     (sym h.line.kind ∙ sym c.kind-kind.ensures ∙ c.if-kind-eq-CALL.true) h.rep
 
 pub returns-then-kind-ne-STORE-clause-settles_all : goal.returns-then-kind-ne-STORE-clause-settles_all
@@ -17,17 +17,17 @@ returns-then-kind-ne-STORE-clause-settles_all c = λ τ S folds n i h room f.
 
 pub returns-then-not-settings-clause-settles_all : goal.returns-then-not-settings-clause-settles_all
 returns-then-not-settings-clause-settles_all c = let a = c.args in λ τ S folds n i h room f.
-    store-off a.setup.settings τ folds S n i a.setup.bounds.next a.s.now a.tracked.now
+    store_off a.setup.settings τ folds S n i a.setup.bounds.next a.s.now a.tracked.now
     a.rows.now a.used (sym h.line.kind ∙ sym c.kind-kind.ensures ∙ c.if-kind-ne-STORE.false) (not-true _ c.if-not-settings.true) h.rep
 
 pub returns-then-f-clause-settles_all : goal.returns-then-f-clause-settles_all
 returns-then-f-clause-settles_all c = let a = c.args in λ τ S folds n i h room f.
-    store-forwarded a.setup.settings τ folds S n i a.setup.bounds.next a.s.now
+    store_forwarded a.setup.settings τ folds S n i a.setup.bounds.next a.s.now
     _ _ _ (sym h.line.kind ∙ sym c.kind-kind.ensures ∙ c.if-kind-ne-STORE.false) (not-false _ c.if-not-settings.false) _
     (λ p x t z. c.forward_store-f.ensures.store_forwarded τ S i p x t h room z) c.if-f.true
 
 pub returns-clause-settles_all : goal.returns-clause-settles_all
 returns-clause-settles_all c = let a = c.args in λ τ S folds n i h room f.
-    store-written a.setup.settings τ folds S n i a.setup.bounds.next a.s.now _
+    store_written a.setup.settings τ folds S n i a.setup.bounds.next a.s.now _
     _ _ (sym h.line.kind ∙ sym c.kind-kind.ensures ∙ c.if-kind-ne-STORE.false) (not-false _ c.if-not-settings.false) _
     (λ p x t z. c.forward_store-f.ensures.store_forwarded τ S i p x t h room z) c.if-f.false

@@ -1,6 +1,6 @@
 use native.Mathlib.Omega.{arith}
 use mathlib.Core.Path.{◌∙◌, sym}
-use Rattle.rewrite_wanted.proofs.Asking.{none_other, some-type, recorded-told}
+use Rattle.rewrite_wanted.proofs.Asking.{none_other, some_type, recorded_told}
 use Rattle.rewrite_wanted.proofs.asked_type.Goals as goal
 
 pub returns-then-type_shape-eq-OTHER : goal.returns-then-type_shape-eq-OTHER
@@ -9,8 +9,8 @@ returns-then-type_shape-eq-OTHER c = λ τ g l. rw (c.in-Types.is, ← c.tail.en
 
 pub returns-else-type_shape-eq-OTHER : goal.returns-else-type_shape-eq-OTHER
 returns-else-type_shape-eq-OTHER c = λ τ g l. rw (c.in-Types.is, ← c.tail.ensures, ← c.u16_at-u.ensures)
-    (some-type τ _ _ _ c.if-n-i.false (λ z. c.if-type_shape-eq-OTHER.false (c.type_shape.ensures _ τ.rows g.known.rows g.rows ∙ z)))
+    (some_type τ _ _ _ c.if-n-i.false (λ z. c.if-type_shape-eq-OTHER.false (c.type_shape.ensures _ τ.rows g.known.rows g.rows ∙ z)))
 
 pub returns-in-Recorded : goal.returns-in-Recorded
 returns-in-Recorded c = λ τ g l. rw c.in-Recorded.is
-    (recorded-told τ _ _ _ _ _ _ c.recorded_type.result g.known (sym c.recorded.ensures) (omega (arith, g.values)) c.recorded_type.ensures)
+    (recorded_told τ _ _ _ _ _ _ c.recorded_type.result g.known (sym c.recorded.ensures) (omega (arith, g.values)) c.recorded_type.ensures)

@@ -1,8 +1,8 @@
 use mathlib.Core.Path.{◌∙◌, sym}
-use Rattle.shelf_call.proofs.Listed.{debug-agrees}
+use Rattle.shelf_call.proofs.Listed.{debug_agrees}
 use Rattle.shelf_call.proofs.debug.Goals as goal
 
 pub returns : goal.returns
 returns c = λ s types τ seen i n g e.
     let a = c.args in
-    (debug-agrees a.b a.t.now seen τ (λ xs l h. c.all_known.ensures s types τ xs g l (h ∙ sym c.byte_at-n.ensures))).each i n e
+    (debug_agrees a.b a.t.now seen τ (λ xs l h. c.all_known.ensures s types τ xs g l (h ∙ sym c.byte_at-n.ensures))).each i n e

@@ -4,7 +4,7 @@ use native.Mathlib.Omega.{arith}
 use Rattle.bytes_operands.proofs.Loops.{plain_step}
 use Rattle.mir.specs.Lookup.{row_of}
 use Rattle.mir.specs.Parts.{part_type}
-use Rattle.shelf_field.proofs.Lines.{left-begin, left-fail, left-next, left-done}
+use Rattle.shelf_field.proofs.Lines.{left_begin, left_fail, left_next, left_done}
 use Rattle.shelf_list.proofs.Tests.{fit_all}
 use Rattle.shelf_list.proofs.all_fit.Goals as goal
 
@@ -15,13 +15,13 @@ loop-i-init c = (
     omega arith,
     λ τ o xs g e l h.
         let p = part_type (row_of τ o) in
-        left-begin xs l h (fit_all τ p p 0 xs (λ k. ap p (sym (zero-add k)))),
+        left_begin xs l h (fit_all τ p p 0 xs (λ k. ap p (sym (zero-add k)))),
   ),
 )
 
 pub returns-then-not-value_fits : goal.returns-then-not-value_fits
 returns-then-not-value_fits c = λ τ o xs g e l h.
-    left-fail (c.loop-i.invariant.1.1 τ o xs g e l h) c.loop-i-test.true
+    left_fail (c.loop-i.invariant.1.1 τ o xs g e l h) c.loop-i-test.true
     (λ y q. c.value_fits.ensures τ y (part_type (row_of τ o) c.loop-i.i) g q (c.part_type-part.ensures τ o g.known.rows g.rows e))
     c.if-not-value_fits.true
 
@@ -31,11 +31,11 @@ loop-i-preserved c = (
   (
     omega arith,
     λ τ o xs g e l h.
-        left-next (c.loop-i.invariant.1.1 τ o xs g e l h) c.loop-i-test.true
+        left_next (c.loop-i.invariant.1.1 τ o xs g e l h) c.loop-i-test.true
         (λ y q. c.value_fits.ensures τ y (part_type (row_of τ o) c.loop-i.i) g q (c.part_type-part.ensures τ o g.known.rows g.rows e))
         c.if-not-value_fits.false (c.value_end-here.ensures.0 ∙ plain_step c.args.t.now c.loop-i.here),
   ),
 )
 
 pub returns : goal.returns
-returns c = λ τ o xs g e l h. left-done (c.loop-i.invariant.1.1 τ o xs g e l h) c.loop-i-test.false
+returns c = λ τ o xs g e l h. left_done (c.loop-i.invariant.1.1 τ o xs g e l h) c.loop-i-test.false

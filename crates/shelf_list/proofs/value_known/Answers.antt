@@ -1,6 +1,6 @@
 use mathlib.Core.Path.{ap, ◌∙◌}
 use lib.ListN.{length}
-use Rattle.shelf.specs.Agrees.{isKnown}
+use Rattle.shelf.specs.Agrees.{is_known}
 use Rattle.bytes_wire.specs.WellFormed.{FitValue}
 use Rattle.shelf_list.proofs.value_known.Goals as goal
 
@@ -8,4 +8,4 @@ pub returns : goal.returns
 returns c = λ s types τ x g h.
     let v = c.value_at.ensures x h in
     let w : FitValue (length τ.recorded) c.value_at.result = rw (g.values, v.0) v.1 in
-    c.is_known.ensures τ g.known.recorded-types g.known.long w ∙ ap (isKnown τ) v.0
+    c.is_known.ensures τ g.known.recorded_types g.known.long w ∙ ap (is_known τ) v.0

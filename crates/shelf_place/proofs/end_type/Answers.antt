@@ -2,7 +2,7 @@ use mathlib.Core.Path.{refl, ◌∙◌}
 use Rattle.std.proofs.Common.{length}
 use native.Mathlib.Nat.{add-zero}
 use native.Mathlib.Omega.{arith}
-use Rattle.shelf_place.proofs.Places.{walking, walking-next, walking-done}
+use Rattle.shelf_place.proofs.Places.{walking, walking_next, walking_done}
 use Rattle.shelf_place.proofs.end_type.Goals as goal
 
 pub loop-i-init : goal.loop-i-init
@@ -14,10 +14,10 @@ loop-i-preserved c = (
   (
     omega arith,
     λ recorded τ o ps g e l h.
-        walking-next (c.loop-i.invariant.1.1 recorded τ o ps g e l h) c.loop-i-test.true
+        walking_next (c.loop-i.invariant.1.1 recorded τ o ps g e l h) c.loop-i-test.true
         (λ o' q z w. c.step_type-there.ensures τ o' q g.known.rows g.rows z (c.step_at.ensures q w)) c.projection_end-here.ensures.0,
   ),
 )
 
 pub returns : goal.returns
-returns c = λ recorded τ o ps g e l h. walking-done (c.loop-i.invariant.1.1 recorded τ o ps g e l h) c.loop-i-test.false
+returns c = λ recorded τ o ps g e l h. walking_done (c.loop-i.invariant.1.1 recorded τ o ps g e l h) c.loop-i-test.false

@@ -2,21 +2,21 @@ use Rattle.shelf_place.proofs.Places.{Walking}
 use Rattle.shelf_place.specs.Places.{StepsIn}
 use Rattle.rewrite_progress.specs.Ground.{Ground}
 use Rattle.mir.specs.Lookup.{Types}
-use Rattle.bytes_sections.specs.Index.{recordedNumber}
+use Rattle.bytes_sections.specs.Index.{recorded_number}
 use Rattle.mir.specs.Syntax.{Projection}
 use Rattle.mir.specs.declared.TypeId.{TypeId}
 use mathlib.Core.Option.{Option}
 use mathlib.Core.List.{List}
 use Rattle.std.proofs.Common.{◌-◌, ◌≡◌, ℕ, ◌+◌, ◌*◌, ◌≤◌, length}
-use Rattle.shelf.specs.Fits.{placeType}
+use Rattle.shelf.specs.Fits.{place_type}
 use Rattle.shelf_place.proofs.end_type.Given as goal
 
 abbrev pub invariant-loop-i : goal.invariant-loop-i
 invariant-loop-i l =
     (l.here ≤ l.at + 6 * l.i) × ((l.i ≤ l.n)
     × ((recorded : List ℕ) (τ : Types) (o : Option TypeId) (ps : List Projection) → Ground l.b l.s l.types recorded τ
-    → l.initial.there.0 ≡ recordedNumber o → StepsIn l.b.next l.t l.at ps → length ps ≡ l.n
-    → Walking τ l.b.next l.t (placeType τ o ps) l.n l.here l.there.0 l.i))
+    → l.initial.there.0 ≡ recorded_number o → StepsIn l.b.next l.t l.at ps → length ps ≡ l.n
+    → Walking τ l.b.next l.t (place_type τ o ps) l.n l.here l.there.0 l.i))
 
 abbrev pub decreases-loop-i : goal.decreases-loop-i
 decreases-loop-i l = l.n - l.i

@@ -1,11 +1,11 @@
 use mathlib.Core.Path.{◌∙◌, sym}
 use mathlib.Core.Option.{some}
-use Rattle.shelf.specs.Agrees.{reached, placeFits}
+use Rattle.shelf.specs.Agrees.{reached, place_fits}
 use Rattle.shelf_field.proofs.Lines.{and_both}
 use Rattle.shelf_place.proofs.place_fits.Goals as goal
 
 pub returns : goal.returns
-unfolding placeFits
+unfolding place_fits
 returns c = λ τ p y g w e.
     c.both.ensures
     ∙ and_both (c.same_type-same.ensures (reached τ p) (some y) (c.reached_type-there.ensures τ p g w) e)

@@ -1,13 +1,13 @@
 use mathlib.Core.Path.{ap, ◌∙◌}
 use Rattle.bytes_wire.specs.WellFormed.{FitValue}
-use Rattle.shelf.specs.Agrees.{isCondition}
-use Rattle.shelf_reason1.proofs.Ends.{if-agrees}
+use Rattle.shelf.specs.Agrees.{is_condition}
+use Rattle.shelf_reason1.proofs.Ends.{if_agrees}
 use Rattle.shelf_reason1.proofs.condition.Goals as goal
 
 pub returns : goal.returns
 returns c = λ τ i n g e.
     let a = c.args in
-    (if-agrees a.b a.t.now τ (λ x w.
+    (if_agrees a.b a.t.now τ (λ x w.
     let v = c.value_at.ensures x w in
     let f : FitValue a.b.next c.value_at.result = rw v.0 v.1 in
-    c.is_condition.ensures τ g f ∙ ap (isCondition τ) v.0)).each i n e
+    c.is_condition.ensures τ g f ∙ ap (is_condition τ) v.0)).each i n e

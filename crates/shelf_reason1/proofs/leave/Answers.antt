@@ -1,7 +1,7 @@
 use mathlib.Core.Path.{◌∙◌, sym}
-use Rattle.shelf_reason1.proofs.Ends.{return-agrees}
+use Rattle.shelf_reason1.proofs.Ends.{return_agrees}
 use Rattle.shelf_reason1.proofs.leave.Goals as goal
 
 pub returns : goal.returns
 returns c = λ s types τ i n g e.
-    (return-agrees c.args.b c.args.t.now τ (λ xs l h. c.all_known.ensures s types τ xs g l (h ∙ sym c.byte_at.ensures))).each i n e
+    (return_agrees c.args.b c.args.t.now τ (λ xs l h. c.all_known.ensures s types τ xs g l (h ∙ sym c.byte_at.ensures))).each i n e

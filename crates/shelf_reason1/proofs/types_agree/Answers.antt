@@ -1,9 +1,9 @@
 use mathlib.Core.Path.{ap, ◌∙◌, sym}
-use Rattle.shelf_reason1.proofs.Whole.{routine-told, parameters-told}
+use Rattle.shelf_reason1.proofs.Whole.{routine_told, parameters_told}
 use Rattle.std.proofs.Common.{false, ◌+◌, drop, replicate}
-use Rattle.bytes_field.specs.Decode.{definedsOf}
+use Rattle.bytes_field.specs.Decode.{defineds_of}
 use Rattle.mir.specs.Lookup.{types_in}
-use Rattle.shelf.specs.Reads.{withDebug}
+use Rattle.shelf.specs.Reads.{with_debug}
 use Rattle.shelf_reason1.proofs.types_agree.Goals as goal
 
 pub returns : goal.returns
@@ -11,8 +11,8 @@ returns c =
     let a = c.args in
     let seen = replicate a.b.next false in
     λ x n e d.
-    let p = c.tail-t.ensures ∙ ap (λ q. drop (q + 6) a.s.now) c.place-behind.ensures in
-    let w = parameters-told a.b c.tail-t.result.now seen x.parameters n (ap (definedsOf a.b.list a.b.next seen) p ∙ d) in
-    routine-told withDebug x c.both.ensures
+    let p = c.tail-t.ensures ∙ ap (λ q. drop (q + 6) a.s.now) c.place_behind.ensures in
+    let w = parameters_told a.b c.tail-t.result.now seen x.parameters n (ap (defineds_of a.b.list a.b.next seen) p ∙ d) in
+    routine_told with_debug x c.both.ensures
     (c.all_typed-known.ensures a.s.now a.facts.now (types_in x) x.parameters (rw c.recorded.ensures e.ground) w.0 (w.1 ∙ sym c.byte_at.ensures))
     (c.blocks_agree-fit.ensures (types_in x) x.blocks e)

@@ -1,8 +1,8 @@
-use Rattle.shelf_reason5.proofs.Blocks.{over-start, over-again, over_reads, over_done, told}
+use Rattle.shelf_reason5.proofs.Blocks.{over_start, over_again, over_reads, over_done, told}
 use Rattle.shelf_reason5.proofs.reads_no_dropped.Goals as goal
 
 pub loop-k-init : goal.loop-k-init
-loop-k-init c = over-start _ _ _ _ _
+loop-k-init c = over_start _ _ _ _ _
 
 pub returns-in-Reads : goal.returns-in-Reads
 returns-in-Reads c =
@@ -15,7 +15,7 @@ pub loop-k-preserved : goal.loop-k-preserved
 loop-k-preserved c =
     let a = c.args in
     let l = c.loop-k in
-    over-again a.b a.out.now a.at a.dropped.now a.many l.k l.here l.invariant c.loop-k-test.true _ c.walk_block.ensures _ c.in-Behind.is
+    over_again a.b a.out.now a.at a.dropped.now a.many l.k l.here l.invariant c.loop-k-test.true _ c.walk_block.ensures _ c.in-Behind.is
 
 pub returns : goal.returns
 returns c =

@@ -1,5 +1,5 @@
 use native.Mathlib.Omega.{arith}
-use Rattle.shelf_reason5.proofs.Walk.{walk_start, no_room, walk-reads, walk-again, walk-done}
+use Rattle.shelf_reason5.proofs.Walk.{walk_start, no_room, walk_reads, walk_again, walk_done}
 use Rattle.shelf_reason5.proofs.walk_block.Goals as goal
 
 pub returns-then-s-lt2 : goal.returns-then-s-lt2
@@ -15,16 +15,16 @@ pub returns-in-Reads : goal.returns-in-Reads
 returns-in-Reads c =
     let a = c.args in
     let l = c.loop-k in
-    walk-reads a.b a.s.now a.at a.dropped.now _ l.k l.here l.invariant c.loop-k-test.true _ c.walk_instruction.ensures c.in-Reads.is
+    walk_reads a.b a.s.now a.at a.dropped.now _ l.k l.here l.invariant c.loop-k-test.true _ c.walk_instruction.ensures c.in-Reads.is
 
 pub loop-k-preserved : goal.loop-k-preserved
 loop-k-preserved c =
     let a = c.args in
     let l = c.loop-k in
-    walk-again a.b a.s.now a.at a.dropped.now _ l.k l.here l.invariant c.loop-k-test.true _ c.walk_instruction.ensures _ c.in-Behind.is
+    walk_again a.b a.s.now a.at a.dropped.now _ l.k l.here l.invariant c.loop-k-test.true _ c.walk_instruction.ensures _ c.in-Behind.is
 
 pub returns : goal.returns
 returns c =
     let a = c.args in
     let l = c.loop-k in
-    walk-done a.b a.s.now a.at a.dropped.now _ l.k l.here l.invariant c.loop-k-test.false _ c.walk_terminator.ensures
+    walk_done a.b a.s.now a.at a.dropped.now _ l.k l.here l.invariant c.loop-k-test.false _ c.walk_terminator.ensures

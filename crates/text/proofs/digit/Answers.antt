@@ -1,7 +1,7 @@
 use Rattle.std.proofs.Common.{rules}
-use Rattle.text.specs.Digits.{digitOf}
+use Rattle.text.specs.Digits.{digit_of}
 use Rattle.text.proofs.digit.Goals as goal
 
 pub returns : goal.returns
-unfolding digitOf
+unfolding digit_of
 returns c = search rules

@@ -1,9 +1,9 @@
-use Rattle.text_lines.specs.Lines.{refusedLine}
+use Rattle.text_lines.specs.Lines.{refused_line}
 use Rattle.text.proofs.Writing.{written_behind}
 use Rattle.text_lines.proofs.refused_line.Goals as goal
 
 pub returns-clause-written : goal.returns-clause-written
-unfolding refusedLine
+unfolding refused_line
 returns-clause-written c =
     let offset = written_behind c.put_decimal-second.ensures.written c.put_bytes.ensures in
     let behind = written_behind c.put_bytes-blank.ensures offset in

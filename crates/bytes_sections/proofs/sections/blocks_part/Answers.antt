@@ -1,17 +1,17 @@
 use Rattle.std.proofs.Common.{refl, arith}
-use Rattle.bytes_sections.proofs.Coding.{start-kept, coding-start, coding-stop, coding-few, coding-again, coding-done}
+use Rattle.bytes_sections.proofs.Coding.{start_kept, coding_start, coding_stop, coding_few, coding_again, coding_done}
 use Rattle.bytes_sections.proofs.sections.blocks_part.Goals as goal
 
 pub loop-k-init : goal.loop-k-init
 loop-k-init c =
     let a = c.args in
-    (refl, refl, coding-start a.b a.at a.s.now a.facts.now _ _ refl c.set_block.ensures a.seen.now c.requires)
+    (refl, refl, coding_start a.b a.at a.s.now a.facts.now _ _ refl c.set_block.ensures a.seen.now c.requires)
 
 pub returns-in-Refused : goal.returns-in-Refused
 returns-in-Refused c =
     let a = c.args in
     let l = c.loop-k in
-    coding-stop a.b a.at a.s.now a.seen.now _ l.facts l.k l.here l.total l.seen l.invariant.2 c.loop-k-test.true _ _ _ c.read_block.ensures
+    coding_stop a.b a.at a.s.now a.seen.now _ l.facts l.k l.here l.total l.seen l.invariant.2 c.loop-k-test.true _ _ _ c.read_block.ensures
     a.facts.now c.in-Refused.is
 
 pub overflow_add-total-in-Used : goal.overflow_add-total-in-Used
@@ -20,7 +20,7 @@ overflow_add-total-in-Used c =
     let l = c.loop-k in
     omega (
       arith,
-      coding-few a.b a.at a.s.now a.seen.now _ l.facts l.k l.here l.total l.seen l.invariant.2 c.loop-k-test.true _ _ _
+      coding_few a.b a.at a.s.now a.seen.now _ l.facts l.k l.here l.total l.seen l.invariant.2 c.loop-k-test.true _ _ _
           c.read_block.ensures c.in-Used.is,
     )
 
@@ -30,7 +30,7 @@ set_block-requires-in-loop-k c =
     let l = c.loop-k in
     omega (
       arith,
-      coding-few a.b a.at a.s.now a.seen.now _ l.facts l.k l.here l.total l.seen l.invariant.2 c.loop-k-test.true _ _ _
+      coding_few a.b a.at a.s.now a.seen.now _ l.facts l.k l.here l.total l.seen l.invariant.2 c.loop-k-test.true _ _ _
           c.read_block.ensures c.in-Used.is,
       c.loop-k-test.true,
       c.requires.1,
@@ -40,7 +40,7 @@ pub loop-k-preserved : goal.loop-k-preserved
 loop-k-preserved c =
     let a = c.args in
     let l = c.loop-k in
-    let again = coding-again a.b a.at a.s.now a.seen.now _ l.facts l.k l.here l.total l.seen l.invariant.2 c.loop-k-test.true _ _ _
+    let again = coding_again a.b a.at a.s.now a.seen.now _ l.facts l.k l.here l.total l.seen l.invariant.2 c.loop-k-test.true _ _ _
     c.read_block.ensures c.in-Used.is _ _ c.requires.1 refl c.set_block-in-loop-k.ensures in
     (cc, cc, again)
 
@@ -48,5 +48,5 @@ pub returns : goal.returns
 returns c =
     let a = c.args in
     let l = c.loop-k in
-    coding-done a.b a.at a.s.now a.seen.now _ l.facts l.k l.here l.total l.seen l.invariant.2 c.loop-k-test.false a.facts.now
-    (start-kept a.b a.at a.s.now a.facts.now _ _ refl c.set_block.ensures)
+    coding_done a.b a.at a.s.now a.seen.now _ l.facts l.k l.here l.total l.seen l.invariant.2 c.loop-k-test.false a.facts.now
+    (start_kept a.b a.at a.s.now a.facts.now _ _ refl c.set_block.ensures)

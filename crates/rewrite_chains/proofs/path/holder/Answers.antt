@@ -1,15 +1,15 @@
 use Rattle.std.proofs.Common.{arith}
-use Rattle.rewrite_chains.proofs.Walks.{looked, held-not, held-walked}
+use Rattle.rewrite_chains.proofs.Walks.{looked, held_not, held_walked}
 use Rattle.rewrite_chains.proofs.path.holder.Goals as goal
 
 pub returns-then-is_integer : goal.returns-then-is_integer
 returns-then-is_integer c =
     λ τ S ps w a h l.
-    held-walked τ S _ ps _ c.projection.result c.is_integer.ensures (looked _ _ _ c.projection.result c.projection.ensures ps a)
+    held_walked τ S _ ps _ c.projection.result c.is_integer.ensures (looked _ _ _ c.projection.result c.projection.ensures ps a)
     c.if-is_integer.true (c.walk.ensures τ S ps w a h (omega arith))
 
 pub returns : goal.returns
 returns c =
     λ τ S ps w a h l.
-    held-not τ S _ ps _ c.projection.result c.is_integer.ensures (looked _ _ _ c.projection.result c.projection.ensures ps a)
+    held_not τ S _ ps _ c.projection.result c.is_integer.ensures (looked _ _ _ c.projection.result c.projection.ensures ps a)
     c.if-is_integer.false

@@ -1,4 +1,4 @@
-use Rattle.rewrite_chains.proofs.Walks.{going, going_more, going-ends, going_done, looked}
+use Rattle.rewrite_chains.proofs.Walks.{going, going_more, going_ends, going_done, looked}
 use Rattle.rewrite_chains.proofs.path.walk.Goals as goal
 
 pub loop-i-init : goal.loop-i-init
@@ -6,7 +6,7 @@ loop-i-init c = going
 
 pub returns-in-Nothing : goal.returns-in-Nothing
 returns-in-Nothing c =
-    going-ends c.loop-i.invariant c.loop-i-test.true c.projection-p.result (looked _ _ _ c.projection-p.result c.projection-p.ensures)
+    going_ends c.loop-i.invariant c.loop-i-test.true c.projection-p.result (looked _ _ _ c.projection-p.result c.projection-p.ensures)
     c.step_operand.ensures c.in-Nothing.is
 
 pub loop-i-preserved : goal.loop-i-preserved

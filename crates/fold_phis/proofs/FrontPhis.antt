@@ -1,9 +1,10 @@
--- The phis of a block: whether one is of a tuple or struct.
+-- The phis in front of a block.
 use Prim.Native.Nat.{ℕ, suc, ◌+◌, ◌-◌, ◌≤◌, ◌<◌}
 use mathlib.Core.Path.{◌≡◌, refl, ap, ◌∙◌, sym}
 use mathlib.Core.List.{List, []}
-use mathlib.Core.Bool.{Bool, true, false, ◌||◌}
+use mathlib.Core.Bool.{Bool, true, false, cond, ◌||◌}
 use native.Mathlib.Omega.{arith}
+use borrow.Author.Tests.{eq-eqb, ne_eqb}
 use lib.ListN.{length, get_or, drop, drop_of_length-le}
 use lib.Seq.{drop-cons}
 use lib.Dec.{eqb}
@@ -25,10 +26,11 @@ use Rattle.bytes_index.specs.Code.{no_instruction, InstructionsIn}
 use Rattle.fold.specs.declared.Settings.{Settings}
 use Rattle.mir.specs.Lookup.{Types, value_row, shape, is_tuple, is_struct, any}
 use Rattle.fold.specs.Tables.{ShapesAt}
+use Rattle.mir.specs.Phis.{behind_phis}
 use Rattle.fold.specs.Fold.{aggregate_phi, skipped}
 use Rattle.fold_climb.proofs.Found.{dest_at}
 use Rattle.fold_scan.specs.Noted.{dest_in}
-use Rattle.fold_phis.specs.Skipped.{TellsPhi, Skips}
+use Rattle.fold_phis.specs.Skipped.{TellsPhi, Skips, PhisIn}
 
 -- a phi's dest is its first field
 data PhiAt (next : ℕ) (t : List ℕ) (i : InstructionKind) : Type 0 where
@@ -124,3 +126,39 @@ module _ {s facts : List ℕ} {first count : ℕ} {shapes : List ℕ} where
     skip_none h b σ τ eligible is f m a l =
         let g : length is ≤ k = omega (arith, l) in
         sym (rw (drop_of_length-le is g) at (inv.left b σ τ eligible is f m a l))
+
+-- the instructions before k are phis
+pub record Counting (facts : List ℕ) (first count k : ℕ) : Type 0 where
+  pub low : k ≤ count
+  pub small : first + count ≤ 288
+  pub left : (b : Bounds) (s : List ℕ) (is : List Instruction) → InstructionsIn b s facts first is → length is ≡ count → behind_phis is ≡ behind_phis (drop k is)
+
+module _ {facts : List ℕ} {first count : ℕ} where
+  pub counting : first + count ≤ 288 → Counting facts first count 0
+  counting h = record { low = omega arith; small = h; left = λ b s is a l. refl }
+
+  module _ {k : ℕ} (inv : Counting facts first count k) where
+    -- the instruction at k
+    one : k < count → (kind : ℕ) → kind ≡ kind_in facts (first + k) → (b : Bounds) (s : List ℕ) (is : List Instruction) → InstructionsIn b s facts first is → length is ≡ count
+        → behind_phis is ≡ cond (eqb kind 9) (behind_phis (drop (suc k) is)) (drop k is)
+    unfolding behind_phis
+    one h kind z b s is a l =
+        let g : k < length is = omega (arith, l) in
+        let c : kind_number (get_or is k no_instruction).kind ≡ kind = sym (z ∙ (a k g).kind) in
+        let d = drop-cons is k no_instruction g in
+        inv.left b s is a l ∙ rw (d, c) refl
+
+    pub count_on : k < count → (kind : ℕ) → kind ≡ kind_in facts (first + k) → kind ≡ 9 → Counting facts first count (k + 1)
+    count_on h kind z n =
+        let y : suc k ≡ k + 1 = omega arith in
+        record { low = omega arith; small = inv.small; left = λ b s is a l. rw (eq-eqb kind 9 n, y) at (one h kind z b s is a l) }
+
+    pub count_stop : k < count → (kind : ℕ) → kind ≡ kind_in facts (first + k) → (kind ≡ 9 → ⊥) → PhisIn facts first count k
+    count_stop h kind z n b s is a l = rw (ne_eqb kind 9 n) at (one h kind z b s is a l)
+
+    pub count_all : count ≤ k → PhisIn facts first count k
+    unfolding behind_phis
+    count_all h b s is a l =
+        let g : length is ≤ k = omega (arith, l) in
+        let d = drop_of_length-le is g in
+        inv.left b s is a l ∙ rw d refl

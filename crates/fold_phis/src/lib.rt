@@ -1,9 +1,9 @@
-// The phis of a block: whether it is skipped because of one.
+// The phis of a block: whether it is skipped because of one, and how many stand in front.
 #![tactic(auto)]
 
 ghost use Rattle.std.specs.Prelude.{◌+◌, ◌≤◌};
 ghost use Rattle.mir.specs.Most.{most_slots};
-ghost use Rattle.fold_phis.specs.Skipped.{TellsPhi, Skips};
+ghost use Rattle.fold_phis.specs.Skipped.{TellsPhi, Skips, PhisIn};
 
 use mir::{kind, shape};
 
@@ -36,4 +36,19 @@ pub fn is_skipped(s: &[u8], facts: &[u16], first: u16, count: u16, shapes: &[u8]
         k = k + 1;
     }
     false
+}
+
+// How many phis stand in front of a block's instructions. The pass does not ask for it: a family is found without a number of sweeps.
+pub fn phi_count(facts: &[u16], first: u16, count: u16) -> u16
+    requires { first + count ≤ most_slots }
+    ensures { (result ≤ count) × PhisIn facts.now first count result }
+{
+    let mut k: u16 = 0;
+    while k < count {
+        if bytes_index::kind(facts, first + k) != kind::PHI {
+            return k;
+        }
+        k = k + 1;
+    }
+    k
 }

@@ -121,7 +121,7 @@ pub fn note_readers(facts: &[u16], many: u16, readers: &mut [u8])
 }
 
 // The number says that another block than `own` reads the value.
-fn is_foreign(own: u8, x: u8) -> bool
+pub fn is_foreign(own: u8, x: u8) -> bool
     requires { own < block_limit }
     ensures { result ≡ foreign own x }
 {

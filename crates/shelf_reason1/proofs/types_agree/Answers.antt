@@ -11,7 +11,7 @@ returns c =
     let a = c.args in
     let seen = replicate a.b.next false in
     λ x n e d.
-    let p = c.tail-t.ensures ∙ ap (λ q. drop (q + 6) a.s.now) c.place_behind.ensures in
+    let p = c.tail-t.ensures ∙ ap (λ q. drop (q + 6) a.s.now) c.place-behind.ensures in
     let w = parameters_told a.b c.tail-t.result.now seen x.parameters n (ap (defineds_of a.b.list a.b.next seen) p ∙ d) in
     routine_told with_debug x c.both.ensures
     (c.all_typed-known.ensures a.s.now a.facts.now (types_in x) x.parameters (rw c.recorded.ensures e.ground) w.0 (w.1 ∙ sym c.byte_at.ensures))

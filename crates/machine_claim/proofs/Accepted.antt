@@ -5,10 +5,8 @@ use mathlib.Core.Bool.{not, ◌||◌}
 use mathlib.Core.Bool as B
 use lib.Dec.{T, ltb, lt→ltb}
 use Rattle.mir.specs.declared.ValueId.{ValueId}
-use Rattle.mir.specs.declared.Literal.{Literal}
 use Rattle.mir.specs.declared.Value.{Value}
 use Rattle.bytes_wire.specs.WellFormed.{FitValue}
-use Rattle.mir.specs.MirType.{Bool, Tuple, Error}
 use Rattle.mir.specs.Syntax.{Projection, Index, Field, Place, FieldInit, Source, Instruction, InstructionKind, Assign, UnaryOp, BinaryOp, Call, Cast, Load, Store, Debug, Nop, Phi}
 use Rattle.mir.specs.Syntax.{MakeTuple, ExtractTupleElement, MakeStruct, ExtractStructField, InsertField, InsertTuple, MakeFixedArray, AssertEq, HeapAllocCells}
 use Rattle.mir.specs.Syntax.{Terminator, Jump, If, BranchCmp, Return, Unreachable}

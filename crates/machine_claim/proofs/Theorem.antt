@@ -20,7 +20,7 @@ use Rattle.rewrite.specs.Run.{Rewritten, choice, rewritten_by, rewritten_blocks,
 use Rattle.rewrite.specs.Outcome.{Outcome, fitted_in, rewritten, of_input, outcome}
 use Rattle.rewrite_laws.proofs.Whole.{output_decodes}
 use Rattle.shelf.specs.Reason.{shelf_reason}
-use Rattle.shelf.specs.Answer.{Answer, refused, lowered, reason_of, with_reason, answer}
+use Rattle.shelf.specs.Answer.{Answer, reason_of, with_reason, answer}
 use Rattle.shelf.proofs.Flag.{answered_under}
 use Rattle.machine.specs.Meaning.{Meaning}
 use Rattle.machine.specs.Document.{Operations, document01}

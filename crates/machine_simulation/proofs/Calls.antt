@@ -12,7 +12,7 @@ use Rattle.mir.specs.declared.TypeId.{TypeId}
 use Rattle.mir.specs.declared.Value.{Value}
 use Rattle.mir.specs.MirType.{MirType}
 use Rattle.mir.specs.Syntax.{Meta, Instruction, Terminator, Call, plain}
-use Rattle.mir.specs.Reads.{operands, reads}
+use Rattle.mir.specs.Reads.{operands}
 use Rattle.mir.specs.Lists.{Each}
 use Rattle.mir.specs.Lookup.{Types, row_of, is_aggregate}
 use Rattle.rewrite.specs.State.{AggStates}

@@ -11,8 +11,8 @@ use Rattle.mir.specs.declared.TypeId.{TypeId}
 use Rattle.mir.specs.declared.Value.{Value}
 use Rattle.mir.specs.MirType.{MirType}
 use Rattle.mir.specs.Syntax.{Meta, Place, Instruction, Terminator, Store, Projection, Index, Field, Tuple}
-use Rattle.mir.specs.Reads.{operand, operands, indices, reads}
-use Rattle.mir.specs.Lookup.{Types, row_of, recorded_type, value_row, is_array, is_aggregate, shape, on_some}
+use Rattle.mir.specs.Reads.{operand, operands, indices}
+use Rattle.mir.specs.Lookup.{Types, row_of, recorded_type, value_row, is_array, is_aggregate, on_some}
 use Rattle.mir.specs.declared.Literal.{Literal}
 use Rattle.rewrite.specs.State.{AggStates, insert_state, state_of, first_integer, store_part, store_from, forward_store, store_deeper}
 use Rattle.rewrite.specs.State as St

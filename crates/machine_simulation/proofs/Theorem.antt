@@ -12,7 +12,7 @@ use Rattle.mir.specs.declared.TypeId.{TypeId}
 use Rattle.mir.specs.MirType.{MirType}
 use Rattle.mir.specs.Syntax.{Instruction, InstructionKind, Assign, UnaryOp, BinaryOp, Call, Cast, Load, Store, Debug, Nop, Phi}
 use Rattle.mir.specs.Syntax.{MakeTuple, ExtractTupleElement, MakeStruct, ExtractStructField, InsertField, InsertTuple, MakeFixedArray, AssertEq, HeapAllocCells, Block}
-use Rattle.mir.specs.Reads.{reads, store_base, terminator_reads}
+use Rattle.mir.specs.Reads.{store_base, terminator_reads}
 use Rattle.fold.specs.declared.Settings.{Settings}
 use Rattle.mir.specs.Lists.{Each}
 use Rattle.mir.specs.Lookup.{Types, row_of, recorded_type, value_row, is_aggregate, struct_fields_of, types_in}

@@ -6,3 +6,4 @@ pub mod Searching
 pub mod Dynamic
 pub mod Listed
 pub mod Finding
+pub mod Alone

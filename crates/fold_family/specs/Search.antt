@@ -4,7 +4,7 @@ use Rattle.mir.specs.declared.ValueId.{ValueId}
 use Rattle.mir.specs.Syntax.{Instruction}
 use Rattle.mir.specs.Lookup.{Types, value_row, shape}
 use Rattle.mir.specs.Most.{most_values, most_instructions}
-use Rattle.fold.specs.Family.{Marks, family, has_dynamic_index}
+use Rattle.fold.specs.Family.{Marks, mark, family, has_dynamic_index}
 use Rattle.fold_family.specs.Copies.{any_shape, copies, row_at, firsts_at, RowsAt, dynamics}
 use Rattle.fold_family.specs.Turns.{size, turns_of}
 use Rattle.fold_family.specs.declared.Search.{Search}
@@ -80,6 +80,14 @@ FindsFamily table root v clear m room members r =
     → most_values ≤ length room
     → clear ≡ replicate (length τ.recorded) false
     → FamilyFound τ is v m members r
+
+-- of the answer that no copy has a value as its source (of the other answer nothing),
+abbrev pub IsAlone : List ℕ → ValueId → Bool → Type 0
+IsAlone table v r =
+    r ≡ true
+    → (τ : Types) (is : List Instruction)
+    → RowsAt table (copies τ is)
+    → family τ v is ≡ mark (replicate (length τ.recorded) false) v
 
 -- of clearing the marks of a family by its members,
 abbrev pub ClearsMembers : List ℕ → ℕ → Marks → Marks → Type 0

@@ -4,7 +4,7 @@
 
 ghost use Rattle.std.specs.Prelude.{◌≡◌, ◌+◌, ◌≤◌, ◌<◌, ◌||◌, ℕ, suc, eqb};
 ghost use Rattle.fold_family.specs.Copies.{any_shape, row_at, firsts_at};
-ghost use Rattle.fold_family.specs.Search.{most_turns, joins_at, Join, Turn, is_open, FindsFamily, ClearsMembers, DynamicIndex};
+ghost use Rattle.fold_family.specs.Search.{most_turns, joins_at, Join, Turn, is_open, FindsFamily, ClearsMembers, IsAlone, DynamicIndex};
 
 use mir::{ValueId, most};
 
@@ -157,6 +157,17 @@ pub fn family(
         members: q.found,
         turns: turns,
     }
+}
+
+// Whether no copy has `v` as its source: it is its whole family then. The other answer is left free. (No function of the pass asks
+// for it: of such a value the search takes one turn.)
+pub fn is_alone(copies: &[u16], v: ValueId) -> bool
+    ensures { IsAlone copies.now v result }
+{
+    if most::VALUES <= v.0 as usize {
+        return false;
+    }
+    table::number(copies, FIRSTS + v.0 as usize) == 0
 }
 
 // Clears the marks of the `n` members.

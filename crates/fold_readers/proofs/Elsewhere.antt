@@ -15,7 +15,7 @@ use Rattle.fold.specs.Family.{Marks, marked, reads_one, read_elsewhere}
 use Rattle.fold_family.specs.Copies.{meets}
 use Rattle.fold_family.specs.Search.{Members}
 use Rattle.fold_family.proofs.Dynamic.{meets_clear, meets_set}
-use Rattle.fold_readers.specs.Readers.{seen_by, note_reader, read_via, read_instruction, read_instructions, read_block, read_blocks, foreign, foreigners, ReadElsewhere}
+use Rattle.fold_readers.specs.Readers.{seen_by, note_reader, read_via, read_instruction, read_instructions, read_block, read_blocks, foreign, foreigners, ReadElsewhere, MemberAbroad}
 
 -- what a read in block k makes of a number, as block own sees it
 seen_foreign : (own k x : ℕ) → own < 254 → foreign own (seen_by k x) ≡ cond (eqb k own) (foreign own x) true
@@ -178,7 +178,16 @@ pub foreign_at : (own : ℕ) (members reader : List ℕ) (k : ℕ) {p x : ℕ} {
 foreign_at own members reader k ep ex er =
     er ∙ ap (λ y. foreign own y) (ex ∙ ap (λ y. get_or reader y 0) ep) ∙ sym (foreign_of own reader (get_or members k 0))
 
--- and so the code's answer is the definition's
-pub elsewhere_found : (members : List ℕ) (n own : ℕ) (reader : List ℕ) {r : Bool}
-    → own < 254 → ((m : Marks) → Members members n m → r ≡ meets m (foreigners own reader)) → ReadElsewhere members n own reader r
-elsewhere_found members n own reader l f m ks a e = f m a ∙ ap (λ q. meets m (foreigners own q)) e ∙ elsewhere m own (length m) ks l refl
+-- what it looks up for value k, by its mark
+pub abroad_meets : (m : Marks) (own : ℕ) (reader : List ℕ) (k : ℕ) {r : Bool}
+    → r ≡ (get_or m k false && foreign own (get_or reader k 0)) → r ≡ (get_or m k false && get_or (foreigners own reader) k false)
+abroad_meets m own reader k e = e ∙ ap (λ y. get_or m k false && y) (sym (foreign_of own reader k))
+
+-- and so the code's answers are the definition's
+pub elsewhere_found : (m : Marks) (own : ℕ) (reader : List ℕ) {r : Bool}
+    → own < 254 → r ≡ meets m (foreigners own reader) → (r ≡ meets m (foreigners own reader)) × ReadElsewhere m own reader r
+elsewhere_found m own reader l e = (e, λ n ks f h. e ∙ ap (λ q. meets m (foreigners own q)) f ∙ elsewhere m own n ks l h)
+
+pub abroad_found : (members : List ℕ) (n own : ℕ) (reader : List ℕ) {r : Bool}
+    → own < 254 → ((m : Marks) → Members members n m → r ≡ meets m (foreigners own reader)) → MemberAbroad members n own reader r
+abroad_found members n own reader l f m ks a e = f m a ∙ ap (λ q. meets m (foreigners own q)) e ∙ elsewhere m own (length m) ks l refl

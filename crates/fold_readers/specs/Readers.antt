@@ -50,9 +50,17 @@ foreign own x = not (eqb x 0) && not (eqb x (own + 1))
 abbrev pub foreigners : ℕ → List ℕ → Marks
 foreigners own r = map (λ x. foreign own x) r
 
--- the promise of the answer that another block than own reads one of the n members, `reader` being the table of all blocks
-abbrev pub ReadElsewhere : List ℕ → ℕ → ℕ → List ℕ → Bool → Type 0
-ReadElsewhere members n own reader r =
+-- the promise of the answer that another block than own reads a member, which is marked, `reader` being the table of all blocks,
+abbrev pub ReadElsewhere : Marks → ℕ → List ℕ → Bool → Type 0
+ReadElsewhere m own reader r =
+    (n : ℕ) (ks : List Block)
+    → reader ≡ read_blocks 0 (replicate n 0) ks
+    → length m ≡ n
+    → r ≡ read_elsewhere m own 0 ks
+
+-- and of that it reads one of the n members
+abbrev pub MemberAbroad : List ℕ → ℕ → ℕ → List ℕ → Bool → Type 0
+MemberAbroad members n own reader r =
     (m : Marks) (ks : List Block)
     → Members members n m
     → reader ≡ read_blocks 0 (replicate (length m) 0) ks

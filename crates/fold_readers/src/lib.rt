@@ -1,15 +1,16 @@
 // Which block reads each value: one table of readers stands for all blocks.
 #![tactic(auto)]
 
-ghost use Rattle.std.specs.Prelude.{◌≡◌, List, ℕ, ◌<◌, length};
+ghost use Rattle.std.specs.Prelude.{◌≡◌, List, false, ◌&&◌, ℕ, ◌<◌, length, get_or};
 ghost use Rattle.mir.specs.declared.ValueId.{ValueId as DeclaredValueId};
 ghost use Rattle.mir.specs.Syntax.{Instruction, Block};
 ghost use Rattle.bytes_field.specs.declared.Bounds.{Bounds};
 ghost use Rattle.bytes_index.specs.Table.{ReadsIn, row_at};
 ghost use Rattle.bytes_index.specs.Code.{InstructionIn, BlockIn, CodeIn};
+ghost use Rattle.fold_family.specs.Copies.{meets};
 ghost use Rattle.fold.specs.Numbers.{most_place};
 ghost use Rattle.fold_readers.specs.Readers.{block_limit, seen_by, note_reader, read_via, read_instruction};
-ghost use Rattle.fold_readers.specs.Readers.{read_block, read_blocks, foreign, ReadElsewhere};
+ghost use Rattle.fold_readers.specs.Readers.{read_block, read_blocks, foreign, foreigners, MemberAbroad, ReadElsewhere};
 
 use mir::{BlockId, ValueId, kind};
 
@@ -134,7 +135,7 @@ pub fn is_foreign(own: u8, x: u8) -> bool
 // Whether some block other than `own` reads one of the `n` members of a family.
 pub fn member_abroad(members: &[u16], n: u16, own: u8, readers: &[u8]) -> bool
     requires { own < block_limit }
-    ensures { ReadElsewhere members.now n own readers.now result }
+    ensures { MemberAbroad members.now n own readers.now result }
 {
     let mut k: u16 = 0;
     while k < n {
@@ -142,6 +143,36 @@ pub fn member_abroad(members: &[u16], n: u16, own: u8, readers: &[u8]) -> bool
             own,
             bytes_wire::byte_at(readers, table::place(members, k as usize)),
         ) {
+            return true;
+        }
+        k = k + 1;
+    }
+    false
+}
+
+// Value `k` is marked, and another block than `own` reads it.
+fn read_abroad(marks: &[bool], own: u8, readers: &[u8], k: usize) -> bool
+    requires { own < block_limit }
+    ensures { result ≡ (get_or marks.now k false && foreign own (get_or readers.now k 0)) }
+{
+    if marks.len() <= k {
+        return false;
+    }
+    if marks[k] {
+        return is_foreign(own, bytes_wire::byte_at(readers, k));
+    }
+    false
+}
+
+// Whether some block other than `own` reads one of the marked values. (The pass goes by the list of a family's members.)
+pub fn read_elsewhere(marks: &[bool], own: u8, readers: &[u8]) -> bool
+    requires { own < block_limit }
+    ensures { (result ≡ meets marks.now (foreigners own readers.now))
+        × ReadElsewhere marks.now own readers.now result }
+{
+    let mut k = 0;
+    while k < marks.len() {
+        if read_abroad(marks, own, readers, k) {
             return true;
         }
         k = k + 1;

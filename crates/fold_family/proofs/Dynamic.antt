@@ -13,6 +13,7 @@ use Rattle.mir.specs.Syntax.{Place, Instruction}
 use Rattle.mir.specs.Lookup.{Types, any}
 use Rattle.fold.specs.Family.{Marks, marked, family, accessed, dynamic_first, dynamic_at, has_dynamic_index}
 use Rattle.fold_family.specs.Copies.{meets, dynamic_place, dynamics}
+use Rattle.fold_family.specs.Search.{DynamicIndex}
 use Rattle.fold_family.proofs.Sweeps.{family_length}
 
 -- nothing is marked
@@ -115,3 +116,7 @@ meet_done m d k u h =
     let q : k ≡ length m = omega (arith, u.under) in
     let e : drop k m ≡ [] = rw q (drop-length m) in
     sym (u.left ∙ ap (λ x. meets x (drop k d)) e)
+
+-- and so the code's answer is the definition's
+pub dynamic_found : (m d : Marks) {r : Bool} → r ≡ meets m d → (r ≡ meets m d) × DynamicIndex m d r
+dynamic_found m d e = (e, λ τ v is f g. e ∙ rw (f, g) (dynamic_family τ v is))

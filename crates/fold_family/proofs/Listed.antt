@@ -9,7 +9,7 @@ use lib.Seq.{ext_get_or}
 use Rattle.table.proofs.Elements.{clear_at}
 use Rattle.fold.specs.Family.{Marks}
 use Rattle.fold_family.specs.Copies.{meets}
-use Rattle.fold_family.specs.Search.{Listed, listed_at, Members, ClearsMembers, DynamicIndex}
+use Rattle.fold_family.specs.Search.{Listed, listed_at, Members, ClearsMembers, MemberIndexed}
 use Rattle.fold_family.proofs.Dynamic.{dynamic_family}
 
 -- a value that has both marks
@@ -46,8 +46,8 @@ none_met members n m d k a h u = sym (meets_none m d (λ x y. go x (a.only x y))
     go x (listed_at i l z) = ap (λ y. get_or d y false) (sym z) ∙ u.each i (omega arith)
 
 -- and so the code's answer is the definition's
-pub dynamic_found : (members : List ℕ) (n : ℕ) (d : Marks) {r : Bool} → ((m : Marks) → Members members n m → r ≡ meets m d) → DynamicIndex members n d r
-dynamic_found members n d f τ v is a e = f _ a ∙ rw e (dynamic_family τ v is)
+pub indexed_found : (members : List ℕ) (n : ℕ) (d : Marks) {r : Bool} → ((m : Marks) → Members members n m → r ≡ meets m d) → MemberIndexed members n d r
+indexed_found members n d f τ v is a e = f _ a ∙ rw e (dynamic_family τ v is)
 
 -- the marks of k members are cleared
 pub record Clearing (members : List ℕ) (m₀ m : Marks) (k : ℕ) : Type 0 where

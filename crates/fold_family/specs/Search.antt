@@ -93,9 +93,17 @@ IsAlone table v r =
 abbrev pub ClearsMembers : List ℕ → ℕ → Marks → Marks → Type 0
 ClearsMembers members n m after = Members members n m → after ≡ replicate (length m) false
 
--- and of the answer that a family is looked into by an index that is not known
-abbrev pub DynamicIndex : List ℕ → ℕ → Marks → Bool → Type 0
-DynamicIndex members n d r =
+-- of the answer that a member, which is marked, is looked into by an index that is not known,
+abbrev pub DynamicIndex : Marks → Marks → Bool → Type 0
+DynamicIndex m d r =
+    (τ : Types) (v : ValueId) (is : List Instruction)
+    → m ≡ family τ v is
+    → d ≡ dynamics (replicate (length τ.recorded) false) is
+    → r ≡ has_dynamic_index τ v is
+
+-- and of the answer that one of the n members is
+abbrev pub MemberIndexed : List ℕ → ℕ → Marks → Bool → Type 0
+MemberIndexed members n d r =
     (τ : Types) (v : ValueId) (is : List Instruction)
     → Members members n (family τ v is)
     → d ≡ dynamics (replicate (length τ.recorded) false) is

@@ -2,9 +2,9 @@
 // not known.
 #![tactic(auto)]
 
-ghost use Rattle.std.specs.Prelude.{◌≡◌, ◌+◌, ◌≤◌, ◌<◌, ◌||◌, ℕ, suc, eqb};
-ghost use Rattle.fold_family.specs.Copies.{any_shape, row_at, firsts_at};
-ghost use Rattle.fold_family.specs.Search.{most_turns, joins_at, Join, Turn, is_open, FindsFamily, ClearsMembers, IsAlone, DynamicIndex};
+ghost use Rattle.std.specs.Prelude.{◌≡◌, ◌+◌, ◌≤◌, ◌<◌, ◌&&◌, ◌||◌, ℕ, suc, false, eqb, get_or};
+ghost use Rattle.fold_family.specs.Copies.{any_shape, row_at, firsts_at, meets};
+ghost use Rattle.fold_family.specs.Search.{most_turns, joins_at, Join, Turn, is_open, FindsFamily, ClearsMembers, IsAlone, DynamicIndex, MemberIndexed};
 
 use mir::{ValueId, most};
 
@@ -183,12 +183,40 @@ pub fn unmark(members: &[u16], n: u16, marks: &mut [bool])
 
 // Whether one of the `n` members of a family is looked into by an index that is not known, where `dynamic` are the marks that
 // the scan of the block has set.
-pub fn dynamic_index(members: &[u16], n: u16, dynamic: &[bool]) -> bool
-    ensures { DynamicIndex members.now n dynamic.now result }
+pub fn member_indexed(members: &[u16], n: u16, dynamic: &[bool]) -> bool
+    ensures { MemberIndexed members.now n dynamic.now result }
 {
     let mut k: u16 = 0;
     while k < n {
         if table::flag(dynamic, table::place(members, k as usize)) {
+            return true;
+        }
+        k = k + 1;
+    }
+    false
+}
+
+// Whether a value has both marks.
+fn both_at(a: &[bool], b: &[bool], k: usize) -> bool
+    ensures { result ≡ (get_or a.now k false && get_or b.now k false) }
+{
+    if a.len() <= k {
+        return false;
+    }
+    if b.len() <= k {
+        return false;
+    }
+    if a[k] { b[k] } else { false }
+}
+
+// Whether a member of the family that `marks` has is looked into by an index that is not known, where `dynamic` are
+// the marks that the scan of the block has set. (The pass goes by the list of its members.)
+pub fn dynamic_index(marks: &[bool], dynamic: &[bool]) -> bool
+    ensures { (result ≡ meets marks.now dynamic.now) × DynamicIndex marks.now dynamic.now result }
+{
+    let mut k = 0;
+    while k < marks.len() {
+        if both_at(marks, dynamic, k) {
             return true;
         }
         k = k + 1;

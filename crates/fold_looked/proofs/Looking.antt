@@ -21,7 +21,7 @@ use Rattle.fold.specs.declared.Settings.{Settings}
 use Rattle.fold.specs.Family.{Marks, build_dest, has_dynamic_index}
 use Rattle.fold.specs.Tables.{ShapesAt}
 use Rattle.fold_family.specs.Copies.{RowsAt}
-use Rattle.fold_family.specs.Search.{Members, FindsFamily, ClearsMembers, DynamicIndex}
+use Rattle.fold_family.specs.Search.{Members, FindsFamily, ClearsMembers, MemberIndexed}
 use Rattle.fold_family.specs.declared.Found.{Found}
 use Rattle.fold_family.proofs.Closed.{copies_few}
 use Rattle.fold_family.proofs.Rows.{newest}
@@ -34,7 +34,7 @@ use Rattle.fold_looked.proofs.Behind.{copies_behind, dynamics_behind, behind_few
 
 -- a family is found, its marks are cleared, its members are held against the dynamic marks
 pub looks_into : (table : List ℕ) (shp : ℕ) (v : ValueId) (dynamic clear marks after : Marks) (room members : List ℕ) (found : Found) (r : Bool)
-    → FindsFamily table shp v clear marks room members found → ClearsMembers members found.members marks after → DynamicIndex members found.members dynamic r
+    → FindsFamily table shp v clear marks room members found → ClearsMembers members found.members marks after → MemberIndexed members found.members dynamic r
     → LooksInto table shp v dynamic clear after room r
 looks_into table shp v dynamic clear marks after room members found r finds clears index τ is k ss h =
     let f = finds τ is k.rows (le_trans (copies_few τ is) k.short) ss h k.few k.wide k.cleared in

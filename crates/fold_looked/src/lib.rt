@@ -36,7 +36,7 @@ fn looked_into(
 {
     let found = fold_family::family(copies, shape, v, family, members);
     fold_family::unmark(members, found.members, family);
-    fold_family::dynamic_index(members, found.members, dynamic)
+    fold_family::member_indexed(members, found.members, dynamic)
 }
 
 // The same of the build in a slot, where that is an array.

@@ -9,7 +9,7 @@ use lib.ListN.{length, get_or, replicate, length-replicate}
 use Rattle.mir.specs.declared.ValueId.{ValueId}
 use Rattle.fold.specs.Family.{Marks}
 use Rattle.fold_family.specs.Turns.{size}
-use Rattle.fold_family.specs.Search.{Members, FindsFamily, DynamicIndex}
+use Rattle.fold_family.specs.Search.{Members, FindsFamily, MemberIndexed}
 use Rattle.fold_family.specs.declared.Found.{Found}
 use Rattle.fold_family.proofs.Closed.{copies_few}
 use Rattle.fold_family.proofs.Dynamic.{dynamics_length}
@@ -26,7 +26,7 @@ use Rattle.pass_families.specs.declared.BuildFamily.{BuildFamily}
 pub finds_build : (s facts : List ℕ) (slot : ℕ) (shapes table : List ℕ) (dynamic clear marks : Marks) (room members : List ℕ)
     → (v : ValueId) (shp : ℕ) (found : Found) (looked : Bool)
     → v.0 ≡ dest_in s facts slot → shp ≡ get_or shapes v.0 0
-    → FindsFamily table shp v clear marks room members found → DynamicIndex members found.members dynamic looked
+    → FindsFamily table shp v clear marks room members found → MemberIndexed members found.members dynamic looked
     → FindsBuild s facts slot shapes table dynamic clear marks room
     (record { dest = v; members = found.members; turns = found.turns; looked = looked })
 finds_build s facts slot shapes table dynamic clear marks room members v shp found looked ds ss finds index σ τ is b i d eligible k sh l at h =

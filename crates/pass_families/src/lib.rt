@@ -68,7 +68,7 @@ fn find_build(
     let v = fold_scan::dest(s, facts, slot);
     let shape = bytes_wire::byte_at(shapes, v.0 as usize);
     let found = fold_family::family(copies, shape, v, family, members);
-    let looked = fold_family::dynamic_index(members, found.members, dynamic);
+    let looked = fold_family::member_indexed(members, found.members, dynamic);
     BuildFamily {
         dest: v,
         members: found.members,

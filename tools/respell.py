@@ -7,8 +7,8 @@ usage: tools/respell.py turn            at the top of the repository: turns ever
 
 A row of the table is the old name, a tab, the new one, and perhaps a tab and a path: then only files below it are turned.
 What turns: the text of .antt files, the clauses and `ghost use` items of .rt files, the lines `old:` and `new:` of must-fail edits, and in comments and
-in pages what stands between backticks (in comments a name with a capital inside also bare). Strings stay, and so do the labels that Rattle makes, none
-of which is spelled like a name of the table, and names that a file imports from the library.
+in pages what stands between backticks (in comments a name with a capital inside also bare). Strings stay, and so do names that a file imports
+from the library, and the labels that Rattle makes: one is spelled like a name of the table, and has a row with its file that leaves it as it is.
 It goes by spelling and proves nothing. Run it once: a row with a path would turn what another row has made.
 """
 

@@ -3,7 +3,7 @@
 
 usage: tools/respell.py turn            at the top of the repository: turns every name by tools/names.tsv
        tools/respell.py table TREE..    prints the rows without a path, from the names in the crates of the trees
-       tools/respell.py clashes         at the top: lists, file by file, names that would fall together
+       tools/respell.py clashes         at the top, before `turn`: lists, file by file, names that would fall together
 
 A row of the table is the old name, a tab, the new one, and perhaps a tab and a path: then only files below it are turned.
 What turns: the text of .antt files, the clauses and `ghost use` items of .rt files, the lines `old:` and `new:` of must-fail edits, and in comments and

@@ -1,7 +1,7 @@
 // Whether a name or a type's bytes stand before: what makes a field name or a type a repeated one.
 #![tactic(auto)]
 
-ghost use Rattle.std.specs.Prelude.{◌≡◌, ◌+◌, ◌*◌, ◌≤◌, length};
+ghost use Rattle.std.specs.Prelude.{◌≡◌, ◌+◌, ◌*◌, ◌≤◌, length, get_or};
 ghost use Rattle.bytes_before.specs.Before.{has_name, names_at, same_bytes, part, among_parts};
 
 use mir::NameId;
@@ -14,31 +14,15 @@ pub fn name_before(s: &[u8], from: usize, i: u8, x: NameId) -> bool
     requires { from + 4 * i ≤ length s.now }
     ensures { result ≡ has_name x (names_at s.now from i) }
 {
-    let mut j = i;
-    while 0 < j {
-        j = j - 1;
-        let at = from + FIELD * (j as usize);
-        if bytes_wire::u16_at(s, at) == x.0 {
-            return true;
-        }
-    }
-    false
+    (0..i).any(|j| x.0 == bytes_wire::u16_at(s, from + FIELD * (j as usize)))
 }
 
-fn same_bytes(a: &[u8], b: &[u8]) -> bool
-    ensures { result ≡ same_bytes a.now b.now }
+// The bytes are those of type `j`, whose place `starts` has.
+fn stands_as(here: &[u8], s: &[u8], starts: &[u16], j: u16) -> bool
+    ensures { result ≡ same_bytes here.now (part s.now (get_or starts.now j 0) (get_or starts.now (j + 1) 0)) }
 {
-    if a.len() != b.len() {
-        return false;
-    }
-    let mut i = 0;
-    while i < a.len() {
-        if a[i] != b[i] {
-            return false;
-        }
-        i = i + 1;
-    }
-    true
+    let i = j as usize;
+    here == bytes_field::between(s, table::place(starts, i), table::place(starts, i + 1))
 }
 
 // The bytes from `at` to `end` are those of one of the `k` types before, whose places `starts` has.
@@ -46,14 +30,5 @@ pub fn type_before(s: &[u8], starts: &[u16], k: u16, at: usize, end: usize) -> b
     ensures { result ≡ among_parts (part s.now at end) s.now starts.now 0 k }
 {
     let here = bytes_field::between(s, at, end);
-    let mut j: u16 = 0;
-    while j < k {
-        let i = j as usize;
-        let other = bytes_field::between(s, table::place(starts, i), table::place(starts, i + 1));
-        if same_bytes(here, other) {
-            return true;
-        }
-        j = j + 1;
-    }
-    false
+    (0..k).any(|j| stands_as(here, s, starts, j))
 }

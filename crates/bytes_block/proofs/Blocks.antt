@@ -9,21 +9,24 @@ use borrow.Author.Tests.{le-leb, lt-leb, leb-true}
 use lib.ListN.{length, get_or, drop, length-drop, get_or-eq_default}
 use lib.Seq.{drop-drop}
 use lib.Dec.{leb}
-use Rattle.bytes_wire.specs.Parse.{Parse, ok, bad, later, and_then, map_parse}
+use Rattle.std.specs.Prelude.{Result, Ok, Err}
+use Rattle.bytes_wire.specs.declared.Read.{Read}
+use Rattle.bytes_wire.specs.declared.Refusal.{Refusal}
+use Rattle.bytes_block.specs.declared.BlockEnd.{BlockEnd}
+use Rattle.bytes_wire.specs.Parse.{as_parse, as_read, Parse, ok, bad, later, and_then, map_parse}
 use Rattle.bytes_wire.specs.Number.{u16_of}
 use Rattle.bytes_wire.specs.declared.Cause.{Cause}
-use Rattle.bytes_wire.proofs.Laws.{size, size_map, size_later, size_checked, size_number, map_later, later_later}
+use Rattle.bytes_wire.proofs.Laws.{Behind, was, size, size_map, size_later, size_checked, size_number, map_later, later_later}
 use Rattle.bytes_wire.proofs.Inv.{no_ok, both, behind, image, later_inv, and_inv, map_inv, map_bad, checked_inv, number_inv}
 use Rattle.mir.specs.Syntax.{Instruction, Terminator, Block}
 use Rattle.mir.specs.Reads.{terminator_reads}
 use Rattle.bytes_field.specs.Decode.{terminators, terminator_of}
 use Rattle.bytes_field.specs.Walk.{Walk, walk_of, leaves, row_walk, terminator_rows, as_scan, as_part, unit}
 use Rattle.bytes_field.specs.declared.Bounds.{Bounds}
-use Rattle.bytes_field.specs.declared.Part.{Part}
 use Rattle.bytes_field.specs.declared.Scan.{Scan}
 use Rattle.bytes_field.proofs.Laws.{and_later}
 use Rattle.bytes_field.proofs.Rows.{terminator_row as row_of_lem}
-use Rattle.bytes_block.specs.Decode.{block_marks, instructions_of, block_count_of, block_of, passed}
+use Rattle.bytes_block.specs.Decode.{as_block, block_marks, instructions_of, block_count_of, block_of, passed}
 use Rattle.bytes_block.specs.Rows.{row_ended, InstructionsRead, TerminatorRead, CodeRead}
 use Rattle.bytes_block.specs.declared.Mosts.{Mosts}
 use Rattle.bytes_block.proofs.Laws.{instructions_length}
@@ -62,42 +65,42 @@ module _ (b : Bounds) (w : Walk) (s : List ℕ) where
       e ∙ ap (λ x. later 1 (row_walk b 0 5 x w t)) er ∙ ap (later 1) (row_of_lem b 0 w k t g) ∙ sym told
 
 -- reading a terminator: what the scan answered, and the row that it ended
-module _ (b : Bounds) (s facts facts' : List ℕ) (seen seen' : List Bool) (slot at : ℕ) (h : at ≤ length s) (r : Scan) (e : as_scan r seen' facts' ≡ map_parse (leaves (walk_of seen facts (387 + 20 * slot + 4) false)) (terminator_of b (drop at s))) where
+module _ (b : Bounds) (s facts facts' : List ℕ) (seen seen' : List Bool) (slot at : ℕ) (h : at ≤ length s) (r : Result Scan Refusal) (e : as_scan r seen' facts' ≡ map_parse (leaves (walk_of seen facts (387 + 20 * slot + 4) false)) (terminator_of b (drop at s))) where
   abbrev row : Walk
   row = walk_of seen facts (387 + 20 * slot + 4) false
 
-  told : {q : Scan} → r ≡ q → map_parse (leaves row) (terminator_of b (drop at s)) ≡ as_scan q seen' facts'
+  told : {q : Result Scan Refusal} → r ≡ q → map_parse (leaves row) (terminator_of b (drop at s)) ≡ as_scan q seen' facts'
   told g = sym e ∙ ap (λ x. as_scan x seen' facts') g
 
   -- it reaches no further than the bytes do
-  pub end_size : {q : Scan} → r ≡ q → at + size (as_scan q seen' facts') ≤ length s
+  pub end_size : {q : Result Scan Refusal} → r ≡ q → at + size (as_scan q seen' facts') ≤ length s
   end_size g = omega (arith, ap (λ d. size d) (told g), size_left b row (drop at s), length-drop at s)
 
   -- it is refused
-  pub end_bad : {c : Cause} {o : ℕ} → r ≡ Scan.Refused c o → TerminatorRead b at slot s (bad c (at + o)) facts facts'
-  end_bad g =
+  pub end_bad : {q : Result ℕ Refusal} → Behind at r q → TerminatorRead b at slot s (as_part q) facts facts'
+  end_bad (f, (g, y)) =
       let z = map_bad (leaves row) (terminator_of b (drop at s)) (told g) in
-      record { answers = sym (rw z); filled = λ x n f. absurd (no_ok (sym z ∙ f)) }
+      rw y record { answers = sym (rw z); filled = λ x n f. absurd (no_ok (sym z ∙ f)) }
 
-  module _ {k m : ℕ} {after : Bool} (g : r ≡ Scan.Used k m after) where
+  module _ {used : Scan} (g : r ≡ Ok used) where
     -- its reads stand behind the row's four numbers
-    pub end_reads : 391 + 20 * slot ≤ m
+    pub end_reads : 391 + 20 * slot ≤ used.reads
     end_reads = elim (map_inv (leaves row) (terminator_of b (drop at s)) (told g)) [ image x f w ↦ omega (arith, (noted row (terminator_reads x)).grows, ap (λ v. v.count) w) ]
 
     -- its row is ended
-    pub end_some : (facts'' : List ℕ) → facts'' ≡ row_ended facts' (387 + 20 * slot) at (at + k) 0 (m - (391 + 20 * slot)) → TerminatorRead b at slot s (ok tt (at + k)) facts facts''
+    pub end_some : (facts'' : List ℕ) → facts'' ≡ row_ended facts' (387 + 20 * slot) at (at + used.size) 0 (used.reads - (391 + 20 * slot)) → TerminatorRead b at slot s (ok tt (at + used.size)) facts facts''
     end_some facts'' ended =
         elim (map_inv (leaves row) (terminator_of b (drop at s)) (told g)) [
           | image x f w ↦
-              let v = walk_of seen' facts' m after in
+              let v = walk_of seen' facts' used.reads used.late in
               let n = rw (← w) at (noted row (terminator_reads x)) in
               record {
                 answers = sym (rw f);
                 filled = λ y j q.
                     let z : x ≡ y = cc in
                     rw (← z) record {
-                      kept = row_kept facts facts'' seen false slot at (at + k) 0 (terminator_reads x) v n ended;
-                      rows = λ t room. terminator_row b s facts facts'' seen slot at k x v w ended f h t room;
+                      kept = row_kept facts facts'' seen false slot at (at + used.size) 0 (terminator_reads x) v n ended;
+                      rows = λ t room. terminator_row b s facts facts'' seen slot at used.size x v w ended f h t room;
                     };
               }
         ]
@@ -112,11 +115,11 @@ module _ (m : Mosts) (b : Bounds) (total at first : ℕ) (s : List ℕ) (seen : 
       }
 
   -- the count is refused
-  pub no_block : {c : Cause} {o : ℕ} → block_count_of m total (drop at s) ≡ bad c o → CodeRead m b total at first s seen (bad c (at + o)) before facts
+  pub no_block : {r : Result (Read ℕ) Refusal} {q : Result BlockEnd Refusal} → Behind at r q → as_parse r ≡ block_count_of m total (drop at s) → CodeRead m b total at first s seen (as_block q seen) before facts
   unfolding block_of
-  no_block e = code_bad (rw e refl)
+  no_block (f, (g, y)) e = rw y (code_bad (rw (sym (was as_read e g)) refl))
 
-  module _ {k n : ℕ} (e : block_count_of m total (drop at s) ≡ ok k n) (marked : List Bool) (middle : List ℕ) (r : Part) (p : InstructionsRead b (at + n) k first s seen marked (as_part r) before middle) where
+  module _ {k n : ℕ} (e : block_count_of m total (drop at s) ≡ ok k n) (marked : List Bool) (middle : List ℕ) (r : Result ℕ Refusal) (p : InstructionsRead b (at + n) k first s seen marked (as_part r) before middle) where
     -- the instructions behind the count
     abbrev code : Parse (List Instruction)
     code = later (at + n) (instructions_of b seen false k (drop (at + n) s))
@@ -129,37 +132,37 @@ module _ (m : Mosts) (b : Bounds) (total at first : ℕ) (s : List ℕ) (seen : 
     unfolding block_of
     after_count = simp (e, and_later, later_later, drop-drop)
 
-    marked_code : {q : Part} → r ≡ q → map_parse (block_marks seen) code ≡ map_parse (λ u. marked) (as_part q)
+    marked_code : {q : Result ℕ Refusal} → r ≡ q → map_parse (block_marks seen) code ≡ map_parse (λ u. marked) (as_part q)
     marked_code g = map_later (block_marks seen) (at + n) (instructions_of b seen false k (drop (at + n) s)) ∙ sym p.answers ∙ ap (λ x. map_parse (λ u. marked) (as_part x)) g
 
     -- the instructions are refused
-    pub code_stop : {c : Cause} {o : ℕ} → r ≡ Part.Refused c o → CodeRead m b total at first s seen (bad c o) before facts
+    pub code_stop : {z : Refusal} → r ≡ Err z → CodeRead m b total at first s seen (bad z.cause z.offset) before facts
     code_stop g = code_bad (after_count ∙ ap (λ d. and_then s d rest) (map_bad (block_marks seen) code (marked_code g)))
 
-    module _ {end : ℕ} (g : r ≡ Part.Used end) where
+    module _ {end : ℕ} (g : r ≡ Ok end) where
       -- they end within the bytes
       pub code_size : at + n ≤ length s → end ≤ length s
       code_size h = omega (arith, ap (λ d. size d) (marked_code g), size_map (block_marks seen) code, size_later (at + n) (instructions_of b seen false k (drop (at + n) s)), size_instructions b seen false k (drop (at + n) s), length-drop (at + n) s)
 
-      module _ (q : Part) (f : TerminatorRead b end (first + k) s (as_part q) middle facts) where
+      module _ (q : Result ℕ Refusal) (f : TerminatorRead b end (first + k) s (as_part q) middle facts) where
         abbrev last : Parse Terminator
         last = later end (terminator_of b (drop end s))
 
         after_code : (is : List Instruction) → code ≡ ok is end → later at (block_of m b total seen (drop at s)) ≡ map_parse (λ x. record { instructions = is; terminator = x }) last
         after_code is h = after_count ∙ ap (λ d. and_then s d rest) h ∙ sym (map_later (λ x. record { instructions = is; terminator = x }) end (terminator_of b (drop end s)))
 
-        told_end : {z : Part} → q ≡ z → map_parse unit last ≡ as_part z
+        told_end : {z : Result ℕ Refusal} → q ≡ z → map_parse unit last ≡ as_part z
         told_end h = map_later unit end (terminator_of b (drop end s)) ∙ sym f.answers ∙ ap as_part h
 
         -- the terminator is refused
-        pub code_end : {c : Cause} {o : ℕ} → q ≡ Part.Refused c o → CodeRead m b total at first s seen (bad c o) before facts
+        pub code_end : {z : Refusal} → q ≡ Err z → CodeRead m b total at first s seen (bad z.cause z.offset) before facts
         code_end h =
             elim (map_inv (block_marks seen) code (marked_code g)) [
               | image is i j ↦ code_bad (after_code is i ∙ ap (map_parse (λ x. record { instructions = is; terminator = x })) (map_bad unit last (told_end h)))
             ]
 
         -- the block is read, and has its rows
-        pub code_some : {to : ℕ} → q ≡ Part.Used to → CodeRead m b total at first s seen (ok (record { seen = marked; count = k }) to) before facts
+        pub code_some : {to : ℕ} → q ≡ Ok to → CodeRead m b total at first s seen (ok (record { seen = marked; count = k }) to) before facts
         code_some {to} h =
             elim (map_inv (block_marks seen) code (marked_code g)) [
               | image is i marking ↦

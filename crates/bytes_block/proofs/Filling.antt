@@ -8,14 +8,15 @@ use native.Mathlib.Nat.{add-zero, sub-zero, eq-or-lt_of_le}
 use native.Mathlib.Omega.{arith}
 use lib.ListN.{length, get_or, drop, set, length-set, length-append, length-drop, get_or-append}
 use lib.Seq.{drop-drop, get_or_at, get_or-set_other}
+use Rattle.std.specs.Prelude.{Result, Ok, Err}
+use Rattle.bytes_wire.specs.declared.Refusal.{Refusal}
 use Rattle.bytes_wire.specs.Parse.{ok, bad, later, map_parse}
-use Rattle.bytes_wire.specs.declared.Cause.{Cause}
-use Rattle.bytes_wire.proofs.Laws.{size, size_map, map_id, map_later, map_map, later_later}
+use Rattle.bytes_wire.proofs.Laws.{Behind, size, size_map, map_id, map_later, map_map, later_later}
 use Rattle.bytes_wire.proofs.Inv.{no_ok, image, map_inv, map_bad}
 use Rattle.mir.specs.Syntax.{Instruction}
 use Rattle.mir.specs.Reads.{dests, is_phi}
 use Rattle.bytes_field.specs.Decode.{instruction_of}
-use Rattle.bytes_field.specs.Walk.{Walk, walk_of, passes, as_scan}
+use Rattle.bytes_field.specs.Walk.{Walk, walk_of, passes, as_scan, as_part}
 use Rattle.bytes_field.specs.declared.Bounds.{Bounds}
 use Rattle.bytes_field.specs.declared.Scan.{Scan}
 use Rattle.bytes_index.specs.Code.{no_instruction, InstructionIn, InstructionsIn}
@@ -77,41 +78,44 @@ module _ (b : Bounds) (at count first : ℕ) (s : List ℕ) (clear : List Bool) 
   abbrev row : Walk
   row = walk_of seen facts (387 + 20 * (first + i) + 4) late
 
-  module _ {r : Scan} (seen' : List Bool) (facts' : List ℕ) (e : as_scan r seen' facts' ≡ map_parse (passes row) (instruction_of b seen late (drop here s))) where
-    told : {q : Scan} → r ≡ q → map_parse (passes row) (instruction_of b seen late (drop here s)) ≡ as_scan q seen' facts'
+  module _ {r : Result Scan Refusal} (seen' : List Bool) (facts' : List ℕ) (e : as_scan r seen' facts' ≡ map_parse (passes row) (instruction_of b seen late (drop here s))) where
+    told : {q : Result Scan Refusal} → r ≡ q → map_parse (passes row) (instruction_of b seen late (drop here s)) ≡ as_scan q seen' facts'
     told g = sym e ∙ ap (λ x. as_scan x seen' facts') g
 
     -- it reaches no further than the bytes do
-    pub filling_size : {q : Scan} → r ≡ q → here + size (as_scan q seen' facts') ≤ length s
+    pub filling_size : {q : Result Scan Refusal} → r ≡ q → here + size (as_scan q seen' facts') ≤ length s
     filling_size g = omega (arith, ap (λ d. size d) (told g), size_map (passes row) (instruction_of b seen late (drop here s)), size_instruction b seen late (drop here s), length-drop here s, u.in_s)
 
     -- the next instruction is refused
-    pub filling_stop : {c : Cause} {o : ℕ} (marked : List Bool) → r ≡ Scan.Refused c o → InstructionsRead b at count first s clear marked (bad c (here + o)) before facts'
+    filling_stop : {e' : Refusal} (marked : List Bool) → r ≡ Err e' → InstructionsRead b at count first s clear marked (bad e'.cause (here + e'.offset)) before facts'
     unfolding instructions_of
-    filling_stop {c} {o} marked g =
+    filling_stop {e'} marked g =
         let z : count - i ≡ suc (count - (i + 1)) = omega arith in
         let d = instruction_of b seen late (drop here s) in
         let all = instructions_of b clear false count (drop at s) in
-        let x : map_parse (block_marks clear) (later at (instructions_of b clear false count (drop at s))) ≡ bad c (here + o) = ap (map_parse (block_marks clear)) u.left ∙ simp (z, map_bad (passes row) d (told g)) in
+        let x : map_parse (block_marks clear) (later at (instructions_of b clear false count (drop at s))) ≡ bad e'.cause (here + e'.offset) = ap (map_parse (block_marks clear)) u.left ∙ simp (z, map_bad (passes row) d (told g)) in
         record { answers = sym (sym (map_later (block_marks clear) at all) ∙ x); filled = λ is n f. absurd (no_ok (sym x ∙ ap (λ d. map_parse (block_marks clear) (later at d)) f)) }
 
-    module _ {k m : ℕ} {after : Bool} (g : r ≡ Scan.Used k m after) where
+    pub filling_refused : {q : Result ℕ Refusal} (marked : List Bool) → Behind here r q → InstructionsRead b at count first s clear marked (as_part q) before facts'
+    filling_refused marked (e', (g, z)) = rw z (filling_stop marked g)
+
+    module _ {used : Scan} (g : r ≡ Ok used) where
       -- the reads stand behind the row's four numbers
-      pub filling_reads : 391 + 20 * (first + i) ≤ m
+      pub filling_reads : 391 + 20 * (first + i) ≤ used.reads
       filling_reads = elim (map_inv (passes row) (instruction_of b seen late (drop here s)) (told g)) [ image x f w ↦ omega (arith, (passes_notes row x).grows, ap (λ v. v.count) w) ]
 
       -- its row is ended, and one more is behind
-      pub filling_again : (facts'' : List ℕ) → facts'' ≡ row_ended facts' (387 + 20 * (first + i)) here (here + k) (get_or (drop here s) 1 0) (m - (391 + 20 * (first + i))) → Filling b at count first s clear before facts'' (i + 1) (here + k) after seen'
+      pub filling_again : (facts'' : List ℕ) → facts'' ≡ row_ended facts' (387 + 20 * (first + i)) here (here + used.size) (get_or (drop here s) 1 0) (used.reads - (391 + 20 * (first + i))) → Filling b at count first s clear before facts'' (i + 1) (here + used.size) used.late seen'
       unfolding instructions_of
       filling_again facts'' ended =
           let z : count - i ≡ suc (count - (i + 1)) = omega arith in
           elim (map_inv (passes row) (instruction_of b seen late (drop here s)) (told g)) [
             | image x f w ↦
-                let v = walk_of seen' facts' m after in
+                let v = walk_of seen' facts' used.reads used.late in
                 let p : seen' ≡ marks seen (dests x.kind) = ap (λ v. v.seen) w ∙ behind_seen row x.kind in
-                let q : after ≡ (late || not (is_phi x.kind)) = ap (λ v. v.late) w in
+                let q : used.late ≡ (late || not (is_phi x.kind)) = ap (λ v. v.late) w in
                 let n = rw (← w) at (passes_notes row x) in
-                let kept : Kept (387 + 20 * (first + i)) facts facts'' = row_kept facts facts'' seen late (first + i) here (here + k) _ _ v n ended in
+                let kept : Kept (387 + 20 * (first + i)) facts facts'' = row_kept facts facts'' seen late (first + i) here (here + used.size) _ _ v n ended in
                 record {
                   under = omega arith;
                   in_s = filling_size g;
@@ -122,7 +126,7 @@ module _ (b : Bounds) (at count first : ℕ) (s : List ℕ) (clear : List Bool) 
                     kept = kept_through (387 + 20 * first) (387 + 20 * (first + i)) (omega arith) u.filled.kept kept;
                     rows = λ t r.
                         let y : Room facts (first + i) 1 = omega (arith, u.filled.kept.long) in
-                        rows_more b s facts facts'' first u.behind_it_lem x t (rw u.many kept) (u.filled.rows t r) (rw u.many (instruction_row b s facts facts'' seen late (first + i) here k x v w ended f u.in_s t y));
+                        rows_more b s facts facts'' first u.behind_it_lem x t (rw u.many kept) (u.filled.rows t r) (rw u.many (instruction_row b s facts facts'' seen late (first + i) here used.size x v w ended f u.in_s t y));
                   };
                   left = u.left ∙ simp (z, f, p, q, map_later, map_map, later_later, drop-drop, append_assoc);
                 }

@@ -17,7 +17,7 @@ use Rattle.bytes_field.specs.declared.Bounds.{Bounds}
 use Rattle.bytes_field.proofs.Laws.{head}
 use Rattle.bytes_field.proofs.Rows.{kind_row, kind_late, behind_late}
 use Rattle.bytes_kind.specs.Late.{late_behind}
-use Rattle.bytes_block.specs.Decode.{KindRead, head_of, instructions_of, marks}
+use Rattle.bytes_block.specs.Decode.{Head, head_of, instructions_of, marks}
 use Rattle.bytes_block.proofs.Start.{kind_below}
 
 -- the same behind what was read, for the value that it was
@@ -39,7 +39,7 @@ kind_passes b w m c k s h =
     (λ i n e. rw (behind_late w i, kind_late b w.seen c k s i n h e))
 
 -- what stands behind a head: the meta, and the row of the kind
-abbrev pub row_behind : Bounds → Walk → KindRead → List ℕ → Parse Walk
+abbrev pub row_behind : Bounds → Walk → Head → List ℕ → Parse Walk
 row_behind b w h t = map_parse (late_behind h.kind) (and_then t (map_parse (λ x. w) (meta_of h.bits t)) (λ v u. row_walk b (get_or u 0 0) 5 (get_or rows h.kind 0) v u))
 
 -- an instruction is its head, its meta, and the row of its kind

@@ -3,19 +3,19 @@ use Prim.Native.Nat.{ℕ, ◌≤◌, ◌<◌}
 use mathlib.Core.Path.{◌≡◌, refl, ap, ◌∙◌}
 use mathlib.Core.List.{List}
 use mathlib.Core.Bool.{Bool, true, false, not, ◌&&◌}
+use mathlib.Core.Logic.{◌⊎◌, inl, inr}
 use native.Mathlib.Omega.{arith}
-use borrow.Author.Tests.{lt-ltb, le-ltb, ltb-true}
+use borrow.Author.Tests.{lt-ltb, le-ltb, ltb-true, ne_eqb}
 use lib.ListN.{length, get_or, drop, length-drop}
 use lib.Dec.{ltb, eqb}
 use Rattle.bytes_wire.specs.Parse.{Parse, ok, bad, map_parse, checked}
 use Rattle.bytes_wire.specs.Number.{number_of, u8_of}
 use Rattle.bytes_wire.specs.declared.Cause.{Cause}
 use Rattle.bytes_wire.proofs.Laws.{number_short, number_some, from_8}
-use Rattle.bytes_wire.proofs.Inv.{no_ok, both, image, and_inv, map_inv, checked_inv}
+use Rattle.bytes_wire.proofs.Inv.{both, image, and_inv, map_inv, checked_inv}
 use Rattle.bytes_field.specs.Decode.{defined_bits, bits_of, kind_of}
-use Rattle.bytes_field.specs.Walk.{Walk, as_scan, stands_at}
-use Rattle.bytes_field.specs.declared.Scan.{Scan}
-use Rattle.bytes_block.specs.Decode.{KindRead, head_of}
+use Rattle.bytes_field.specs.Walk.{Walk}
+use Rattle.bytes_block.specs.Decode.{Head, head_of}
 
 -- what is not false is true
 pub twice : (b : Bool) → b ≡ not (not b)
@@ -36,53 +36,57 @@ kind_below late s {k} e =
     let h = (checked_inv Cause.LatePhi (λ k. not (late && eqb k 9)) (checked Cause.Undefined (λ k. ltb k 19) (u8_of s)) e).0 in
     ltb-true k 19 (checked_inv Cause.Undefined (λ k. ltb k 19) (u8_of s) h).1
 
+-- no Phi is late
+pub not_late : (late : Bool) (k : ℕ) → (late ≡ true) × (k ≡ 9 → ⊥) ⊎ late ≡ false → (late && eqb k 9) ≡ false
+not_late late k (inl h) = simp (h.0, ne_eqb k 9 h.1)
+not_late late k (inr h) = simp h
+
 module _ (late : Bool) (s : List ℕ) where
   -- there is no byte for the bits
-  pub no_bits : length s < 1 → ◌≡◌ {A = Parse KindRead} (bad Cause.Truncated 0) (head_of late s)
+  pub no_bits : length s < 1 → ◌≡◌ {A = Parse Head} (bad Cause.Truncated 0) (head_of late s)
   unfolding head_of
   no_bits h = simp (number_short 1 s h)
 
   -- a bit stands that should not
-  pub bits_past : 1 ≤ length s → defined_bits s (get_or s 0 0) ≡ false → ◌≡◌ {A = Parse KindRead} (bad Cause.Undefined 0) (head_of late s)
+  pub bits_past : 1 ≤ length s → defined_bits s (get_or s 0 0) ≡ false → ◌≡◌ {A = Parse Head} (bad Cause.Undefined 0) (head_of late s)
   unfolding head_of
   bits_past h e = simp (first s h, e)
 
   module _ (e : defined_bits s (get_or s 0 0) ≡ true) where
     -- there is no byte for the kind
-    pub no_kind : 1 ≤ length s → length s < 2 → ◌≡◌ {A = Parse KindRead} (bad Cause.Truncated 1) (head_of late s)
+    pub no_kind : 1 ≤ length s → length s < 2 → ◌≡◌ {A = Parse Head} (bad Cause.Truncated 1) (head_of late s)
     unfolding head_of
     no_kind h k =
         let j : length (drop 1 s) < 1 = omega (arith, length-drop 1 s) in
         simp (first s h, e, number_short 1 (drop 1 s) j)
 
     -- the kind is none of the 19
-    pub kind_past : 2 ≤ length s → 19 ≤ get_or s 1 0 → ◌≡◌ {A = Parse KindRead} (bad Cause.Undefined 1) (head_of late s)
+    pub kind_past : 2 ≤ length s → 19 ≤ get_or s 1 0 → ◌≡◌ {A = Parse Head} (bad Cause.Undefined 1) (head_of late s)
     unfolding head_of
     kind_past h k =
         let j : 1 ≤ length s = omega arith in
         simp (first s j, e, second s h, le-ltb _ _ k)
 
     -- a Phi is late
-    pub late_phi_lem : 2 ≤ length s → get_or s 1 0 < 19 → (late && eqb (get_or s 1 0) 9) ≡ true → ◌≡◌ {A = Parse KindRead} (bad Cause.LatePhi 1) (head_of late s)
+    pub late_phi_lem : 2 ≤ length s → get_or s 1 0 < 19 → (late && eqb (get_or s 1 0) 9) ≡ true → ◌≡◌ {A = Parse Head} (bad Cause.LatePhi 1) (head_of late s)
     unfolding head_of
     late_phi_lem h k l =
         let j : 1 ≤ length s = omega arith in
         simp (first s j, e, second s h, lt-ltb _ _ k, l)
 
     -- both are as they should be
-    pub head_some : 2 ≤ length s → get_or s 1 0 < 19 → (late && eqb (get_or s 1 0) 9) ≡ false → ◌≡◌ {A = Parse KindRead} (ok (record { bits = get_or s 0 0; kind = get_or s 1 0 }) 2) (head_of late s)
+    pub head_some : 2 ≤ length s → get_or s 1 0 < 19 → (late && eqb (get_or s 1 0) 9) ≡ false → ◌≡◌ {A = Parse Head} (ok (record { bits = get_or s 0 0; kind = get_or s 1 0 }) 2) (head_of late s)
     unfolding head_of
     head_some h k l =
         let j : 1 ≤ length s = omega arith in
         simp (first s j, e, second s h, lt-ltb _ _ k, l)
 
--- what is known at the place of a walk is known at its count
-pub peeked : (s : List ℕ) (x : ℕ) (p : Scan) (seen : List Bool) (buffer : List ℕ) → x ≡ stands_at s p → (v : Walk) (at : ℕ) → as_scan p seen buffer ≡ ok v at → x ≡ get_or s at 0
-peeked s x (Scan.Used a n l) seen buffer h v at e = let q : a ≡ at = cc in h ∙ ap (λ i. get_or s i 0) q
-peeked s x (Scan.Refused c o) seen buffer h v at e = absurd (no_ok e)
+-- what is known at a walk's count is known at the place of what is read there
+pub peeked : (s : List ℕ) (x : ℕ) (w : Walk) (k : ℕ) → x ≡ get_or s k 0 → (v : Walk) (at : ℕ) → ok w k ≡ ok v at → x ≡ get_or s at 0
+peeked s x w k h v at e = let q : k ≡ at = cc in h ∙ ap (λ i. get_or s i 0) q
 
 -- a head's kind is one of the 19
-pub head_below : (late : Bool) (s : List ℕ) {h : KindRead} {n : ℕ} → head_of late s ≡ ok h n → h.kind < 19
+pub head_below : (late : Bool) (s : List ℕ) {h : Head} {n : ℕ} → head_of late s ≡ ok h n → h.kind < 19
 unfolding head_of
 head_below late s {h} e =
     elim (and_inv s (bits_of s) (λ x t. map_parse (λ k. record { bits = x; kind = k }) (kind_of late t)) e) [

@@ -1,6 +1,7 @@
 -- "The blocks: u16 instruction count, instructions, terminator."
-use Rattle.std.specs.Prelude.{ℕ, zero, suc, List, [], ◌∷◌, Bool, false, cond, not, ◌||◌, length}
-use Rattle.bytes_wire.specs.Parse.{Parse, ok, bad, and_then, map_parse}
+use Rattle.std.specs.Prelude.{ℕ, zero, suc, List, [], ◌∷◌, Bool, false, cond, not, ◌||◌, length, Result}
+use Rattle.bytes_wire.specs.Parse.{Parse, as_answer, ok, and_then, map_parse}
+use Rattle.bytes_wire.specs.declared.Refusal.{Refusal}
 use Rattle.bytes_wire.specs.Number.{number_of, u16_of}
 use Rattle.mir.specs.declared.ValueId.{ValueId}
 use Rattle.mir.specs.Syntax.{Instruction, Block}
@@ -10,8 +11,9 @@ use Rattle.bytes_field.specs.Walk.{fold}
 use Rattle.bytes_field.specs.declared.Bounds.{Bounds}
 use Rattle.bytes_count.specs.Count.{counted_twice}
 use Rattle.bytes_block.specs.declared.Mosts.{Mosts}
-use Rattle.bytes_block.specs.declared.Head.{Head}
-use Rattle.bytes_block.specs.declared.BlockRead.{BlockRead}
+use Rattle.bytes_block.specs.declared.Head.{Head as ReadHead}
+use Rattle.mir.specs.Kind.{number_of_kind}
+use Rattle.bytes_block.specs.declared.BlockEnd.{BlockEnd}
 
 -- the marks behind values that are defined
 abbrev pub marks : List Bool → List ValueId → List Bool
@@ -39,12 +41,12 @@ abbrev pub block_marks : List Bool → List Instruction → List Bool
 block_marks seen [] = seen
 block_marks seen (i ∷ is) = block_marks (marks seen (dests i.kind)) is
 
--- an instruction's bit map and kind
-pub record KindRead : Type 0 where
+-- an instruction's bit map, and its kind's number
+pub record Head : Type 0 where
   pub bits : ℕ
   pub kind : ℕ
 
-unfoldable pub head_of : Bool → List ℕ → Parse KindRead
+unfoldable pub head_of : Bool → List ℕ → Parse Head
 head_of late s = and_then s (bits_of s) (λ x t. map_parse (λ k. record { bits = x; kind = k }) (kind_of late t))
 
 -- a number of w bytes, where it stands at all
@@ -52,9 +54,8 @@ abbrev pub skipped : Bool → ℕ → List ℕ → Parse ℕ
 skipped on w s = cond on (number_of w s) (ok 0 0)
 
 -- what the code's answers say
-abbrev pub as_head : Head → Parse KindRead
-as_head (Head.Kind x k) = ok (record { bits = x; kind = k }) 2
-as_head (Head.Refused c o) = bad c o
+abbrev pub as_head : Result ReadHead Refusal → Parse Head
+as_head r = as_answer (λ x. ok (record { bits = x.bits; kind = number_of_kind x.kind }) 2) r
 
 -- what is left behind a block: the marks, and its number of instructions
 pub record Passed : Type 0 where
@@ -64,6 +65,5 @@ pub record Passed : Type 0 where
 abbrev pub passed : List Bool → Block → Passed
 passed seen k = record { seen = block_marks seen k.instructions; count = length k.instructions }
 
-abbrev pub as_block : BlockRead → List Bool → Parse Passed
-as_block (BlockRead.Used n count) seen = ok (record { seen = seen; count = count }) n
-as_block (BlockRead.Refused c o) seen = bad c o
+abbrev pub as_block : Result BlockEnd Refusal → List Bool → Parse Passed
+as_block r seen = as_answer (λ x. ok (record { seen = seen; count = x.count }) x.end) r

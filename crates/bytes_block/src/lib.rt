@@ -4,14 +4,16 @@
 ghost use Rattle.std.specs.Prelude.{◌≡◌, List, Bool, true, false, ℕ, ◌+◌, ◌-◌, ◌*◌, ◌≤◌, ◌<◌, length, get_or};
 ghost use Rattle.bytes_wire.specs.Parse.{and_then, map_parse};
 ghost use Rattle.bytes_field.specs.Decode.{bit as bit_of, defined_bits, meta_of, instruction_of, terminator_of};
-ghost use Rattle.bytes_field.specs.Walk.{walk_of, passes, leaves, as_scan, as_part, stands_at};
+ghost use Rattle.bytes_field.specs.Walk.{walk_of, passes, leaves, as_scan, scanned, as_part};
 ghost use Rattle.bytes_block.specs.Decode.{head_of, skipped, as_head, as_block};
 ghost use Rattle.bytes_block.specs.Rows.{row_ended, InstructionsRead, TerminatorRead, CodeRead};
 ghost use Rattle.bytes_index.specs.Table.{row_at, reads_at};
 ghost use Rattle.table.specs.Number.{numbers_below};
 
-use bytes_field::{Bounds, Part, Scan};
-use bytes_wire::{Cause, Read16};
+use bytes_field::{Bounds, Scan};
+use bytes_wire::{Cause, Refusal};
+use mir::kind::Kind;
+use mir::terminator::TerminatorKind;
 
 // How many of each a routine may have; document 01's numbers are MOSTS of bytes_sections.
 #[derive(Clone, Copy)]
@@ -26,17 +28,17 @@ pub struct Mosts {
 }
 
 // An instruction's bit map and kind.
-#[derive(Clone, Copy)]
-pub enum Head {
-    Kind { bits: u8, kind: u8 },
-    Refused(Cause, usize),
+#[derive(Clone, Copy, PartialEq, Eq, Debug)]
+pub struct Head {
+    pub bits: u8,
+    pub kind: Kind,
 }
 
-// The bytes of a block, and how many instructions it has.
-#[derive(Clone, Copy)]
-pub enum BlockRead {
-    Used { end: usize, count: u16 },
-    Refused(Cause, usize),
+// Where a block ends, and how many instructions it has.
+#[derive(Clone, Copy, PartialEq, Eq, Debug)]
+pub struct BlockEnd {
+    pub end: usize,
+    pub count: u16,
 }
 
 // How many bytes an instruction's bit map and kind take.
@@ -48,57 +50,46 @@ const WORD: usize = 4;
 const LONG: usize = 8;
 
 // A number of `width` bytes, where `on` says that it stands.
-fn then_number(s: &[u8], p: Scan, on: bool, width: usize) -> Scan
+fn then_number(s: &[u8], p: Scan, on: bool, width: usize) -> Result<Scan, Refusal>
     requires { width ≤ 8 }
     ensures { (seen : List Bool) (buffer : List ℕ) →
-        as_scan result seen buffer ≡ and_then s.now (as_scan p seen buffer) (λ w t. map_parse (λ x. w) (skipped on width t)) }
+        as_scan result seen buffer ≡ and_then s.now (scanned seen buffer p) (λ w t. map_parse (λ x. w) (skipped on width t)) }
 {
     if !on {
-        return p;
+        return Ok(p);
     }
-    match p {
-        Scan::Refused(c, o) => Scan::Refused(c, o),
-        Scan::Used(at, n, late) => {
-            let t = bytes_field::tail(s, at);
-            if t.len() < width {
-                return Scan::Refused(Cause::Truncated, at);
-            }
-            Scan::Used(at + width, n, late)
-        }
+    let t = bytes_field::tail(s, p.size);
+    if t.len() < width {
+        return Err(Cause::Truncated.at(p.size));
     }
+    Ok(Scan {
+        size: p.size + width,
+        ..p
+    })
 }
 
 fn bit(x: u8, k: u8) -> bool
     requires { k < 4 }
     ensures { result ≡ bit_of k x }
 {
-    if k == 0 {
-        return x % 2 == 1;
-    }
-    if k == 1 {
-        return x / 2 % 2 == 1;
-    }
-    if k == 2 {
-        return x / 4 % 2 == 1;
-    }
-    x / 8 % 2 == 1
+    x >> k & 1 == 1
 }
 
 // The span, the expression id and the comment whose bits stand.
-fn then_meta(s: &[u8], p: Scan, bits: u8) -> Scan
+fn then_meta(s: &[u8], p: Scan, bits: u8) -> Result<Scan, Refusal>
     ensures { (seen : List Bool) (buffer : List ℕ) →
-        as_scan result seen buffer ≡ and_then s.now (as_scan p seen buffer) (λ w t. map_parse (λ x. w) (meta_of bits t)) }
+        as_scan result seen buffer ≡ and_then s.now (scanned seen buffer p) (λ w t. map_parse (λ x. w) (meta_of bits t)) }
 {
     if bits % 8 == 0 {
-        return p;
+        return Ok(p);
     }
     let span = bit(bits, 0);
     let expression = bit(bits, 1);
     let comment = bit(bits, 2);
-    let start = then_number(s, p, span, WORD);
-    let stop = then_number(s, start, span, WORD);
-    let index = then_number(s, stop, expression, WORD);
-    let file = then_number(s, index, expression, LONG);
+    let start = then_number(s, p, span, WORD)?;
+    let stop = then_number(s, start, span, WORD)?;
+    let index = then_number(s, stop, expression, WORD)?;
+    let file = then_number(s, index, expression, LONG)?;
     then_number(s, file, comment, WORD)
 }
 
@@ -115,46 +106,30 @@ fn defined_bits(s: &[u8], bits: u8) -> bool
     if s.len() < 2 {
         return true;
     }
-    s[1] == bytes_kind::MAKE_FIXED_ARRAY
+    s[1] == Kind::MakeFixedArray as u8
 }
 
 // The bit map and the kind. `late` is whether another kind than Phi stands before.
-pub fn read_head(s: &[u8], late: bool) -> Head
+pub fn read_head(s: &[u8], late: bool) -> Result<Head, Refusal>
     ensures { as_head result ≡ head_of late s.now }
 {
     if s.len() < 1 {
-        return Head::Refused(Cause::Truncated, 0);
+        return Err(Cause::Truncated.at(0));
     }
     let bits = s[0];
     if !defined_bits(s, bits) {
-        return Head::Refused(Cause::Undefined, 0);
+        return Err(Cause::Undefined.at(0));
     }
     if s.len() < 2 {
-        return Head::Refused(Cause::Truncated, 1);
+        return Err(Cause::Truncated.at(1));
     }
-    let kind = s[1];
-    if bytes_kind::KINDS <= kind {
-        return Head::Refused(Cause::Undefined, 1);
+    let Ok(kind) = Kind::try_from(u16::from(s[1])) else {
+        return Err(Cause::Undefined.at(1));
+    };
+    if late && kind == Kind::Phi {
+        return Err(Cause::LatePhi.at(1));
     }
-    if late {
-        if kind == bytes_kind::PHI {
-            return Head::Refused(Cause::LatePhi, 1);
-        }
-    }
-    Head::Kind {
-        bits: bits,
-        kind: kind,
-    }
-}
-
-// The byte that a walk stands at.
-fn peek(s: &[u8], p: Scan) -> u8
-    ensures { result ≡ stands_at s.now p }
-{
-    match p {
-        Scan::Used(at, _, _) => bytes_wire::byte_at(s, at),
-        Scan::Refused(_, _) => 0,
-    }
+    Ok(Head { bits, kind })
 }
 
 // An instruction, from its bit map on: its bytes, its reads noted, its dests marked.
@@ -165,19 +140,21 @@ pub fn read_instruction(
     late: bool,
     seen: &mut [bool],
     buffer: &mut [u16],
-) -> Scan
+) -> Result<Scan, Refusal>
     ensures { as_scan result seen.new buffer.new ≡
         map_parse (passes (walk_of seen.old buffer.old n late)) (instruction_of b seen.old late s.now) }
 {
-    match read_head(s, late) {
-        Head::Refused(c, o) => Scan::Refused(c, o),
-        Head::Kind { bits, kind } => {
-            let p = then_meta(s, Scan::Used(HEAD, n, late), bits);
-            let row = bytes_kind::row_of_kind(kind);
-            let q = bytes_row::then_row(s, p, row, peek(s, p), b, seen, buffer);
-            bytes_kind::after_kind(q, kind)
-        }
-    }
+    let head = read_head(s, late)?;
+    let start = Scan {
+        size: HEAD,
+        reads: n,
+        late,
+    };
+    let p = then_meta(s, start, head.bits)?;
+    let row = bytes_kind::row_of_kind(head.kind);
+    let many = bytes_wire::byte_at(s, p.size);
+    let q = bytes_row::then_row(s, p, row, many, b, seen, buffer)?;
+    Ok(bytes_kind::after_kind(q, head.kind))
 }
 
 // Ends a slot's row, whose reads stand before `behind`: stores from which place to which it goes, its kind, how many reads.
@@ -205,38 +182,24 @@ fn instruction_rows(
     b: Bounds,
     seen: &mut [bool],
     facts: &mut [u16],
-) -> Part
+) -> Result<usize, Refusal>
     requires { (at ≤ length s.now) × (first + count < numbers_below) }
     ensures { InstructionsRead b at count first s.now seen.old seen.new
         (as_part result) facts.old facts.new }
 {
     let mut here = at;
     let mut late = false;
-    let mut i: u16 = 0;
-    while i < count {
+    for i in 0..count {
         let slot = first + i;
         let t = bytes_field::tail(s, here);
-        match read_instruction(
-            t,
-            b,
-            bytes_index::row_place(slot, bytes_index::READS),
-            late,
-            seen,
-            facts,
-        ) {
-            Scan::Refused(c, o) => {
-                return Part::Refused(c, here + o);
-            }
-            Scan::Used(n, behind, after) => {
-                let end = here + n;
-                end_row(facts, slot, here, end, bytes_kind::kind_at(t), behind);
-                here = end;
-                late = after;
-            }
-        }
-        i = i + 1;
+        let reads = bytes_index::row_place(slot, bytes_index::READS);
+        let p = read_instruction(t, b, reads, late, seen, facts).map_err(|e| e.behind(here))?;
+        let end = here + p.size;
+        end_row(facts, slot, here, end, bytes_kind::kind_at(t), p.reads);
+        here = end;
+        late = p.late;
     }
-    Part::Used(here)
+    Ok(here)
 }
 
 // A terminator, from its kind on.
@@ -247,49 +210,42 @@ pub fn read_terminator(
     late: bool,
     seen: &mut [bool],
     buffer: &mut [u16],
-) -> Scan
+) -> Result<Scan, Refusal>
     ensures { as_scan result seen.new buffer.new ≡
         map_parse (leaves (walk_of seen.old buffer.old n late)) (terminator_of b s.now) }
 {
     if s.len() < 1 {
-        return Scan::Refused(Cause::Truncated, 0);
+        return Err(Cause::Truncated.at(0));
     }
-    let kind = s[0];
-    if bytes_kind::TERMINATORS <= kind {
-        return Scan::Refused(Cause::Undefined, 0);
-    }
-    bytes_row::then_row(
-        s,
-        Scan::Used(1, n, late),
-        bytes_kind::row_of_end(kind),
-        0,
-        b,
-        seen,
-        buffer,
-    )
+    let Ok(kind) = TerminatorKind::try_from(s[0]) else {
+        return Err(Cause::Undefined.at(0));
+    };
+    let start = Scan {
+        size: 1,
+        reads: n,
+        late,
+    };
+    bytes_row::then_row(s, start, bytes_kind::row_of_end(kind), 0, b, seen, buffer)
 }
 
 // A terminator from `at` on, and its row.
-fn terminator_row(s: &[u8], at: usize, slot: u16, b: Bounds, facts: &mut [u16]) -> Part
+fn terminator_row(
+    s: &[u8],
+    at: usize,
+    slot: u16,
+    b: Bounds,
+    facts: &mut [u16],
+) -> Result<usize, Refusal>
     requires { at ≤ length s.now }
     ensures { TerminatorRead b at slot s.now (as_part result) facts.old facts.new }
 {
     let mut none: [bool; 0] = [false; 0];
-    match read_terminator(
-        bytes_field::tail(s, at),
-        b,
-        bytes_index::row_place(slot, bytes_index::READS),
-        false,
-        &mut none,
-        facts,
-    ) {
-        Scan::Refused(c, o) => Part::Refused(c, at + o),
-        Scan::Used(n, behind, _) => {
-            let end = at + n;
-            end_row(facts, slot, at, end, 0, behind);
-            Part::Used(end)
-        }
-    }
+    let t = bytes_field::tail(s, at);
+    let reads = bytes_index::row_place(slot, bytes_index::READS);
+    let p = read_terminator(t, b, reads, false, &mut none, facts).map_err(|e| e.behind(at))?;
+    let end = at + p.size;
+    end_row(facts, slot, at, end, 0, p.reads);
+    Ok(end)
 }
 
 // The block from `at` on, and its rows from slot `first` on. `total` instructions stand in the blocks before it.
@@ -302,22 +258,17 @@ pub fn read_block(
     first: u16,
     seen: &mut [bool],
     facts: &mut [u16],
-) -> BlockRead
+) -> Result<BlockEnd, Refusal>
     requires { (at ≤ length s.now) × (first + m.block < numbers_below) }
     ensures { CodeRead m b total at first s.now seen.old
         (as_block result seen.new) facts.old facts.new }
 {
-    match bytes_count::block_count(bytes_field::tail(s, at), m.block, m.all, total) {
-        Read16::Refused(c, o) => BlockRead::Refused(c, at + o),
-        Read16::Got(count, n) => match instruction_rows(s, at + n, count, first, b, seen, facts) {
-            Part::Refused(c, o) => BlockRead::Refused(c, o),
-            Part::Used(end) => match terminator_row(s, end, first + count, b, facts) {
-                Part::Refused(c, o) => BlockRead::Refused(c, o),
-                Part::Used(to) => BlockRead::Used {
-                    end: to,
-                    count: count,
-                },
-            },
-        },
-    }
+    let t = bytes_field::tail(s, at);
+    let n = bytes_count::block_count(t, m.block, m.all, total).map_err(|e| e.behind(at))?;
+    let code = instruction_rows(s, at + n.size, n.value, first, b, seen, facts)?;
+    let end = terminator_row(s, code, first + n.value, b, facts)?;
+    Ok(BlockEnd {
+        end,
+        count: n.value,
+    })
 }

@@ -4,7 +4,7 @@
 ghost use Rattle.std.specs.Prelude.{◌≡◌, [], ◌∷◌, ◌+◌, ◌<◌, ◌≤◌, length};
 ghost use Rattle.std.proofs.lemmas.List.Edits.{sets};
 ghost use Rattle.bytes_wire.specs.Number.{to_bytes};
-ghost use Rattle.bytes_wire.specs.Value.{value_bytes, bool_byte};
+ghost use Rattle.bytes_wire.specs.Value.{value_bytes};
 ghost use Rattle.mir.specs.Syntax.{Assign, plain};
 ghost use Rattle.bytes_field.specs.Encode.{instruction_bytes, value_id_bytes, type_id_bytes, name_id_bytes};
 ghost use Rattle.bytes_emit.specs.Written.{Writes, Copyable, Copies, number_room, word_room, value_room, instruction_room};
@@ -61,13 +61,6 @@ pub fn put_name_id(out: &mut [u8], to: usize, n: NameId)
     put_u16(out, to, n.0);
 }
 
-// The byte of a boolean.
-fn bool_byte(b: bool) -> u8
-    ensures { result ≡ bool_byte b }
-{
-    if b { 1 } else { 0 }
-}
-
 // Writes a literal, and returns the place behind it.
 fn put_literal(out: &mut [u8], to: usize, l: Literal) -> usize
     requires { to < value_room }
@@ -81,7 +74,7 @@ fn put_literal(out: &mut [u8], to: usize, l: Literal) -> usize
         }
         Literal::Boolean(b) => {
             put_u8(out, to, bytes_wire::BOOLEAN);
-            put_u8(out, to + 1, bool_byte(b));
+            put_u8(out, to + 1, b as u8);
             to + 2
         }
         Literal::Unit => {
@@ -128,11 +121,7 @@ pub fn copy_whole(s: &[u8], out: &mut [u8], to: usize)
     requires { to + length s.now ≤ length out.old }
     ensures { out.new ≡ sets out.old to s.now }
 {
-    let mut i = 0;
-    while i < s.len() {
-        out[to + i] = s[i];
-        i = i + 1;
-    }
+    out[to..to + s.len()].copy_from_slice(s);
 }
 
 // Copies the bytes of s from `from` to `end` one by one, as far as there is room, and returns the place behind them.
@@ -140,11 +129,9 @@ fn copy_cut(out: &mut [u8], to: usize, s: &[u8], from: usize, end: usize) -> usi
     requires { Copyable to s.now from end }
     ensures { Copies s.now from end out.old out.new to result }
 {
-    let mut at = from;
     let mut p = to;
-    while at < end {
+    for at in from..end {
         put_u8(out, p, s[at]);
-        at = at + 1;
         p = p + 1;
     }
     p

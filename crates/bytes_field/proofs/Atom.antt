@@ -10,7 +10,7 @@ use Rattle.bytes_wire.specs.Number.{u16_of, u32_of}
 use Rattle.bytes_wire.specs.Value.{value_of}
 use Rattle.bytes_wire.specs.declared.Cause.{Cause}
 use Rattle.bytes_wire.proofs.Laws.{map_map, map_later, and_nothing}
-use Rattle.mir.specs.Syntax.{Projection}
+use Rattle.mir.specs.declared.Projection.{Projection}
 use Rattle.bytes_field.specs.Decode.{name_id_of, projection_of}
 use Rattle.bytes_field.specs.Walk.{Walk, uses_value, uses_projection, simple_walk, atom_walk, pair_walk, first_of, second_of}
 use Rattle.bytes_field.specs.declared.Bounds.{Bounds}

@@ -7,8 +7,10 @@ use native.Mathlib.Nat.{add-zero, sub-zero}
 use native.Mathlib.Omega.{arith}
 use lib.ListN.{length, get_or, drop, length-drop}
 use lib.Seq.{drop-drop, get_or-drop}
+use Rattle.std.specs.Prelude.{Result, Ok, Err}
+use Rattle.bytes_wire.specs.declared.Refusal.{Refusal}
 use Rattle.bytes_wire.specs.Parse.{Parse, ok, bad, later, and_then}
-use Rattle.bytes_wire.proofs.Laws.{size, later_later, assoc, and_nothing}
+use Rattle.bytes_wire.proofs.Laws.{size, size_later, later_later, assoc, and_nothing}
 use Rattle.bytes_field.specs.Walk.{Walk, times, as_scan, bytes_of}
 use Rattle.bytes_field.specs.declared.Scan.{Scan}
 
@@ -20,25 +22,21 @@ head s at = get_or-drop at s 0 0 ∙ ap (λ i. get_or s i 0) (add-zero at)
 pub some : (s : List ℕ) (at : ℕ) → at < length s → 1 ≤ length (drop at s)
 some s at h = omega (arith, length-drop at s)
 
--- a scan of the bytes t behind `at` answered r: counted from the start, that is what f says there
-pub passed : (s : List ℕ) (at : ℕ) (f : List ℕ → Parse Walk) (seen : List Bool) (buffer : List ℕ) {t : List ℕ} {r r' : Scan} → t ≡ drop at s → as_scan r seen buffer ≡ f t → r ≡ r' → later at (as_scan r' seen buffer) ≡ later at (f (drop at s))
-passed s at f seen buffer h e g = ap (later at) (sym (ap (λ r. as_scan r seen buffer) g) ∙ e ∙ ap f h)
+-- a scan of the bytes t behind `at` answered r, which was counted from the start: that is what f says there
+pub stepped : (s : List ℕ) (at : ℕ) (f : List ℕ → Parse Walk) (seen : List Bool) (buffer : List ℕ) (r : Result Scan Refusal) {t : List ℕ} {d : Parse Walk} → t ≡ drop at s → as_scan r seen buffer ≡ f t → d ≡ later at (as_scan r seen buffer) → d ≡ later at (f (drop at s))
+stepped s at f seen buffer r h e g = g ∙ ap (later at) (e ∙ ap f h)
 
--- and it reaches no further than the bytes do
-pub within : (s : List ℕ) (at : ℕ) (f : List ℕ → Parse Walk) (seen : List Bool) (buffer : List ℕ) {t : List ℕ} {r r' : Scan} → ((u : List ℕ) → size (f u) ≤ length u) → t ≡ drop at s → as_scan r seen buffer ≡ f t → r ≡ r' → size (as_scan r' seen buffer) ≤ length s - at
-within s at f seen buffer l h e g = omega (arith, ap size (sym (ap (λ r. as_scan r seen buffer) g) ∙ e ∙ ap f h), l (drop at s), length-drop at s)
+-- and that reaches no further than the bytes do
+pub reaches : (s : List ℕ) (at : ℕ) (f : List ℕ → Parse Walk) {d : Parse Walk} → ((u : List ℕ) → size (f u) ≤ length u) → at ≤ length s → d ≡ later at (f (drop at s)) → size d ≤ length s
+reaches s at f l h e = omega (arith, ap size e, size_later at (f (drop at s)), l (drop at s), length-drop at s)
 
 -- how many bytes the answer of a reader of t speaks of, where t are the bytes behind `at`
-pub bytes_within : (s : List ℕ) (at : ℕ) (r : Scan) (seen : List Bool) (buffer : List ℕ) {t : List ℕ} (d : List ℕ → Parse Walk) → t ≡ drop at s → as_scan r seen buffer ≡ d t → ((u : List ℕ) → size (d u) ≤ length u) → bytes_of r ≤ length s - at
+pub bytes_within : (s : List ℕ) (at : ℕ) (r : Result Scan Refusal) (seen : List Bool) (buffer : List ℕ) {t : List ℕ} (d : List ℕ → Parse Walk) → t ≡ drop at s → as_scan r seen buffer ≡ d t → ((u : List ℕ) → size (d u) ≤ length u) → bytes_of r ≤ length s - at
 bytes_within s at r seen buffer d h e l = omega (arith, spoken r seen buffer, ap size (e ∙ ap d h), l (drop at s), length-drop at s)
   where
-    spoken : (r : Scan) (seen : List Bool) (buffer : List ℕ) → bytes_of r ≡ size (as_scan r seen buffer)
-    spoken (Scan.Used k n late) seen buffer = refl
-    spoken (Scan.Refused c o) seen buffer = refl
-
--- which variant an answer was
-pub answer : {r r' : Scan} (seen : List Bool) (buffer : List ℕ) {d : Parse Walk} → as_scan r seen buffer ≡ d → r ≡ r' → as_scan r' seen buffer ≡ d
-answer seen buffer e g = sym (ap (λ r. as_scan r seen buffer) g) ∙ e
+    spoken : (r : Result Scan Refusal) (seen : List Bool) (buffer : List ℕ) → bytes_of r ≡ size (as_scan r seen buffer)
+    spoken (Ok x) seen buffer = refl
+    spoken (Err e) seen buffer = refl
 
 -- a step behind an answer that is counted from `n`
 pub and_later : {A B : Type 0} (s : List ℕ) (n : ℕ) (d : Parse A) (g : A → List ℕ → Parse B) → and_then s (later n d) g ≡ later n (and_then (drop n s) d g)

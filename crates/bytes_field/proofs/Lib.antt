@@ -1,5 +1,4 @@
 pub mod Laws
-pub mod Numbers
 pub mod Sizes
 pub mod Atom
 pub mod Listing

@@ -15,7 +15,9 @@ use Rattle.mir.specs.declared.Value.{Value}
 use Rattle.mir.specs.declared.ValueId.{ValueId}
 use Rattle.bytes_wire.proofs.Laws.{map_map, map_and, and_map, and_ok, and_nothing, assoc, from_8}
 use Rattle.bytes_wire.proofs.Inv.{no_ok, both, image, and_inv, map_inv, checked_inv, number_inv}
-use Rattle.mir.specs.Syntax.{Projection, Index, Field, Tuple, Source, FieldInit, InstructionKind}
+use Rattle.mir.specs.declared.Projection.{Projection}
+use Rattle.mir.specs.declared.Projection.TheVariants.{Index, Field, Tuple}
+use Rattle.mir.specs.Syntax.{Source, FieldInit, InstructionKind}
 use Rattle.mir.specs.Reads.{operand, operands, indices, source_values, init_values, reads, dests, kind_number, is_phi}
 use Rattle.bytes_field.specs.Decode.{count_of, list_of, defined_of, defined_seq, defineds_of, mark, type_id_of, projection_of, place_of, source_of, field_init_of, returns_of}
 use Rattle.bytes_field.specs.Decode.{assign_of, unary_of, binary_of, call_of, cast_of, load_of, store_of, debug_of, phi_of, make_tuple_of, extract_tuple_of, make_struct_of}

@@ -10,7 +10,7 @@ use Rattle.bytes_wire.specs.Number.{u8_of, u32_of}
 use Rattle.bytes_wire.specs.Value.{value_of, value_id_of}
 use Rattle.bytes_wire.specs.declared.Cause.{Cause}
 use Rattle.bytes_wire.proofs.Laws.{size, size_map, size_cond, size_checked, size_and, size_number, size_below, size_id, size_value, size_tagged, none, ◌&◌}
-use Rattle.mir.specs.Syntax.{Projection}
+use Rattle.mir.specs.declared.Projection.{Projection}
 use Rattle.bytes_field.specs.Decode.{name_id_of, count_of, defined_of, operation_of, projection_of}
 use Rattle.bytes_field.specs.Walk.{Walk, simple_walk, atom_walk, pair_walk, times, counts, list_walk, any_many, exactly, place_walk, field_walk, row_walk}
 use Rattle.bytes_field.specs.declared.Bounds.{Bounds}

@@ -12,7 +12,8 @@ use Rattle.mir.specs.declared.ValueId.{ValueId}
 use Rattle.mir.specs.declared.BlockId.{BlockId}
 use Rattle.mir.specs.declared.TypeId.{TypeId}
 use Rattle.mir.specs.declared.NameId.{NameId}
-use Rattle.mir.specs.Syntax.{Projection, Place, Source, FieldInit, Span, ExpressionId, Meta, InstructionKind, Instruction, Terminator}
+use Rattle.mir.specs.declared.Projection.{Projection}
+use Rattle.mir.specs.Syntax.{Place, Source, FieldInit, Span, ExpressionId, Meta, InstructionKind, Instruction, Terminator}
 use Rattle.bytes_field.specs.declared.Bounds.{Bounds}
 
 -- the numbers of types, blocks and names

@@ -7,7 +7,9 @@ use Rattle.mir.specs.declared.ValueId.{ValueId}
 use Rattle.mir.specs.declared.BlockId.{BlockId}
 use Rattle.mir.specs.declared.TypeId.{TypeId}
 use Rattle.mir.specs.declared.NameId.{NameId}
-use Rattle.mir.specs.Syntax.{Projection, Index, Field, Tuple, Place, Source, FieldInit, Span, ExpressionId, Meta, InstructionKind, Instruction, Terminator}
+use Rattle.mir.specs.declared.Projection.{Projection}
+use Rattle.mir.specs.declared.Projection.TheVariants.{Index, Field, Tuple}
+use Rattle.mir.specs.Syntax.{Place, Source, FieldInit, Span, ExpressionId, Meta, InstructionKind, Instruction, Terminator}
 use Rattle.mir.specs.Syntax.{Assign, UnaryOp, BinaryOp, Call, Cast, Load, Store, Debug, Nop, Phi}
 use Rattle.mir.specs.Syntax.{MakeTuple, ExtractTupleElement, MakeStruct, ExtractStructField, InsertField, InsertTuple, MakeFixedArray, AssertEq, HeapAllocCells}
 use Rattle.mir.specs.Syntax.{Jump, If, BranchCmp, Return, Unreachable}

@@ -1,18 +1,22 @@
 -- How the code walks over an instruction's bytes: one table of field classes.
 -- Nothing here is believed: the laws of proofs/Rows.antt tie each row to the decoder of its kind.
-use Rattle.std.specs.Prelude.{ℕ, zero, suc, ◌+◌, ◌/◌, ◌%◌, ◌≡◌, List, [], ◌∷◌, map, Bool, true, false, cond, not, ◌||◌, length, get_or, set, ltb, eqb}
-use Rattle.bytes_wire.specs.Parse.{Parse, ok, bad, and_then, map_parse, checked}
+use Rattle.std.specs.Prelude.{ℕ, zero, suc, ◌+◌, ◌/◌, ◌%◌, ◌≡◌, List, [], ◌∷◌, map, Bool}
+use Rattle.std.specs.Prelude.{true, false, cond, not, ◌||◌, length, get_or, set, ltb, eqb, Result, Ok, Err}
+use Rattle.bytes_wire.specs.Parse.{Parse, as_answer, ok, and_then, map_parse, checked}
+pub use Rattle.bytes_wire.specs.Parse.{places}
 use Rattle.bytes_wire.specs.Number.{u16_of, u32_of, below}
 use Rattle.bytes_wire.specs.Value.{value_of, value_id_of}
 use Rattle.bytes_wire.specs.declared.Cause.{Cause}
+use Rattle.bytes_wire.specs.declared.Refusal.{Refusal}
 use Rattle.mir.specs.declared.Value.{Value}
 use Rattle.mir.specs.declared.ValueId.{ValueId}
-use Rattle.mir.specs.Syntax.{Projection, Index, Field, Tuple, Place, InstructionKind, Instruction, Terminator}
+use Rattle.mir.specs.declared.Projection.{Projection}
+use Rattle.mir.specs.declared.Projection.TheVariants.{Index, Field, Tuple}
+use Rattle.mir.specs.Syntax.{Place, InstructionKind, Instruction, Terminator}
 use Rattle.mir.specs.Reads.{place_reads, reads, dests, is_phi, terminator_reads}
 use Rattle.bytes_field.specs.Decode.{count_of, mark, defined_of, operation_of, projection_of}
 use Rattle.bytes_field.specs.declared.Bounds.{Bounds}
 use Rattle.bytes_field.specs.declared.Lists.{Lists}
-use Rattle.bytes_field.specs.declared.Part.{Part}
 use Rattle.bytes_field.specs.declared.Scan.{Scan}
 
 -- what a walk carries: a mark for each value defined so far, a buffer with the values read so far, how many
@@ -166,36 +170,31 @@ abbrev pub terminator_rows : List ℕ
 terminator_rows = 0x6 ∷ 0x662 ∷ 0x66228 ∷ 0xa ∷ 0x0 ∷ []
 
 -- what the code's answers say, with the lent marks and buffer
-abbrev pub as_scan : Scan → List Bool → List ℕ → Parse Walk
-as_scan (Scan.Used at n late) seen buffer = ok (walk_of seen buffer n late) at
-as_scan (Scan.Refused c o) seen buffer = bad c o
+abbrev pub scanned : List Bool → List ℕ → Scan → Parse Walk
+scanned seen buffer x = ok (walk_of seen buffer x.reads x.late) x.size
 
--- the byte that a walk stands at; a refused one stands at none
-abbrev pub stands_at : List ℕ → Scan → ℕ
-stands_at s (Scan.Used at n late) = get_or s at 0
-stands_at s (Scan.Refused c o) = 0
+abbrev pub as_scan : Result Scan Refusal → List Bool → List ℕ → Parse Walk
+as_scan r seen buffer = as_answer (scanned seen buffer) r
 
 -- how many bytes an answer speaks of
-abbrev pub bytes_of : Scan → ℕ
-bytes_of (Scan.Used k n late) = k
-bytes_of (Scan.Refused c o) = o
-
--- how many numbers 64 bits tell apart
-abbrev pub places : ℕ
-places = 18446744073709551616
+abbrev pub bytes_of : Result Scan Refusal → ℕ
+bytes_of (Ok x) = x.size
+bytes_of (Err e) = e.offset
 
 -- a field was passed over: `n` reads are noted as before
-abbrev pub Skipped : {A : Type 0} → Scan → ℕ → Bool → Parse A → Type 0
+abbrev pub Skipped : {A : Type 0} → Result Scan Refusal → ℕ → Bool → Parse A → Type 0
 Skipped r n late d = (seen : List Bool) (buffer : List ℕ) → as_scan r seen buffer ≡ map_parse (λ x. walk_of seen buffer n late) d
 
 -- a field was read, and what it uses noted behind `n` reads: the buffer `before` became `after`
-abbrev pub Noted : {A : Type 0} → Scan → ℕ → Bool → List ℕ → List ℕ → (Walk → A → Walk) → Parse A → Type 0
+abbrev pub Noted : {A : Type 0} → Result Scan Refusal → ℕ → Bool → List ℕ → List ℕ → (Walk → A → Walk) → Parse A → Type 0
 Noted r n late before after noting d = (seen : List Bool) → as_scan r seen after ≡ map_parse (noting (walk_of seen before n late)) d
 
 -- a walk that keeps nothing of what it reads
 abbrev pub unit : {A : Type 0} → A → Unit {0}
 unit a = tt
 
-abbrev pub as_part : Part → Parse (Unit {0})
-as_part (Part.Used n) = ok tt n
-as_part (Part.Refused c o) = bad c o
+abbrev pub part_used : ℕ → Parse (Unit {0})
+part_used n = ok tt n
+
+abbrev pub as_part : Result ℕ Refusal → Parse (Unit {0})
+as_part r = as_answer part_used r

@@ -9,7 +9,7 @@ ghost use Rattle.bytes_wire.specs.Value.{value_of, value_id_of};
 ghost use Rattle.bytes_field.specs.Decode.{defined_of, operation_of, projection_of};
 ghost use Rattle.bytes_field.specs.Walk.{walk_of, defines, uses, uses_value, uses_projection, as_scan, bytes_of, places, Skipped, Noted};
 
-use bytes_wire::{Cause, ReadValue};
+use bytes_wire::{Cause, Refusal};
 use mir::{Value, ValueId};
 
 // What the numbers of an instruction stay below, and the mosts of its lists and projections.
@@ -22,12 +22,12 @@ pub struct Bounds {
     pub projections: u8,
 }
 
-// How many bytes a walk took, how many reads it noted, and whether another kind than Phi was met; or its refusal: the cause,
-// and the offset of the field.
-#[derive(Clone, Copy)]
-pub enum Scan {
-    Used(usize, usize, bool),
-    Refused(Cause, usize),
+// How many bytes a walk took, how many reads it noted, and whether another kind than Phi was met.
+#[derive(Clone, Copy, PartialEq, Eq, Debug)]
+pub struct Scan {
+    pub size: usize,
+    pub reads: usize,
+    pub late: bool,
 }
 
 // What a list may count: at most `most`; where `exact` stands, `many` and no other.
@@ -36,13 +36,6 @@ pub struct Lists {
     pub most: u8,
     pub exact: bool,
     pub many: u8,
-}
-
-// How many bytes something took; or its refusal.
-#[derive(Clone, Copy)]
-pub enum Part {
-    Used(usize),
-    Refused(Cause, usize),
 }
 
 // How many bytes the number of a name, a value, a type or a block takes, and a u32.
@@ -81,97 +74,118 @@ fn note_value(buffer: &mut [u16], n: usize, x: Value) -> usize
 }
 
 // The same answer, counted from `before` bytes earlier.
-pub fn further(p: Scan, before: usize) -> Scan
+pub fn further(p: Result<Scan, Refusal>, before: usize) -> Result<Scan, Refusal>
     requires { before + bytes_of p < places }
     ensures { (seen : List Bool) (buffer : List ℕ) → as_scan result seen buffer ≡ later before (as_scan p seen buffer) }
 {
-    match p {
-        Scan::Refused(c, o) => Scan::Refused(c, before + o),
-        Scan::Used(k, n, late) => Scan::Used(before + k, n, late),
-    }
+    let x = p.map_err(|e| e.behind(before))?;
+    Ok(Scan {
+        size: before + x.size,
+        ..x
+    })
 }
 
 // A number of `width` bytes.
-pub fn read_number(s: &[u8], n: usize, late: bool, width: usize) -> Scan
+pub fn read_number(s: &[u8], n: usize, late: bool, width: usize) -> Result<Scan, Refusal>
     ensures { Skipped result n late (number_of width s.now) }
 {
     if s.len() < width {
-        return Scan::Refused(Cause::Truncated, 0);
+        return Err(Cause::Truncated.at(0));
     }
-    Scan::Used(width, n, late)
+    Ok(Scan {
+        size: width,
+        reads: n,
+        late,
+    })
 }
 
 // A u16 below a bound: the number of a type or a block.
-pub fn read_below(s: &[u8], n: usize, late: bool, bound: u16) -> Scan
+pub fn read_below(s: &[u8], n: usize, late: bool, bound: u16) -> Result<Scan, Refusal>
     ensures { Skipped result n late (below bound s.now) }
 {
-    if s.len() < ID {
-        return Scan::Refused(Cause::Truncated, 0);
-    }
-    if bound <= bytes_wire::u16_at(s, 0) {
-        return Scan::Refused(Cause::OutOfRange, 0);
-    }
-    Scan::Used(ID, n, late)
+    let x = bytes_wire::read_below(s, bound)?;
+    Ok(Scan {
+        size: x.size,
+        reads: n,
+        late,
+    })
 }
 
 // One of `many` operations.
-pub fn read_operation(s: &[u8], n: usize, late: bool, many: u8) -> Scan
+pub fn read_operation(s: &[u8], n: usize, late: bool, many: u8) -> Result<Scan, Refusal>
     ensures { Skipped result n late (operation_of many s.now) }
 {
-    if s.len() < 1 {
-        return Scan::Refused(Cause::Truncated, 0);
+    let x = bytes_wire::read_u8(s)?;
+    if many <= x.value {
+        return Err(Cause::Undefined.at(0));
     }
-    if many <= s[0] {
-        return Scan::Refused(Cause::Undefined, 0);
-    }
-    Scan::Used(1, n, late)
+    Ok(Scan {
+        size: x.size,
+        reads: n,
+        late,
+    })
 }
 
 // A value that is defined here: it is marked.
-pub fn read_defined(s: &[u8], n: usize, late: bool, next: u16, seen: &mut [bool]) -> Scan
+pub fn read_defined(
+    s: &[u8],
+    n: usize,
+    late: bool,
+    next: u16,
+    seen: &mut [bool],
+) -> Result<Scan, Refusal>
     ensures { (buffer : List ℕ) → let w = walk_of seen.old buffer n late in
         as_scan result seen.new buffer ≡ map_parse (defines w) (defined_of next seen.old s.now) }
 {
-    if s.len() < ID {
-        return Scan::Refused(Cause::Truncated, 0);
+    let x = bytes_wire::read_below(s, next)?;
+    let v = x.value as usize;
+    if table::flag(seen, v) {
+        return Err(Cause::Redefined.at(0));
     }
-    let x = bytes_wire::u16_at(s, 0);
-    if next <= x {
-        return Scan::Refused(Cause::OutOfRange, 0);
-    }
-    if table::flag(seen, x as usize) {
-        return Scan::Refused(Cause::Redefined, 0);
-    }
-    table::set_flag(seen, x as usize, true);
-    Scan::Used(ID, n, late)
+    table::set_flag(seen, v, true);
+    Ok(Scan {
+        size: x.size,
+        reads: n,
+        late,
+    })
 }
 
 // A value number that is read: the base of a place.
-pub fn read_base(s: &[u8], n: usize, late: bool, next: u16, buffer: &mut [u16]) -> Scan
+pub fn read_base(
+    s: &[u8],
+    n: usize,
+    late: bool,
+    next: u16,
+    buffer: &mut [u16],
+) -> Result<Scan, Refusal>
     ensures { Noted result n late buffer.old buffer.new uses (value_id_of next s.now) }
 {
-    if s.len() < ID {
-        return Scan::Refused(Cause::Truncated, 0);
-    }
-    let x = bytes_wire::u16_at(s, 0);
-    if next <= x {
-        return Scan::Refused(Cause::OutOfRange, 0);
-    }
-    let m = note(buffer, n, ValueId(x));
-    Scan::Used(ID, m, late)
+    let x = bytes_wire::read_below(s, next)?;
+    let m = note(buffer, n, ValueId(x.value));
+    Ok(Scan {
+        size: x.size,
+        reads: m,
+        late,
+    })
 }
 
 // A value, from its kind on.
-pub fn read_value(s: &[u8], n: usize, late: bool, next: u16, buffer: &mut [u16]) -> Scan
+pub fn read_value(
+    s: &[u8],
+    n: usize,
+    late: bool,
+    next: u16,
+    buffer: &mut [u16],
+) -> Result<Scan, Refusal>
     ensures { Noted result n late buffer.old buffer.new uses_value (value_of next s.now) }
 {
-    match bytes_wire::read_value(s, next) {
-        ReadValue::Refused(c, o) => Scan::Refused(c, o),
-        ReadValue::Got(x, k) => {
-            let m = note_value(buffer, n, x);
-            Scan::Used(k, m, late)
-        }
-    }
+    let x = bytes_wire::read_value(s, next)?;
+    let m = note_value(buffer, n, x.value);
+    Ok(Scan {
+        size: x.size,
+        reads: m,
+        late,
+    })
 }
 
 // What stands behind a place; nothing where that is past the end.
@@ -200,17 +214,23 @@ pub fn between(s: &[u8], a: usize, e: usize) -> &[u8]
 }
 
 // A projection: its kind, then a value, a name or an index.
-pub fn read_projection(s: &[u8], n: usize, late: bool, next: u16, buffer: &mut [u16]) -> Scan
+pub fn read_projection(
+    s: &[u8],
+    n: usize,
+    late: bool,
+    next: u16,
+    buffer: &mut [u16],
+) -> Result<Scan, Refusal>
     ensures { Noted result n late buffer.old buffer.new uses_projection (projection_of next s.now) }
 {
     if s.len() < 1 {
-        return Scan::Refused(Cause::Truncated, 0);
+        return Err(Cause::Truncated.at(0));
     }
     let t = tail(s, 1);
     match s[0] {
         INDEX => further(read_value(t, n, late, next, buffer), 1),
         FIELD => further(read_number(t, n, late, ID), 1),
         TUPLE => further(read_number(t, n, late, WORD), 1),
-        _ => Scan::Refused(Cause::Undefined, 0),
+        _ => Err(Cause::Undefined.at(0)),
     }
 }

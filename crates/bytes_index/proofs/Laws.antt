@@ -2,7 +2,9 @@
 use Prim.Native.Nat.{ℕ, zero, suc, ◌+◌, ◌*◌, ◌-◌, ◌≤◌, ◌<◌}
 use mathlib.Core.Path.{◌≡◌, refl, ap, ◌∙◌, sym}
 use mathlib.Core.List.{List}
-use mathlib.Core.Option.{none, some}
+use mathlib.Core.Option.{Option, none, some}
+use native.Mathlib.Numerals.{add-one}
+use Rattle.mir.specs.declared.TypeId.{TypeId}
 use native.Mathlib.Omega.{arith}
 use lib.ListN.{length, get_or, drop}
 use lib.Seq.{get_or-drop}
@@ -10,7 +12,7 @@ use Rattle.mir.specs.Syntax.{Block}
 use Rattle.bytes_field.specs.declared.Bounds.{Bounds}
 use Rattle.bytes_index.specs.Table.{starts_in, row_number}
 use Rattle.bytes_index.specs.Code.{no_block, CodeIn, LastSlot}
-use Rattle.bytes_index.specs.Recorded.{recorded_from}
+use Rattle.bytes_index.specs.Recorded.{recorded_number, recorded_from}
 
 -- a number of a section
 pub in_section : (from k : ℕ) (facts : List ℕ) {r : ℕ} → r ≡ get_or facts (from + k) 0 → r ≡ get_or (drop from facts) k 0
@@ -40,12 +42,7 @@ module _ (facts : List ℕ) (k : ℕ) {behind : ℕ} (e : behind ≡ get_or fact
   pub last_found : LastSlot facts k (behind - 1)
   last_found b s ks c h = omega (arith, in_section 354 (suc k) facts (e ∙ ap (λ j. get_or facts j 0) (omega arith)), c.next k h)
 
--- the number of the table tells the type
-pub from_some : (t : ℕ) → 0 < t → some (record { 0 = t - 1 }) ≡ recorded_from t
-from_some zero h = absurd (omega arith)
-from_some (suc t) h = let e : suc t - 1 ≡ t = omega arith in ap (λ x. some (record { 0 = x })) e
-
--- 0 tells that there is none
-pub from_none : (t : ℕ) → t ≤ 0 → none ≡ recorded_from t
-from_none zero h = refl
-from_none (suc t) h = absurd (omega arith)
+-- the number of a recorded type tells it
+pub from_number : (o : Option TypeId) {k : ℕ} → k ≡ recorded_number o → recorded_from k ≡ o
+from_number none e = rw e
+from_number (some t) e = rw (e, add-one)

@@ -2,6 +2,7 @@
 #![tactic(auto)]
 
 ghost use Rattle.std.specs.Prelude.{◌≡◌, List, ℕ, ◌+◌, ◌*◌, ◌<◌, length, get_or, drop};
+ghost use Rattle.mir.specs.Kind.{NamesKind};
 ghost use Rattle.mir.specs.Syntax.{Block};
 ghost use Rattle.bytes_field.specs.declared.Bounds.{Bounds};
 ghost use Rattle.bytes_index.specs.Table.{recorded_in, blocks_in, starts_in, block_set};
@@ -9,6 +10,7 @@ ghost use Rattle.bytes_index.specs.Table.{columns_below, row_at, row_number, pla
 ghost use Rattle.bytes_index.specs.Code.{no_block, CodeIn, LastSlot};
 ghost use Rattle.table.specs.Number.{numbers_below};
 
+use mir::kind::Kind;
 use mir::{BlockId, ValueId};
 
 // Where the sections begin, and how long the table is.
@@ -89,11 +91,25 @@ pub fn end(facts: &[u16], slot: u16) -> usize
     table::number(facts, row_place(slot, END)) as usize
 }
 
-// An instruction's kind.
+// The kind that stands at a place of the table.
+pub fn kind_at(facts: &[u16], at: usize) -> Option<Kind>
+    ensures { NamesKind (get_or facts.now at 0) result }
+{
+    Kind::try_from(table::number(facts, at)).ok()
+}
+
+// An instruction's kind as a number, for what does not take it as an enum yet.
 pub fn kind(facts: &[u16], slot: u16) -> u16
     ensures { result ≡ kind_in facts.now slot }
 {
     table::number(facts, row_place(slot, KIND))
+}
+
+// An instruction's kind.
+pub fn instruction_kind(facts: &[u16], slot: u16) -> Option<Kind>
+    ensures { NamesKind (kind_in facts.now slot) result }
+{
+    kind_at(facts, row_place(slot, KIND))
 }
 
 // How many values a slot's instruction or terminator reads.

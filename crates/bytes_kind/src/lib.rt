@@ -1,23 +1,16 @@
 // The kinds of instructions and terminators: the row of fields of each, and when a Phi is late.
 #![tactic(auto)]
 
-ghost use Rattle.std.specs.Prelude.{◌≡◌, List, Bool, ℕ, ◌<◌, get_or};
+ghost use Rattle.std.specs.Prelude.{◌≡◌, List, Bool, ℕ, get_or};
+ghost use Rattle.mir.specs.Kind.{number_of_kind};
+ghost use Rattle.mir.specs.TerminatorKind.{number_of_terminator_kind};
 ghost use Rattle.bytes_wire.specs.Parse.{map_parse};
-ghost use Rattle.bytes_field.specs.Walk.{rows, terminator_rows, as_scan};
+ghost use Rattle.bytes_field.specs.Walk.{rows, terminator_rows, scanned};
 ghost use Rattle.bytes_kind.specs.Late.{late_behind};
 
 use bytes_field::Scan;
-use mir::kind;
-
-// How many kinds of instructions there are, and how many of terminators.
-pub const KINDS: u8 = 19;
-
-pub const TERMINATORS: u8 = 5;
-
-// Two of the kinds, as a byte.
-pub const PHI: u8 = kind::PHI as u8;
-
-pub const MAKE_FIXED_ARRAY: u8 = kind::MAKE_FIXED_ARRAY as u8;
+use mir::kind::Kind;
+use mir::terminator::TerminatorKind;
 
 // The classes of each kind's fields (see `read_field` of bytes_row), in `InstructionKind` order.
 const ROWS: [u32; 19] = [
@@ -46,17 +39,15 @@ const ROWS: [u32; 19] = [
 const TERMINATOR_ROWS: [u32; 5] = [0x6, 0x662, 0x66228, 0xa, 0x0];
 
 // The row of a kind of instruction.
-pub fn row_of_kind(kind: u8) -> u32
-    requires { kind < 19 }
-    ensures { result ≡ get_or rows kind 0 }
+pub fn row_of_kind(kind: Kind) -> u32
+    ensures { result ≡ get_or rows (number_of_kind kind) 0 }
 {
     ROWS[kind as usize]
 }
 
 // The row of a kind of terminator.
-pub fn row_of_end(kind: u8) -> u32
-    requires { kind < 5 }
-    ensures { result ≡ get_or terminator_rows kind 0 }
+pub fn row_of_end(kind: TerminatorKind) -> u32
+    ensures { result ≡ get_or terminator_rows (number_of_terminator_kind kind) 0 }
 {
     TERMINATOR_ROWS[kind as usize]
 }
@@ -69,17 +60,12 @@ pub fn kind_at(s: &[u8]) -> u8
 }
 
 // Behind an instruction that is not a Phi, a Phi is late.
-pub fn after_kind(p: Scan, kind: u8) -> Scan
+pub fn after_kind(p: Scan, kind: Kind) -> Scan
     ensures { (seen : List Bool) (buffer : List ℕ) →
-        as_scan result seen buffer ≡ map_parse (λ w. late_behind kind w) (as_scan p seen buffer) }
+        scanned seen buffer result ≡ map_parse (λ w. late_behind (number_of_kind kind) w) (scanned seen buffer p) }
 {
-    match p {
-        Scan::Refused(c, o) => Scan::Refused(c, o),
-        Scan::Used(at, n, late) => {
-            if kind == PHI {
-                return Scan::Used(at, n, late);
-            }
-            Scan::Used(at, n, true)
-        }
+    Scan {
+        late: p.late || kind != Kind::Phi,
+        ..p
     }
 }

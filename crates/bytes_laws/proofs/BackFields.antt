@@ -19,7 +19,9 @@ use Rattle.mir.specs.declared.TypeId.{TypeId}
 use Rattle.mir.specs.declared.BlockId.{BlockId}
 use Rattle.mir.specs.declared.NameId.{NameId}
 use Rattle.bytes_wire.proofs.RoundTrip.{value_back}
-use Rattle.mir.specs.Syntax.{Projection, Index, Field, Tuple, Place, Source, FieldInit, Span, ExpressionId, Meta}
+use Rattle.mir.specs.declared.Projection.{Projection}
+use Rattle.mir.specs.declared.Projection.TheVariants.{Index, Field, Tuple}
+use Rattle.mir.specs.Syntax.{Place, Source, FieldInit, Span, ExpressionId, Meta}
 use Rattle.bytes_field.specs.Decode.{type_id_of, block_id_of, name_id_of, list_of, mark, defined_of, defined_seq, defineds_of, returns_of, operation_of, projection_of, place_of, source_of, field_init_of, optional, bit, span_of, expression_of, meta_of}
 use Rattle.bytes_field.specs.Encode.{value_id_bytes, type_id_bytes, block_id_bytes, name_id_bytes, each_bytes, list_bytes, projection_bytes, place_bytes, source_bytes, field_init_bytes, option_bytes, span_bytes, expression_bytes, meta_bytes, stands}
 use Rattle.bytes_field.specs.declared.Bounds.{Bounds}

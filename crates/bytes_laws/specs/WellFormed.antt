@@ -8,7 +8,9 @@ use Rattle.mir.specs.declared.ValueId.{ValueId}
 use Rattle.mir.specs.declared.BlockId.{BlockId}
 use Rattle.mir.specs.declared.TypeId.{TypeId}
 use Rattle.mir.specs.declared.NameId.{NameId}
-use Rattle.mir.specs.Syntax.{Projection, Index, Field, Tuple, Place, Source, FieldInit, Span, ExpressionId, Meta, InstructionKind, Instruction, Terminator}
+use Rattle.mir.specs.declared.Projection.{Projection}
+use Rattle.mir.specs.declared.Projection.TheVariants.{Index, Field, Tuple}
+use Rattle.mir.specs.Syntax.{Place, Source, FieldInit, Span, ExpressionId, Meta, InstructionKind, Instruction, Terminator}
 use Rattle.mir.specs.Syntax.{Assign, UnaryOp, BinaryOp, Call, Cast, Load, Store, Debug, Nop, Phi}
 use Rattle.mir.specs.Syntax.{MakeTuple, ExtractTupleElement, MakeStruct, ExtractStructField, InsertField, InsertTuple, MakeFixedArray, AssertEq, HeapAllocCells}
 use Rattle.mir.specs.Syntax.{Jump, If, BranchCmp, Return, Unreachable}
@@ -103,7 +105,8 @@ module _ (b : Bounds) where
   FitKind seen (Assign d x t) = FitNew b seen d × FitsValue x × FitType b t
   FitKind seen (UnaryOp op d x) = (op < 16) × FitNew b seen d × FitsValue x
   FitKind seen (BinaryOp op d x y) = (op < 26) × FitNew b seen d × FitsValue x × FitsValue y
-  FitKind seen (Call ds f xs ps rs) = ((length ds ≤ b.list) × FitNews b seen ds) × Fit16 f × FitsValues xs × FitsTypes ps × FitsTypes rs × (length rs ≡ length ds)
+  FitKind seen (Call ds f xs ps rs) =
+      ((length ds ≤ b.list) × FitNews b seen ds) × Fit16 f × FitsValues xs × FitsTypes ps × FitsTypes rs × (length rs ≡ length ds)
   FitKind seen (Cast d x t u) = FitNew b seen d × FitsValue x × FitType b t × FitType b u
   FitKind seen (Load d p t) = FitNew b seen d × FitPlace b p × FitType b t
   FitKind seen (Store p x t) = FitPlace b p × FitsValue x × FitType b t

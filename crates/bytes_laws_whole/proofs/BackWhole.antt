@@ -21,7 +21,8 @@ use Rattle.bytes_block.specs.WellFormed.{WideMosts}
 use Rattle.bytes_block.specs.declared.Mosts.{Mosts}
 use Rattle.bytes_types.proofs.RoundTrip.{types_back}
 use Rattle.mir.specs.Routine.{Routine}
-use Rattle.bytes_sections.specs.Decode.{at_most, Sizes, sizes_of, body_of, routine_of, whole_of}
+use Rattle.bytes_sections.specs.Decode.{at_most, sizes_of, body_of, routine_of, whole_of}
+use Rattle.bytes_sections.specs.declared.Sizes.{Sizes}
 use Rattle.bytes_sections.specs.Encode.{map_number, encode}
 use Rattle.bytes_laws_whole.specs.WellFormed.{WellFormed, bounds, unmarked}
 use Rattle.bytes_laws_whole.proofs.Whole.{sizes_bytes, wide}

@@ -34,7 +34,8 @@ use Rattle.bytes_types.specs.WellFormed.{FitPart, FitTypes}
 use Rattle.bytes_types.proofs.Canon.{only, types_exact}
 use Rattle.mir.specs.Routine.{Routine}
 use Rattle.bytes_types.specs.Decode.{types_of}
-use Rattle.bytes_sections.specs.Decode.{mosts, at_most, last_byte_of, map_of, has_recorded, recorded_type_of, recorded_of, blocks_of, bounds_of, Sizes, sizes_of, body_of, routine_of, ended, whole_of}
+use Rattle.bytes_sections.specs.Decode.{mosts, at_most, last_byte_of, map_of, has_recorded, recorded_type_of, recorded_of, blocks_of, bounds_of, sizes_of, body_of, routine_of, ended, whole_of}
+use Rattle.bytes_sections.specs.declared.Sizes.{Sizes}
 use Rattle.bytes_sections.specs.Encode.{map_number, encode}
 use Rattle.bytes_laws_whole.specs.WellFormed.{WellFormed}
 use Rattle.bytes_laws_whole.proofs.Blocks.{blocks_exact, blocks_small}

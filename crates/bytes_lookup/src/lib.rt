@@ -10,16 +10,9 @@ ghost use Rattle.bytes_index.specs.Recorded.{recorded_from};
 ghost use Rattle.bytes_block.specs.Encode.{block_bytes};
 ghost use Rattle.bytes_block.specs.Places.{BlocksAt};
 ghost use Rattle.bytes_block.specs.declared.Mosts.{Mosts};
-ghost use Rattle.bytes_lookup.specs.Found.{as_type};
+ghost use Rattle.mir.specs.Option.{as_option};
 
 use mir::{BlockId, TypeId, ValueId};
-
-// A type that a lookup finds, or none there.
-#[derive(Clone, Copy)]
-pub enum TypeFound {
-    Type(TypeId),
-    Nothing,
-}
 
 // The part of the caller's bytes that is block k.
 pub fn block_bytes<'a>(s: &'a [u8], blocks: &[u16], k: BlockId) -> &'a [u8]
@@ -40,12 +33,10 @@ pub fn type_place(starts: &[u16], t: TypeId) -> usize
 }
 
 // The recorded type of a value, where `recorded` has those of all values.
-pub fn recorded_type(recorded: &[u16], v: ValueId) -> TypeFound
-    ensures { as_type result ≡ recorded_from (get_or recorded.now v.0 0) }
+pub fn recorded_type(recorded: &[u16], v: ValueId) -> Option<TypeId>
+    ensures { as_option result ≡ recorded_from (get_or recorded.now v.0 0) }
 {
-    let t = table::number(recorded, v.0 as usize);
-    if 0 < t {
-        return TypeFound::Type(TypeId(t - 1));
-    }
-    TypeFound::Nothing
+    table::number(recorded, v.0 as usize)
+        .checked_sub(1)
+        .map(TypeId)
 }

@@ -14,7 +14,8 @@ use Rattle.bytes_wire.specs.Value.{value_of, value_id_of, value_kinds}
 use Rattle.bytes_wire.specs.declared.Cause.{Cause}
 use Rattle.mir.specs.declared.Value.{Value}
 use Rattle.bytes_wire.proofs.Inv.{no_ok, image, map_inv}
-use Rattle.mir.specs.Syntax.{Projection, InstructionKind}
+use Rattle.mir.specs.declared.Projection.{Projection}
+use Rattle.mir.specs.Syntax.{InstructionKind}
 use Rattle.mir.specs.Reads.{source_values, init_values}
 use Rattle.bytes_field.specs.Decode.{type_id_of, name_id_of, list_of, mark, defined_of, defined_seq, defineds_of, operation_of, projection_of, place_of, source_of, field_init_of, returns_of}
 use Rattle.bytes_field.specs.Decode.{kinds, assign_of, unary_of, binary_of, call_of, cast_of, load_of, store_of, debug_of, phi_of, make_tuple_of, extract_tuple_of, make_struct_of, extract_field_of, insert_field_of, insert_tuple_of, make_array_of, assert_eq_of, heap_alloc_of}

@@ -2,19 +2,18 @@
 use Prim.Native.Nat.{ℕ, zero, suc, ◌+◌, ◌-◌, ◌≤◌, ◌<◌, zero-le}
 use mathlib.Core.Path.{◌≡◌, refl, ap, ◌∙◌, sym}
 use mathlib.Core.List.{List, [], ◌∷◌, map}
-use mathlib.Core.Option.{Option, some}
+use Rattle.std.specs.Prelude.{Option, Some}
 use native.Mathlib.Nat.{sub-zero}
 use native.Mathlib.Omega.{arith}
 use lib.ListN.{get_or, drop}
 use Rattle.bytes_wire.specs.Parse.{Parse, ok, bad, later, map_parse}
 use Rattle.bytes_wire.specs.Number.{number_of, at16, at32}
-use Rattle.bytes_wire.specs.Value.{value_of, as_value}
+use Rattle.bytes_wire.specs.Value.{value_of}
 use Rattle.bytes_wire.specs.declared.Cause.{Cause}
 use Rattle.mir.specs.declared.Value.{Value}
-use Rattle.bytes_wire.specs.declared.ReadValue.{ReadValue}
 use Rattle.bytes_wire.proofs.Laws.{from_16, from_32}
 use Rattle.bytes_wire.proofs.Inv.{no_ok, behind, image, later_inv, map_inv, number_inv, tagged_inv}
-use Rattle.mir.specs.Syntax.{Projection}
+use Rattle.mir.specs.declared.Projection.{Projection}
 use Rattle.bytes_field.specs.Decode.{name_id_of, projection_of}
 use Rattle.bytes_operands.specs.Fields.{value_size, value_end, value_step, after}
 
@@ -63,16 +62,6 @@ unfolding after
 plain_values t zero at = refl
 plain_values t (suc k) at = ap (after (value_step t 0 0) k) (sym (plain_step t at)) ∙ plain_values t k (value_end t at)
 
--- a value that was read from the same bytes
-pub same_value : (next : ℕ) (u v : List ℕ) {r : ReadValue} {x y : Value} {m n : ℕ} → as_value r ≡ value_of next u → u ≡ v → r ≡ ReadValue.Got x m → value_of next v ≡ ok y n → x ≡ y
-same_value next u v {r} {x} {y} {m} {n} p q e f =
-    let z : ok x m ≡ ok y n = sym (ap as_value e) ∙ p ∙ ap (value_of next) q ∙ f in
-    cc
-
--- one that was refused
-pub refused_value : (next : ℕ) (u v : List ℕ) {r : ReadValue} {c : Cause} {o : ℕ} {y : Value} {n : ℕ} → as_value r ≡ value_of next u → u ≡ v → r ≡ ReadValue.Refused c o → value_of next v ≡ ok y n → ⊥
-refused_value next u v {r} {c} {o} {y} {n} p q e f = no_ok (sym (ap as_value e) ∙ p ∙ ap (value_of next) q ∙ f)
-
 -- the decoders of projections, by their kind byte
 abbrev steps : ℕ → List (List ℕ → Parse Projection)
 steps next = (λ t. map_parse Projection.Index (value_of next t)) ∷ (λ t. map_parse Projection.Field (name_id_of t)) ∷ (λ t. map_parse Projection.Tuple (number_of 4 t)) ∷ []
@@ -84,7 +73,7 @@ module _ (next : ℕ) (s : List ℕ) {p : Projection} {n : ℕ} (e : projection_
   chose = (tagged_inv (steps next) s e).1
 
   -- an Index has the value behind it
-  pub step_index_lem : {r : Option Projection} → get_or s 0 0 ≡ 0 → ((x : Value) (m : ℕ) → value_of next (drop 1 s) ≡ ok x m → r ≡ some (Projection.Index x)) → r ≡ some p
+  pub step_index_lem : {r : Option Projection} → get_or s 0 0 ≡ 0 → ((x : Value) (m : ℕ) → value_of next (drop 1 s) ≡ ok x m → r ≡ Some (Projection.Index x)) → r ≡ Some p
   step_index_lem {r} z f =
       let h : later 1 (map_parse Projection.Index (value_of next (drop 1 s))) ≡ ok p n = rw z at chose in
       elim (later_inv 1 (map_parse Projection.Index (value_of next (drop 1 s))) h) [
@@ -92,7 +81,7 @@ module _ (next : ℕ) (s : List ℕ) {p : Projection} {n : ℕ} (e : projection_
       ]
 
   -- a Field the name
-  pub step_field : get_or s 0 0 ≡ 1 → some (Projection.Field (record { 0 = at16 s 1 })) ≡ some p
+  pub step_field : get_or s 0 0 ≡ 1 → Some (Projection.Field (record { 0 = at16 s 1 })) ≡ Some p
   step_field z =
       let h : later 1 (map_parse Projection.Field (name_id_of (drop 1 s))) ≡ ok p n = rw z at chose in
       elim (later_inv 1 (map_parse Projection.Field (name_id_of (drop 1 s))) h) [
@@ -106,10 +95,10 @@ module _ (next : ℕ) (s : List ℕ) {p : Projection} {n : ℕ} (e : projection_
       ]
 
   -- and a Tuple the index
-  pub step_tuple : (get_or s 0 0 ≡ 0 → ⊥) → (get_or s 0 0 ≡ 1 → ⊥) → some (Projection.Tuple (at32 s 1)) ≡ some p
+  pub step_tuple : (get_or s 0 0 ≡ 0 → ⊥) → (get_or s 0 0 ≡ 1 → ⊥) → Some (Projection.Tuple (at32 s 1)) ≡ Some p
   step_tuple z z' = go (get_or s 0 0) z z' chose
     where
-      go : (k : ℕ) → (k ≡ 0 → ⊥) → (k ≡ 1 → ⊥) → get_or (map (λ f. later 1 (f (drop 1 s))) (steps next)) k (bad Cause.Undefined 0) ≡ ok p n → some (Projection.Tuple (at32 s 1)) ≡ some p
+      go : (k : ℕ) → (k ≡ 0 → ⊥) → (k ≡ 1 → ⊥) → get_or (map (λ f. later 1 (f (drop 1 s))) (steps next)) k (bad Cause.Undefined 0) ≡ ok p n → Some (Projection.Tuple (at32 s 1)) ≡ Some p
       go zero f g h = absurd (f refl)
       go (suc zero) f g h = absurd (g refl)
       go (suc (suc zero)) f g h =

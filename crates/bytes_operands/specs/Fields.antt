@@ -1,17 +1,15 @@
 -- The fields of an instruction that lookups find: operand fields, elements of lists, projections.
 use Rattle.std.specs.Prelude.{ℕ, zero, suc, ◌+◌, ◌*◌, eqb, ◌≡◌, List, [], ◌∷◌, Bool, true, false, cond, get_or, drop}
-use Rattle.std.proofs.Math.Option.{Option, none, some}
 use Rattle.bytes_wire.specs.Parse.{ok}
 use Rattle.bytes_wire.specs.Value.{value_of}
 use Rattle.mir.specs.declared.Value.{Value}
-use Rattle.mir.specs.Syntax.{Projection, InstructionKind}
+use Rattle.mir.specs.declared.Projection.{Projection}
+use Rattle.mir.specs.Syntax.{InstructionKind}
 use Rattle.mir.specs.Syntax.{Assign, UnaryOp, BinaryOp, Call, Cast, Load, Store, Debug, Nop, Phi}
 use Rattle.mir.specs.Syntax.{MakeTuple, ExtractTupleElement, MakeStruct, ExtractStructField, InsertField, InsertTuple, MakeFixedArray, AssertEq, HeapAllocCells}
 use Rattle.mir.specs.Reads.{init_values, source_values}
 use Rattle.bytes_field.specs.Decode.{bit}
 use Rattle.bytes_operands.specs.declared.Operands.{Operands}
-use Rattle.bytes_operands.specs.declared.Found.{Found}
-use Rattle.bytes_operands.specs.declared.Step.{Step}
 
 -- an instruction's operand fields: its values, lists and places aside
 abbrev pub operand_fields : InstructionKind → List Value
@@ -93,17 +91,6 @@ pub data ValueAt (next : ℕ) (s : List ℕ) (at : ℕ) (x : Value) : Type 0 whe
 -- how many bytes a value takes, by its kind
 abbrev pub value_size : ℕ → ℕ
 value_size kind = get_or (5 ∷ 2 ∷ 1 ∷ 3 ∷ 1 ∷ []) kind 1
-
--- what a lookup answers
-abbrev pub as_found : Found → Option Value
-as_found (Found.Value x) = some x
-as_found Found.Nothing = none
-
-abbrev pub as_step : Step → Option Projection
-as_step (Step.Index x) = some (Projection.Index x)
-as_step (Step.Field n) = some (Projection.Field n)
-as_step (Step.Tuple k) = some (Projection.Tuple k)
-as_step Step.Nothing = none
 
 -- the place behind the value at a place, and behind the projection at a place
 abbrev pub value_end : List ℕ → ℕ → ℕ

@@ -2,20 +2,20 @@
 #![tactic(auto)]
 
 ghost use Rattle.std.specs.Prelude.{◌≡◌, List, Bool, false, cond, ℕ, ◌+◌, ◌*◌, ◌/◌, ◌%◌, ◌≤◌, ◌<◌, drop, eqb};
-ghost use Rattle.std.proofs.Math.Option.{some};
+ghost use Rattle.mir.specs.Option.{as_option};
 ghost use Rattle.std.proofs.Math.ListN.{get_elem?};
 ghost use Rattle.bytes_wire.specs.Parse.{ok};
 ghost use Rattle.bytes_wire.specs.Value.{value_of};
 ghost use Rattle.mir.specs.declared.Value.{Value as AnyValue};
-ghost use Rattle.mir.specs.Syntax.{Projection, Instruction};
+ghost use Rattle.mir.specs.declared.Projection.{Projection};
+ghost use Rattle.mir.specs.Syntax.{Instruction};
 ghost use Rattle.bytes_field.specs.Decode.{projection_of, instruction_of};
 ghost use Rattle.bytes_operands.specs.Fields.{ValueAt, operand_fields, place_steps, fields_place, value_size, value_end, projection_end};
-ghost use Rattle.bytes_operands.specs.Fields.{after, value_step, operand_row, operand_first, steps_at, step_count, as_found, as_step};
+ghost use Rattle.bytes_operands.specs.Fields.{after, value_step, operand_row, operand_first, steps_at, step_count};
 ghost use Rattle.bytes_operands.specs.Reach.{value_reach, step_reach, list_reach, operand_reach};
 
 use bytes_field::Bounds;
-use bytes_wire::ReadValue;
-use mir::{NameId, Value, kind};
+use mir::{NameId, Projection, Value, kind};
 
 // A kind's operand fields, lists and places aside: how many, how far the first stands behind the kind's first field,
 // and how far the second stands behind the first. (A Store's one stands behind its place.)
@@ -48,22 +48,6 @@ pub const OPERANDS: [Operands; 19] = [
 const LOAD: u8 = kind::LOAD as u8;
 
 const STORE: u8 = kind::STORE as u8;
-
-// A value that a lookup finds, or none there.
-#[derive(Clone, Copy)]
-pub enum Found {
-    Value(Value),
-    Nothing,
-}
-
-// A projection that a lookup finds, or none there.
-#[derive(Clone, Copy)]
-pub enum Step {
-    Index(Value),
-    Field(NameId),
-    Tuple(u32),
-    Nothing,
-}
 
 // The row of a kind; none past the last.
 fn operands_of(kind: u8) -> Operands
@@ -115,20 +99,16 @@ pub fn value_end(t: &[u8], at: usize) -> usize
 pub fn value_at(t: &[u8], at: usize, next: u16) -> Value
     ensures { (x : AnyValue) → ValueAt next t.now at x → result ≡ x }
 {
-    match bytes_wire::read_value(bytes_field::tail(t, at), next) {
-        ReadValue::Got(x, _) => x,
-        ReadValue::Refused(_, _) => Value::Error,
-    }
+    found_at(t, at, next).unwrap_or(Value::Error)
 }
 
 // The value that stands at a place, where one does.
-fn found_at(t: &[u8], at: usize, next: u16) -> Found
-    ensures { (x : AnyValue) (n : ℕ) → value_of next (drop at t.now) ≡ ok x n → as_found result ≡ some x }
+fn found_at(t: &[u8], at: usize, next: u16) -> Option<Value>
+    ensures { (x : AnyValue) (n : ℕ) → value_of next (drop at t.now) ≡ ok x n → result ≡ Some x }
 {
-    match bytes_wire::read_value(bytes_field::tail(t, at), next) {
-        ReadValue::Got(x, _) => Found::Value(x),
-        ReadValue::Refused(_, _) => Found::Nothing,
-    }
+    bytes_wire::read_value(bytes_field::tail(t, at), next)
+        .ok()
+        .map(|r| r.value)
 }
 
 // The place behind the projection that stands at a place.
@@ -150,10 +130,8 @@ pub fn projections_end(t: &[u8], at: usize, k: u8) -> usize
     ensures { (result ≡ after (projection_end t.now) k at) × (result ≤ at + 6 * k) }
 {
     let mut here = at;
-    let mut i: u8 = 0;
-    while i < k {
+    for i in 0..k {
         here = projection_end(t, here);
-        i = i + 1;
     }
     here
 }
@@ -164,10 +142,8 @@ pub fn values_end(t: &[u8], at: usize, before: u8, gap: u8, k: u8) -> usize
     ensures { (result ≡ after (value_step t.now before gap) k at) × (result ≤ at + 600 * k) }
 {
     let mut here = at;
-    let mut j: u8 = 0;
-    while j < k {
+    for j in 0..k {
         here = value_end(t, here + before as usize) + gap as usize;
-        j = j + 1;
     }
     here
 }
@@ -183,32 +159,29 @@ fn operand_first(t: &[u8], kind: u8) -> usize
 }
 
 // Operand field `k` of an instruction.
-pub fn operand(s: &[u8], b: Bounds, k: u8) -> Found
+pub fn operand(s: &[u8], b: Bounds, k: u8) -> Option<Value>
     ensures { (seen : List Bool) (late : Bool) (i : Instruction) (n : ℕ) →
-        instruction_of b seen late s.now ≡ ok i n → as_found result ≡ get_elem? (operand_fields i.kind) k }
+        instruction_of b seen late s.now ≡ ok i n → as_option result ≡ get_elem? (operand_fields i.kind) k }
 {
     let kind = bytes_wire::byte_at(s, 1);
     let o = operands_of(kind);
     if o.0 <= k {
-        return Found::Nothing;
+        return None;
     }
     let t = bytes_field::tail(s, fields_place(s));
     found_at(t, values_end(t, operand_first(t, kind), 0, o.2, k), b.next)
 }
 
 // The projection that stands at a place.
-pub fn step_at(t: &[u8], at: usize, next: u16) -> Step
-    ensures { (p : Projection) (n : ℕ) → projection_of next (drop at t.now) ≡ ok p n → as_step result ≡ some p }
+pub fn step_at(t: &[u8], at: usize, next: u16) -> Option<Projection>
+    ensures { (p : Projection) (n : ℕ) → projection_of next (drop at t.now) ≡ ok p n → result ≡ Some p }
 {
     let u = bytes_field::tail(t, at);
     let kind = bytes_wire::byte_at(u, 0);
     match kind {
-        bytes_field::INDEX => match bytes_wire::read_value(bytes_field::tail(u, 1), next) {
-            ReadValue::Got(x, _) => Step::Index(x),
-            ReadValue::Refused(_, _) => Step::Nothing,
-        },
-        bytes_field::FIELD => Step::Field(NameId(bytes_wire::u16_at(u, 1))),
-        _ => Step::Tuple(bytes_wire::u32_at(u, 1)),
+        bytes_field::INDEX => found_at(u, 1, next).map(Projection::Index),
+        bytes_field::FIELD => Some(Projection::Field(NameId(bytes_wire::u16_at(u, 1)))),
+        _ => Some(Projection::Tuple(bytes_wire::u32_at(u, 1))),
     }
 }
 
@@ -231,14 +204,14 @@ fn step_count(t: &[u8], kind: u8) -> u8
 }
 
 // Projection `k` of a Load's or Store's place.
-pub fn projection(s: &[u8], b: Bounds, k: u8) -> Step
+pub fn projection(s: &[u8], b: Bounds, k: u8) -> Option<Projection>
     ensures { (seen : List Bool) (late : Bool) (i : Instruction) (n : ℕ) →
-        instruction_of b seen late s.now ≡ ok i n → as_step result ≡ get_elem? (place_steps i.kind) k }
+        instruction_of b seen late s.now ≡ ok i n → as_option result ≡ get_elem? (place_steps i.kind) k }
 {
     let kind = bytes_wire::byte_at(s, 1);
     let t = bytes_field::tail(s, fields_place(s));
     if step_count(t, kind) <= k {
-        return Step::Nothing;
+        return None;
     }
     step_at(t, projections_end(t, steps_at(kind) + 1, k), b.next)
 }

@@ -6,10 +6,10 @@ ghost use Rattle.std.specs.Prelude.{◌≡◌, List, Bool, not, ◌≤◌, ◌<�
 ghost use Rattle.bytes_wire.specs.Parse.{and_then, map_parse};
 ghost use Rattle.bytes_wire.specs.Value.{value_of};
 ghost use Rattle.bytes_field.specs.Walk.{walk_of, uses_value, pair_walk, times, first_of, second_of, counts};
-ghost use Rattle.bytes_field.specs.Walk.{list_walk, place_walk, field_walk, row_walk, as_scan};
+ghost use Rattle.bytes_field.specs.Walk.{list_walk, place_walk, field_walk, row_walk, as_scan, scanned};
 
 use bytes_field::{Bounds, Lists, Scan};
-use bytes_wire::{Cause, Read8};
+use bytes_wire::{Cause, Refusal};
 
 // The classes of a field (bytes_field/specs/Walk.antt): none, a value defined here, a value, a type, a name, a u32, a block,
 // a place, an operation of two values and of one.
@@ -64,17 +64,15 @@ fn miscounts(count: u8, l: Lists) -> bool
 }
 
 // A value, behind what was read.
-fn then_value(s: &[u8], p: Scan, next: u16, buffer: &mut [u16]) -> Scan
+fn then_value(s: &[u8], p: Scan, next: u16, buffer: &mut [u16]) -> Result<Scan, Refusal>
     ensures { (seen : List Bool) → as_scan result seen buffer.new ≡
-        and_then s.now (as_scan p seen buffer.old) (λ w t. map_parse (uses_value w) (value_of next t)) }
+        and_then s.now (scanned seen buffer.old p) (λ w t. map_parse (uses_value w) (value_of next t)) }
 {
-    match p {
-        Scan::Refused(k, o) => Scan::Refused(k, o),
-        Scan::Used(at, n, late) => {
-            let t = bytes_field::tail(s, at);
-            bytes_field::further(bytes_field::read_value(t, n, late, next, buffer), at)
-        }
-    }
+    let t = bytes_field::tail(s, p.size);
+    bytes_field::further(
+        bytes_field::read_value(t, p.reads, p.late, next, buffer),
+        p.size,
+    )
 }
 
 // An element, by the kind of its list.
@@ -86,7 +84,7 @@ fn read_element(
     b: Bounds,
     seen: &mut [bool],
     buffer: &mut [u16],
-) -> Scan
+) -> Result<Scan, Refusal>
     ensures { as_scan result seen.new buffer.new ≡
         pair_walk b (first_of k) (second_of k) (walk_of seen.old buffer.old n late) s.now }
 {
@@ -96,13 +94,13 @@ fn read_element(
         DESTS => bytes_field::read_defined(s, n, late, b.next, seen),
         NAMED => then_value(
             s,
-            bytes_field::read_number(s, n, late, bytes_field::ID),
+            bytes_field::read_number(s, n, late, bytes_field::ID)?,
             b.next,
             buffer,
         ),
         SOURCES => then_value(
             s,
-            bytes_field::read_below(s, n, late, b.blocks),
+            bytes_field::read_below(s, n, late, b.blocks)?,
             b.next,
             buffer,
         ),
@@ -121,26 +119,21 @@ fn read_elements(
     b: Bounds,
     seen: &mut [bool],
     buffer: &mut [u16],
-) -> Scan
+) -> Result<Scan, Refusal>
     ensures { as_scan result seen.new buffer.new ≡ times (pair_walk b (first_of k) (second_of k)) count
         (walk_of seen.old buffer.old p before) s.now }
 {
-    let mut at: usize = 0;
-    let mut n = p;
-    let mut late = before;
-    let mut i: u8 = 0;
-    while i < count {
-        match read_element(bytes_field::tail(s, at), n, late, k, b, seen, buffer) {
-            Scan::Refused(c, o) => return Scan::Refused(c, at + o),
-            Scan::Used(size, m, after) => {
-                at = at + size;
-                n = m;
-                late = after;
-            }
-        }
-        i = i + 1;
+    let mut w = Scan {
+        size: 0,
+        reads: p,
+        late: before,
+    };
+    for i in 0..count {
+        let t = bytes_field::tail(s, w.size);
+        let r = read_element(t, w.reads, w.late, k, b, seen, buffer);
+        w = bytes_field::further(r, w.size)?;
     }
-    Scan::Used(at, n, late)
+    Ok(w)
 }
 
 // A list: its count, then as many elements.
@@ -153,20 +146,17 @@ fn read_list(
     b: Bounds,
     seen: &mut [bool],
     buffer: &mut [u16],
-) -> Scan
+) -> Result<Scan, Refusal>
     ensures { as_scan result seen.new buffer.new ≡
         list_walk b l (first_of k) (second_of k) (walk_of seen.old buffer.old n late) s.now }
 {
-    match bytes_count::list_count(s, l.most) {
-        Read8::Refused(c, o) => Scan::Refused(c, o),
-        Read8::Got(count, size) => {
-            if miscounts(count, l) {
-                return Scan::Refused(Cause::CallCounts, 0);
-            }
-            let t = bytes_field::tail(s, size);
-            bytes_field::further(read_elements(t, n, late, count, k, b, seen, buffer), size)
-        }
+    let count = bytes_count::list_count(s, l.most)?;
+    if miscounts(count.value, l) {
+        return Err(Cause::CallCounts.at(0));
     }
+    let t = bytes_field::tail(s, count.size);
+    let r = read_elements(t, n, late, count.value, k, b, seen, buffer);
+    bytes_field::further(r, count.size)
 }
 
 // A place: its base, then its projections.
@@ -177,25 +167,19 @@ fn read_place(
     b: Bounds,
     seen: &mut [bool],
     buffer: &mut [u16],
-) -> Scan
+) -> Result<Scan, Refusal>
     ensures { as_scan result seen.new buffer.new ≡
         place_walk b (walk_of seen.old buffer.old n late) s.now }
 {
-    match bytes_field::read_base(s, n, late, b.next, buffer) {
-        Scan::Refused(c, o) => Scan::Refused(c, o),
-        Scan::Used(size, m, after) => {
-            let l = Lists {
-                most: b.projections,
-                exact: false,
-                many: 0,
-            };
-            let t = bytes_field::tail(s, size);
-            bytes_field::further(
-                read_list(t, m, after, l, PROJECTIONS, b, seen, buffer),
-                size,
-            )
-        }
-    }
+    let p = bytes_field::read_base(s, n, late, b.next, buffer)?;
+    let l = Lists {
+        most: b.projections,
+        exact: false,
+        many: 0,
+    };
+    let t = bytes_field::tail(s, p.size);
+    let r = read_list(t, p.reads, p.late, l, PROJECTIONS, b, seen, buffer);
+    bytes_field::further(r, p.size)
 }
 
 // A list of a row, by its class.
@@ -208,7 +192,7 @@ fn read_listed(
     b: Bounds,
     seen: &mut [bool],
     buffer: &mut [u16],
-) -> Scan
+) -> Result<Scan, Refusal>
     requires { (10 ≤ c) × (c < 16) }
     ensures { as_scan result seen.new buffer.new ≡
         field_walk b many c (walk_of seen.old buffer.old n late) s.now }
@@ -216,7 +200,7 @@ fn read_listed(
     let l = Lists {
         most: b.list,
         exact: c == LISTS + RETURNS,
-        many: many,
+        many,
     };
     read_list(s, n, late, l, c - LISTS, b, seen, buffer)
 }
@@ -231,13 +215,17 @@ fn read_field(
     b: Bounds,
     seen: &mut [bool],
     buffer: &mut [u16],
-) -> Scan
+) -> Result<Scan, Refusal>
     requires { c < 16 }
     ensures { as_scan result seen.new buffer.new ≡
         field_walk b many c (walk_of seen.old buffer.old n late) s.now }
 {
     match c {
-        NONE => Scan::Used(0, n, late),
+        NONE => Ok(Scan {
+            size: 0,
+            reads: n,
+            late,
+        }),
         DEST => bytes_field::read_defined(s, n, late, b.next, seen),
         VALUE => bytes_field::read_value(s, n, late, b.next, buffer),
         TYPE => bytes_field::read_below(s, n, late, b.types),
@@ -261,27 +249,25 @@ fn read_row(
     b: Bounds,
     seen: &mut [bool],
     buffer: &mut [u16],
-) -> Scan
+) -> Result<Scan, Refusal>
     ensures { as_scan result seen.new buffer.new ≡
         row_walk b many 5 row (walk_of seen.old buffer.old p before) s.now }
 {
-    let mut at: usize = 0;
-    let mut n = p;
-    let mut late = before;
+    let mut w = Scan {
+        size: 0,
+        reads: p,
+        late: before,
+    };
     let mut left = row % 0x100000;
+    // The row ends at its last digit that is not 0: a `for` over five digits would go on.
     while left != 0 {
         let c = (left % 16) as u8;
-        match read_field(bytes_field::tail(s, at), n, late, c, many, b, seen, buffer) {
-            Scan::Refused(k, o) => return Scan::Refused(k, at + o),
-            Scan::Used(size, m, after) => {
-                at = at + size;
-                n = m;
-                late = after;
-            }
-        }
+        let t = bytes_field::tail(s, w.size);
+        let r = read_field(t, w.reads, w.late, c, many, b, seen, buffer);
+        w = bytes_field::further(r, w.size)?;
         left = left / 16;
     }
-    Scan::Used(at, n, late)
+    Ok(w)
 }
 
 // A row behind what was read.
@@ -293,15 +279,11 @@ pub fn then_row(
     b: Bounds,
     seen: &mut [bool],
     buffer: &mut [u16],
-) -> Scan
+) -> Result<Scan, Refusal>
     ensures { as_scan result seen.new buffer.new ≡
-        and_then s.now (as_scan p seen.old buffer.old) (λ w t. row_walk b many 5 row w t) }
+        and_then s.now (scanned seen.old buffer.old p) (λ w t. row_walk b many 5 row w t) }
 {
-    match p {
-        Scan::Refused(k, o) => Scan::Refused(k, o),
-        Scan::Used(at, n, late) => {
-            let t = bytes_field::tail(s, at);
-            bytes_field::further(read_row(t, n, late, row, many, b, seen, buffer), at)
-        }
-    }
+    let t = bytes_field::tail(s, p.size);
+    let r = read_row(t, p.reads, p.late, row, many, b, seen, buffer);
+    bytes_field::further(r, p.size)
 }

@@ -8,19 +8,21 @@ use native.Mathlib.Nat.{add-zero, sub-zero, eq-or-lt_of_le, mod-eq_of_lt}
 use native.Mathlib.Omega.{arith}
 use lib.ListN.{length, get_or, drop, set, length-append, length-drop, length-set, get_or-append}
 use lib.Seq.{drop-drop, get_or-drop, get_or_at, get_or-set_same, get_or-set_other}
+use Rattle.std.specs.Prelude.{Result, Ok}
+use Rattle.bytes_wire.specs.declared.Refusal.{Refusal}
 use Rattle.bytes_wire.specs.Parse.{Parse, ok, bad, later, and_then, map_parse}
 use Rattle.bytes_wire.specs.declared.Cause.{Cause}
-use Rattle.bytes_wire.proofs.Laws.{size, size_map, size_and, map_id, map_later, map_map, later_later}
+use Rattle.bytes_wire.proofs.Laws.{Passed, size, size_map, size_and, map_id, map_later, map_map, later_later}
 use Rattle.bytes_wire.proofs.Inv.{no_ok, both, behind, image, later_inv, and_inv, map_inv, map_bad}
 use Rattle.mir.specs.Syntax.{Block}
-use Rattle.bytes_field.specs.Walk.{unit}
+use Rattle.bytes_field.specs.Walk.{as_part, unit}
 use Rattle.bytes_field.specs.declared.Bounds.{Bounds}
 use Rattle.bytes_index.specs.Table.{blocks_in, starts_in}
 use Rattle.bytes_index.specs.Code.{BlockIn, CodeIn}
 use Rattle.bytes_block.specs.Decode.{passed, block_marks, block_of, as_block}
 use Rattle.bytes_block.specs.Rows.{Kept, Tabular, Filled, CodeRead}
 use Rattle.bytes_block.specs.declared.Mosts.{Mosts}
-use Rattle.bytes_block.specs.declared.BlockRead.{BlockRead}
+use Rattle.bytes_block.specs.declared.BlockEnd.{BlockEnd}
 use Rattle.bytes_block.proofs.Sizes.{size_block}
 use Rattle.bytes_block.proofs.Blocks.{block_count}
 use Rattle.bytes_block.proofs.Rows.{block_same}
@@ -198,43 +200,43 @@ module _ (b : Bounds) (at : ℕ) (s : List ℕ) (entry one facts : List ℕ) (p 
         left = simp (map_id, sub-zero);
       }
 
-module _ (b : Bounds) (at : ℕ) (s : List ℕ) (clear : List Bool) (before facts : List ℕ) (k here total : ℕ) (seen : List Bool) (u : Coding b at s clear before facts k here total seen) (h : k < b.blocks) (marked : List Bool) (middle : List ℕ) (r : BlockRead) (p : CodeRead mosts b total here (total + k) s seen (as_block r marked) facts middle) where
+module _ (b : Bounds) (at : ℕ) (s : List ℕ) (clear : List Bool) (before facts : List ℕ) (k here total : ℕ) (seen : List Bool) (u : Coding b at s clear before facts k here total seen) (h : k < b.blocks) (marked : List Bool) (middle : List ℕ) (r : Result BlockEnd Refusal) (p : CodeRead mosts b total here (total + k) s seen (as_block r marked) facts middle) where
   -- the next block, counted from the start
-  told : {q : BlockRead} → r ≡ q → map_parse (passed seen) (later here (block_of mosts b total seen (drop here s))) ≡ as_block q marked
+  told : {q : Result BlockEnd Refusal} → r ≡ q → map_parse (passed seen) (later here (block_of mosts b total seen (drop here s))) ≡ as_block q marked
   told g = map_later (passed seen) here (block_of mosts b total seen (drop here s)) ∙ sym p.answers ∙ ap (λ x. as_block x marked) g
 
   -- it is refused
-  pub coding_stop : {c : Cause} {o : ℕ} (entry : List ℕ) → r ≡ BlockRead.Refused c o → BlocksRead b at s clear (bad c o) entry middle
+  pub coding_stop : {a : Result ℕ Refusal} (entry : List ℕ) → Passed r a → BlocksRead b at s clear (as_part a) entry middle
   unfolding blocks_of
-  coding_stop {c} {o} entry g =
+  coding_stop entry (e, (g, v)) =
       let z : b.blocks - k ≡ suc (b.blocks - (k + 1)) = omega arith in
       let all = blocks_of mosts b 0 clear b.blocks (drop at s) in
       let d = block_of mosts b total seen (drop here s) in
-      let y : later here (block_of mosts b total seen (drop here s)) ≡ bad c o = map_bad (passed seen) (later here d) (told g) in
-      let f : bad c o ≡ later at (map_parse unit (blocks_of mosts b 0 clear b.blocks (drop at s))) =
+      let y : later here (block_of mosts b total seen (drop here s)) ≡ bad e.cause e.offset = map_bad (passed seen) (later here d) (told g) in
+      let f : bad e.cause e.offset ≡ later at (map_parse unit (blocks_of mosts b 0 clear b.blocks (drop at s))) =
       sym (sym (map_later unit at all) ∙ ap (map_parse unit) u.left ∙ rw z (first_bad here d _ (λ xs. u.behind_it_lem ++ xs) (drop here s) y)) in
-      record { answers = f; filled = λ xs n q. absurd (no_value at all f xs n q) }
+      rw v record { answers = f; filled = λ xs n q. absurd (no_value at all f xs n q) }
 
-  module _ {end count : ℕ} (g : r ≡ BlockRead.Used end count) where
+  module _ {last : BlockEnd} (g : r ≡ Ok last) where
     -- the instructions so far are not too many
-    pub coding_few : total + count ≤ 256
+    pub coding_few : total + last.count ≤ 256
     coding_few =
         elim (map_inv (passed seen) (later here (block_of mosts b total seen (drop here s))) (told g)) [
           | image x i w ↦ elim (later_inv here (block_of mosts b total seen (drop here s)) i) [ behind n e f ↦ omega (arith, block_count mosts b total seen (drop here s) e, ap (λ p. p.count) w) ]
         ]
 
     -- one more is behind, where its end and the slot behind it are stored
-    pub coding_again : (one facts' : List ℕ) → b.blocks ≤ 32 → one ≡ set middle (321 + (k + 1)) (end % 65536) → facts' ≡ set one (354 + (k + 1)) (total + count + (k + 1)) → Coding b at s clear before facts' (k + 1) end (total + count) marked
+    pub coding_again : (one facts' : List ℕ) → b.blocks ≤ 32 → one ≡ set middle (321 + (k + 1)) (last.end % 65536) → facts' ≡ set one (354 + (k + 1)) (total + last.count + (k + 1)) → Coding b at s clear before facts' (k + 1) last.end (total + last.count) marked
     unfolding blocks_of
     coding_again one facts' many e₁ e₂ =
         let z : b.blocks - k ≡ suc (b.blocks - (k + 1)) = omega arith in
-        let stored : facts' ≡ set (set middle (321 + (k + 1)) (end % 65536)) (354 + (k + 1)) (total + count + (k + 1)) = e₂ ∙ ap (λ y. set y (354 + (k + 1)) (total + count + (k + 1))) e₁ in
+        let stored : facts' ≡ set (set middle (321 + (k + 1)) (last.end % 65536)) (354 + (k + 1)) (total + last.count + (k + 1)) = e₂ ∙ ap (λ y. set y (354 + (k + 1)) (total + last.count + (k + 1))) e₁ in
         elim (map_inv (passed seen) (later here (block_of mosts b total seen (drop here s))) (told g)) [
           | image x i w ↦
               elim (later_inv here (block_of mosts b total seen (drop here s)) i) [
                 | behind n e f ↦
                     let q : block_marks seen x.instructions ≡ marked = sym (ap (λ p. p.seen) w) in
-                    let c : count ≡ length x.instructions = ap (λ p. p.count) w in
+                    let c : last.count ≡ length x.instructions = ap (λ p. p.count) w in
                     let in_s : here + n ≤ length s = omega (arith, ap (λ d. size d) e, size_block mosts b total seen (drop here s), length-drop here s, u.in_s) in
                     let rows = p.filled x n e in
                     let middle_kept : Kept 321 before middle = kept_through 321 (387 + 20 * (total + k)) (omega arith) u.kept rows.kept in
@@ -245,7 +247,7 @@ module _ (b : Bounds) (at : ℕ) (s : List ℕ) (clear : List Bool) (before fact
                       long = u.long;
                       behind_it_lem = u.behind_it_lem ++ (x ∷ []);
                       count = omega (arith, length-append u.behind_it_lem (x ∷ []), u.count);
-                      kept = rw stored (kept_set 321 (354 + (k + 1)) (total + count + (k + 1)) (omega arith) (kept_set 321 (321 + (k + 1)) (end % 65536) (omega arith) middle_kept));
+                      kept = rw stored (kept_set 321 (354 + (k + 1)) (total + last.count + (k + 1)) (omega arith) (kept_set 321 (321 + (k + 1)) (last.end % 65536) (omega arith) middle_kept));
                       placed = λ t.
                           rw (f, c)
                           (placed_more b s facts middle facts' u.behind_it_lem x here n total seen t (omega (arith, u.kept.long, u.long)) (omega (arith, u.count)) (omega (arith, coding_few, c)) (u.placed t) (rw u.count rows) e in_s (rw (u.count, ← f, ← c) stored));

@@ -11,10 +11,6 @@ use Rattle.bytes_wire.proofs.Inv.{no_ok}
 use Rattle.bytes_field.specs.Walk.{unit}
 use Rattle.bytes_field.proofs.Laws.{and_later}
 
--- a reader's answer over bytes that are those behind a place
-pub answer_of : {R A : Type 0} (view : R → Parse A) (dec : List ℕ → Parse A) {t u : List ℕ} {r r' : R} → t ≡ u → view r ≡ dec t → r ≡ r' → dec u ≡ view r'
-answer_of view dec h e g = sym (ap dec h) ∙ sym e ∙ ap view g
-
 -- a refusal that is counted from m
 pub data Refused {A : Type 0} (m : ℕ) (d : Parse A) (c : Cause) (o : ℕ) : Type 0 where
   refused : (k : ℕ) → d ≡ bad c k → o ≡ m + k → Refused m d c o

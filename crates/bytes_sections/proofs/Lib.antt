@@ -1,6 +1,6 @@
 pub mod Laws
 pub mod Map
-pub mod Sizes
+pub mod SizesOf
 pub mod Recording
 pub mod Parameters
 pub mod Coding

@@ -8,15 +8,16 @@ use borrow.Author.Tests.{leb-true}
 use lib.ListN.{length, get_or, take, drop}
 use lib.Seq.{drop-drop}
 use lib.Dec.{leb, eqb}
+use Rattle.std.specs.Prelude.{Result, Ok, Err}
+use Rattle.bytes_wire.specs.declared.Refusal.{Refusal}
 use Rattle.bytes_wire.specs.Parse.{Parse, ok, bad, later, and_then, map_parse, checked}
 use Rattle.bytes_wire.specs.Number.{u16_of, at16}
 use Rattle.bytes_wire.specs.WellFormed.{Bytes}
 use Rattle.bytes_wire.specs.declared.Cause.{Cause}
-use Rattle.mir.specs.declared.BlockId.{BlockId}
-use Rattle.bytes_wire.proofs.Laws.{size, map_later, later_later, map_map, map_and, told, told_size, from_16}
+use Rattle.bytes_wire.proofs.Laws.{Behind, Passed, size, map_later, later_later, map_map, map_and, told, told_size, from_16}
 use Rattle.bytes_wire.proofs.Inv.{no_ok, both, behind, image, later_inv, and_inv, map_inv, cond_inv, checked_inv, number_inv, map_bad}
 use Rattle.bytes_field.specs.Walk.{as_part, unit}
-use Rattle.bytes_field.specs.declared.Part.{Part}
+use Rattle.bytes_field.specs.declared.Bounds.{Bounds}
 use Rattle.bytes_laws.specs.WellFormed.{Wide}
 use Rattle.bytes_block.specs.Rows.{Kept, Tabular}
 use Rattle.bytes_block.specs.declared.Mosts.{Mosts}
@@ -25,13 +26,12 @@ use Rattle.bytes_types.specs.Decode.{has_type, type_of, type_seq, types_of}
 use Rattle.bytes_types.specs.Index.{TypesAt, TypesRead}
 use Rattle.bytes_types.proofs.Sizes.{size_types}
 use Rattle.mir.specs.Routine.{Routine}
-use Rattle.bytes_sections.specs.Decode.{mosts, Sizes, sizes_of, bounds_of, body_of, routine_of, ended, whole_of}
+use Rattle.bytes_sections.specs.Decode.{mosts, sizes_of, bounds_of, body_of, routine_of, ended, whole_of}
+use Rattle.bytes_sections.specs.declared.Sizes.{Sizes}
 use Rattle.bytes_sections.specs.Index.{as_sizes, as_checked, verdict}
 use Rattle.bytes_sections.specs.Facts.{BodyRead, LeftFree, RoutineRead}
-use Rattle.bytes_sections.specs.declared.Checked.{Checked}
-use Rattle.bytes_sections.specs.declared.SizesRead.{SizesRead}
 use Rattle.bytes_field.proofs.Laws.{and_later}
-use Rattle.bytes_sections.proofs.Sizes.{size_sizes, sizes_fit}
+use Rattle.bytes_sections.proofs.SizesOf.{size_sizes, sizes_fit}
 
 -- k types are k
 types_length : (most : ℕ) (earlier : List MirType) (k : ℕ) (s : List ℕ) {ts : List MirType} {n : ℕ} → type_seq most earlier k s ≡ ok ts n → length ts ≡ k
@@ -67,7 +67,7 @@ pub record Tabled (s : List ℕ) (at : ℕ) (facts : List ℕ) : Type 0 where
   pub in_s : at ≤ length s
 
 -- so the code tells
-pub tabled : (s : List ℕ) {at : ℕ} {before facts : List ℕ} {r : Part} → TypesRead 64 16 s (as_part r) before facts → r ≡ Part.Used at → Tabled s at facts
+pub tabled : (s : List ℕ) {at : ℕ} {before facts : List ℕ} {r : Result ℕ Refusal} → TypesRead 64 16 s (as_part r) before facts → r ≡ Ok at → Tabled s at facts
 tabled s {at} p g =
     elim (map_inv unit (types_of 64 16 s) (sym p.answers ∙ ap as_part g)) [
       | image ts e i ↦
@@ -92,14 +92,14 @@ pub record Fitted (m : Mosts) (s : List ℕ) (at : ℕ) (z : Sizes) : Type 0 whe
   pub blocks : z.blocks ≤ m.blocks
 
 -- so the code tells
-pub fitted : (m : Mosts) (s : List ℕ) (at : ℕ) {next blocks : ℕ} {entry : BlockId} {r : SizesRead} → at ≤ length s → as_sizes r ≡ sizes_of m (take (length s - at) (drop at s)) → r ≡ SizesRead.Got next blocks entry → Fitted m s at (record { next = next; blocks = blocks; entry = entry })
-fitted m s at {next} {blocks} {entry} h p g =
+pub fitted : (m : Mosts) (s : List ℕ) (at : ℕ) {z : Sizes} {r : Result Sizes Refusal} → at ≤ length s → as_sizes r ≡ sizes_of m (take (length s - at) (drop at s)) → r ≡ Ok z → Fitted m s at z
+fitted m s at h p g =
     let e = told as_sizes (sizes_of m) at s p g in
     let f = sizes_fit m (drop at s) e in
     record { read = e; in_s = told_size as_sizes (sizes_of m) at s (size_sizes m) h p g; next = f.0; blocks = f.1 }
 
 -- an answer of the sizes reaches no further than the bytes do
-pub sizes_size : (m : Mosts) (s : List ℕ) (at : ℕ) {r r' : SizesRead} → at ≤ length s → as_sizes r ≡ sizes_of m (take (length s - at) (drop at s)) → r ≡ r' → at + size (as_sizes r') ≤ length s
+pub sizes_size : (m : Mosts) (s : List ℕ) (at : ℕ) {r r' : Result Sizes Refusal} → at ≤ length s → as_sizes r ≡ sizes_of m (take (length s - at) (drop at s)) → r ≡ r' → at + size (as_sizes r') ≤ length s
 sizes_size m s at h p g = told_size as_sizes (sizes_of m) at s (size_sizes m) h p g
 
 -- every body has the types that stood before it
@@ -130,13 +130,13 @@ accepted at s d {r} e =
 
 module _ (s : List ℕ) where
   -- a refusal finds nothing
-  whole_bad : {c : Cause} {o : ℕ} {before facts : List ℕ} → LeftFree before facts → bad c o ≡ map_parse unit (whole_of mosts s) → RoutineRead s (Checked.Refused c o) before facts
-  whole_bad l e = record { answers = e; found = λ b r n h f g. absurd (no_ok (e ∙ ap (map_parse unit) g)); refused = λ c o g. l }
+  whole_bad : {a : Result Bounds Refusal} {z : Refusal} {before facts : List ℕ} → a ≡ Err z → LeftFree before facts → bad z.cause z.offset ≡ map_parse unit (whole_of mosts s) → RoutineRead s a before facts
+  whole_bad y l e = rw y (record { answers = e; found = λ b r n h f g. absurd (no_ok (e ∙ ap (map_parse unit) g)); refused = λ z g. l })
 
   -- the types are refused
-  pub whole_types : {c : Cause} {o : ℕ} {before facts : List ℕ} {r : Part} → TypesRead 64 16 s (as_part r) before facts → r ≡ Part.Refused c o → RoutineRead s (Checked.Refused c o) before facts
+  pub whole_types : {before facts : List ℕ} {r : Result ℕ Refusal} {a : Result Bounds Refusal} → TypesRead 64 16 s (as_part r) before facts → Passed r a → RoutineRead s a before facts
   unfolding whole_of routine_of
-  whole_types p g = whole_bad p.long (sym (simp (map_bad unit (types_of 64 16 s) (sym p.answers ∙ ap as_part g))))
+  whole_types p (e, (g, y)) = whole_bad y p.long (sym (simp (map_bad unit (types_of 64 16 s) (sym p.answers ∙ ap as_part g))))
 
   module _ {at : ℕ} {before : List ℕ} (u : Tabled s at before) where
     -- the types are passed
@@ -145,8 +145,8 @@ module _ (s : List ℕ) where
     after_types = simp (u.read, and_later)
 
     -- the sizes are refused
-    pub whole_sizes : {c : Cause} {o : ℕ} {first facts : List ℕ} {r : SizesRead} → LeftFree first facts → as_sizes r ≡ sizes_of mosts (take (length s - at) (drop at s)) → r ≡ SizesRead.Refused c o → RoutineRead s (Checked.Refused c (at + o)) first facts
-    whole_sizes l p g = whole_bad l (sym (ap (map_parse unit) after_types ∙ simp (told as_sizes (sizes_of mosts) at s p g)))
+    pub whole_sizes : {first facts : List ℕ} {r : Result Sizes Refusal} {a : Result Bounds Refusal} → LeftFree first facts → as_sizes r ≡ sizes_of mosts (take (length s - at) (drop at s)) → Behind at r a → RoutineRead s a first facts
+    whole_sizes l p (e, (g, y)) = whole_bad y l (sym (ap (map_parse unit) after_types ∙ simp (told as_sizes (sizes_of mosts) at s p g)))
 
     module _ (z : Sizes) (v : Fitted mosts s at z) where
       -- the sizes are passed
@@ -154,7 +154,7 @@ module _ (s : List ℕ) where
       after_sizes = after_types ∙ simp (v.read, and_later, later_later, drop-drop)
 
       -- the body behind them
-      pub whole_body : (x : ℕ) (first facts : List ℕ) (answer : Checked) → x ≡ at16 s 0 → LeftFree first facts → 6147 ≤ length facts → ((r : Routine) (n : ℕ) → Bytes s → whole_of mosts s ≡ ok r n → length s < 65536) → BodyRead (bounds_of mosts x z.next z.blocks) (at + 6) s answer before facts → RoutineRead s answer first facts
+      pub whole_body : (x : ℕ) (first facts : List ℕ) (answer : Result Bounds Refusal) → x ≡ at16 s 0 → LeftFree first facts → 6147 ≤ length facts → ((r : Routine) (n : ℕ) → Bytes s → whole_of mosts s ≡ ok r n → length s < 65536) → BodyRead (bounds_of mosts x z.next z.blocks) (at + 6) s answer before facts → RoutineRead s answer first facts
       whole_body x first facts answer h same_long long short p =
           let ts = u.found in
           let b = bounds_of mosts x z.next z.blocks in
@@ -181,7 +181,7 @@ module _ (s : List ℕ) where
                         code = q.code t;
                       }
                 ];
-            refused = λ c o e. same_long;
+            refused = λ e g. same_long;
           }
 
 -- the verdict does not look at the value
@@ -190,5 +190,5 @@ verdict_unit (ok a n) = refl
 verdict_unit (bad c o) = refl
 
 -- so the code's answer tells it
-pub verdict_of_lem : {A : Type 0} (d : Parse A) (n : ℕ) {r r' : Checked} → as_checked n r ≡ map_parse unit d → r ≡ r' → verdict (as_checked n r') ≡ verdict d
+pub verdict_of_lem : {A : Type 0} (d : Parse A) (n : ℕ) {r r' : Result Bounds Refusal} → as_checked n r ≡ map_parse unit d → r ≡ r' → verdict (as_checked n r') ≡ verdict d
 verdict_of_lem d n e g = ap (λ r. verdict (as_checked n r)) (sym g) ∙ ap verdict e ∙ verdict_unit d

@@ -6,7 +6,6 @@ use Rattle.std.proofs.Math.Option.{Option, none, some}
 use Rattle.bytes_wire.specs.Parse.{Parse, ok, bad, and_then, map_parse, checked, seq_of}
 use Rattle.bytes_wire.specs.Number.{u8_of, u16_of, counted}
 use Rattle.bytes_wire.specs.declared.Cause.{Cause}
-use Rattle.mir.specs.declared.BlockId.{BlockId}
 use Rattle.mir.specs.declared.TypeId.{TypeId}
 use Rattle.mir.specs.Syntax.{Block}
 use Rattle.bytes_field.specs.Decode.{type_id_of, block_id_of, defineds_of, bit}
@@ -16,6 +15,7 @@ use Rattle.bytes_block.specs.declared.Mosts.{Mosts}
 use Rattle.mir.specs.MirType.{MirType}
 use Rattle.bytes_types.specs.Decode.{types_of}
 use Rattle.mir.specs.Routine.{Routine}
+use Rattle.bytes_sections.specs.declared.Sizes.{Sizes}
 
 -- "Most: 64 types, next value 256, 32 blocks, 128 instructions in a block, 256 in all, 16 in any list, 8 projections"
 abbrev pub mosts : Mosts
@@ -56,13 +56,7 @@ blocks_of m b total seen (suc k) s =
 abbrev pub bounds_of : Mosts → ℕ → ℕ → ℕ → Bounds
 bounds_of m types next blocks = record { types = types; next = next; blocks = blocks; list = m.list; projections = m.projections }
 
--- "u16 next value; u16 block count; u16 entry block"
-pub record Sizes : Type 0 where
-  pub next : ℕ
-  pub blocks : ℕ
-  pub entry : BlockId
-
--- the three numbers behind the types
+-- the three numbers behind the types: "u16 next value; u16 block count; u16 entry block"
 unfoldable pub sizes_of : Mosts → List ℕ → Parse Sizes
 sizes_of m s =
     and_then s (at_most m.next s) (λ next s.

@@ -1,17 +1,17 @@
 -- What the reader of a routine answers, and where it finds the parts again.
-use Rattle.std.specs.Prelude.{ℕ, ◌+◌, ◌<◌, ◌≡◌, List, Bool, length, get_or, drop, set}
+use Rattle.std.specs.Prelude.{ℕ, ◌+◌, ◌<◌, ◌≡◌, List, Bool, length, get_or, drop, set, Result}
 use Rattle.std.proofs.Math.Option.{Option, none}
-use Rattle.bytes_wire.specs.Parse.{Parse, ok, bad, map_parse, later, number_of_cause}
+use Rattle.bytes_wire.specs.Parse.{Parse, as_answer, ok, bad, map_parse, later, number_of_cause}
+use Rattle.bytes_wire.specs.declared.Refusal.{Refusal}
 use Rattle.mir.specs.declared.TypeId.{TypeId}
 use Rattle.mir.specs.declared.ValueId.{ValueId}
 use Rattle.bytes_field.specs.Decode.{defineds_of}
 use Rattle.bytes_field.specs.Walk.{unit}
 use Rattle.mir.specs.Syntax.{Block}
-use Rattle.bytes_sections.specs.Decode.{mosts, Sizes, has_recorded, recorded_type_of, recorded_of, blocks_of}
+use Rattle.bytes_sections.specs.Decode.{mosts, has_recorded, recorded_type_of, recorded_of, blocks_of}
+use Rattle.bytes_sections.specs.declared.Sizes.{Sizes}
 use Rattle.bytes_field.specs.declared.Bounds.{Bounds}
 use Rattle.bytes_block.specs.Decode.{marks}
-use Rattle.bytes_sections.specs.declared.SizesRead.{SizesRead}
-use Rattle.bytes_sections.specs.declared.Checked.{Checked}
 use Rattle.bytes_index.specs.Table.{recorded_in, blocks_in}
 use Rattle.bytes_index.specs.Code.{CodeIn}
 pub use Rattle.bytes_index.specs.Code.{no_block}
@@ -51,13 +51,11 @@ pub record BlocksRead (b : Bounds) (at : ℕ) (s : List ℕ) (seen : List Bool) 
   pub filled : (xs : List Block) (n : ℕ) → blocks_of mosts b 0 seen b.blocks (drop at s) ≡ ok xs n → BlocksFilled b s before facts xs
 
 -- what the code's answers say
-abbrev pub as_sizes : SizesRead → Parse Sizes
-as_sizes (SizesRead.Got next blocks entry) = ok (record { next = next; blocks = blocks; entry = entry }) 6
-as_sizes (SizesRead.Refused c o) = bad c o
+abbrev pub as_sizes : Result Sizes Refusal → Parse Sizes
+as_sizes r = as_answer (λ x. ok x 6) r
 
-abbrev pub as_checked : ℕ → Checked → Parse (Unit {0})
-as_checked n (Checked.Accepted b) = ok tt n
-as_checked n (Checked.Refused c o) = bad c o
+abbrev pub as_checked : ℕ → Result Bounds Refusal → Parse (Unit {0})
+as_checked n r = as_answer (λ b. ok tt n) r
 
 -- the number and the offset of document 01's table; 0 and 0 for what is accepted
 pub record Verdict : Type 0 where

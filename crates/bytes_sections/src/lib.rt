@@ -4,26 +4,14 @@
 pub mod sections;
 
 use bytes_block::Mosts;
-use bytes_field::Bounds;
-use bytes_wire::Cause;
 use mir::BlockId;
 
-// The next value, the number of blocks and the entry block; or the refusal.
+// The next value, the number of blocks and the entry block.
 #[derive(Clone, Copy)]
-pub enum SizesRead {
-    Got {
-        next: u16,
-        blocks: u16,
-        entry: BlockId,
-    },
-    Refused(Cause, usize),
-}
-
-// What an accepted routine's numbers stay below, or the refusal.
-#[derive(Clone, Copy)]
-pub enum Checked {
-    Accepted(Bounds),
-    Refused(Cause, usize),
+pub struct Sizes {
+    pub next: u16,
+    pub blocks: u16,
+    pub entry: BlockId,
 }
 
 // "Most: 64 types, next value 256, 32 blocks, 128 instructions in a block, 256 in all, 16 in any list, 8 projections."

@@ -7,10 +7,10 @@ ghost use Rattle.bytes_sections.specs.Index.{RecordedOne, RecordedRead, Paramete
 ghost use Rattle.bytes_index.specs.Table.{facts_size};
 ghost use Rattle.mir.specs.Most.{most_blocks};
 
-use crate::{MOSTS, SizesRead};
-use bytes_block::{BlockRead, Mosts};
-use bytes_field::{Bounds, Part, Scan};
-use bytes_wire::{Cause, Read16};
+use crate::{MOSTS, Sizes};
+use bytes_block::Mosts;
+use bytes_field::{Bounds, Scan};
+use bytes_wire::{Cause, Refusal};
 use mir::{BlockId, ValueId};
 
 // Where the number of blocks and the entry block stand behind the next value.
@@ -28,53 +28,40 @@ const PARAMETERS: u32 = 0xc;
 const POWERS: [u8; 8] = [1, 2, 4, 8, 16, 32, 64, 128];
 
 // "u16 next value; u16 block count; u16 entry block".
-pub fn read_sizes(s: &[u8], m: Mosts) -> SizesRead
+pub fn read_sizes(s: &[u8], m: Mosts) -> Result<Sizes, Refusal>
     ensures { as_sizes result ≡ sizes_of m s.now }
 {
-    match bytes_count::section_count(s, m.next) {
-        Read16::Refused(c, o) => SizesRead::Refused(c, o),
-        Read16::Got(next, _) => match bytes_count::section_count(
-            bytes_field::tail(s, BLOCKS),
-            m.blocks,
-        ) {
-            Read16::Refused(c, o) => SizesRead::Refused(c, BLOCKS + o),
-            Read16::Got(blocks, _) => match bytes_wire::read_u16(bytes_field::tail(s, ENTRY)) {
-                Read16::Refused(c, o) => SizesRead::Refused(c, ENTRY + o),
-                Read16::Got(entry, _) => {
-                    if entry < blocks {
-                        SizesRead::Got {
-                            next: next,
-                            blocks: blocks,
-                            entry: BlockId(entry),
-                        }
-                    } else {
-                        SizesRead::Refused(Cause::OutOfRange, ENTRY)
-                    }
-                }
-            },
-        },
-    }
+    let next = bytes_count::section_count(s, m.next)?;
+    let second = bytes_field::tail(s, BLOCKS);
+    let blocks = bytes_count::section_count(second, m.blocks).map_err(|e| e.behind(BLOCKS))?;
+    let third = bytes_field::tail(s, ENTRY);
+    let entry = bytes_wire::read_below(third, blocks.value).map_err(|e| e.behind(ENTRY))?;
+    Ok(Sizes {
+        next: next.value,
+        blocks: blocks.value,
+        entry: BlockId(entry.value),
+    })
 }
 
 // The map of the values that have a recorded type.
-pub fn map_part(s: &[u8], next: u16) -> Part
+pub fn map_part(s: &[u8], next: u16) -> Result<usize, Refusal>
     ensures { as_part result ≡ map_parse unit (map_of next s.now) }
 {
     let whole = (next / 8) as usize;
     if s.len() < whole {
-        return Part::Refused(Cause::Truncated, s.len());
+        return Err(Cause::Truncated.at(s.len()));
     }
     let bits = (next % 8) as usize;
     if bits == 0 {
-        return Part::Used(whole);
+        return Ok(whole);
     }
     if s.len() <= whole {
-        return Part::Refused(Cause::Truncated, whole);
+        return Err(Cause::Truncated.at(whole));
     }
     if POWERS[bits] <= s[whole] {
-        return Part::Refused(Cause::Undefined, whole);
+        return Err(Cause::Undefined.at(whole));
     }
-    Part::Used(whole + 1)
+    Ok(whole + 1)
 }
 
 // Value v's bit in the map at a place.
@@ -95,25 +82,18 @@ fn recorded_one(
     v: ValueId,
     types: u16,
     facts: &mut [u16],
-) -> Part
+) -> Result<usize, Refusal>
     requires { here ≤ length s.now }
     ensures { RecordedOne types (drop map s.now) v.0 here s.now (as_part result) facts.old facts.new }
 {
     let place = bytes_index::RECORDED + v.0 as usize;
     if !map_bit(s, map, v) {
         table::set_number(facts, place, 0);
-        return Part::Used(here);
+        return Ok(here);
     }
-    match bytes_wire::read_u16(&s[here..]) {
-        Read16::Refused(c, o) => Part::Refused(c, here + o),
-        Read16::Got(t, n) => {
-            if types <= t {
-                return Part::Refused(Cause::OutOfRange, here);
-            }
-            table::set_number(facts, place, t + 1);
-            Part::Used(here + n)
-        }
-    }
+    let t = bytes_wire::read_below(&s[here..], types).map_err(|e| e.behind(here))?;
+    table::set_number(facts, place, t.value + 1);
+    Ok(here + t.size)
 }
 
 // The recorded types, from `at` on, into the table.
@@ -124,67 +104,50 @@ pub fn recorded_part(
     next: u16,
     types: u16,
     facts: &mut [u16],
-) -> Part
+) -> Result<usize, Refusal>
     requires { at ≤ length s.now }
     ensures { RecordedRead types (drop map s.now) next at s.now (as_part result) facts.old facts.new }
 {
     let mut here = at;
-    let mut v: u16 = 0;
-    while v < next {
-        match recorded_one(s, here, map, ValueId(v), types, facts) {
-            Part::Refused(c, o) => {
-                return Part::Refused(c, o);
-            }
-            Part::Used(end) => {
-                here = end;
-            }
-        }
-        v = v + 1;
+    for v in 0..next {
+        here = recorded_one(s, here, map, ValueId(v), types, facts)?;
     }
-    Part::Used(here)
+    Ok(here)
 }
 
 // The parameters, from their count on: each is marked as defined.
-pub fn parameters_part(s: &[u8], b: Bounds, seen: &mut [bool]) -> Part
+pub fn parameters_part(s: &[u8], b: Bounds, seen: &mut [bool]) -> Result<usize, Refusal>
     ensures { ParametersRead b s.now (as_part result) seen.old seen.new }
 {
     let mut none: [u16; 0] = [0; 0];
-    match bytes_row::then_row(
-        s,
-        Scan::Used(0, 0, false),
-        PARAMETERS,
-        0,
-        b,
-        seen,
-        &mut none,
-    ) {
-        Scan::Used(n, _, _) => Part::Used(n),
-        Scan::Refused(c, o) => Part::Refused(c, o),
-    }
+    let start = Scan {
+        size: 0,
+        reads: 0,
+        late: false,
+    };
+    let p = bytes_row::then_row(s, start, PARAMETERS, 0, b, seen, &mut none)?;
+    Ok(p.size)
 }
 
 // The blocks, from `at` on: the table is given each block's place, the slot of its first instruction, and its rows.
-pub fn blocks_part(s: &[u8], at: usize, b: Bounds, seen: &mut [bool], facts: &mut [u16]) -> Part
+pub fn blocks_part(
+    s: &[u8],
+    at: usize,
+    b: Bounds,
+    seen: &mut [bool],
+    facts: &mut [u16],
+) -> Result<usize, Refusal>
     requires { (at ≤ length s.now) × (b.blocks ≤ most_blocks) × (facts_size ≤ length facts.old) }
     ensures { BlocksRead b at s.now seen.old (as_part result) facts.old facts.new }
 {
-    let many = b.blocks;
     let mut here = at;
     let mut total: u16 = 0;
-    let mut k: u16 = 0;
     bytes_index::set_block(facts, BlockId(0), here, 0);
-    while k < many {
-        match bytes_block::read_block(s, here, MOSTS, b, total, total + k, seen, facts) {
-            BlockRead::Refused(c, o) => {
-                return Part::Refused(c, o);
-            }
-            BlockRead::Used { end, count } => {
-                here = end;
-                total = total + count;
-            }
-        }
-        k = k + 1;
-        bytes_index::set_block(facts, BlockId(k), here, total);
+    for k in 0..b.blocks {
+        let x = bytes_block::read_block(s, here, MOSTS, b, total, total + k, seen, facts)?;
+        here = x.end;
+        total = total + x.count;
+        bytes_index::set_block(facts, BlockId(k + 1), here, total);
     }
-    Part::Used(here)
+    Ok(here)
 }

@@ -7,7 +7,8 @@ use mathlib.Core.Option.{Option, none, some}
 use lib.ListN.{get_elem?}
 use Rattle.mir.specs.MirType.{StructField, MirType}
 use Rattle.mir.specs.Lookup.{struct_fields_of}
-use Rattle.bytes_struct.specs.FindField.{FoundField, find_from, find_field}
+use Rattle.bytes_struct.specs.declared.FoundField.{FoundField}
+use Rattle.bytes_struct.specs.FindField.{find_from, find_field}
 
 -- a field called n, of type t
 called : ℕ → ℕ → StructField

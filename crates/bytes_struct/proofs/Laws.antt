@@ -17,7 +17,8 @@ use Rattle.mir.specs.Lookup.{struct_fields_of, on_some}
 use Rattle.mir.specs.Parts.{field_type, part_type}
 use Rattle.bytes_types.specs.Decode.{type_of}
 use Rattle.bytes_types.specs.Index.{TypesAt}
-use Rattle.bytes_struct.specs.FindField.{FoundField, find_from, find_field, position_in, part_in, field_index, field_type_of}
+use Rattle.bytes_struct.specs.declared.FoundField.{FoundField}
+use Rattle.bytes_struct.specs.FindField.{find_from, find_field, position_in, part_in, field_index, field_type_of}
 use Rattle.bytes_struct.specs.Fields.{no_field}
 use Rattle.bytes_struct.proofs.Placed.{kind_fields, other_fields}
 

@@ -3,6 +3,7 @@ use Prim.Native.Nat.{ℕ, ◌+◌, ◌*◌, ◌≤◌, ◌<◌, zero-le}
 use mathlib.Core.Path.{◌≡◌, refl, ap, ◌∙◌, sym}
 use mathlib.Core.List.{List, ◌∷◌}
 use mathlib.Core.Option.{none, some}
+use Rattle.std.specs.Prelude.{Option, Some, None}
 use native.Mathlib.Numerals.{add-one}
 use native.Mathlib.Omega.{arith}
 use borrow.Author.Tests.{eq-eqb, ne_eqb}
@@ -16,10 +17,11 @@ use Rattle.mir.specs.MirType.{StructField, MirType}
 use Rattle.mir.specs.Lookup.{struct_fields_of}
 use Rattle.bytes_types.specs.Decode.{type_of}
 use Rattle.bytes_types.specs.Index.{TypesAt}
+use Rattle.bytes_struct.specs.declared.FoundField.{FoundField}
 use Rattle.bytes_struct.specs.FindField.{find_from, find_field}
 use Rattle.bytes_struct.specs.Fields.{first_name, no_field, Names}
-use Rattle.bytes_struct.specs.Found.{as_found, FoundAmong, FoundInRow}
-use Rattle.bytes_struct.specs.declared.FieldLookup.{FieldLookup}
+use Rattle.mir.specs.Option.{as_option}
+use Rattle.bytes_struct.specs.Found.{FoundAmong, FoundInRow}
 use Rattle.bytes_struct.proofs.Placed.{kind_fields, other_fields}
 
 -- the name is not that of the first i of n fields
@@ -49,7 +51,7 @@ module _ {row : List ℕ} {n : ℕ} {name : NameId} {i : ℕ} (o : Seeking row n
       }
 
   -- the name
-  pub sought_found : {p : ℕ} → i < n → at16 row (4 + 4 * i) ≡ name.0 → p ≡ at16 row (6 + 4 * i) → FoundAmong row n name (FieldLookup.Found i (record { 0 = p }) n)
+  pub sought_found : {p : ℕ} → i < n → at16 row (4 + 4 * i) ≡ name.0 → p ≡ at16 row (6 + 4 * i) → FoundAmong row n name (Some (record { position = i; part = record { 0 = p }; fields = n }))
   unfolding find_from
   sought_found {p} h z g fs v w l =
       let t = the_next fs v l h in
@@ -60,7 +62,7 @@ module _ {row : List ℕ} {n : ℕ} {name : NameId} {i : ℕ} (o : Seeking row n
       sym (o.left fs v l ∙ ap (find_from i (length fs) name) t.0 ∙ rw (q, x, l) refl)
 
   -- none has it
-  pub sought_none : n ≤ i → FoundAmong row n name FieldLookup.Absent
+  pub sought_none : n ≤ i → FoundAmong row n name None
   unfolding find_from
   sought_none h fs v w l =
       let m : length fs ≤ i = omega arith in
@@ -68,7 +70,7 @@ module _ {row : List ℕ} {n : ℕ} {name : NameId} {i : ℕ} (o : Seeking row n
 
 module _ (most own m : ℕ) (row : List ℕ) (T : MirType) (name : NameId) (e : type_of most own row ≡ ok T m) where
   -- a struct's row
-  pub struct_found : (r : FieldLookup) {n : ℕ} → get_or row 0 0 ≡ 4 → n ≡ get_or row 3 0 → FoundAmong row n name r → as_found r ≡ find_field (some T) name
+  pub struct_found : (r : Option FoundField) {n : ℕ} → get_or row 0 0 ≡ 4 → n ≡ get_or row 3 0 → FoundAmong row n name r → as_option r ≡ find_field (some T) name
   unfolding find_field
   struct_found r h k f = let w = kind_fields most own row e h in f (struct_fields_of (some T)) w.names w.parts (w.many ∙ sym k)
 
@@ -84,7 +86,7 @@ module _ (most : ℕ) (s types : List ℕ) (ts : List MirType) (many t : ℕ) (n
   no_type_lem h = let q = none_at ts t (omega arith) in rw q
 
   -- the type's row
-  pub type_found : (r : FieldLookup) {row : List ℕ} {place : ℕ} → TypesAt most s types ts → t < many → row ≡ drop place s → place ≡ get_or types t 0 → FoundInRow row name r → as_found r ≡ find_field (get_elem? ts t) name
+  pub type_found : (r : Option FoundField) {row : List ℕ} {place : ℕ} → TypesAt most s types ts → t < many → row ≡ drop place s → place ≡ get_or types t 0 → FoundInRow row name r → as_option r ≡ find_field (get_elem? ts t) name
   type_found r {row} {place} a h e p f =
       let g : t < length ts = omega arith in
       let here : row ≡ drop (get_or types t 0) s = e ∙ ap (λ j. drop j s) p in

@@ -5,12 +5,10 @@ use Rattle.mir.specs.declared.NameId.{NameId}
 use Rattle.mir.specs.declared.TypeId.{TypeId}
 use Rattle.mir.specs.MirType.{StructField, MirType}
 use Rattle.mir.specs.Lookup.{struct_fields_of}
+use Rattle.bytes_struct.specs.declared.FoundField.{FoundField}
 
--- "position, part type and number of fields together": where the field stands, its type, and how many fields the struct has
-pub record FoundField : Type 0 where
-  pub position : ℕ
-  pub part : TypeId
-  pub fields : ℕ
+-- What is found is "position, part type and number of fields together": where the field stands, its type, and how many fields the
+-- struct has (src/lib.rt, `FoundField`).
 
 -- the first field of that name among those from number `at` on, of `many` in all
 unfoldable pub find_from : ℕ → ℕ → NameId → List StructField → Option FoundField

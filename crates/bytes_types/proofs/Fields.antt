@@ -5,9 +5,11 @@ use mathlib.Core.List.{List, [], ◌∷◌}
 use mathlib.Core.Bool.{true, false, not}
 use native.Mathlib.Nat.{add-zero, add_assoc, sub-zero}
 use native.Mathlib.Omega.{arith}
-use borrow.Author.Tests.{le-leb, lt-leb, lt-ltb}
+use borrow.Author.Tests.{le-leb, lt-leb}
 use lib.ListN.{length, get_or, drop, length-drop}
 use lib.Seq.{drop-drop, get_or-drop}
+use Rattle.std.specs.Prelude.{Result, Ok, Err}
+use Rattle.bytes_wire.specs.declared.Refusal.{Refusal}
 use Rattle.bytes_wire.specs.Parse.{Parse, ok, bad, later, and_then, map_parse}
 use Rattle.bytes_wire.specs.Number.{u16_of, below, at16}
 use Rattle.bytes_wire.specs.declared.Cause.{Cause}
@@ -17,7 +19,6 @@ use Rattle.bytes_wire.proofs.Laws.{map_map, map_later, later_later, number_short
 use Rattle.bytes_wire.proofs.Inv.{no_ok, both, behind, image, later_inv, and_inv, map_inv, checked_inv, number_inv, below_inv, map_bad}
 use Rattle.bytes_field.specs.Decode.{type_id_of, name_id_of}
 use Rattle.bytes_field.specs.Walk.{unit, as_part}
-use Rattle.bytes_field.specs.declared.Part.{Part}
 use Rattle.bytes_types.specs.Decode.{has_name, new_name_of, struct_fields, struct_of}
 use Rattle.bytes_types.specs.Index.{names_at, field_of}
 
@@ -93,23 +94,16 @@ module _ (own : ℕ) (names : List NameId) (s : List ℕ) (at : ℕ) where
   field_old e h = sym (simp (e, h, add-zero))
 
   -- its type is refused
-  pub field_no_type : {x n o : ℕ} {c : Cause} → u16_of (drop at s) ≡ ok x n → has_name (record { 0 = x }) names ≡ false → u16_of (drop (at + 2) s) ≡ bad c o → bad c (at + 2 + o) ≡ later at (map_parse unit (field_of own names (drop at s)))
+  pub field_no_type : {x n o : ℕ} {c : Cause} → u16_of (drop at s) ≡ ok x n → has_name (record { 0 = x }) names ≡ false → below own (drop (at + 2) s) ≡ bad c o → bad c (at + 2 + o) ≡ later at (map_parse unit (field_of own names (drop at s)))
   field_no_type {x} {n} {o} {c} e h f =
       let z : n ≡ 2 = (number_inv 2 (drop at s) e).2 in
       sym (simp (e, z, h, drop-drop, f) (ap (bad c) (sym (add_assoc at 2 o))))
 
   -- its type is below its own number
-  pub field_some : {x n y m : ℕ} → u16_of (drop at s) ≡ ok x n → has_name (record { 0 = x }) names ≡ false → u16_of (drop (at + 2) s) ≡ ok y m → y < own → ok tt (at + 2 + m) ≡ later at (map_parse unit (field_of own names (drop at s)))
-  field_some {x} {n} {y} {m} e h f l =
+  pub field_some : {x n y m : ℕ} → u16_of (drop at s) ≡ ok x n → has_name (record { 0 = x }) names ≡ false → below own (drop (at + 2) s) ≡ ok y m → ok tt (at + 2 + m) ≡ later at (map_parse unit (field_of own names (drop at s)))
+  field_some {x} {n} {y} {m} e h f =
       let z : n ≡ 2 = (number_inv 2 (drop at s) e).2 in
-      sym (simp (e, z, h, drop-drop, f, lt-ltb _ _ l) (ap (ok tt) (sym (add_assoc at 2 m))))
-
-  -- or not
-  pub field_past : {x n y m : ℕ} → u16_of (drop at s) ≡ ok x n → has_name (record { 0 = x }) names ≡ false → u16_of (drop (at + 2) s) ≡ ok y m → own ≤ y → bad Cause.OutOfRange (at + 2) ≡ later at (map_parse unit (field_of own names (drop at s)))
-  field_past {x} {n} {y} {m} e h f l =
-      let z : n ≡ 2 = (number_inv 2 (drop at s) e).2 in
-      let g : own < suc y = omega arith in
-      sym (simp (e, z, h, drop-drop, f, lt-leb (suc y) own g))
+      sym (simp (e, z, h, drop-drop, f) (ap (ok tt) (sym (add_assoc at 2 m))))
 
 -- of `count` fields that begin at `from` i are behind
 pub record FieldsUpto (own : ℕ) (s : List ℕ) (from count i at : ℕ) : Type 0 where
@@ -128,7 +122,7 @@ name_at s at = rw (get_or-drop at s 0 0, get_or-drop at s 1 0, add-zero)
 
 module _ (own : ℕ) (s : List ℕ) (from count i at : ℕ) (u : FieldsUpto own s from count i at) where
   -- one more is behind
-  pub fields_again : {r : Part} {n : ℕ} → i < count → as_part r ≡ later (from + 4 * i) (map_parse unit (field_of own (names_at s from i) (drop (from + 4 * i) s))) → r ≡ Part.Used n → FieldsUpto own s from count (i + 1) n
+  pub fields_again : {r : Result ℕ Refusal} {n : ℕ} → i < count → as_part r ≡ later (from + 4 * i) (map_parse unit (field_of own (names_at s from i) (drop (from + 4 * i) s))) → r ≡ Ok n → FieldsUpto own s from count (i + 1) n
   fields_again {r} {n} h e f₀ =
       let a = from + 4 * i in
       let names = names_at s from i in
@@ -148,15 +142,15 @@ module _ (own : ℕ) (s : List ℕ) (from count i at : ℕ) (u : FieldsUpto own 
       ]
 
   -- the next one is refused
-  pub fields_stop : {r : Part} {c : Cause} {o : ℕ} → i < count → as_part r ≡ later (from + 4 * i) (map_parse unit (field_of own (names_at s from i) (drop (from + 4 * i) s))) → r ≡ Part.Refused c o → bad c o ≡ later from (map_parse unit (struct_fields own [] count (drop from s)))
-  fields_stop {r} {c} {o} h e f =
+  pub fields_stop : {r : Result ℕ Refusal} {y : Refusal} → i < count → as_part r ≡ later (from + 4 * i) (map_parse unit (field_of own (names_at s from i) (drop (from + 4 * i) s))) → r ≡ Err y → bad y.cause y.offset ≡ later from (map_parse unit (struct_fields own [] count (drop from s)))
+  fields_stop {r} {y} h e f =
       let a = from + 4 * i in
       let names = names_at s from i in
       let m = count - (i + 1) in
       let z : count - i ≡ suc m = omega arith in
       sym (u.left ∙ rw (u.here, z) (go (map_parse unit (field_of own names (drop a s))) refl (sym e ∙ ap as_part f)))
     where
-      go : (d : Parse (Unit {0})) → map_parse unit (field_of own (names_at s from i) (drop (from + 4 * i) s)) ≡ d → later (from + 4 * i) d ≡ bad c o → later (from + 4 * i) (map_parse unit (struct_fields own (names_at s from i) (suc (count - (i + 1))) (drop (from + 4 * i) s))) ≡ bad c o
+      go : (d : Parse (Unit {0})) → map_parse unit (field_of own (names_at s from i) (drop (from + 4 * i) s)) ≡ d → later (from + 4 * i) d ≡ bad y.cause y.offset → later (from + 4 * i) (map_parse unit (struct_fields own (names_at s from i) (suc (count - (i + 1))) (drop (from + 4 * i) s))) ≡ bad y.cause y.offset
       go (ok x n) p q = absurd (no_ok (sym q))
       go (bad k n) p q = rw (field_bad own (names_at s from i) (count - (i + 1)) (drop (from + 4 * i) s) p) q
 

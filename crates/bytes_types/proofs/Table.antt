@@ -11,14 +11,16 @@ use native.Mathlib.Omega.{arith}
 use borrow.Author.Tests.{le-leb, lt-leb}
 use lib.ListN.{length, get_or, drop, set, length-append, length-drop, length-set, get_or-append}
 use lib.Seq.{drop-drop, get_or_at, get_or-set_same, get_or-set_other}
+use Rattle.std.specs.Prelude.{Result}
+use Rattle.bytes_wire.specs.declared.Refusal.{Refusal}
 use Rattle.bytes_wire.specs.Parse.{ok, bad, later, map_parse}
 use Rattle.bytes_wire.specs.Number.{u16_of}
 use Rattle.bytes_wire.specs.WellFormed.{Bytes}
 use Rattle.bytes_wire.specs.declared.Cause.{Cause}
-use Rattle.bytes_wire.proofs.Laws.{size, size_map, map_id, map_map, map_later, later_later}
+use Rattle.bytes_wire.proofs.Laws.{Behind, was, size, size_map, map_id, map_map, map_later, later_later}
 use Rattle.bytes_wire.proofs.Inv.{no_ok, image, map_inv, number_inv, map_bad}
 use Rattle.bytes_wire.proofs.Canon.{bytes_drop}
-use Rattle.bytes_field.specs.Walk.{unit}
+use Rattle.bytes_field.specs.Walk.{unit, as_part, part_used}
 use Rattle.mir.specs.MirType.{MirType}
 use Rattle.bytes_types.specs.Decode.{type_of, has_type, type_seq, types_of}
 use Rattle.bytes_types.specs.Index.{TypesAt, TypesRead}
@@ -115,11 +117,15 @@ table_start limit most s entry starts {x} {n} e h l q =
 
 module _ (limit most : ℕ) (s before starts : List ℕ) (count k at : ℕ) (u : Reading limit most s before starts count k at) (h : k < count) where
   -- the next type is refused
-  pub table_stop : {c : Cause} {o : ℕ} → map_parse unit (type_of most k (drop at s)) ≡ bad c o → bad c (at + o) ≡ map_parse unit (types_of limit most s)
+  table_stop : {c : Cause} {o : ℕ} → map_parse unit (type_of most k (drop at s)) ≡ bad c o → bad c (at + o) ≡ map_parse unit (types_of limit most s)
   unfolding type_seq
   table_stop {c} {o} e =
       let z : count - k ≡ suc (count - (k + 1)) = omega arith in
       sym (ap (map_parse unit) u.left ∙ simp (z, u.many, map_bad unit (type_of most k (drop at s)) e))
+
+  -- so is the table
+  pub table_refused : {r q : Result ℕ Refusal} (entry : List ℕ) → length starts ≡ length entry → Behind at r q → as_part r ≡ map_parse unit (type_of most k (drop at s)) → TypesRead limit most s (as_part q) entry starts
+  table_refused entry l (e, (g, z)) w = rw z (read_bad limit most s entry starts l (table_stop (sym (was part_used w g))))
 
   module _ {n : ℕ} (e : map_parse unit (type_of most k (drop at s)) ≡ ok tt n) (b : Bytes s) (r : B.Bool) (f : (most own : ℕ) (ts : List MirType) (t : MirType) → Bytes s → length ts ≡ k → TypesAt most s starts ts → type_of most own (drop at s) ≡ ok t (at + n - at) → r ≡ has_type t ts) where
     -- it is one of the earlier

@@ -9,7 +9,9 @@ use borrow.Author.Tests.{leb-true, lt-leb, le-leb}
 use lib.ListN.{length, get_or, take, drop, length-drop, get_or-eq_default}
 use lib.Seq.{take_all, take-nil, drop-drop, get_or-drop}
 use lib.Dec.{leb, ltb}
-use Rattle.bytes_wire.specs.Parse.{Parse, ok, bad, later, and_then, map_parse, checked, tagged, seq_of}
+use Rattle.std.specs.Prelude.{Result, Err}
+use Rattle.bytes_wire.specs.declared.Refusal.{Refusal}
+use Rattle.bytes_wire.specs.Parse.{Parse, as_answer, ok, bad, later, and_then, map_parse, checked, tagged, seq_of}
 use Rattle.bytes_wire.specs.Number.{from_bytes, number_of, below, at16, at32}
 use Rattle.bytes_wire.specs.Value.{bool_of, value_id_of, value_of, value_kinds}
 use Rattle.bytes_wire.specs.declared.Cause.{Cause}
@@ -101,9 +103,44 @@ rest_all n s = take_all (length s - n) (drop n s) (omega (arith, length-drop n s
 pub told : {R A : Type 0} (view : R → Parse A) (dec : List ℕ → Parse A) (n : ℕ) (s : List ℕ) {r r' : R} → view r ≡ dec (take (length s - n) (drop n s)) → r ≡ r' → dec (drop n s) ≡ view r'
 told view dec n s p q = sym (ap dec (rest_all n s)) ∙ sym p ∙ ap view q
 
+-- what a reader of the bytes behind n answered
+pub there : {R A : Type 0} (view : R → Parse A) (dec : List ℕ → Parse A) (n : ℕ) (s : List ℕ) {r : R} → view r ≡ dec (take (length s - n) (drop n s)) → view r ≡ dec (drop n s)
+there view dec n s p = p ∙ ap dec (rest_all n s)
+
 -- such an answer reaches no further than the bytes do
 pub told_size : {R A : Type 0} (view : R → Parse A) (dec : List ℕ → Parse A) (n : ℕ) (s : List ℕ) {r r' : R} → ((t : List ℕ) → size (dec t) ≤ length t) → n ≤ length s → view r ≡ dec (take (length s - n) (drop n s)) → r ≡ r' → n + size (view r') ≤ length s
 told_size view dec n s h l p q = omega (arith, ap size (told view dec n s p q), h (drop n s), length-drop n s)
+
+-- which variant a reader's answer was
+pub was : {X A : Type 0} (f : X → Parse A) {r r' : Result X Refusal} {d : Parse A} → as_answer f r ≡ d → r ≡ r' → as_answer f r' ≡ d
+was f p q = sym (ap (as_answer f) q) ∙ p
+
+-- the offset of its refusal is within the bytes
+pub refused_within : {X A : Type 0} (f : X → Parse A) {r : Result X Refusal} {d : Parse A} {e : Refusal} {n : ℕ} → as_answer f r ≡ d → size d ≤ n → r ≡ Err e → e.offset ≤ n
+refused_within f p h q = omega (arith, ap size (was f p q), h)
+
+-- a refusal that was passed on, as it is, and by `behind`: counted from n bytes earlier
+abbrev pub Passed : {X Y : Type 0} → Result X Refusal → Result Y Refusal → Type 0
+Passed r q = (e : Refusal) × ((r ≡ Err e) × (q ≡ Err e))
+
+abbrev pub Behind : {X Y : Type 0} → ℕ → Result X Refusal → Result Y Refusal → Type 0
+Behind n r q = (e : Refusal) × ((r ≡ Err e) × (q ≡ Err (record { cause = e.cause; offset = n + e.offset })))
+
+-- where the definition h makes such a refusal of one, the answer is what it makes of the reader's
+module _ {X Y A B : Type 0} (f : X → Parse A) (g : Y → Parse B) (h : Parse A → Parse B) {r : Result X Refusal} {q : Result Y Refusal} {d : Parse A} where
+  pub passed_as : ((c : Cause) (o : ℕ) → h (bad c o) ≡ bad c o) → Passed r q → as_answer f r ≡ d → as_answer g q ≡ h d
+  passed_as l (e, (p, z)) k = ap (as_answer g) z ∙ sym (l e.cause e.offset) ∙ ap h (was f k p)
+
+  pub behind_as : (n : ℕ) → ((c : Cause) (o : ℕ) → h (bad c o) ≡ bad c (n + o)) → Behind n r q → as_answer f r ≡ d → as_answer g q ≡ h d
+  behind_as n l (e, (p, z)) k = ap (as_answer g) z ∙ sym (l e.cause e.offset) ∙ ap h (was f k p)
+
+-- the same, where what a refusal gives is told by an equation
+module _ {X Y A B : Type 0} (f : X → Parse A) (g : Y → Parse B) {r : Result X Refusal} {q : Result Y Refusal} {d : Parse A} {t : Parse B} where
+  pub passed_bad : Passed r q → as_answer f r ≡ d → ((c : Cause) (o : ℕ) → d ≡ bad c o → bad c o ≡ t) → as_answer g q ≡ t
+  passed_bad (e, (p, z)) k h = ap (as_answer g) z ∙ h e.cause e.offset (sym (was f k p))
+
+  pub behind_bad : (n : ℕ) → Behind n r q → as_answer f r ≡ d → ((c : Cause) (o : ℕ) → d ≡ bad c o → bad c (n + o) ≡ t) → as_answer g q ≡ t
+  behind_bad n (e, (p, z)) k h = ap (as_answer g) z ∙ h e.cause e.offset (sym (was f k p))
 
 -- nothing was before
 pub later_zero : {A : Type 0} (d : Parse A) → later 0 d ≡ d
@@ -167,6 +204,11 @@ and_nothing s (bad c o) = refl
 -- the test holds
 pub checked_true : {A : Type 0} (c : Cause) (p : A → Bool) (a : A) (n : ℕ) → p a ≡ true → checked c p (ok a n) ≡ ok a n
 checked_true c p a n h = rw h
+
+-- the kind of a value chooses its decoder
+pub kind_chooses : (next : ℕ) (s : List ℕ) {k : ℕ} → 1 ≤ length s → get_or s 0 0 ≡ k → get_or (map (λ f. later 1 (f (drop 1 s))) (value_kinds next)) k (bad Cause.Undefined 0) ≡ value_of next s
+unfolding value_of
+kind_chooses next s h e = sym (rw (le-leb _ _ h, e))
 
 -- too few bytes
 pub number_short : (w : ℕ) (s : List ℕ) → length s < w → number_of w s ≡ bad Cause.Truncated 0

@@ -2,9 +2,6 @@
 use Rattle.std.specs.Prelude.{ℕ, zero, suc, ◌+◌, ◌*◌, ◌/◌, ◌%◌, List, [], ◌∷◌, cond, length, get_or, take, leb, ltb}
 use Rattle.bytes_wire.specs.Parse.{Parse, ok, bad, checked}
 use Rattle.bytes_wire.specs.declared.Cause.{Cause}
-use Rattle.bytes_wire.specs.declared.Read8.{Read8}
-use Rattle.bytes_wire.specs.declared.Read16.{Read16}
-use Rattle.bytes_wire.specs.declared.Read32.{Read32}
 
 -- the number whose bytes these are, the lowest first
 abbrev pub from_bytes : List ℕ → ℕ
@@ -43,16 +40,3 @@ at16 s at = get_or s at 0 + 256 * get_or s (at + 1) 0
 
 abbrev pub at32 : List ℕ → ℕ → ℕ
 at32 s at = at16 s at + 65536 * at16 s (at + 2)
-
--- what the code's answers say
-abbrev pub as8 : Read8 → Parse ℕ
-as8 (Read8.Got x n) = ok x n
-as8 (Read8.Refused c o) = bad c o
-
-abbrev pub as16 : Read16 → Parse ℕ
-as16 (Read16.Got x n) = ok x n
-as16 (Read16.Refused c o) = bad c o
-
-abbrev pub as32 : Read32 → Parse ℕ
-as32 (Read32.Got x n) = ok x n
-as32 (Read32.Refused c o) = bad c o

@@ -1,6 +1,8 @@
 -- What a decoder answers, and how decoders are put together.
-use Rattle.std.specs.Prelude.{ℕ, zero, suc, ◌+◌, List, [], ◌∷◌, map, Bool, cond, length, get_or, drop, leb}
+use Rattle.std.specs.Prelude.{ℕ, zero, suc, ◌+◌, List, [], ◌∷◌, map, Bool, cond, length, get_or, drop, leb, Result, Ok, Err}
 use Rattle.bytes_wire.specs.declared.Cause.{Cause}
+use Rattle.bytes_wire.specs.declared.Read.{Read}
+use Rattle.bytes_wire.specs.declared.Refusal.{Refusal}
 
 -- A value and how many bytes it took, or a refusal's cause and the offset of its field.
 -- Both numbers count from where the decoder began.
@@ -38,6 +40,21 @@ tagged fs s =
 unfoldable pub seq_of : {A : Type 0} → (List ℕ → Parse A) → ℕ → List ℕ → Parse (List A)
 seq_of dec zero s = ok [] 0
 seq_of dec (suc k) s = and_then s (dec s) (λ a t. map_parse (λ xs. a ∷ xs) (seq_of dec k t))
+
+-- what the code's answers say, where f says what was read
+abbrev pub as_answer : {X A : Type 0} → (X → Parse A) → Result X Refusal → Parse A
+as_answer f (Ok x) = f x
+as_answer f (Err e) = bad e.cause e.offset
+
+abbrev pub as_read : {A : Type 0} → Read A → Parse A
+as_read r = ok r.value r.size
+
+abbrev pub as_parse : {A : Type 0} → Result (Read A) Refusal → Parse A
+as_parse r = as_answer as_read r
+
+-- how many numbers 64 bits tell apart
+abbrev pub places : ℕ
+places = 18446744073709551616
 
 -- document 01's number of each cause of a refusal
 abbrev pub number_of_cause : Cause → ℕ

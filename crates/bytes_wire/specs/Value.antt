@@ -1,12 +1,11 @@
 -- Values: "a value is a u8: 0 Integer u32; 1 Boolean u8 (0, 1); 2 Unit; 3 Operand u16; 4 Error".
 use Rattle.std.specs.Prelude.{ℕ, List, [], ◌∷◌, Bool, true, false, ltb, eqb}
-use Rattle.bytes_wire.specs.Parse.{Parse, ok, bad, map_parse, checked, tagged}
+use Rattle.bytes_wire.specs.Parse.{Parse, ok, map_parse, checked, tagged}
 use Rattle.bytes_wire.specs.Number.{u8_of, u32_of, below, to_bytes}
 use Rattle.bytes_wire.specs.declared.Cause.{Cause}
 use Rattle.mir.specs.declared.Literal.{Literal}
 use Rattle.mir.specs.declared.Value.{Value}
 use Rattle.mir.specs.declared.ValueId.{ValueId}
-use Rattle.bytes_wire.specs.declared.ReadValue.{ReadValue}
 
 -- value.rs, `Value::integer`, `boolean`, `unit`
 abbrev pub integer : ℕ → Value
@@ -36,10 +35,6 @@ value_kinds next =
 
 unfoldable pub value_of : ℕ → List ℕ → Parse Value
 value_of next s = tagged (value_kinds next) s
-
-abbrev pub as_value : ReadValue → Parse Value
-as_value (ReadValue.Got x n) = ok x n
-as_value (ReadValue.Refused c o) = bad c o
 
 -- the bytes of a value
 abbrev pub bool_byte : Bool → ℕ

@@ -1,17 +1,17 @@
 // Numbers, numbers of things, and values, as the byte form has them.
 #![tactic(auto)]
 
-ghost use Rattle.std.specs.Prelude.{◌≡◌, ◌+◌, ◌*◌, get_or};
-ghost use Rattle.bytes_wire.specs.Parse.{number_of_cause};
-ghost use Rattle.bytes_wire.specs.Number.{u8_of, u16_of, u32_of, as8, as16, as32, at16, at32};
-ghost use Rattle.bytes_wire.specs.Value.{value_of, as_value};
+ghost use Rattle.std.specs.Prelude.{◌≡◌, ◌+◌, ◌*◌, ◌<◌, get_or};
+ghost use Rattle.bytes_wire.specs.Parse.{number_of_cause, as_parse, places};
+ghost use Rattle.bytes_wire.specs.Number.{u8_of, u16_of, u32_of, below, at16, at32};
+ghost use Rattle.bytes_wire.specs.Value.{value_of};
 
 use mir::{Literal, Value, ValueId};
 
 // Why a byte string is refused: rows 1 to 9 of document 01's table.
-#[derive(Clone, Copy)]
+#[derive(Clone, Copy, PartialEq, Eq, Debug)]
 pub enum Cause {
-    Truncated,
+    Truncated = 1,
     TooMany,
     Undefined,
     OutOfRange,
@@ -22,21 +22,47 @@ pub enum Cause {
     Trailing,
 }
 
+impl Cause {
+    // The refusal for this cause of the field at an offset.
+    pub fn at(self, offset: usize) -> Refusal
+        ensures { result ≡ record { cause = self; offset = offset } }
+    {
+        Refusal {
+            cause: self,
+            offset,
+        }
+    }
+}
+
 // The number document 01 gives the cause.
 pub fn cause_number(c: Cause) -> u8
     ensures { result ≡ number_of_cause c }
 {
-    match c {
-        Cause::Truncated => 1,
-        Cause::TooMany => 2,
-        Cause::Undefined => 3,
-        Cause::OutOfRange => 4,
-        Cause::Repeated => 5,
-        Cause::Redefined => 6,
-        Cause::LatePhi => 7,
-        Cause::CallCounts => 8,
-        Cause::Trailing => 9,
+    c as u8
+}
+
+// A refusal: its cause, and the offset of its field.
+#[derive(Clone, Copy, PartialEq, Eq, Debug)]
+pub struct Refusal {
+    pub cause: Cause,
+    pub offset: usize,
+}
+
+impl Refusal {
+    // The same refusal, counted from `before` bytes earlier.
+    pub fn behind(self, before: usize) -> Refusal
+        requires { before + self.offset < places }
+        ensures { result ≡ record { cause = self.cause; offset = before + self.offset } }
+    {
+        self.cause.at(before + self.offset)
     }
+}
+
+// What was read, and how many bytes that took.
+#[derive(Clone, Copy, PartialEq, Eq, Debug)]
+pub struct Read<T> {
+    pub value: T,
+    pub size: usize,
 }
 
 // The kinds of values, in `Value` order with the literals first.
@@ -50,102 +76,93 @@ pub const OPERAND: u8 = 3;
 
 pub const ERROR: u8 = 4;
 
-// What a reader answers: what it read and how many bytes that took; or the cause of a refusal and the offset of its field.
-#[derive(Clone, Copy)]
-pub enum Read8 {
-    Got(u8, usize),
-    Refused(Cause, usize),
-}
-
-#[derive(Clone, Copy)]
-pub enum Read16 {
-    Got(u16, usize),
-    Refused(Cause, usize),
-}
-
-#[derive(Clone, Copy)]
-pub enum Read32 {
-    Got(u32, usize),
-    Refused(Cause, usize),
-}
-
-#[derive(Clone, Copy)]
-pub enum ReadValue {
-    Got(Value, usize),
-    Refused(Cause, usize),
-}
-
 // A number of one, two and four bytes, the lowest first.
-pub fn read_u8(s: &[u8]) -> Read8
-    ensures { as8 result ≡ u8_of s.now }
+pub fn read_u8(s: &[u8]) -> Result<Read<u8>, Refusal>
+    ensures { as_parse result ≡ u8_of s.now }
 {
-    if s.len() < 1 {
-        return Read8::Refused(Cause::Truncated, 0);
+    match s {
+        [a, ..] => Ok(Read { value: *a, size: 1 }),
+        _ => Err(Cause::Truncated.at(0)),
     }
-    Read8::Got(s[0], 1)
 }
 
-pub fn read_u16(s: &[u8]) -> Read16
-    ensures { as16 result ≡ u16_of s.now }
+pub fn read_u16(s: &[u8]) -> Result<Read<u16>, Refusal>
+    ensures { as_parse result ≡ u16_of s.now }
 {
-    if s.len() < 2 {
-        return Read16::Refused(Cause::Truncated, 0);
+    match s {
+        [a, b, ..] => Ok(Read {
+            value: u16::from_le_bytes([*a, *b]),
+            size: 2,
+        }),
+        _ => Err(Cause::Truncated.at(0)),
     }
-    let a = s[0] as u16;
-    let b = s[1] as u16;
-    Read16::Got(a + 256 * b, 2)
 }
 
-pub fn read_u32(s: &[u8]) -> Read32
-    ensures { as32 result ≡ u32_of s.now }
+pub fn read_u32(s: &[u8]) -> Result<Read<u32>, Refusal>
+    ensures { as_parse result ≡ u32_of s.now }
 {
-    if s.len() < 4 {
-        return Read32::Refused(Cause::Truncated, 0);
+    match s {
+        [a, b, c, d, ..] => Ok(Read {
+            value: u32::from_le_bytes([*a, *b, *c, *d]),
+            size: 4,
+        }),
+        _ => Err(Cause::Truncated.at(0)),
     }
-    let a = s[0] as u32;
-    let b = s[1] as u32;
-    let c = s[2] as u32;
-    let d = s[3] as u32;
-    Read32::Got(a + 256 * (b + 256 * (c + 256 * d)), 4)
+}
+
+// A u16 below a bound: the number of a value, a type or a block.
+pub fn read_below(s: &[u8], bound: u16) -> Result<Read<u16>, Refusal>
+    ensures { as_parse result ≡ below bound s.now }
+{
+    let x = read_u16(s)?;
+    if bound <= x.value {
+        return Err(Cause::OutOfRange.at(0));
+    }
+    Ok(x)
 }
 
 // A value, from its kind byte on.
-pub fn read_value(s: &[u8], next: u16) -> ReadValue
-    ensures { as_value result ≡ value_of next s.now }
+pub fn read_value(s: &[u8], next: u16) -> Result<Read<Value>, Refusal>
+    ensures { as_parse result ≡ value_of next s.now }
 {
-    if s.len() < 1 {
-        return ReadValue::Refused(Cause::Truncated, 0);
-    }
-    let tag = s[0];
-    let t = &s[1..];
-    match tag {
-        INTEGER => match read_u32(t) {
-            Read32::Got(x, n) => ReadValue::Got(Value::Literal(Literal::Integer(x)), 1 + n),
-            Read32::Refused(c, o) => ReadValue::Refused(c, 1 + o),
-        },
-        BOOLEAN => match read_u8(t) {
-            Read8::Got(x, n) => {
-                if x < 2 {
-                    ReadValue::Got(Value::Literal(Literal::Boolean(x == 1)), 1 + n)
-                } else {
-                    ReadValue::Refused(Cause::Undefined, 1)
-                }
+    let [kind, t @ ..] = s else {
+        return Err(Cause::Truncated.at(0));
+    };
+    match *kind {
+        INTEGER => {
+            let x = read_u32(t).map_err(|e| e.behind(1))?;
+            Ok(Read {
+                value: Value::Literal(Literal::Integer(x.value)),
+                size: 1 + x.size,
+            })
+        }
+        BOOLEAN => {
+            let x = read_u8(t).map_err(|e| e.behind(1))?;
+            if x.value < 2 {
+                Ok(Read {
+                    value: Value::Literal(Literal::Boolean(x.value == 1)),
+                    size: 1 + x.size,
+                })
+            } else {
+                Err(Cause::Undefined.at(1))
             }
-            Read8::Refused(c, o) => ReadValue::Refused(c, 1 + o),
-        },
-        UNIT => ReadValue::Got(Value::Literal(Literal::Unit), 1),
-        OPERAND => match read_u16(t) {
-            Read16::Got(x, n) => {
-                if x < next {
-                    ReadValue::Got(Value::Operand(ValueId(x)), 1 + n)
-                } else {
-                    ReadValue::Refused(Cause::OutOfRange, 1)
-                }
-            }
-            Read16::Refused(c, o) => ReadValue::Refused(c, 1 + o),
-        },
-        ERROR => ReadValue::Got(Value::Error, 1),
-        _ => ReadValue::Refused(Cause::Undefined, 0),
+        }
+        UNIT => Ok(Read {
+            value: Value::Literal(Literal::Unit),
+            size: 1,
+        }),
+        OPERAND => {
+            let x = read_below(t, next).map_err(|e| e.behind(1))?;
+            Ok(Read {
+                value: Value::Operand(ValueId(x.value)),
+                size: 1 + x.size,
+            })
+        }
+        ERROR => Ok(Read {
+            value: Value::Error,
+            size: 1,
+        }),
+        _ => Err(Cause::Undefined.at(0)),
     }
 }
 

@@ -6,7 +6,9 @@ use Rattle.mir.specs.declared.NameId.{NameId}
 use Rattle.mir.specs.declared.TypeId.{TypeId}
 use Rattle.mir.specs.declared.Value.{Value}
 use Rattle.mir.specs.MirType.{StructField, MirType}
-use Rattle.mir.specs.Syntax.{Projection, Index, Field, Tuple, Place, FieldInit, Instruction, InstructionKind}
+use Rattle.mir.specs.declared.Projection.{Projection}
+use Rattle.mir.specs.declared.Projection.TheVariants.{Index, Field, Tuple}
+use Rattle.mir.specs.Syntax.{Place, FieldInit, Instruction, InstructionKind}
 use Rattle.mir.specs.Syntax.{Assign, UnaryOp, BinaryOp, Call, Cast, Load, Store, Debug, Nop, Phi}
 use Rattle.mir.specs.Syntax.{MakeTuple, ExtractTupleElement, MakeStruct, ExtractStructField, InsertField, InsertTuple, MakeFixedArray, AssertEq, HeapAllocCells}
 use Rattle.mir.specs.Reads.{init_values}

@@ -4,7 +4,9 @@ use Rattle.std.proofs.Math.Option.{Option, none, some}
 use Rattle.mir.specs.declared.ValueId.{ValueId}
 use Rattle.mir.specs.declared.Literal.{Literal}
 use Rattle.mir.specs.declared.Value.{Value}
-use Rattle.mir.specs.Syntax.{Projection, Index, Field, Tuple, Place, Instruction, InstructionKind, Block}
+use Rattle.mir.specs.declared.Projection.{Projection}
+use Rattle.mir.specs.declared.Projection.TheVariants.{Index, Field, Tuple}
+use Rattle.mir.specs.Syntax.{Place, Instruction, InstructionKind, Block}
 use Rattle.mir.specs.Syntax.{Assign, UnaryOp, BinaryOp, Call, Cast, Load, Store, Debug, Nop, Phi}
 use Rattle.mir.specs.Syntax.{MakeTuple, ExtractTupleElement, MakeStruct, ExtractStructField, InsertField, InsertTuple, MakeFixedArray, AssertEq, HeapAllocCells}
 use Rattle.mir.specs.Reads.{reads, counted, terminator_reads}

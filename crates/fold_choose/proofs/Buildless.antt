@@ -12,7 +12,7 @@ use Rattle.mir.specs.Syntax.{Instruction, Block}
 use Rattle.bytes_field.specs.declared.Bounds.{Bounds}
 use Rattle.bytes_index.specs.Table.{starts_in, kind_in}
 use Rattle.bytes_index.specs.Code.{no_instruction, no_block, InstructionsIn, CodeIn}
-use Rattle.fold_choose.specs.Chosen.{SlotsOf, build_kind, NoneBuilds, Buildless, AllBuildless}
+use Rattle.fold_choose.specs.Chosen.{SlotsOf, NoneBuilds, Buildless, AllBuildless}
 use Rattle.fold_choose.proofs.Folding.{no_build}
 
 module _ {b : Bounds} {s facts : List ℕ} {ks : List Block} (code : CodeIn b s facts ks) where
@@ -44,24 +44,6 @@ module _ (facts : List ℕ) (k first count : ℕ) (f : first ≡ get_or (starts_
 
     pub slots_none : 288 < first + count → SlotsOf facts k (record { first = 0; count = 0 })
     slots_none h = record { low = omega arith; so = λ b s ks code l. absurd (omega (arith, roomy code k l, c b s ks code l)) }
-
--- none of the slots from `from` on is a build
-pub record Seeking (facts : List ℕ) (from to slot : ℕ) : Type 0 where
-  pub small : to < 65536
-  pub none : NoneBuilds facts from slot
-
-pub seeking : (facts : List ℕ) (from to : ℕ) → to < 65536 → Seeking facts from to from
-seeking facts from to h = record { small = h; none = λ slot l m. absurd (omega arith) }
-
-pub seek_on : {facts : List ℕ} {from to slot : ℕ} → Seeking facts from to slot → (kind : ℕ) → kind ≡ kind_in facts slot → (build : Bool) → build ≡ build_kind kind → build ≡ false → Seeking facts from to (slot + 1)
-seek_on {facts} {from} {to} {slot} inv kind k build e f = record { small = inv.small; none = λ j l m. go j l m (eqb j slot) refl }
-  where
-    go : (j : ℕ) → from ≤ j → j < slot + 1 → (c : Bool) → eqb j slot ≡ c → build_kind (kind_in facts j) ≡ false
-    go j l m true y = let z : j ≡ slot = eqb-true j slot y in rw (z, sym k, sym e) f
-    go j l m false y = let n : j ≡ slot → ⊥ = λ w. eqb-false j slot y w in inv.none j l (omega (arith, n))
-
-pub seek_all : {facts : List ℕ} {from to slot : ℕ} → Seeking facts from to slot → to ≤ slot → NoneBuilds facts from to
-seek_all inv h j l m = inv.none j l (omega arith)
 
 -- what that says of a block, and of all
 pub none_built : (b : Bounds) (s facts : List ℕ) (first to : ℕ) (is : List Instruction) → NoneBuilds facts first to → InstructionsIn b s facts first is → first + length is ≤ to → Buildless is

@@ -34,13 +34,10 @@ fn find_slots(facts: &[u16], k: BlockId) -> Slots
 fn is_build(kind: u16) -> bool
     ensures { result ≡ build_kind kind }
 {
-    if kind == kind::MAKE_TUPLE {
-        return true;
-    }
-    if kind == kind::MAKE_STRUCT {
-        return true;
-    }
-    kind == kind::MAKE_FIXED_ARRAY
+    matches!(
+        kind,
+        kind::MAKE_TUPLE | kind::MAKE_STRUCT | kind::MAKE_FIXED_ARRAY
+    )
 }
 
 // Whether a slot of those from one to another holds a build. Only the answer that none does says something: the other is
@@ -48,14 +45,7 @@ fn is_build(kind: u16) -> bool
 fn any_build(facts: &[u16], from: u16, to: u16) -> bool
     ensures { result ≡ false → NoneBuilds facts.now from to }
 {
-    let mut slot = from;
-    while slot < to {
-        if is_build(bytes_index::kind(facts, slot)) {
-            return true;
-        }
-        slot = slot + 1;
-    }
-    false
+    (from..to).any(|slot| is_build(bytes_index::kind(facts, slot)))
 }
 
 // Whether an instruction of any block is a build; the answer that one is stays free likewise.
@@ -105,8 +95,7 @@ fn decide_all(
 {
     let first = at.first;
     let count = at.count;
-    let mut j: u16 = 0;
-    while j < count {
+    for j in 0..count {
         let slot = first + j;
         let yes = decide_one(
             s,
@@ -119,7 +108,6 @@ fn decide_all(
             table::flag(looked, j as usize),
         );
         table::set_flag(choice, slot as usize, yes);
-        j = j + 1;
     }
 }
 
@@ -217,8 +205,7 @@ pub fn choose(
         s.now b facts.now choice.old choice.new }
 {
     let mut graph: [u16; fold_climb::SIZE] = [0; fold_climb::SIZE];
-    let mut k: u16 = 0;
-    while k < b.blocks {
+    for k in 0..b.blocks {
         choose_one(
             s,
             b,
@@ -231,6 +218,5 @@ pub fn choose(
             &mut graph,
             choice,
         );
-        k = k + 1;
     }
 }

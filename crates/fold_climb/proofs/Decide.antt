@@ -17,22 +17,20 @@ use Rattle.mir.specs.Lookup.{Types, is_some}
 use Rattle.fold.specs.Family.{Marks, build_dest, has_dynamic_index}
 use Rattle.fold.specs.Tables.{ShapesAt}
 use Rattle.fold.specs.Climb.{build_of, buildable, buildable_of, can_scalarize}
+use Rattle.std.specs.Prelude.{Some, None, Option as Answered, is_some as answered}
+use Rattle.mir.specs.Option.{as_option}
 use Rattle.fold.specs.Fold.{folds_tuple, folds_struct, folds_array}
-use Rattle.fold_climb.specs.Edges.{Edge, edge, part_edges, build_edges, edges_of, tuple_edges_of, tuples_climb, Sight, as_climbed}
-use Rattle.fold_climb.specs.declared.Climbed.{Climbed}
+use Rattle.fold_climb.specs.Edges.{Edge, edge, part_edges, build_edges, edges_of, tuple_edges_of, tuples_climb, Sight}
 use Rattle.fold_climb.specs.Scanned.{built_in, child_in, parent_in, edge_in, of_tuple, tuples_down, Each, Scanned, sight_of}
 use Rattle.fold_climb.specs.Decided.{climbs, tuples_pass, Decided}
 use Rattle.fold_climb.proofs.Whole.{decides}
 use Rattle.fold_climb.proofs.Tuples.{over_tuples}
 
 -- what the answer of a climb is worth
-pub some_ok : (r : Climbed) → r.ok ≡ is_some (as_climbed r)
+pub some_option : {A : Type 0} (o : Answered A) → answered o ≡ is_some (as_option o)
 unfolding is_some
-some_ok r = go r.ok
-  where
-    go : (b : Bool) → b ≡ is_some (cond b (some r.visited) none)
-    go true = refl
-    go false = refl
+some_option (Some x) = refl
+some_option None = refl
 
 pub dynamic_array : (a b d : Bool) → d ≡ true → false ≡ (a && (b && not d))
 dynamic_array true true d e = rw e

@@ -8,7 +8,9 @@ use borrow.Author.Tests.{ne_eqb, eqb-true, eqb-false}
 use lib.Dec.{eqb}
 use Rattle.mir.specs.declared.ValueId.{ValueId}
 use Rattle.mir.specs.declared.Value.{Value}
-use Rattle.mir.specs.Syntax.{Projection, Index, Field, Tuple, Place, Instruction, InstructionKind}
+use Rattle.mir.specs.declared.Projection.{Projection}
+use Rattle.mir.specs.declared.Projection.TheVariants.{Index, Field, Tuple}
+use Rattle.mir.specs.Syntax.{Place, Instruction, InstructionKind}
 use Rattle.mir.specs.Syntax.{Assign, UnaryOp, BinaryOp, Call, Cast, Load, Store, Debug, Nop, Phi}
 use Rattle.mir.specs.Syntax.{MakeTuple, ExtractTupleElement, MakeStruct, ExtractStructField, InsertField, InsertTuple, MakeFixedArray, AssertEq, HeapAllocCells}
 use Rattle.mir.specs.Reads.{operands, init_values, reads}

@@ -9,9 +9,8 @@ use native.Mathlib.Omega.{arith}
 use borrow.Author.Tests.{eq-eqb, ne_eqb}
 use lib.ListN.{length, get_or, set, get_or-eq_default}
 use Rattle.fold.specs.Family.{Marks}
-use Rattle.fold_climb.specs.Edges.{Sight, array_in, allowed_in, parents, unmarked, climb_of, as_climbed}
+use Rattle.fold_climb.specs.Edges.{Sight, array_in, allowed_in, parents, unmarked, climb_of}
 use Rattle.fold_climb.specs.Scanned.{child_in, parent_in, edge_in, edges_down}
-use Rattle.fold_climb.specs.declared.Climbed.{Climbed}
 use Rattle.fold_climb.proofs.Depth.{climb_met, climb_on, climb_clear, unmarked_set}
 use Rattle.fold_climb.proofs.Whole.{flag}
 
@@ -51,19 +50,17 @@ module _ (t : Sight) (v : ℕ) (g : List ℕ) (start : Marks) (i : ℕ) (m : Mar
       unfolding parents
       turn_array a = inv.left ∙ simp (down g i more, eq-eqb _ _ at, a)
 
-      pub turn_stop : array_in t v ≡ false → (p : ℕ) → p ≡ parent_in g (i - 1) → (r : Climbed) → as_climbed r ≡ climb_of t p m → r.ok ≡ false → as_climbed r ≡ parents (climb_of t) (array_in t v) v t.edges start
+      pub turn_stop : array_in t v ≡ false → (p : ℕ) → p ≡ parent_in g (i - 1) → none ≡ climb_of t p m → none ≡ parents (climb_of t) (array_in t v) v t.edges start
       unfolding parents
-      turn_stop a p q r e o =
-          let z : as_climbed r ≡ none = rw o in
-          let n : climb_of t (parent_in g (i - 1)) m ≡ none = sym (rw q at e) ∙ z in
-          z ∙ sym (inv.left ∙ simp (down g i more, eq-eqb _ _ at, a, n))
+      turn_stop a p q e =
+          let n : climb_of t (parent_in g (i - 1)) m ≡ none = sym (rw q at e) in
+          sym (inv.left ∙ simp (down g i more, eq-eqb _ _ at, a, n))
 
-      pub turn_on : array_in t v ≡ false → (p : ℕ) → p ≡ parent_in g (i - 1) → (r : Climbed) → as_climbed r ≡ climb_of t p m → r.ok ≡ true → Climbing t v g start (i - 1) r.visited
+      pub turn_on : array_in t v ≡ false → (p : ℕ) → p ≡ parent_in g (i - 1) → (r : Marks) → some r ≡ climb_of t p m → Climbing t v g start (i - 1) r
       unfolding parents
-      turn_on a p q r e o =
-          let z : as_climbed r ≡ some r.visited = rw o in
-          let n : climb_of t (parent_in g (i - 1)) m ≡ some r.visited = sym (rw q at e) ∙ z in
-          let k : unmarked r.visited ≤ unmarked m = rw n at (climb_clear t (parent_in g (i - 1)) m) in
+      turn_on a p q r e =
+          let n : climb_of t (parent_in g (i - 1)) m ≡ some r = sym (rw q at e) in
+          let k : unmarked r ≤ unmarked m = rw n at (climb_clear t (parent_in g (i - 1)) m) in
           record { low = less i inv.low; clear = le_trans k inv.clear; left = inv.left ∙ simp (down g i more, eq-eqb _ _ at, a, n) }
 
 -- before the loop: a value past the marks or visited, one that is not allowed, and one that is climbed from

@@ -3,13 +3,14 @@ use Rattle.std.specs.Prelude.{ℕ, zero, suc, List, [], ◌∷◌, Bool, true, f
 use Rattle.std.proofs.Math.Option.{Option, none, some}
 use Rattle.mir.specs.declared.ValueId.{ValueId}
 use Rattle.mir.specs.declared.Value.{Value}
-use Rattle.mir.specs.Syntax.{Projection, Index, Field, Tuple, Place, Instruction, InstructionKind}
+use Rattle.mir.specs.declared.Projection.{Projection}
+use Rattle.mir.specs.declared.Projection.TheVariants.{Index, Field, Tuple}
+use Rattle.mir.specs.Syntax.{Place, Instruction, InstructionKind}
 use Rattle.mir.specs.Reads.{kind_number, reads}
 use Rattle.bytes_operands.specs.Fields.{list_values}
 use Rattle.mir.specs.Lookup.{is_operand, is_integer, any}
 use Rattle.fold.specs.Numbers.{call_kind, tuple_kind, array_shape}
 use Rattle.fold.specs.Family.{Marks, build_dest, accessed}
-use Rattle.fold_climb.specs.declared.Climbed.{Climbed}
 
 -- a value, and a build that has it as a part
 pub record Edge : Type 0 where
@@ -106,7 +107,3 @@ climb_of t v m = climb_in t (suc (unmarked m)) v m
 unfoldable pub tuples_climb : (ℕ → Bool) → ℕ → List Edge → Bool
 tuples_climb can v [] = true
 tuples_climb can v (e ∷ es) = (not (eqb e.child v) || can e.parent) && tuples_climb can v es
-
--- what the code's answer says
-abbrev pub as_climbed : Climbed → Option Marks
-as_climbed r = cond r.ok (some r.visited) none

@@ -3,7 +3,8 @@
 
 ghost use Rattle.std.specs.Prelude.{◌≡◌, not, ◌&&◌, ◌<◌};
 ghost use Rattle.mir.specs.Most.{most_values};
-ghost use Rattle.fold_climb.specs.Edges.{climb_of, as_climbed};
+ghost use Rattle.mir.specs.Option.{as_option};
+ghost use Rattle.fold_climb.specs.Edges.{climb_of};
 ghost use Rattle.fold_climb.specs.Scanned.{sight_of, built_in, barred_in};
 ghost use Rattle.fold_climb.specs.Decided.{climbs, tuples_pass, FoldsBy};
 
@@ -28,82 +29,59 @@ pub const MOST: u16 = 2048;
 
 pub const SIZE: usize = 6657;
 
-// What a climb answers: whether the value can be taken apart, and the values visited.
-#[derive(Clone, Copy)]
-pub struct Climbed {
-    pub ok: bool,
-    pub visited: [bool; 256],
-}
-
 // The value's build passes its own conditions, and nothing wants the value whole.
 fn allowed(graph: &[u16], at: usize) -> bool
     requires { at < most_values }
     ensures { result ≡ built_in graph.now at && not (barred_in graph.now at) }
 {
-    if table::number(graph, BUILT + at) == 1 {
-        table::number(graph, BARRED + at) != 1
-    } else {
-        false
-    }
+    table::number(graph, BUILT + at) == 1 && table::number(graph, BARRED + at) != 1
 }
 
-// sroa.rs 195, `can_scalarize_aggregate`, over the block's graph.
-fn climb(v: ValueId, graph: &[u16], shapes: &[u8], visited: [bool; 256]) -> Climbed
-    ensures { as_climbed result ≡ climb_of (sight_of shapes.now graph.now) v.0 visited }
+// The values visited, as a climb keeps them: a mark for each value.
+type Visited = [bool; most::VALUES];
+
+// sroa.rs 195, `can_scalarize_aggregate`, over the block's graph: the values visited, if the value can be taken apart.
+fn climb(v: ValueId, graph: &[u16], shapes: &[u8], visited: Visited) -> Option<Visited>
+    ensures { as_option result ≡ climb_of (sight_of shapes.now graph.now) v.0 visited }
 {
     let at = v.0 as usize;
     if most::VALUES <= at {
-        return Climbed { ok: false, visited };
+        return None;
     }
     if visited[at] {
-        return Climbed { ok: false, visited };
+        return None;
     }
     if !allowed(graph, at) {
-        return Climbed { ok: false, visited };
+        return None;
     }
     let array = bytes_wire::byte_at(shapes, at) == shape::FIXED_ARRAY;
     let mut met = visited;
     met[at] = true;
-    let mut i = table::number(graph, 0);
-    while 0 < i {
-        i = i - 1;
+    for i in (0..table::number(graph, 0)).rev() {
         let e = EDGES + WIDTH * i as usize;
         if table::number(graph, e) == v.0 {
             if array {
-                return Climbed {
-                    ok: false,
-                    visited: met,
-                };
+                return None;
             }
             let p = ValueId(table::number(graph, e + PARENT));
-            let r = climb(p, graph, shapes, met);
-            if !r.ok {
-                return r;
-            }
-            met = r.visited;
+            met = climb(p, graph, shapes, met)?;
         }
     }
-    Climbed {
-        ok: true,
-        visited: met,
-    }
+    Some(met)
 }
 
 // The climb from a value, with nothing visited.
 fn can_scalarize(v: ValueId, graph: &[u16], shapes: &[u8]) -> bool
     ensures { result ≡ climbs (sight_of shapes.now graph.now) v.0 }
 {
-    let r = climb(v, graph, shapes, [false; 256]);
-    r.ok
+    climb(v, graph, shapes, [false; most::VALUES]).is_some()
 }
 
 // Each tuple that takes the value as a part can be taken apart, with a new set of visited values for each.
 fn tuple_parents(v: ValueId, graph: &[u16], shapes: &[u8]) -> bool
     ensures { result ≡ tuples_pass shapes.now graph.now v.0 }
 {
-    let mut i = table::number(graph, 0);
-    while 0 < i {
-        i = i - 1;
+    for i in (0..table::number(graph, 0)).rev() {
         let e = EDGES + WIDTH * i as usize;
         if table::number(graph, e + KIND) == kind::MAKE_TUPLE {
             if table::number(graph, e) == v.0 {

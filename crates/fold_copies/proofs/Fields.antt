@@ -4,24 +4,28 @@ use mathlib.Core.Path.{◌≡◌, refl, ap, ◌∙◌, sym}
 use mathlib.Core.List.{List, [], ◌∷◌}
 use mathlib.Core.Bool.{Bool, true, false, cond, not, true≢false}
 use mathlib.Core.Logic.{◌⊎◌, inl, inr, ⊎_elim}
-use mathlib.Core.Option.{none, some}
+use mathlib.Core.Option.{Option, none, some}
 use native.Mathlib.Omega.{arith}
 use native.Mathlib.Nat.{add_comm, eq-or-lt_of_le}
 use borrow.Author.Tests.{ne_eqb}
 use lib.ListN.{length, get_or, get_elem?, set, drop}
 use lib.Seq.{drop-drop}
 use lib.Dec.{eqb}
-use Rattle.bytes_wire.specs.Parse.{Parse, ok, and_then, map_parse}
+use Rattle.bytes_wire.specs.Parse.{as_parse, Parse, ok, and_then, map_parse}
 use Rattle.bytes_wire.specs.Number.{u32_of, below, at16}
-use Rattle.bytes_wire.specs.Value.{value_of, value_id_of, as_value}
+use Rattle.bytes_wire.specs.Value.{value_of, value_id_of}
 use Rattle.bytes_wire.specs.declared.Cause.{Cause}
-use Rattle.bytes_wire.specs.declared.ReadValue.{ReadValue}
+use Rattle.bytes_wire.specs.declared.Read.{Read}
+use Rattle.bytes_wire.specs.declared.Refusal.{Refusal}
+use Rattle.std.specs.Prelude.{Result, Ok, Err}
 use Rattle.mir.specs.declared.TypeId.{TypeId}
 use Rattle.mir.specs.declared.Value.{Value}
 use Rattle.mir.specs.declared.ValueId.{ValueId}
 use Rattle.bytes_wire.proofs.Laws.{from_16}
 use Rattle.bytes_wire.proofs.Inv.{no_ok, both, image, and_inv, map_inv, checked_inv, number_inv, below_inv}
-use Rattle.mir.specs.Syntax.{Projection, Index, Field, Tuple, Place, Instruction, InstructionKind}
+use Rattle.mir.specs.declared.Projection.{Projection}
+use Rattle.mir.specs.declared.Projection.TheVariants.{Index, Field, Tuple}
+use Rattle.mir.specs.Syntax.{Place, Instruction, InstructionKind}
 use Rattle.mir.specs.Syntax.{Assign, UnaryOp, BinaryOp, Call, Cast, Load, Store, Debug, Nop, Phi}
 use Rattle.mir.specs.Syntax.{MakeTuple, ExtractTupleElement, MakeStruct, ExtractStructField, InsertField, InsertTuple, MakeFixedArray, AssertEq, HeapAllocCells}
 use Rattle.mir.specs.Reads.{kind_number}
@@ -33,10 +37,9 @@ use Rattle.bytes_operands.specs.Fields.{fields_place, place_steps}
 use Rattle.bytes_operands.proofs.Instruction.{chosen, instruction_fields, fields_read}
 use Rattle.mir.specs.Lookup.{Types, row_of, shape}
 use Rattle.fold.specs.Family.{Marks, accessed, dynamic_first}
-use Rattle.fold_copies.specs.declared.CopyRead.{CopyRead}
-use Rattle.fold_family.specs.Copies.{any_shape, copied, assigned, copy_of, dynamic_step, dynamic_place}
+use Rattle.fold_family.specs.Copies.{any_shape, Copy, copied, assigned, copy_of, dynamic_step, dynamic_place}
 use Rattle.fold_shapes.specs.Shapes.{OfType}
-use Rattle.fold_copies.specs.Found.{Headed, ValueCopy, AssignCopy, CopyFound, as_copy}
+use Rattle.fold_copies.specs.Found.{Headed, ValueCopy, AssignCopy, CopyFound}
 
 -- a value's number takes two bytes
 id_at : (next : ℕ) (u : List ℕ) {d : ValueId} {m : ℕ} → value_id_of next u ≡ ok d m → (d.0 ≡ at16 u 0) × (m ≡ 2)
@@ -136,25 +139,19 @@ insert_tuple_at b u {k} e =
     e
 
 -- what a reader of a value has answered
-pub got_value : {x : ReadValue} {y v : Value} {m n : ℕ} → x ≡ ReadValue.Got y m → as_value x ≡ ok v n → y ≡ v
-got_value {x} {y} {v} {m} {n} p e = let f : ok y m ≡ ok v n = sym (ap as_value p) ∙ e in cc
-
-pub got_size : {x : ReadValue} {y v : Value} {m n : ℕ} → x ≡ ReadValue.Got y m → as_value x ≡ ok v n → m ≡ n
-got_size {x} {y} {v} {m} {n} p e = let f : ok y m ≡ ok v n = sym (ap as_value p) ∙ e in cc
-
-pub got_none : {A : Type 0} {x : ReadValue} {c : Cause} {o n : ℕ} {v : Value} → x ≡ ReadValue.Refused c o → as_value x ≡ ok v n → A
-got_none p e = absurd (no_ok (sym (ap as_value p) ∙ e))
+pub got_size : {x : Result (Read Value) Refusal} {r : Read Value} {v : Value} {n : ℕ} → x ≡ Ok r → as_parse x ≡ ok v n → r.size ≡ n
+got_size {x} {r} {v} {n} p e = let f : ok r.value r.size ≡ ok v n = sym (ap as_parse p) ∙ e in cc
 
 -- an Assign's type, and whether that makes it a copy
-module _ (s types u w : List ℕ) (many : ℕ) (x : ReadValue) (y : Value) (m t k : ℕ) (dest : ValueId) (got : x ≡ ReadValue.Got y m) (ew : w ≡ drop m u) (et : t ≡ at16 w 2) (ek : OfType shape s types many (record { 0 = t }) k) where
-  shape_of : (most : ℕ) (τ : Types) (v : Value) (n : ℕ) → TypesAt most s types τ.rows → length τ.rows ≡ many → as_value x ≡ ok v n → k ≡ shape (row_of τ (some (record { 0 = at16 (drop n u) 2 })))
+module _ (s types u w : List ℕ) (many : ℕ) (x : Result (Read Value) Refusal) (y : Read Value) (t k : ℕ) (dest : ValueId) (got : x ≡ Ok y) (ew : w ≡ drop y.size u) (et : t ≡ at16 w 2) (ek : OfType shape s types many (record { 0 = t }) k) where
+  shape_of : (most : ℕ) (τ : Types) (v : Value) (n : ℕ) → TypesAt most s types τ.rows → length τ.rows ≡ many → as_parse x ≡ ok v n → k ≡ shape (row_of τ (some (record { 0 = at16 (drop n u) 2 })))
   unfolding row_of
   shape_of most τ v n a l e = ek most τ.rows a l ∙ ap (λ q. shape (get_elem? τ.rows q)) (et ∙ ap (λ q. at16 q 2) (ew ∙ ap (λ q. drop q u) (got_size got e)))
 
   pub assigned_none : k ≡ 0 → AssignCopy s types many u x dest none
   assigned_none h most τ v n a l e = ap (λ q. assigned q v dest.0) (sym h ∙ shape_of most τ v n a l e)
 
-  pub assigned_copied : (k ≡ 0 → ⊥) → (r : CopyRead) → ValueCopy x dest k (as_copy r) → AssignCopy s types many u x dest (as_copy r)
+  pub assigned_copied : (k ≡ 0 → ⊥) → (r : Option Copy) → ValueCopy x dest k r → AssignCopy s types many u x dest r
   assigned_copied h r f most τ v n a l e =
       let z : copied k v dest.0 ≡ assigned k v dest.0 = rw (ne_eqb k 0 h) in
       f v n e ∙ z ∙ ap (λ q. assigned q v dest.0) (shape_of most τ v n a l e)
@@ -197,21 +194,21 @@ fields_of b t j ef eu i a h =
     record { size = _; read = fields_read b t ef eu (a.numbered ∙ k.numbered) i a.size a.read j h }
 
 -- what copy_at finds: its own fields are u, behind the first of them stands v
-module _ (b : Bounds) (s types : List ℕ) (t u v : List ℕ) (fp kind : ℕ) (dest : ValueId) (x : ReadValue) (r : CopyRead) (ef : fp ≡ fields_place t) (eu : u ≡ drop fp t) (ed : dest.0 ≡ at16 u 0) (ev : v ≡ drop 2 u) (ex : as_value x ≡ value_of b.next v) where
+module _ (b : Bounds) (s types : List ℕ) (t u v : List ℕ) (fp kind : ℕ) (dest : ValueId) (x : Result (Read Value) Refusal) (r : Option Copy) (ef : fp ≡ fields_place t) (eu : u ≡ drop fp t) (ed : dest.0 ≡ at16 u 0) (ev : v ≡ drop 2 u) (ex : as_parse x ≡ value_of b.next v) where
   -- its value
-  value_read : {y : Value} {m : ℕ} → value_of b.next (drop 2 u) ≡ ok y m → as_value x ≡ ok y m
+  value_read : {y : Value} {m : ℕ} → value_of b.next (drop 2 u) ≡ ok y m → as_parse x ≡ ok y m
   value_read q = ex ∙ rw ev q
 
-  found_assigned : (τ : Types) (i : InstructionKind) → ((y : Value) (n : ℕ) → as_value x ≡ ok y n → as_copy r ≡ assigned (shape (row_of τ (some (record { 0 = at16 (drop n u) 2 })))) y dest.0) → AssignAt b.next u i → as_copy r ≡ copy_of τ i
+  found_assigned : (τ : Types) (i : InstructionKind) → ((y : Value) (n : ℕ) → as_parse x ≡ ok y n → r ≡ assigned (shape (row_of τ (some (record { 0 = at16 (drop n u) 2 })))) y dest.0) → AssignAt b.next u i → r ≡ copy_of τ i
   found_assigned τ i f k = f k.value k.took (value_read k.read) ∙ rw ed (sym (k.copy τ))
 
-  pub found_assign : kind ≡ 0 → AssignCopy s types b.types u x dest (as_copy r) → CopyFound s b types t kind (as_copy r)
+  pub found_assign : kind ≡ 0 → AssignCopy s types b.types u x dest r → CopyFound s b types t kind r
   found_assign h f most τ i a m e = found_assigned τ i.kind (λ y q. f most τ y q a m) (assign_at b u (fields_of b t 0 ef eu i e h).read)
 
-  found_inserted : ValueCopy x dest any_shape (as_copy r) → (τ : Types) (i : InstructionKind) → InsertAt b.next u i → as_copy r ≡ copy_of τ i
+  found_inserted : ValueCopy x dest any_shape r → (τ : Types) (i : InstructionKind) → InsertAt b.next u i → r ≡ copy_of τ i
   found_inserted f τ i k = f k.value k.took (value_read k.read) ∙ rw ed (sym (k.copy τ))
 
-  pub found_insert : CopyKind kind → (kind ≡ 0 → ⊥) → ValueCopy x dest any_shape (as_copy r) → (τ : Types) (i : Instruction) → Headed b t kind i → as_copy r ≡ copy_of τ i.kind
+  pub found_insert : CopyKind kind → (kind ≡ 0 → ⊥) → ValueCopy x dest any_shape r → (τ : Types) (i : Instruction) → Headed b t kind i → r ≡ copy_of τ i.kind
   found_insert k z f τ i a =
       ⊎_elim (λ h. absurd (z h))
       (⊎_elim

@@ -1,10 +1,10 @@
 -- What the code finds of a block's copies and dynamic bases.
-use Rattle.std.specs.Prelude.{ℕ, ◌≤◌, ◌≡◌, List, [], ◌++◌, false, length, drop, replicate}
+use Rattle.std.specs.Prelude.{Some, None, Result, Option as Answered, ℕ, ◌≤◌, ◌≡◌, List, [], ◌++◌, false, length, drop, replicate}
 use Rattle.std.proofs.Math.Option.{Option, none, some}
-use Rattle.bytes_wire.specs.Parse.{ok}
+use Rattle.bytes_wire.specs.Parse.{ok, as_parse}
 use Rattle.bytes_wire.specs.Number.{at16}
-use Rattle.bytes_wire.specs.Value.{as_value}
-use Rattle.bytes_wire.specs.declared.ReadValue.{ReadValue}
+use Rattle.bytes_wire.specs.declared.Read.{Read}
+use Rattle.bytes_wire.specs.declared.Refusal.{Refusal}
 use Rattle.mir.specs.declared.Value.{Value}
 use Rattle.mir.specs.declared.ValueId.{ValueId}
 use Rattle.mir.specs.Syntax.{Instruction}
@@ -17,12 +17,12 @@ use Rattle.mir.specs.Lookup.{Types, row_of, shape}
 use Rattle.mir.specs.Most.{most_instructions}
 use Rattle.fold.specs.Family.{Marks, accessed}
 use Rattle.fold_family.specs.Copies.{Copy, copied, assigned, copy_of, before, copies, table_size, RowsAt, dynamic_place, dynamics}
-use Rattle.fold_copies.specs.declared.CopyRead.{CopyRead}
+use Rattle.fold_copies.specs.declared.BlockCopy.{BlockCopy}
 
 -- what the code's answer says
-abbrev pub as_copy : CopyRead → Option Copy
-as_copy (CopyRead.Copy source dest asked) = some (record { source = source.0; dest = dest.0; asked = asked })
-as_copy CopyRead.Nothing = none
+abbrev pub as_copy : Answered BlockCopy → Option Copy
+as_copy (Some c) = some (record { source = c.source.0; dest = c.dest.0; asked = c.asked })
+as_copy None = none
 
 -- the instruction at the head of t, and its kind
 pub record Headed (b : Bounds) (t : List ℕ) (kind : ℕ) (i : Instruction) : Type 0 where
@@ -36,16 +36,16 @@ pub record Scanned (table : List ℕ) (before after : Marks) (τ : Types) (is : 
   pub dynamic_all : after ≡ dynamics before is
 
 -- the promises: of the copy of a value that was read as x,
-abbrev pub ValueCopy : ReadValue → ValueId → ℕ → Option Copy → Type 0
-ValueCopy x dest asked o = (v : Value) (n : ℕ) → as_value x ≡ ok v n → o ≡ copied asked v dest.0
+abbrev pub ValueCopy : Result (Read Value) Refusal → ValueId → ℕ → Option Copy → Type 0
+ValueCopy x dest asked o = (v : Value) (n : ℕ) → as_parse x ≡ ok v n → o ≡ copied asked v dest.0
 
 -- of an Assign's copy, whose fields are u and whose value was read as x: its type stands behind the value,
-abbrev pub AssignCopy : List ℕ → List ℕ → ℕ → List ℕ → ReadValue → ValueId → Option Copy → Type 0
+abbrev pub AssignCopy : List ℕ → List ℕ → ℕ → List ℕ → Result (Read Value) Refusal → ValueId → Option Copy → Type 0
 AssignCopy s types many u x dest o =
     (most : ℕ) (τ : Types) (v : Value) (n : ℕ)
     → TypesAt most s types τ.rows
     → length τ.rows ≡ many
-    → as_value x ≡ ok v n
+    → as_parse x ≡ ok v n
     → o ≡ assigned (shape (row_of τ (some (record { 0 = at16 (drop n u) 2 })))) v dest.0
 
 -- of the copy that the instruction at the head of t makes,

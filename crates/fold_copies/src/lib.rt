@@ -3,57 +3,62 @@
 #![tactic(auto)]
 
 ghost use Rattle.std.specs.Prelude.{◌≡◌, cond, ◌+◌, ◌≤◌, ◌<◌, eqb};
-ghost use Rattle.bytes_operands.specs.Fields.{as_step};
+ghost use Rattle.mir.specs.Option.{as_option};
 ghost use Rattle.mir.specs.Lookup.{is_integer};
 ghost use Rattle.mir.specs.Most.{most_instructions};
 ghost use Rattle.fold_family.specs.Copies.{dynamic_step};
 ghost use Rattle.fold_copies.specs.Found.{as_copy, ValueCopy, AssignCopy, CopyFound, CopyNoted, DynamicNoted, ScanCopies};
 
 use bytes_field::Bounds;
-use bytes_operands::Step;
-use bytes_wire::ReadValue;
-use mir::{Literal, TypeId, Value, ValueId, kind, most, shape};
+use bytes_wire::{Read, Refusal};
+use mir::{Literal, Projection, TypeId, Value, ValueId, kind, most, shape};
 
-// What makes `dest` a member where `source` is one, for a root of the shape asked for; or nothing.
+// What makes `dest` a member where `source` is one, for a root of the shape asked for. (A number, as the table of copies has
+// it: there `fold_family::ANY` stands for any shape.)
 #[derive(Clone, Copy)]
-pub enum CopyRead {
-    Copy {
-        source: ValueId,
-        dest: ValueId,
-        asked: u8,
-    },
-    Nothing,
+pub struct BlockCopy {
+    pub source: ValueId,
+    pub dest: ValueId,
+    pub asked: u8,
 }
 
 // The copy of a value that was read.
-fn copied(x: ReadValue, dest: ValueId, asked: u8) -> CopyRead
+fn copied(x: Result<Read<Value>, Refusal>, dest: ValueId, asked: u8) -> Option<BlockCopy>
     ensures { ValueCopy x dest asked (as_copy result) }
 {
     match x {
-        ReadValue::Refused(_, _) => CopyRead::Nothing,
-        ReadValue::Got(v, _) => match v {
-            Value::Literal(_) => CopyRead::Nothing,
-            Value::Operand(o) => CopyRead::Copy {
-                source: o,
-                dest: dest,
-                asked: asked,
+        Ok(
+            Read {
+                value: Value::Operand(source),
+                ..
             },
-            Value::Error => CopyRead::Nothing,
-        },
+        ) => Some(BlockCopy {
+            source,
+            dest,
+            asked,
+        }),
+        _ => None,
     }
 }
 
 // The copy that an Assign makes, whose fields are `u` and whose value is `x`: its type stands behind the value.
-fn assigned(s: &[u8], types: &[u16], many: u16, u: &[u8], x: ReadValue, dest: ValueId) -> CopyRead
+fn assigned(
+    s: &[u8],
+    types: &[u16],
+    many: u16,
+    u: &[u8],
+    x: Result<Read<Value>, Refusal>,
+    dest: ValueId,
+) -> Option<BlockCopy>
     ensures { AssignCopy s.now types.now many u.now x dest (as_copy result) }
 {
     match x {
-        ReadValue::Refused(_, _) => CopyRead::Nothing,
-        ReadValue::Got(_, n) => {
-            let t = TypeId(bytes_wire::u16_at(bytes_field::tail(u, n), 2));
+        Err(_) => None,
+        Ok(r) => {
+            let t = TypeId(bytes_wire::u16_at(bytes_field::tail(u, r.size), 2));
             let shape = fold_shapes::type_shape(s, types, many, t);
             if shape == shape::OTHER {
-                return CopyRead::Nothing;
+                return None;
             }
             copied(x, dest, shape)
         }
@@ -61,7 +66,7 @@ fn assigned(s: &[u8], types: &[u16], many: u16, u: &[u8], x: ReadValue, dest: Va
 }
 
 // The copy that the instruction at the head of `t` makes, whose kind is `kind`.
-fn copy_at(s: &[u8], b: Bounds, types: &[u16], t: &[u8], kind: u16) -> CopyRead
+fn copy_at(s: &[u8], b: Bounds, types: &[u16], t: &[u8], kind: u16) -> Option<BlockCopy>
     ensures { CopyFound s.now b types.now t.now kind (as_copy result) }
 {
     match kind {
@@ -74,58 +79,38 @@ fn copy_at(s: &[u8], b: Bounds, types: &[u16], t: &[u8], kind: u16) -> CopyRead
             }
             copied(x, dest, fold_family::ANY)
         }
-        _ => CopyRead::Nothing,
+        _ => None,
     }
 }
 
 // Notes a copy behind `n` others: its row goes in front of the last one of the same source. How many copies there are then.
-fn note_copy(c: CopyRead, n: u16, copies: &mut [u16]) -> u16
+fn note_copy(c: Option<BlockCopy>, n: u16, copies: &mut [u16]) -> u16
     requires { n < most_instructions }
     ensures few { result ≤ n + 1 }
     ensures noted { CopyNoted (as_copy c) n result copies.old copies.new }
 {
-    match c {
-        CopyRead::Nothing => n,
-        CopyRead::Copy {
-            source,
-            dest,
-            asked,
-        } => {
-            let at = fold_family::WIDTH * n as usize;
-            let head = fold_family::FIRSTS + source.0 as usize;
-            table::set_number(copies, at + fold_family::DEST, dest.0);
-            table::set_number(copies, at + fold_family::ASKED, asked as u16);
-            table::set_number(copies, at + fold_family::NEXT, table::number(copies, head));
-            table::set_number(copies, head, n + 1);
-            n + 1
-        }
-    }
+    let Some(c) = c else { return n };
+    let at = fold_family::WIDTH * n as usize;
+    let head = fold_family::FIRSTS + c.source.0 as usize;
+    table::set_number(copies, at + fold_family::DEST, c.dest.0);
+    table::set_number(copies, at + fold_family::ASKED, c.asked as u16);
+    table::set_number(copies, at + fold_family::NEXT, table::number(copies, head));
+    table::set_number(copies, head, n + 1);
+    n + 1
 }
 
+#[tactic(auto, unfolding(mir::specs::Lookup::is_integer))]
 fn is_integer(x: Value) -> bool
     ensures { result ≡ is_integer x }
 {
-    match x {
-        Value::Literal(l) => match l {
-            Literal::Integer(_) => true,
-            Literal::Boolean(_) => false,
-            Literal::Unit => false,
-        },
-        Value::Operand(_) => false,
-        Value::Error => false,
-    }
+    matches!(x, Value::Literal(Literal::Integer(_)))
 }
 
 // The step is an Index that is no Integer literal.
-fn is_dynamic(p: Step) -> bool
-    ensures { result ≡ dynamic_step (as_step p) }
+fn is_dynamic(p: Option<Projection>) -> bool
+    ensures { result ≡ dynamic_step (as_option p) }
 {
-    match p {
-        Step::Index(x) => !is_integer(x),
-        Step::Field(_) => false,
-        Step::Tuple(_) => false,
-        Step::Nothing => false,
-    }
+    matches!(p, Some(Projection::Index(x)) if !is_integer(x))
 }
 
 // Where the base of a Load's place stands in its fields, behind its dest; a Store's stands first.
@@ -139,13 +124,10 @@ fn base_place(kind: u16) -> usize
 fn note_dynamic(t: &[u8], b: Bounds, kind: u16, dynamic: &mut [bool])
     ensures { DynamicNoted t.now b kind dynamic.old dynamic.new }
 {
-    if dynamic.len() == 0 {
+    if dynamic.is_empty() {
         return;
     }
-    if kind < kind::LOAD {
-        return;
-    }
-    if kind::STORE < kind {
+    if kind != kind::LOAD && kind != kind::STORE {
         return;
     }
     if is_dynamic(bytes_operands::projection(t, b, 0)) {
@@ -177,14 +159,12 @@ pub fn scan_copies(
         return;
     }
     let mut n: u16 = 0;
-    let mut k: u16 = 0;
     let mut row = bytes_index::row_place(first, 0);
-    while k < count {
+    for k in 0..count {
         let kind = table::number(facts, row + bytes_index::KIND);
         let t = bytes_field::tail(s, table::place(facts, row));
         n = note_copy(copy_at(s, b, facts, t, kind), n, copies);
         note_dynamic(t, b, kind, dynamic);
         row = row + bytes_index::WIDTH;
-        k = k + 1;
     }
 }

@@ -33,7 +33,7 @@ use Rattle.fold_family.proofs.Closed.{copies_few}
 use Rattle.fold_family.proofs.Finding.{size_clear}
 use Rattle.fold_copies.specs.Found.{Headed}
 use Rattle.fold_copies.proofs.Fields.{dest_at, fields_of}
-use Rattle.fold_cross.specs.declared.BuildRead.{BuildRead}
+use Rattle.std.specs.Prelude.{Some, None, Option as Answered}
 use Rattle.fold_cross.specs.Cross.{Root, Idle, Built, family_read, FamilyRead}
 use Rattle.fold_cross.proofs.Uniting.{union_clear}
 
@@ -115,7 +115,7 @@ other_build (HeapAllocCells e v) f = refl
 
 -- what eligible_build finds: another kind,
 pub found_none : (b : Bounds) (t : List ℕ) (kind : ℕ) (eligible : List Bool) → (BuildKind kind → ⊥) → (i : Instruction) → Headed b t kind i
-    → Built eligible b.next BuildRead.Nothing i.kind
+    → Built eligible b.next None i.kind
 found_none b t kind eligible f i a =
     record {
       dest = λ v e. absurd (let z : ◌≡◌ {A = ℕ} 0 1 = cc in omega arith);
@@ -137,14 +137,14 @@ module _ (b : Bounds) (t u : List ℕ) (fp kind : ℕ) (dest : ValueId) (eligibl
   root : Root eligible b.next dest.0 on i.kind
   root = record { dest = build_at.dest ∙ ap (λ x. some (record { 0 = x })) (sym ed); low = omega (arith, build_at.low); fits = sym eo }
 
-  pub found_root : on ≡ true → Built eligible b.next (BuildRead.Dest dest) i.kind
+  pub found_root : on ≡ true → Built eligible b.next (Some dest) i.kind
   found_root h =
       record {
         dest = λ v e. let z : dest ≡ v = cc in rw (← z, ← h) root;
         idle = λ e. absurd (let z : ◌≡◌ {A = ℕ} 0 1 = cc in omega arith);
       }
 
-  pub found_idle : on ≡ false → Built eligible b.next BuildRead.Nothing i.kind
+  pub found_idle : on ≡ false → Built eligible b.next None i.kind
   found_idle h =
       record {
         dest = λ v e. absurd (let z : ◌≡◌ {A = ℕ} 0 1 = cc in omega arith);
@@ -181,10 +181,10 @@ module _ (σ : Settings) (τ : Types) (shapes : List ℕ) (eligible : List Bool)
       let z : cross_build σ τ ks own x (some v) c ≡ cross_family τ ks own x v c = rw e in
       sym (ap (λ q. cross_build σ τ ks own x q c) r.dest ∙ z)
 
-  pub read_crossed : (i : InstructionKind) (d : BuildRead) → Built eligible next d i → length c ≡ next
+  pub read_crossed : (i : InstructionKind) (d : Answered ValueId) → Built eligible next d i → length c ≡ next
       → added (family_read τ x.instructions d) ≡ cross_build σ τ ks own x (build_dest i) c
-  read_crossed i (BuildRead.Dest v) b l = root_crossed i v (b.dest v refl)
-  read_crossed i BuildRead.Nothing b l = go (read_elsewhere none_marked own 0 ks) ∙ sym (idle_build i (b.idle refl))
+  read_crossed i (Some v) b l = root_crossed i v (b.dest v refl)
+  read_crossed i None b l = go (read_elsewhere none_marked own 0 ks) ∙ sym (idle_build i (b.idle refl))
     where
       none_marked : Marks
       none_marked = replicate (length τ.recorded) false
@@ -194,12 +194,12 @@ module _ (σ : Settings) (τ : Types) (shapes : List ℕ) (eligible : List Bool)
       go false = refl
 
 -- a mark for each value
-pub read_length : (τ : Types) (is : List Instruction) (d : BuildRead) → length (family_read τ is d) ≡ length τ.recorded
-read_length τ is (BuildRead.Dest v) = family_length τ v is
-read_length τ is BuildRead.Nothing = length-replicate (length τ.recorded) false
+pub read_length : (τ : Types) (is : List Instruction) (d : Answered ValueId) → length (family_read τ is d) ≡ length τ.recorded
+read_length τ is (Some v) = family_length τ v is
+read_length τ is None = length-replicate (length τ.recorded) false
 
 -- the family that is found: of no build,
-pub found_nothing : (d : BuildRead) (copies shapes : List ℕ) (clear : Marks) (members : List ℕ) → d ≡ BuildRead.Nothing
+pub found_nothing : (d : Answered ValueId) (copies shapes : List ℕ) (clear : Marks) (members : List ℕ) → d ≡ None
     → FamilyRead d copies shapes clear clear members members 0
 found_nothing d copies shapes clear members e σ τ is i eligible next rows few a b n most wide ec =
     let z : clear ≡ replicate (length τ.recorded) false = ec ∙ ap (λ y. replicate y false) n in (
@@ -212,8 +212,8 @@ found_nothing d copies shapes clear members e σ τ is i eligible next rows few 
     )
 
 -- and of a root
-pub found_dest : (d : BuildRead) (v : ValueId) (copies shapes : List ℕ) (clear m : Marks) (room members : List ℕ) {q : ℕ} (r : Found)
-    → d ≡ BuildRead.Dest v
+pub found_dest : (d : Answered ValueId) (v : ValueId) (copies shapes : List ℕ) (clear m : Marks) (room members : List ℕ) {q : ℕ} (r : Found)
+    → d ≡ Some v
     → q ≡ get_or shapes v.0 0
     → FindsFamily copies q v clear m room members r
     → FamilyRead d copies shapes clear m room members r.members

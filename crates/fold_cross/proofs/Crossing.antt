@@ -5,7 +5,7 @@ use mathlib.Core.List.{List, ◌∷◌}
 use mathlib.Core.Bool.{Bool, false, cond}
 use native.Mathlib.Numerals.{add-one}
 use native.Mathlib.Omega.{arith}
-use lib.ListN.{length, get_or, drop, replicate, length-replicate}
+use lib.ListN.{length, get_or, drop, replicate, length-replicate, take}
 use lib.Seq.{drop-cons, drop-length}
 use Rattle.mir.specs.Syntax.{Instruction, Block}
 use Rattle.bytes_field.specs.declared.Bounds.{Bounds}
@@ -19,7 +19,9 @@ use Rattle.fold_family.specs.Copies.{copies, table_size, RowsAt}
 use Rattle.fold_family.specs.Search.{Members, ClearsMembers}
 use Rattle.fold_copies.specs.Found.{ScanCopies}
 use Rattle.fold_readers.specs.Readers.{read_blocks}
-use Rattle.fold_cross.specs.declared.BuildRead.{BuildRead}
+use Rattle.std.specs.Prelude.{Option as Answered}
+use Rattle.mir.specs.declared.ValueId.{ValueId}
+use Rattle.fold_family.proofs.Listed.{first_listed}
 use Rattle.fold_cross.specs.Cross.{Ready, Built, IdleAll, cross_block, family_read, MembersCrossed, FamilyRead, CrossMarks}
 use Rattle.fold_cross.proofs.Builds.{read_crossed, read_length}
 use Rattle.fold_cross.proofs.Idle.{idle_builds}
@@ -76,9 +78,10 @@ module _ (b : Bounds) (s facts shapes : List ℕ) (eligible : List Bool) (reader
     module _ (own first rows : ℕ) (eo : k < 254 → own ≡ k) (ef : first ≡ get_or (starts_in facts) k 0) (er : rows ≡ 387 + 20 * first + 0)
         (ec : Counts k count) (f₀ c₀ : Marks) where
       -- one more: its build d, the family f' of that, and its n members
-      module _ (f c : Marks) (members : List ℕ) (j : ℕ) (u : Building f₀ f c₀ c members j) (h : j < count) (d : BuildRead)
+      module _ (f c : Marks) (members : List ℕ) (j : ℕ) (u : Building f₀ f c₀ c members j) (h : j < count) (d : Answered ValueId)
           (eb : (b : Bounds) (slot : ℕ) (i : Instruction) → rows + 20 * j ≡ 387 + 20 * slot → InstructionIn b s facts slot i → Built eligible b.next d i.kind)
-          (f' : Marks) (members' : List ℕ) (n : ℕ) (em : FamilyRead d table shapes f f' members members' n) where
+          (f' : Marks) (members' : List ℕ) (n : ℕ) (em : FamilyRead d table shapes f f' members members' n)
+          (lm : length members' ≡ length members) (listed : List ℕ) (el : listed ≡ take n members') where
         -- of a routine that stands so
         module _ (σ : Settings) (τ : Types) (ks : List Block) (a : Given f₀ c₀ σ τ ks) where
           abbrev x : Block
@@ -104,19 +107,22 @@ module _ (b : Bounds) (s facts shapes : List ℕ) (eligible : List Bool) (reader
           sized : length f' ≡ b.next
           sized = ap (λ y. length y) found.0 ∙ read_length τ x.instructions d ∙ values
 
-          step : {c' : Marks} → MembersCrossed own members' n reader c c' → c' ≡ cross_build σ τ ks k x (build_dest i.kind) c
+          all : Members listed (length listed) f'
+          all = rw el (first_listed members' n f' found.1 (omega (arith, sized, values, u.wide, a.ready.coded.ground.few)))
+
+          step : {c' : Marks} → MembersCrossed own listed (length listed) reader c c' → c' ≡ cross_build σ τ ks k x (build_dest i.kind) c
           step g =
               let o : own ≡ k = eo (omega (arith, a.ready.coded.many, a.ready.coded.few)) in
               let l : length c ≡ b.next = u.long ∙ a.each in
-              g f' ks found.1 (sized ∙ sym l) (a.ready.readers ∙ ap (λ y. read_blocks 0 (replicate y 0) ks) (sym sized))
+              g f' ks all (sized ∙ sym l) (a.ready.readers ∙ ap (λ y. read_blocks 0 (replicate y 0) ks) (sym sized))
               ∙ ap (λ y. cond (read_elsewhere y own 0 ks) (union y c) c) found.0
               ∙ read_crossed σ τ shapes eligible b.next a.ready.given values ks own x c i.kind d built l
               ∙ ap (λ y. cross_build σ τ ks y x (build_dest i.kind) c) o
 
-        pub building_again : (c' f'' : Marks) → MembersCrossed own members' n reader c c' → length c' ≡ length c → ClearsMembers members' n f' f''
-            → length members' ≡ length members → Building f₀ f'' c₀ c' members' (j + 1)
+        pub building_again : (c' f'' : Marks) → MembersCrossed own listed (length listed) reader c c' → length c' ≡ length c → ClearsMembers listed (length listed) f' f''
+            → Building f₀ f'' c₀ c' members' (j + 1)
         unfolding cross_builds
-        building_again c' f'' g lc w lm =
+        building_again c' f'' g lc w =
             record {
               under = omega arith;
               long = lc ∙ u.long;
@@ -127,7 +133,7 @@ module _ (b : Bounds) (s facts shapes : List ℕ) (eligible : List Bool) (reader
                   u.left σ τ ks a
                   ∙ ap (λ y. cross_builds σ τ ks k (x σ τ ks a) y c) z
                   ∙ ap (λ y. cross_builds σ τ ks k (x σ τ ks a) (drop (j + 1) is) y) (sym (step σ τ ks a g));
-              clear = λ σ τ ks a. w (found σ τ ks a).1 ∙ ap (λ y. replicate y false) (sized σ τ ks a);
+              clear = λ σ τ ks a. w (all σ τ ks a) ∙ ap (λ y. replicate y false) (sized σ τ ks a);
             }
 
       pub building_done : (f c : Marks) (members : List ℕ) (j : ℕ) → Building f₀ f c₀ c members j → count ≤ j

@@ -2,7 +2,7 @@
 use Prim.Native.Nat.{ℕ, suc, ◌+◌, ◌*◌, ◌≤◌, ◌<◌}
 use mathlib.Core.Path.{◌≡◌, refl, ap, ◌∙◌}
 use mathlib.Core.List.{List, [], ◌∷◌}
-use mathlib.Core.Bool.{Bool}
+use mathlib.Core.Bool.{Bool, true≢false, false}
 use mathlib.Core.Logic.{⊎_elim}
 use native.Mathlib.Nat.{eq-or-lt_of_le}
 use native.Mathlib.Omega.{arith}
@@ -14,9 +14,15 @@ use Rattle.mir.specs.Lookup.{Types}
 use Rattle.fold.specs.Tables.{ShapesAt}
 use Rattle.fold.specs.Family.{Marks, cross_builds}
 use Rattle.fold.specs.declared.Settings.{Settings}
-use Rattle.fold_cross.specs.declared.BuildRead.{BuildRead}
+use Rattle.std.specs.Prelude.{Some, None, Option as Answered, is_some}
+use Rattle.mir.specs.declared.ValueId.{ValueId}
 use Rattle.fold_cross.specs.Cross.{Built, Idle, IdleAll}
 use Rattle.fold_cross.proofs.Builds.{idle_build}
+
+-- an answer that is not there
+pub none_left : {A : Type 0} (r : Answered A) → is_some r ≡ false → r ≡ None
+none_left (Some x) h = absurd (true≢false h)
+none_left None h = refl
 
 module _ (s facts : List ℕ) (first count : ℕ) (eligible : List Bool) where
   -- k instructions are behind, and none of them is one
@@ -30,12 +36,12 @@ module _ (s facts : List ℕ) (first count : ℕ) (eligible : List Bool) where
         → j < k
         → Idle eligible b.next (get_or is j no_instruction).kind
 
-  pub idling_again : (rows k : ℕ) (r : BuildRead)
+  pub idling_again : (rows k : ℕ) (r : Answered ValueId)
       → rows ≡ 387 + 20 * first + 0
       → Idling k
       → k < count
       → ((b : Bounds) (slot : ℕ) (i : Instruction) → rows + 20 * k ≡ 387 + 20 * slot → InstructionIn b s facts slot i → Built eligible b.next r i.kind)
-      → r ≡ BuildRead.Nothing
+      → r ≡ None
       → Idling (k + 1)
   idling_again rows k r er u h f e =
       record {

@@ -1,5 +1,5 @@
 -- What the code keeps while it looks for aggregates that are used across blocks.
-use Rattle.std.specs.Prelude.{ℕ, ◌<◌, ◌≤◌, ◌≡◌, List, Bool, true, false, cond, length, get_or, replicate}
+use Rattle.std.specs.Prelude.{Option, Some, None, ℕ, ◌<◌, ◌≤◌, ◌≡◌, List, Bool, true, false, cond, length, get_or, replicate}
 use Rattle.std.proofs.Math.Option.{some}
 use Rattle.mir.specs.declared.ValueId.{ValueId}
 use Rattle.mir.specs.Syntax.{InstructionKind, Instruction, Block}
@@ -13,7 +13,6 @@ use Rattle.fold.specs.declared.Settings.{Settings}
 use Rattle.fold_family.specs.Copies.{copies, RowsAt}
 use Rattle.fold_family.specs.Search.{Members}
 use Rattle.fold_readers.specs.Readers.{read_blocks}
-use Rattle.fold_cross.specs.declared.BuildRead.{BuildRead}
 
 -- a routine's code, the shapes of its values, and the block that reads each
 pub record Ready (b : Bounds) (s facts : List ℕ) (σ : Settings) (τ : Types) (ks : List Block)
@@ -36,18 +35,18 @@ pub record IdleAll (eligible : List Bool) (next : ℕ) (is : List Instruction) :
   pub each : (k : ℕ) → k < length is → Idle eligible next (get_or is k no_instruction).kind
 
 -- what a build's reader tells: the dest of a build of an eligible type, or that there is none
-pub record Built (eligible : List Bool) (next : ℕ) (r : BuildRead) (i : InstructionKind) : Type 0 where
-  pub dest : (v : ValueId) → r ≡ BuildRead.Dest v → Root eligible next v.0 true i
-  pub idle : r ≡ BuildRead.Nothing → Idle eligible next i
+pub record Built (eligible : List Bool) (next : ℕ) (r : Option ValueId) (i : InstructionKind) : Type 0 where
+  pub dest : (v : ValueId) → r ≡ Some v → Root eligible next v.0 true i
+  pub idle : r ≡ None → Idle eligible next i
 
 -- what the builds of block k add
 abbrev pub cross_block : Settings → Types → List Block → ℕ → Marks → Marks
 cross_block σ τ ks k m = cross_builds σ τ ks k (get_or ks k no_block) (get_or ks k no_block).instructions m
 
 -- the family of what was read of an instruction: none where no build was read
-abbrev pub family_read : Types → List Instruction → BuildRead → Marks
-family_read τ is (BuildRead.Dest v) = family τ v is
-family_read τ is BuildRead.Nothing = replicate (length τ.recorded) false
+abbrev pub family_read : Types → List Instruction → Option ValueId → Marks
+family_read τ is (Some v) = family τ v is
+family_read τ is None = replicate (length τ.recorded) false
 
 -- the promises: the n members of a family are marked,
 abbrev pub Unites : List ℕ → ℕ → Marks → Marks → Type 0
@@ -63,7 +62,7 @@ MembersCrossed own members n reader before after =
     → after ≡ cond (read_elsewhere m own 0 ks) (union m before) before
 
 -- the family of what was read of an instruction of a block is found,
-abbrev pub FamilyRead : BuildRead → List ℕ → List ℕ → Marks → Marks → List ℕ → List ℕ → ℕ → Type 0
+abbrev pub FamilyRead : Option ValueId → List ℕ → List ℕ → Marks → Marks → List ℕ → List ℕ → ℕ → Type 0
 FamilyRead d table shapes clear m room members n =
     (σ : Settings) (τ : Types) (is : List Instruction) (i : InstructionKind) (eligible : List Bool) (next : ℕ)
     → RowsAt table (copies τ is)

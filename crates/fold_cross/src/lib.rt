@@ -20,15 +20,8 @@ use mir::{BlockId, ValueId, kind, most};
 // How many values a routine has at most, as the bounds count them.
 const VALUES: u16 = most::VALUES as u16;
 
-// The dest of a build of an eligible type, or no such build.
-#[derive(Clone, Copy)]
-pub enum BuildRead {
-    Dest(ValueId),
-    Nothing,
-}
-
 // The dest of the build in the slot whose row begins at `row`, where its type is eligible.
-fn eligible_build(s: &[u8], facts: &[u16], row: usize, eligible: &[bool]) -> BuildRead
+fn eligible_build(s: &[u8], facts: &[u16], row: usize, eligible: &[bool]) -> Option<ValueId>
     requires { row < most_place }
     ensures { (b : DeclaredBounds) (slot : ℕ) (i : Instruction) → row ≡ row_at slot
         → InstructionIn b s.now facts.now slot i → Built eligible.now b.next result i.kind }
@@ -40,11 +33,11 @@ fn eligible_build(s: &[u8], facts: &[u16], row: usize, eligible: &[bool]) -> Bui
             let u = bytes_field::tail(t, bytes_operands::fields_place(t));
             let dest = ValueId(bytes_wire::u16_at(u, 0));
             if table::flag(eligible, dest.0 as usize) {
-                return BuildRead::Dest(dest);
+                return Some(dest);
             }
-            BuildRead::Nothing
+            None
         }
-        _ => BuildRead::Nothing,
+        _ => None,
     }
 }
 
@@ -55,44 +48,37 @@ fn has_build(s: &[u8], facts: &[u16], first: u16, count: u16, eligible: &[bool])
         → length is ≡ count → IdleAll eligible.now b.next is }
 {
     let rows = bytes_index::row_place(first, 0);
-    let mut k: u16 = 0;
-    while k < count {
-        match eligible_build(s, facts, rows + bytes_index::WIDTH * k as usize, eligible) {
-            BuildRead::Dest(_) => {
-                return true;
-            }
-            BuildRead::Nothing => {}
+    for k in 0..count {
+        if eligible_build(s, facts, rows + bytes_index::WIDTH * k as usize, eligible).is_some() {
+            return true;
         }
-        k = k + 1;
     }
     false
 }
 
-// Marks the `n` members.
-fn unite(members: &[u16], n: u16, marks: &mut [bool])
-    ensures { Unites members.now n marks.old marks.new }
+// Marks the members.
+fn unite(members: &[u16], marks: &mut [bool])
+    ensures { Unites members.now (length members.now) marks.old marks.new }
 {
-    let mut k: u16 = 0;
-    while k < n {
-        table::set_flag(marks, table::place(members, k as usize), true);
-        k = k + 1;
+    for v in members {
+        table::set_flag(marks, *v as usize, true);
     }
 }
 
-// Marks the `n` members of a family of block `own` where another block reads one.
-fn unite_abroad(own: u8, members: &[u16], n: u16, readers: &[u8], marks: &mut [bool])
+// Marks the members of a family of block `own` where another block reads one.
+fn unite_abroad(own: u8, members: &[u16], readers: &[u8], marks: &mut [bool])
     requires { own < block_limit }
-    ensures { MembersCrossed own members.now n readers.now marks.old marks.new }
+    ensures { MembersCrossed own members.now (length members.now) readers.now marks.old marks.new }
 {
-    if fold_readers::member_abroad(members, n, own, readers) {
-        unite(members, n, marks);
+    if fold_readers::member_abroad(members, own, readers) {
+        unite(members, marks);
     }
 }
 
 // Finds the family of the build that was read of an instruction, if one was, in `family`, whose marks are clear, and lists it in
 // `members`; how many members there are. The block's copies stand in `copies`.
 fn find_family(
-    d: BuildRead,
+    d: Option<ValueId>,
     copies: &[u16],
     shapes: &[u8],
     family: &mut [bool],
@@ -101,8 +87,8 @@ fn find_family(
     ensures { FamilyRead d copies.now shapes.now family.old family.new members.old members.new result }
 {
     match d {
-        BuildRead::Nothing => 0,
-        BuildRead::Dest(v) => {
+        None => 0,
+        Some(v) => {
             let shape = bytes_wire::byte_at(shapes, v.0 as usize);
             let found = fold_family::family(copies, shape, v, family, members);
             found.members
@@ -135,13 +121,12 @@ fn cross_builds(
     let count = bytes_index::instruction_count(facts, k);
     let rows = bytes_index::row_place(bytes_index::first_slot(facts, k), 0);
     let mut members: [u16; most::VALUES] = [0; most::VALUES];
-    let mut j: u16 = 0;
-    while j < count {
+    for j in 0..count {
         let d = eligible_build(s, facts, rows + bytes_index::WIDTH * j as usize, eligible);
         let n = find_family(d, copies, shapes, family, &mut members);
-        unite_abroad(own, &members, n, readers, marks);
-        fold_family::unmark(&members, n, family);
-        j = j + 1;
+        let listed = fold_family::first_members(&members, n);
+        unite_abroad(own, listed, readers, marks);
+        fold_family::unmark(listed, family);
     }
 }
 
@@ -199,10 +184,8 @@ fn cross_read(
         facts.now shapes.now eligible.now readers.now marks.old marks.new }
 {
     let many = b.blocks;
-    let mut k: u16 = 0;
-    while k < many {
+    for k in 0..many {
         cross_block(BlockId(k), s, b, facts, shapes, eligible, readers, marks);
-        k = k + 1;
     }
 }
 

@@ -1,13 +1,12 @@
 -- A member that is looked into by an index that is not known is one that has both marks.
-use Prim.Native.Nat.{ℕ, zero, suc, ◌+◌, ◌≤◌, ◌<◌, zero-le}
+use Prim.Native.Nat.{ℕ, zero, suc}
 use mathlib.Core.Path.{◌≡◌, refl, ap, ◌∙◌, sym}
 use mathlib.Core.List.{List, [], ◌∷◌}
 use mathlib.Core.Bool.{Bool, true, false, cond, ◌&&◌, ◌||◌, and-true, and-false, or-false, or_assoc}
 use mathlib.Core.Option.{Option, none, some}
-use native.Mathlib.Nat.{add-zero}
 use native.Mathlib.Omega.{arith}
-use lib.ListN.{length, get_or, set, drop, replicate, length-set, length-replicate, length-drop}
-use lib.Seq.{drop-length, drop-drop, get_or-drop}
+use lib.ListN.{length, get_or, set, replicate, length-set, length-replicate}
+use Rattle.std.specs.List.{list_any, zip}
 use Rattle.mir.specs.declared.ValueId.{ValueId}
 use Rattle.mir.specs.Syntax.{Place, Instruction}
 use Rattle.mir.specs.Lookup.{Types, any}
@@ -79,44 +78,13 @@ dynamic_family τ v is =
     meets_dynamics m (replicate n false) is (length-replicate n false ∙ sym (family_length τ v is))
     ∙ ap (λ x. x || any (λ i. dynamic_at m (accessed i.kind)) is) (meets_clear m n)
 
--- the first of the marks, and the others
-meets_nil : (m : Marks) → meets m [] ≡ false
+-- mark by mark
+pub zip_meets : (m d : Marks) → list_any (λ (x, y). x && y) (zip m d) ≡ meets m d
 unfolding meets
-meets_nil [] = refl
-meets_nil (a ∷ m) = refl
-
-meets_first : (m d : Marks) → 0 < length m → meets m d ≡ ((get_or m 0 false && get_or d 0 false) || meets (drop 1 m) (drop 1 d))
-unfolding meets
-meets_first [] d h = absurd (omega arith)
-meets_first (a ∷ m) [] h = sym (ap (λ x. x || meets m []) (and-false a) ∙ meets_nil m)
-meets_first (a ∷ m) (b ∷ d) h = refl
-
--- k marks are behind, and none of them was met
-pub record Meeting (m d : Marks) (k : ℕ) : Type 0 where
-  pub under : k ≤ length m
-  pub left : meets m d ≡ meets (drop k m) (drop k d)
-
-pub meet_start : (m d : Marks) → Meeting m d 0
-meet_start m d = record { under = zero-le; left = refl }
-
-meet_next : (m d : Marks) (k : ℕ) → k < length m → Meeting m d k → meets m d ≡ ((get_or m k false && get_or d k false) || meets (drop (k + 1) m) (drop (k + 1) d))
-meet_next m d k h u =
-    let l : 0 < length (drop k m) = omega (arith, length-drop k m) in
-    u.left ∙ meets_first (drop k m) (drop k d) l ∙ rw (get_or-drop k m 0 false, get_or-drop k d 0 false, add-zero, drop-drop 1 k m, drop-drop 1 k d)
-
-pub meet_again : (m d : Marks) (k : ℕ) {r : Bool} → k < length m → Meeting m d k → r ≡ (get_or m k false && get_or d k false) → r ≡ false → Meeting m d (k + 1)
-meet_again m d k h u e f = record { under = omega arith; left = meet_next m d k h u ∙ ap (λ x. x || meets (drop (k + 1) m) (drop (k + 1) d)) (sym e ∙ f) }
-
-pub meet_found : (m d : Marks) (k : ℕ) {r : Bool} → k < length m → Meeting m d k → r ≡ (get_or m k false && get_or d k false) → r ≡ true → true ≡ meets m d
-meet_found m d k h u e f = sym (meet_next m d k h u ∙ ap (λ x. x || meets (drop (k + 1) m) (drop (k + 1) d)) (sym e ∙ f))
-
-pub meet_done : (m d : Marks) (k : ℕ) → Meeting m d k → length m ≤ k → false ≡ meets m d
-unfolding meets
-meet_done m d k u h =
-    let q : k ≡ length m = omega (arith, u.under) in
-    let e : drop k m ≡ [] = rw q (drop-length m) in
-    sym (u.left ∙ ap (λ x. meets x (drop k d)) e)
+zip_meets [] d = refl
+zip_meets (a ∷ m) [] = refl
+zip_meets (a ∷ m) (b ∷ d) = ap (λ x. (a && b) || x) (zip_meets m d)
 
 -- and so the code's answer is the definition's
-pub dynamic_found : (m d : Marks) {r : Bool} → r ≡ meets m d → (r ≡ meets m d) × DynamicIndex m d r
-dynamic_found m d e = (e, λ τ v is f g. e ∙ rw (f, g) (dynamic_family τ v is))
+pub dynamic_found : (m d : Marks) {r : Bool} → r ≡ meets m d → DynamicIndex m d r
+dynamic_found m d e τ v is f g = e ∙ rw (f, g) (dynamic_family τ v is)

@@ -17,6 +17,7 @@ use Rattle.fold_family.specs.Copies.{Copy, copies, rounds, last, row_at, firsts_
 use Rattle.fold_family.specs.Turns.{one, size, copied_from, turns_of}
 use Rattle.fold_family.specs.Search.{most_turns, joins_at, Join, Turn, is_open, FindsFamily}
 use Rattle.fold_family.specs.declared.Search.{Search}
+use Rattle.fold_family.specs.declared.Found.{Found}
 use Rattle.fold_family.proofs.Sweeps.{family_copies}
 use Rattle.fold_family.proofs.Closed.{set_still, below_set, copies_few}
 use Rattle.fold_family.proofs.Rows.{copy_at, size_set}
@@ -28,7 +29,7 @@ one_le : (b : Bool) → one b ≤ 1
 one_le true = omega arith
 one_le false = omega arith
 
-size_le : (m : Marks) → size m ≤ length m
+pub size_le : (m : Marks) → size m ≤ length m
 size_le [] = omega arith
 size_le (b ∷ m) = omega (arith, one_le b, size_le m)
 
@@ -233,8 +234,8 @@ module _ (table : List ℕ) (root v : ℕ) (clear : Marks) (room : List ℕ) whe
             go false z = absurd (true≢false (sym h ∙ get_or-set_other clear v x true false (eqb-false x v z) ∙ ap (λ c. get_or c x false) e ∙ clear_at n x))
 
     -- no search takes as many turns
-    pub never_late : most_turns < turns → FindsFamily table root w clear m room members (record { members = q.found; turns = turns })
-    never_late h τ is rows few er low most wide ec =
+    pub never_late : most_turns < turns → (r : Found) → FindsFamily table root w clear m room members r
+    never_late h r τ is rows few er low most wide ec =
         let n = length τ.recorded in
         let cs = copies τ is in
         let s = u.searching cs n rows (rw ev low) most wide ec in

@@ -1,16 +1,21 @@
 -- The members of a family, one after another, in place of all its marks.
 use Prim.Native.Nat.{ℕ, zero, suc, ◌≤◌, ◌<◌}
-use mathlib.Core.Path.{◌≡◌, refl, ap, ◌∙◌, sym}
+use mathlib.Core.Path.{◌≡◌, refl, ap, ◌∙◌, sym, subst}
 use mathlib.Core.List.{List, [], ◌∷◌}
 use mathlib.Core.Bool.{Bool, true, false, ◌&&◌, ◌||◌, or-true, true≢false}
 use native.Mathlib.Omega.{arith}
-use lib.ListN.{length, get_or, replicate, length-replicate}
+use lib.ListN.{length, get_or, take, replicate, length-replicate}
 use lib.Seq.{ext_get_or}
+use Rattle.std.specs.List.{list_any}
+use Rattle.std.proofs.lemmas.Grind.{get_or_default_zero}
+use Rattle.std.proofs.lemmas.List.Folds.{list_any_at, Any-from_list_any}
+use Rattle.std.proofs.lemmas.List.{length-take-le, get_or-take}
 use Rattle.table.proofs.Elements.{clear_at}
 use Rattle.fold.specs.Family.{Marks}
 use Rattle.fold_family.specs.Copies.{meets}
 use Rattle.fold_family.specs.Search.{Listed, listed_at, Members, ClearsMembers, MemberIndexed}
 use Rattle.fold_family.proofs.Dynamic.{dynamic_family}
+use Rattle.fold_family.proofs.Finding.{size_le}
 
 -- a value that has both marks
 meets_at : (m d : Marks) (x : ℕ) → get_or m x false ≡ true → get_or d x false ≡ true → meets m d ≡ true
@@ -31,23 +36,39 @@ meets_none (a ∷ m) (b ∷ d) f = go a refl (meets_none m d (λ x. f (suc x)))
     go true e r = rw (f 0 e) r
     go false e r = r
 
--- none of the first k members has the other mark
-pub record NoneMet (members : List ℕ) (d : Marks) (k : ℕ) : Type 0 where
-  pub each : (i : ℕ) → i < k → get_or d (get_or members i 0) false ≡ false
-
-pub met_at : (members : List ℕ) (n : ℕ) (m d : Marks) (k : ℕ) {r : Bool}
-    → Members members n m → k < n → r ≡ get_or d (get_or members k 0) false → r ≡ true → true ≡ meets m d
-met_at members n m d k a h e f = sym (meets_at m d (get_or members k 0) (a.marked k h) (sym e ∙ f))
-
-pub none_met : (members : List ℕ) (n : ℕ) (m d : Marks) (k : ℕ) → Members members n m → n ≤ k → NoneMet members d k → false ≡ meets m d
-none_met members n m d k a h u = sym (meets_none m d (λ x y. go x (a.only x y)))
+-- the test of each member in turn
+pub list_met : (members : List ℕ) (m d : Marks) → Members members (length members) m → list_any (λ v. get_or d v false) members ≡ meets m d
+list_met members m d a = go (list_any p members) refl
   where
-    go : (x : ℕ) → Listed members n x → get_or d x false ≡ false
-    go x (listed_at i l z) = ap (λ y. get_or d y false) (sym z) ∙ u.each i (omega arith)
+    p : ℕ → Bool
+    p v = get_or d v false
+
+    only : (x : ℕ) → list_any p members ≡ false → Listed members (length members) x → (b : Bool) → p x ≡ b → p x ≡ false
+    only x e l false f = f
+    only x e (listed_at i h z) true f = absurd (true≢false (sym (list_any_at p members i 0 h (ap p z ∙ f)) ∙ e))
+
+    go : (b : Bool) → list_any p members ≡ b → list_any p members ≡ meets m d
+    go true e = let (i, x, h, z, f) = Any-from_list_any p members e in e ∙ sym (meets_at m d x (subst (λ y. get_or m y false ≡ true) (sym (get_or_default_zero members i x h) ∙ z) (a.marked i h)) f)
+    go false e = e ∙ sym (meets_none m d (λ x y. only x e (a.only x y) (p x) refl))
 
 -- and so the code's answer is the definition's
 pub indexed_found : (members : List ℕ) (n : ℕ) (d : Marks) {r : Bool} → ((m : Marks) → Members members n m → r ≡ meets m d) → MemberIndexed members n d r
 indexed_found members n d f τ v is a e = f _ a ∙ rw e (dynamic_family τ v is)
+
+-- the first n of a table, as a list of their own
+pub first_listed : (members : List ℕ) (n : ℕ) (m : Marks) → Members members n m → length m ≤ length members → Members (take n members) (length (take n members)) m
+first_listed members n m a l =
+    record {
+      many = z ∙ a.many;
+      marked = λ i h. let k : i < n = omega (arith, z) in rw (get_or-take n members i 0 k) (a.marked i k);
+      only = λ x h. go x (a.only x h);
+    }
+  where
+    z : length (take n members) ≡ n
+    z = length-take-le n members (omega (arith, a.many, size_le m))
+
+    go : (x : ℕ) → Listed members n x → Listed (take n members) (length (take n members)) x
+    go x (listed_at i h e) = listed_at i (omega (arith, z)) (get_or-take n members i 0 h ∙ e)
 
 -- the marks of k members are cleared
 pub record Clearing (members : List ℕ) (m₀ m : Marks) (k : ℕ) : Type 0 where

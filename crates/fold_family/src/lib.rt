@@ -2,7 +2,7 @@
 // not known.
 #![tactic(auto)]
 
-ghost use Rattle.std.specs.Prelude.{◌≡◌, ◌+◌, ◌≤◌, ◌<◌, ◌&&◌, ◌||◌, ℕ, suc, false, eqb, get_or};
+ghost use Rattle.std.specs.Prelude.{◌≡◌, ◌+◌, ◌≤◌, ◌<◌, ◌&&◌, ◌||◌, ℕ, suc, false, eqb, get_or, length, take};
 ghost use Rattle.fold_family.specs.Copies.{any_shape, row_at, firsts_at, meets};
 ghost use Rattle.fold_family.specs.Search.{most_turns, joins_at, Join, Turn, is_open, FindsFamily, ClearsMembers, IsAlone, DynamicIndex, MemberIndexed};
 
@@ -23,7 +23,7 @@ pub const FIRSTS: usize = WIDTH * most::INSTRUCTIONS;
 
 pub const SIZE: usize = FIRSTS + most::VALUES;
 
-// A root of any shape is asked for.
+// A root of any shape is asked for. (A number and no Option: it stands in a table of u16, in fixed memory.)
 pub const ANY: u8 = 0;
 
 // The most turns that a search takes: one for each value, and one for each copy of a block.
@@ -49,11 +49,7 @@ pub struct Found {
 fn asks(wanted: u16, shape: u8) -> bool
     ensures { result ≡ (eqb wanted any_shape || eqb wanted shape) }
 {
-    if wanted == ANY as u16 {
-        true
-    } else {
-        wanted == shape as u16
-    }
+    wanted == ANY as u16 || wanted == shape as u16
 }
 
 // Copy `k` joins where it asks for the root's shape, and its dest is a value that is not marked yet.
@@ -61,14 +57,8 @@ fn joins(copies: &[u16], k: u16, shape: u8, marks: &[bool]) -> bool
     ensures { result ≡ joins_at copies.now k shape marks.now }
 {
     let at = WIDTH * k as usize;
-    if !asks(table::number(copies, at + ASKED), shape) {
-        return false;
-    }
     let dest = table::place(copies, at + DEST);
-    if marks.len() <= dest {
-        return false;
-    }
-    !marks[dest]
+    asks(table::number(copies, at + ASKED), shape) && dest < marks.len() && !marks[dest]
 }
 
 // Looks at copy `k`, `found` members being found; how many are found then.
@@ -108,7 +98,7 @@ fn turn(q: Search, copies: &[u16], shape: u8, marks: &mut [bool], members: &mut 
     let k = q.row - 1;
     let found = join(copies, k, shape, q.found, marks, members);
     Search {
-        found: found,
+        found,
         taken: q.taken,
         row: table::number(copies, WIDTH * k as usize + NEXT),
     }
@@ -118,10 +108,7 @@ fn turn(q: Search, copies: &[u16], shape: u8, marks: &mut [bool], members: &mut 
 fn is_open(q: Search) -> bool
     ensures { result ≡ is_open q }
 {
-    if q.row != 0 {
-        return true;
-    }
-    q.taken < q.found
+    q.row != 0 || q.taken < q.found
 }
 
 // Marks the family of `v`, whose recorded type has the shape `shape`, in `marks`, which are clear, one for each value, and
@@ -142,20 +129,18 @@ pub fn family(
         taken: 0,
         row: 0,
     };
-    let mut turns: u16 = 0;
-    while turns <= TURNS {
+    for turns in 0..=TURNS {
         if !is_open(q) {
             return Found {
                 members: q.found,
-                turns: turns,
+                turns,
             };
         }
         q = turn(q, copies, shape, marks, members);
-        turns = turns + 1;
     }
     Found {
         members: q.found,
-        turns: turns,
+        turns: TURNS,
     }
 }
 
@@ -164,62 +149,43 @@ pub fn family(
 pub fn is_alone(copies: &[u16], v: ValueId) -> bool
     ensures { IsAlone copies.now v result }
 {
-    if most::VALUES <= v.0 as usize {
-        return false;
-    }
-    table::number(copies, FIRSTS + v.0 as usize) == 0
+    (v.0 as usize) < most::VALUES && table::number(copies, FIRSTS + v.0 as usize) == 0
 }
 
-// Clears the marks of the `n` members.
-pub fn unmark(members: &[u16], n: u16, marks: &mut [bool])
-    ensures { ClearsMembers members.now n marks.old marks.new }
+// The `n` members that a search has listed; the whole list where it is shorter.
+pub fn first_members(members: &[u16], n: u16) -> &[u16]
+    ensures { result.now ≡ take n members.now }
 {
-    let mut k: u16 = 0;
-    while k < n {
-        table::set_flag(marks, table::place(members, k as usize), false);
-        k = k + 1;
+    let n = n as usize;
+    if n < members.len() {
+        &members[..n]
+    } else {
+        members
     }
 }
 
-// Whether one of the `n` members of a family is looked into by an index that is not known, where `dynamic` are the marks that
+// Clears the marks of the members.
+pub fn unmark(members: &[u16], marks: &mut [bool])
+    ensures { ClearsMembers members.now (length members.now) marks.old marks.new }
+{
+    for v in members {
+        table::set_flag(marks, *v as usize, false);
+    }
+}
+
+// Whether one of the members of a family is looked into by an index that is not known, where `dynamic` are the marks that
 // the scan of the block has set.
-pub fn member_indexed(members: &[u16], n: u16, dynamic: &[bool]) -> bool
-    ensures { MemberIndexed members.now n dynamic.now result }
+pub fn member_indexed(members: &[u16], dynamic: &[bool]) -> bool
+    ensures { MemberIndexed members.now (length members.now) dynamic.now result }
 {
-    let mut k: u16 = 0;
-    while k < n {
-        if table::flag(dynamic, table::place(members, k as usize)) {
-            return true;
-        }
-        k = k + 1;
-    }
-    false
-}
-
-// Whether a value has both marks.
-fn both_at(a: &[bool], b: &[bool], k: usize) -> bool
-    ensures { result ≡ (get_or a.now k false && get_or b.now k false) }
-{
-    if a.len() <= k {
-        return false;
-    }
-    if b.len() <= k {
-        return false;
-    }
-    if a[k] { b[k] } else { false }
+    members.iter().any(|v| table::flag(dynamic, *v as usize))
 }
 
 // Whether a member of the family that `marks` has is looked into by an index that is not known, where `dynamic` are
 // the marks that the scan of the block has set. (The pass goes by the list of its members.)
 pub fn dynamic_index(marks: &[bool], dynamic: &[bool]) -> bool
-    ensures { (result ≡ meets marks.now dynamic.now) × DynamicIndex marks.now dynamic.now result }
+    ensures met { result ≡ meets marks.now dynamic.now }
+    ensures indexed { DynamicIndex marks.now dynamic.now result }
 {
-    let mut k = 0;
-    while k < marks.len() {
-        if both_at(marks, dynamic, k) {
-            return true;
-        }
-        k = k + 1;
-    }
-    false
+    marks.iter().zip(dynamic).any(|(a, b)| *a && *b)
 }

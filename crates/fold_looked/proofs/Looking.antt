@@ -7,7 +7,7 @@ use mathlib.Core.Logic.{⊎_elim}
 use mathlib.Core.Option.{some}
 use native.Mathlib.Nat.{le_trans}
 use native.Mathlib.Omega.{arith}
-use lib.ListN.{length, get_or, set, replicate, drop, length-set, length-replicate}
+use lib.ListN.{length, get_or, set, take, replicate, drop, length-set, length-replicate}
 use lib.Seq.{get_or-set_same, get_or-set_other}
 use Rattle.mir.specs.declared.ValueId.{ValueId}
 use Rattle.mir.specs.Syntax.{Instruction}
@@ -24,6 +24,7 @@ use Rattle.fold_family.specs.Copies.{RowsAt}
 use Rattle.fold_family.specs.Search.{Members, FindsFamily, ClearsMembers, MemberIndexed}
 use Rattle.fold_family.specs.declared.Found.{Found}
 use Rattle.fold_family.proofs.Closed.{copies_few}
+use Rattle.fold_family.proofs.Listed.{first_listed}
 use Rattle.fold_family.proofs.Rows.{newest}
 use Rattle.fold_family.proofs.Sweeps.{family_length}
 use Rattle.fold_copies.specs.Found.{ScanCopies}
@@ -33,13 +34,16 @@ use Rattle.fold_looked.specs.Looked.{Looking, LooksInto, LooksAt, LooksAll, Look
 use Rattle.fold_looked.proofs.Behind.{copies_behind, dynamics_behind, behind_few}
 
 -- a family is found, its marks are cleared, its members are held against the dynamic marks
-pub looks_into : (table : List ℕ) (shp : ℕ) (v : ValueId) (dynamic clear marks after : Marks) (room members : List ℕ) (found : Found) (r : Bool)
-    → FindsFamily table shp v clear marks room members found → ClearsMembers members found.members marks after → MemberIndexed members found.members dynamic r
+pub looks_into : (table : List ℕ) (shp : ℕ) (v : ValueId) (dynamic clear marks after : Marks) (room members listed : List ℕ) (found : Found) (r : Bool)
+    → length members ≡ length room → listed ≡ take found.members members
+    → FindsFamily table shp v clear marks room members found → ClearsMembers listed (length listed) marks after → MemberIndexed listed (length listed) dynamic r
     → LooksInto table shp v dynamic clear after room r
-looks_into table shp v dynamic clear marks after room members found r finds clears index τ is k ss h =
+looks_into table shp v dynamic clear marks after room members listed found r long el finds clears index τ is k ss h =
     let f = finds τ is k.rows (le_trans (copies_few τ is) k.short) ss h k.few k.wide k.cleared in
-    let again : after ≡ clear = clears f.listed ∙ ap (λ n. replicate n false) (ap length f.same ∙ family_length τ v is) ∙ sym k.cleared in
-    (again, index τ v is (subst (Members members found.members) f.same f.listed) k.dynamic_all)
+    let few : length marks ≤ length members = omega (arith, k.few, k.wide, ap length f.same, family_length τ v is) in
+    let all : Members listed (length listed) marks = rw el (first_listed members found.members marks f.listed few) in
+    let again : after ≡ clear = clears all ∙ ap (λ n. replicate n false) (ap length f.same ∙ family_length τ v is) ∙ sym k.cleared in
+    (again, index τ v is (subst (Members listed (length listed)) f.same all) k.dynamic_all)
 
 -- the dest of the array in a slot is its first field
 pub looks_at : (s facts : List ℕ) (slot : ℕ) (shapes table : List ℕ) (dynamic clear after : Marks) (room : List ℕ) (r : Bool) (v : ValueId) (kind shp : ℕ)

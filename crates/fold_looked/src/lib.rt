@@ -13,14 +13,7 @@ use mir::{ValueId, kind, most};
 fn any_array(facts: &[u16], from: u16, to: u16) -> bool
     ensures { result ≡ false → NoneArrays facts.now from to }
 {
-    let mut slot = from;
-    while slot < to {
-        if bytes_index::kind(facts, slot) == kind::MAKE_FIXED_ARRAY {
-            return true;
-        }
-        slot = slot + 1;
-    }
-    false
+    (from..to).any(|slot| bytes_index::kind(facts, slot) == kind::MAKE_FIXED_ARRAY)
 }
 
 // Whether a member of the family of `v` is looked into so; the marks of `family` are clear, before and after.
@@ -35,8 +28,9 @@ fn looked_into(
     ensures { LooksInto copies.now shape v dynamic.now family.old family.new members.old result }
 {
     let found = fold_family::family(copies, shape, v, family, members);
-    fold_family::unmark(members, found.members, family);
-    fold_family::member_indexed(members, found.members, dynamic)
+    let members = fold_family::first_members(members, found.members);
+    fold_family::unmark(members, family);
+    fold_family::member_indexed(members, dynamic)
 }
 
 // The same of the build in a slot, where that is an array.
@@ -79,8 +73,7 @@ fn look_all(
         family.old looked.old looked.new }
 {
     let mut members: [u16; most::VALUES] = [0; most::VALUES];
-    let mut j: u16 = 0;
-    while j < count {
+    for j in 0..count {
         let yes = look(
             s,
             facts,
@@ -92,7 +85,6 @@ fn look_all(
             &mut members,
         );
         table::set_flag(looked, j as usize, yes);
-        j = j + 1;
     }
 }
 

@@ -156,9 +156,14 @@ module _ {facts : List ℕ} {first count : ℕ} where
     pub count_stop : k < count → (kind : ℕ) → kind ≡ kind_in facts (first + k) → (kind ≡ 9 → ⊥) → PhisIn facts first count k
     count_stop h kind z n b s is a l = rw (ne_eqb kind 9 n) at (one h kind z b s is a l)
 
-    pub count_all : count ≤ k → PhisIn facts first count k
+    all : count ≤ k → PhisIn facts first count k
     unfolding behind_phis
-    count_all h b s is a l =
+    all h b s is a l =
         let g : length is ≤ k = omega (arith, l) in
         let d = drop_of_length-le is g in
         inv.left b s is a l ∙ rw d refl
+
+    pub count_all : count ≤ k → PhisIn facts first count count
+    count_all h b s is a l =
+        let z : count ≡ k = omega (arith, inv.low) in
+        rw z (all h b s is a l)

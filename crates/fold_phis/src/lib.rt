@@ -16,11 +16,7 @@ fn aggregate_phi(s: &[u8], facts: &[u16], slot: u16, shapes: &[u8]) -> bool
     }
     let d = fold_scan::dest(s, facts, slot);
     let shape = bytes_wire::byte_at(shapes, d.0 as usize);
-    if shape == shape::TUPLE {
-        true
-    } else {
-        shape == shape::STRUCT
-    }
+    shape == shape::TUPLE || shape == shape::STRUCT
 }
 
 // Whether a block is skipped: one of its phis is a tuple or struct.
@@ -28,12 +24,10 @@ pub fn is_skipped(s: &[u8], facts: &[u16], first: u16, count: u16, shapes: &[u8]
     requires { first + count ≤ most_slots }
     ensures { Skips s.now facts.now first count shapes.now result }
 {
-    let mut k: u16 = 0;
-    while k < count {
+    for k in 0..count {
         if aggregate_phi(s, facts, first + k, shapes) {
             return true;
         }
-        k = k + 1;
     }
     false
 }
@@ -41,14 +35,13 @@ pub fn is_skipped(s: &[u8], facts: &[u16], first: u16, count: u16, shapes: &[u8]
 // How many phis stand in front of a block's instructions. The pass does not ask for it: a family is found without a number of sweeps.
 pub fn phi_count(facts: &[u16], first: u16, count: u16) -> u16
     requires { first + count ≤ most_slots }
-    ensures { (result ≤ count) × PhisIn facts.now first count result }
+    ensures few { result ≤ count }
+    ensures counted { PhisIn facts.now first count result }
 {
-    let mut k: u16 = 0;
-    while k < count {
+    for k in 0..count {
         if bytes_index::kind(facts, first + k) != kind::PHI {
             return k;
         }
-        k = k + 1;
     }
-    k
+    count
 }

@@ -7,6 +7,7 @@ use native.Mathlib.Omega.{arith}
 use borrow.Author.Tests.{eqb-true, eqb-false, eq-eqb, ne_eqb}
 use lib.ListN.{length, get_or, set, replicate, length-set, length-replicate}
 use lib.Dec.{eqb}
+use Rattle.std.specs.List.{list_any, zip}
 use Rattle.mir.specs.declared.ValueId.{ValueId}
 use Rattle.mir.specs.Syntax.{InstructionKind, Instruction, Block}
 use Rattle.mir.specs.Reads.{reads, counted, terminator_reads}
@@ -172,21 +173,23 @@ foreign_of own [] k = refl
 foreign_of own (x ∷ r) zero = refl
 foreign_of own (x ∷ r) (suc k) = foreign_of own r k
 
--- what the code looks up for member k: its number, and what it says
-pub foreign_at : (own : ℕ) (members reader : List ℕ) (k : ℕ) {p x : ℕ} {r : Bool}
-    → p ≡ get_or members k 0 → x ≡ get_or reader p 0 → r ≡ foreign own x → r ≡ get_or (foreigners own reader) (get_or members k 0) false
-foreign_at own members reader k ep ex er =
-    er ∙ ap (λ y. foreign own y) (ex ∙ ap (λ y. get_or reader y 0) ep) ∙ sym (foreign_of own reader (get_or members k 0))
+-- what the code looks up for each member: its number, and what it says
+pub any_foreign : (own : ℕ) (reader members : List ℕ)
+    → list_any (λ v. foreign own (get_or reader v 0)) members ≡ list_any (λ v. get_or (foreigners own reader) v false) members
+any_foreign own reader [] = refl
+any_foreign own reader (v ∷ vs) = rw (foreign_of own reader v, any_foreign own reader vs) refl
 
--- what it looks up for value k, by its mark
-pub abroad_meets : (m : Marks) (own : ℕ) (reader : List ℕ) (k : ℕ) {r : Bool}
-    → r ≡ (get_or m k false && foreign own (get_or reader k 0)) → r ≡ (get_or m k false && get_or (foreigners own reader) k false)
-abroad_meets m own reader k e = e ∙ ap (λ y. get_or m k false && y) (sym (foreign_of own reader k))
+-- and for each mark
+pub zip_foreign : (own : ℕ) (m : Marks) (reader : List ℕ) → list_any (λ p. p.0 && foreign own p.1) (zip m reader) ≡ meets m (foreigners own reader)
+unfolding meets
+zip_foreign own [] reader = refl
+zip_foreign own (a ∷ m) [] = refl
+zip_foreign own (a ∷ m) (x ∷ reader) = ap (λ y. (a && foreign own x) || y) (zip_foreign own m reader)
 
 -- and so the code's answers are the definition's
 pub elsewhere_found : (m : Marks) (own : ℕ) (reader : List ℕ) {r : Bool}
-    → own < 254 → r ≡ meets m (foreigners own reader) → (r ≡ meets m (foreigners own reader)) × ReadElsewhere m own reader r
-elsewhere_found m own reader l e = (e, λ n ks f h. e ∙ ap (λ q. meets m (foreigners own q)) f ∙ elsewhere m own n ks l h)
+    → own < 254 → r ≡ meets m (foreigners own reader) → ReadElsewhere m own reader r
+elsewhere_found m own reader l e n ks f h = e ∙ ap (λ q. meets m (foreigners own q)) f ∙ elsewhere m own n ks l h
 
 pub abroad_found : (members : List ℕ) (n own : ℕ) (reader : List ℕ) {r : Bool}
     → own < 254 → ((m : Marks) → Members members n m → r ≡ meets m (foreigners own reader)) → MemberAbroad members n own reader r

@@ -41,8 +41,7 @@ fn note_reader(own: u8, readers: &mut [u8], v: ValueId)
 {
     let i = v.0 as usize;
     if i < readers.len() {
-        let x = readers[i];
-        readers[i] = seen_by(own, x);
+        readers[i] = seen_by(own, readers[i]);
     }
 }
 
@@ -53,14 +52,12 @@ fn note_reads(own: u8, facts: &[u16], row: usize, readers: &mut [u8])
         → readers.new ≡ read_via own readers.old vs }
 {
     let n = table::number(facts, row + bytes_index::COUNT);
-    let mut k: u16 = 0;
-    while k < n {
+    for k in 0..n {
         note_reader(
             own,
             readers,
             ValueId(table::number(facts, row + bytes_index::READS + k as usize)),
         );
-        k = k + 1;
     }
 }
 
@@ -84,10 +81,8 @@ fn note_block(own: u8, facts: &[u16], first: u16, count: u16, readers: &mut [u8]
         → readers.new ≡ read_block own readers.old x }
 {
     let rows = bytes_index::row_place(first, 0);
-    let mut k: u16 = 0;
-    while k < count {
+    for k in 0..count {
         note_instruction(own, facts, rows + bytes_index::WIDTH * k as usize, readers);
-        k = k + 1;
     }
     note_reads(
         own,
@@ -112,12 +107,10 @@ pub fn note_readers(facts: &[u16], many: u16, readers: &mut [u8])
     ensures { (b : Bounds) (s : List ℕ) (ks : List Block) → CodeIn b s facts.now ks → length ks ≡ many → many < block_limit
         → readers.new ≡ read_blocks 0 readers.old ks }
 {
-    let mut k: u16 = 0;
-    while k < many {
+    for k in 0..many {
         let first = bytes_index::first_slot(facts, BlockId(k));
         let count = bytes_index::instruction_count(facts, BlockId(k));
         note_block(block_number(BlockId(k)), facts, first, count, readers);
-        k = k + 1;
     }
 }
 
@@ -126,56 +119,25 @@ pub fn is_foreign(own: u8, x: u8) -> bool
     requires { own < block_limit }
     ensures { result ≡ foreign own x }
 {
-    if x == 0 {
-        return false;
-    }
-    x != own + 1
+    x != 0 && x != own + 1
 }
 
-// Whether some block other than `own` reads one of the `n` members of a family.
-pub fn member_abroad(members: &[u16], n: u16, own: u8, readers: &[u8]) -> bool
+// Whether some block other than `own` reads one of the members of a family.
+pub fn member_abroad(members: &[u16], own: u8, readers: &[u8]) -> bool
     requires { own < block_limit }
-    ensures { MemberAbroad members.now n own readers.now result }
+    ensures { MemberAbroad members.now (length members.now) own readers.now result }
 {
-    let mut k: u16 = 0;
-    while k < n {
-        if is_foreign(
-            own,
-            bytes_wire::byte_at(readers, table::place(members, k as usize)),
-        ) {
-            return true;
-        }
-        k = k + 1;
-    }
-    false
-}
-
-// Value `k` is marked, and another block than `own` reads it.
-fn read_abroad(marks: &[bool], own: u8, readers: &[u8], k: usize) -> bool
-    requires { own < block_limit }
-    ensures { result ≡ (get_or marks.now k false && foreign own (get_or readers.now k 0)) }
-{
-    if marks.len() <= k {
-        return false;
-    }
-    if marks[k] {
-        return is_foreign(own, bytes_wire::byte_at(readers, k));
-    }
-    false
+    members.iter().any(|v| is_foreign(own, bytes_wire::byte_at(readers, *v as usize)))
 }
 
 // Whether some block other than `own` reads one of the marked values. (The pass goes by the list of a family's members.)
 pub fn read_elsewhere(marks: &[bool], own: u8, readers: &[u8]) -> bool
     requires { own < block_limit }
-    ensures { (result ≡ meets marks.now (foreigners own readers.now))
-        × ReadElsewhere marks.now own readers.now result }
+    ensures met { result ≡ meets marks.now (foreigners own readers.now) }
+    ensures elsewhere { ReadElsewhere marks.now own readers.now result }
 {
-    let mut k = 0;
-    while k < marks.len() {
-        if read_abroad(marks, own, readers, k) {
-            return true;
-        }
-        k = k + 1;
-    }
-    false
+    marks
+        .iter()
+        .zip(readers)
+        .any(|(m, x)| *m && is_foreign(own, *x))
 }

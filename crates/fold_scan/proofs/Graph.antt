@@ -8,12 +8,14 @@ use mir.Val.{bool_byte}
 use native.Mathlib.Nat.{le_refl, le_trans}
 use native.Mathlib.Omega.{arith}
 use borrow.Author.Tests.{eqb-true, eqb-false, lt-ltb, le-ltb, ltb-true, ltb-false, ne_eqb}
-use lib.ListN.{length, get_or, get_elem?, set, drop, length-set, drop_of_length-le, get_or-eq_default}
+use lib.ListN.{length, get_or, get_elem?, set, drop, length-set, drop_of_length-le}
 use lib.Seq.{drop-cons, get_or-set_same, get_or-set_other}
 use lib.Dec.{eqb, ltb}
 use Rattle.mir.specs.declared.ValueId.{ValueId}
 use Rattle.bytes_wire.specs.Parse.{ok}
-use Rattle.mir.specs.Syntax.{Projection, Index, Field, Tuple, Instruction}
+use Rattle.mir.specs.declared.Projection.{Projection}
+use Rattle.mir.specs.declared.Projection.TheVariants.{Index, Field, Tuple}
+use Rattle.mir.specs.Syntax.{Instruction}
 use Rattle.bytes_field.specs.Decode.{instruction_of}
 use Rattle.bytes_field.specs.declared.Bounds.{Bounds}
 use Rattle.bytes_index.specs.Table.{place_in, end_in, read_count, read_in, ReadsIn}
@@ -290,28 +292,6 @@ first_step [] = refl
 first_step (Index x ∷ ps) = refl
 first_step (Field n ∷ ps) = refl
 first_step (Tuple k ∷ ps) = refl
-
--- the numbers up to i are clear
-pub record Clearing (before : List ℕ) (i : ℕ) (here : List ℕ) : Type 0 where
-  pub low : i ≤ 513
-  pub long : length here ≡ length before
-  pub clear : (at : ℕ) → at < i → get_or here at 0 ≡ 0
-
-pub clear_step : (before : List ℕ) (i : ℕ) (here : List ℕ) → Clearing before i here → i < 513 → Clearing before (i + 1) (set here i 0)
-clear_step before i here inv more =
-    record {
-      low = omega arith;
-      long = length-set here i 0 ∙ inv.long;
-      clear = λ at l. go at l (eqb at i) refl;
-    }
-  where
-    on : (b : Bool) → ltb i (length here) ≡ b → get_or (set here i 0) i 0 ≡ 0
-    on true e = get_or-set_same here i 0 0 (ltb-true i (length here) e)
-    on false e = let l : length here ≤ i = ltb-false i (length here) e in get_or-eq_default (set here i 0) 0 (omega (arith, length-set here i 0))
-
-    go : (at : ℕ) → at < i + 1 → (b : Bool) → eqb at i ≡ b → get_or (set here i 0) at 0 ≡ 0
-    go at l true e = let z : at ≡ i = eqb-true at i e in rw z (on (ltb i (length here)) refl)
-    go at l false e = let z : at ≡ i → ⊥ = eqb-false at i e in get_or-set_other here i at 0 0 z ∙ inv.clear at (omega arith)
 
 -- a read of a build, as the code notes it
 module _ (kind d w : ℕ) (g : List ℕ) (m : ℕ) (e : m ≡ many_in g) (build : kind ≡ 3 → ⊥) (other : w ≡ d → ⊥) where

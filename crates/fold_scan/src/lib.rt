@@ -2,15 +2,14 @@
 #![tactic(auto)]
 
 ghost use Rattle.std.specs.Prelude.{◌≡◌, ℕ, ◌+◌, ◌≤◌, ◌<◌, get_or};
-ghost use Rattle.bytes_operands.specs.Fields.{as_step};
+ghost use Rattle.mir.specs.Option.{as_option};
 ghost use Rattle.mir.specs.Most.{most_slots};
 ghost use Rattle.fold_climb.specs.Scanned.{edges_from};
 ghost use Rattle.fold_scan.specs.Noted.{dest_in, barring, noted_read, varies_found, passes_by};
 ghost use Rattle.fold_scan.specs.Noted.{ReadsNoted, PlaceNoted, BuildNoted, OneScanned, BlockScanned};
 
 use bytes_field::Bounds;
-use bytes_operands::Step;
-use mir::{Literal, Value, ValueId, kind, most, shape};
+use mir::{Literal, Projection, Value, ValueId, kind, most, shape};
 
 // The value that the instruction in a slot defines, where that is its first field.
 pub fn dest(s: &[u8], facts: &[u16], slot: u16) -> ValueId
@@ -57,31 +56,20 @@ fn note_read(graph: &mut [u16], kind: u16, d: ValueId, w: ValueId)
 fn note_reads(graph: &mut [u16], facts: &[u16], slot: u16, kind: u16, d: ValueId)
     ensures { ReadsNoted facts.now slot kind d graph.old graph.new }
 {
-    let mut k = bytes_index::read_count(facts, slot);
-    while 0 < k {
-        k = k - 1;
+    for k in (0..bytes_index::read_count(facts, slot)).rev() {
         let w = bytes_index::read(facts, slot, k);
         note_read(graph, kind, d, w);
     }
 }
 
 // A first projection that is no Integer literal.
-fn varies(p: Step) -> bool
-    ensures { result ≡ varies_found (as_step p) }
+#[tactic(auto, unfolding(fold_climb::specs::Edges::varies_first, mir::specs::Lookup::is_integer))]
+fn varies(p: Option<Projection>) -> bool
+    ensures { result ≡ varies_found (as_option p) }
 {
     match p {
-        Step::Nothing => false,
-        Step::Field(_) => true,
-        Step::Tuple(_) => true,
-        Step::Index(x) => match x {
-            Value::Literal(l) => match l {
-                Literal::Integer(_) => false,
-                Literal::Boolean(_) => true,
-                Literal::Unit => true,
-            },
-            Value::Operand(_) => true,
-            Value::Error => true,
-        },
+        None | Some(Projection::Index(Value::Literal(Literal::Integer(_)))) => false,
+        _ => true,
     }
 }
 
@@ -159,11 +147,8 @@ fn scan_one(
 fn clear(graph: &mut [u16])
     ensures { (at : ℕ) → at < edges_from → get_or graph.new at 0 ≡ 0 }
 {
-    let mut i = 0;
-    while i < fold_climb::EDGES {
-        table::set_number(graph, i, 0);
-        i = i + 1;
-    }
+    let end = graph.len().min(fold_climb::EDGES);
+    graph[..end].fill(0);
 }
 
 // Fills the graph for a block of `count` instructions from the slot `first` on, the last one first.
@@ -185,9 +170,7 @@ pub fn scan_block(
         structs.now graph.old graph.new }
 {
     clear(graph);
-    let mut k = count;
-    while 0 < k {
-        k = k - 1;
+    for k in (0..count).rev() {
         let pass = table::flag(structs, k as usize);
         scan_one(s, b, facts, first + k, shapes, eligible, cross, pass, graph);
     }

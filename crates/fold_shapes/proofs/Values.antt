@@ -1,6 +1,6 @@
 -- The shapes of values, one after another.
-use Prim.Native.Nat.{ℕ, ◌+◌, ◌-◌, ◌≤◌, ◌<◌, zero-le}
-use mathlib.Core.Path.{◌≡◌, refl, ◌∙◌}
+use Prim.Native.Nat.{ℕ, suc, ◌+◌, ◌-◌, ◌≤◌, ◌<◌, zero-le}
+use mathlib.Core.Path.{◌≡◌, refl, ap, ◌∙◌}
 use mathlib.Core.List.{List}
 use mathlib.Core.Bool.{Bool, false}
 use mathlib.Core.Option.{Option, none, some}
@@ -11,7 +11,7 @@ use lib.ListN.{length, get_or, get_elem?, set, length-set}
 use lib.Seq.{get_or-set_same, get_or-set_other}
 use Rattle.mir.specs.declared.TypeId.{TypeId}
 use Rattle.mir.specs.MirType.{MirType}
-use Rattle.bytes_sections.specs.Index.{recorded_number}
+use Rattle.bytes_sections.specs.Index.{recorded_number, recorded_from}
 use Rattle.fold.specs.declared.Settings.{Settings}
 use Rattle.mir.specs.Lookup.{Types, row_of, recorded_type, value_row, shape}
 use Rattle.fold.specs.Scalarizable.{is_scalarizable}
@@ -19,6 +19,10 @@ use Rattle.fold.specs.Tables.{Known}
 use Rattle.fold_shapes.specs.Shapes.{OfRecorded, FillsShapes}
 
 -- a recorded type's number, taken apart again
+pub recorded_back : (o : Option TypeId) → recorded_from (recorded_number o) ≡ o
+recorded_back none = refl
+recorded_back (some t) = let z : t.0 + 1 ≡ suc t.0 = omega arith in ap recorded_from z
+
 pub none_recorded : {A : Type 0} (f : Option MirType → A) (τ : Types) (o : Option TypeId) {number : ℕ} → number ≡ 0 → number ≡ recorded_number o → f none ≡ f (row_of τ o)
 unfolding row_of
 none_recorded f τ none e h = refl
@@ -56,27 +60,27 @@ one_more xs v a d f r e g j h =
 
 -- the next has them
 pub fill_again : (s types : List ℕ) (many : ℕ) (recorded : List ℕ) (next : ℕ) (σ : Settings) (shapes₀ : List ℕ) (eligible₀ : List Bool)
-    (shapes : List ℕ) (eligible : List Bool) (v : ℕ) (number a : ℕ) (b : Bool) (shapes₁ : List ℕ) (eligible₁ : List Bool)
+    (shapes : List ℕ) (eligible : List Bool) (v : ℕ) (o : Option TypeId) (a : ℕ) (b : Bool) (shapes₁ : List ℕ) (eligible₁ : List Bool)
     → Filling s types many recorded next σ shapes₀ eligible₀ shapes eligible v
     → v < next
-    → number ≡ get_or recorded v 0
-    → OfRecorded shape s types many (record { 0 = number }) a
-    → OfRecorded (is_scalarizable σ) s types many (record { 0 = number }) b
+    → o ≡ recorded_from (get_or recorded v 0)
+    → OfRecorded shape s types many o a
+    → OfRecorded (is_scalarizable σ) s types many o b
     → shapes₁ ≡ set shapes v a
     → eligible₁ ≡ set eligible v b
     → Filling s types many recorded next σ shapes₀ eligible₀ shapes₁ eligible₁ (v + 1)
 unfolding value_row recorded_type
-fill_again s types many recorded next σ shapes₀ eligible₀ shapes eligible v number a b shapes₁ eligible₁ u h e f g p q =
+fill_again s types many recorded next σ shapes₀ eligible₀ shapes eligible v o a b shapes₁ eligible₁ u h e f g p q =
     rw (p, q) record {
       under = omega arith;
       long_shapes = length-set shapes v a ∙ u.long_shapes;
       long_eligible = length-set eligible v b ∙ u.long_eligible;
       shaped = λ most τ k m l r.
-          let n : number ≡ recorded_number (get_or τ.recorded v none) = e ∙ k.recorded_types v (omega arith) (omega (arith, k.long)) in
-          one_more shapes v a 0 (λ j. shape (value_row τ (record { 0 = j }))) (omega (arith, u.long_shapes)) (f most τ (get_or τ.recorded v none) k.rows m n) (u.shaped most τ k m l r);
+          let n : o ≡ get_or τ.recorded v none = e ∙ ap recorded_from (k.recorded_types v (omega arith) (omega (arith, k.long))) ∙ recorded_back _ in
+          one_more shapes v a 0 (λ j. shape (value_row τ (record { 0 = j }))) (omega (arith, u.long_shapes)) (f most τ k.rows m ∙ ap (λ x. shape (row_of τ x)) n) (u.shaped most τ k m l r);
       fits = λ most τ k m l r.
-          let n : number ≡ recorded_number (get_or τ.recorded v none) = e ∙ k.recorded_types v (omega arith) (omega (arith, k.long)) in
-          one_more eligible v b false (λ j. is_scalarizable σ (value_row τ (record { 0 = j }))) (omega (arith, u.long_eligible)) (g most τ (get_or τ.recorded v none) k.rows m n) (u.fits most τ k m l r);
+          let n : o ≡ get_or τ.recorded v none = e ∙ ap recorded_from (k.recorded_types v (omega arith) (omega (arith, k.long))) ∙ recorded_back _ in
+          one_more eligible v b false (λ j. is_scalarizable σ (value_row τ (record { 0 = j }))) (omega (arith, u.long_eligible)) (g most τ k.rows m ∙ ap (λ x. is_scalarizable σ (row_of τ x)) n) (u.fits most τ k m l r);
     }
 
 -- all have them

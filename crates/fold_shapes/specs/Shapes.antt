@@ -4,11 +4,9 @@ use Rattle.std.proofs.Math.Option.{Option}
 use Rattle.std.proofs.Math.ListN.{get_elem?}
 use Rattle.bytes_wire.specs.Number.{at32}
 use Rattle.mir.specs.declared.TypeId.{TypeId}
-use Rattle.mir.specs.declared.Recorded.{Recorded}
 use Rattle.mir.specs.MirType.{MirType}
 use Rattle.mir.specs.Lookup.{Types, row_of}
 use Rattle.bytes_types.specs.Index.{TypesAt}
-use Rattle.bytes_sections.specs.Index.{recorded_number}
 use Rattle.fold.specs.declared.Settings.{Settings}
 use Rattle.fold.specs.Numbers.{tuple_shape, struct_shape, array_shape}
 use Rattle.fold.specs.Tables.{Known, ShapesAt}
@@ -40,12 +38,11 @@ OfType f s types many t answer =
     → answer ≡ f (get_elem? ts t.0)
 
 -- what it says of a recorded type, or of none,
-abbrev pub OfRecorded : {A : Type 0} → (Option MirType → A) → List ℕ → List ℕ → ℕ → Recorded → A → Type 0
-OfRecorded f s types many recorded answer =
-    (most : ℕ) (τ : Types) (o : Option TypeId)
+abbrev pub OfRecorded : {A : Type 0} → (Option MirType → A) → List ℕ → List ℕ → ℕ → Option TypeId → A → Type 0
+OfRecorded f s types many o answer =
+    (most : ℕ) (τ : Types)
     → TypesAt most s types τ.rows
     → length τ.rows ≡ many
-    → recorded.0 ≡ recorded_number o
     → answer ≡ f (row_of τ o)
 
 -- and the tables of the `next` values: what stood in them, and what stands in them

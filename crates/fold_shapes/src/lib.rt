@@ -3,12 +3,13 @@
 
 ghost use Rattle.std.specs.Prelude.{◌≡◌, cond, ◌&&◌, length, get_or, leb, ltb};
 ghost use Rattle.mir.specs.Lookup.{shape};
+ghost use Rattle.mir.specs.Option.{as_option};
 ghost use Rattle.fold.specs.Scalarizable.{is_scalarizable};
 ghost use Rattle.fold_shapes.specs.Shapes.{row_shape, row_eligible, OfType, OfRecorded, FillsShapes};
 
 use bytes_types::layout;
 use fold::Settings;
-use mir::{Recorded, TypeId, shape, type_kind};
+use mir::{TypeId, ValueId, shape, type_kind};
 
 // The shape of the type whose bytes begin here.
 fn row_shape(t: &[u8]) -> u8
@@ -27,7 +28,7 @@ fn row_shape(t: &[u8]) -> u8
 fn within(on: bool, size: u32, most: u8) -> bool
     ensures { result ≡ (on && leb size most) }
 {
-    if on { size <= most as u32 } else { false }
+    on && size <= most as u32
 }
 
 // Whether the type whose bytes begin here is eligible.
@@ -60,9 +61,10 @@ fn row_place(s: &[u8], types: &[u16], many: u16, t: TypeId) -> usize
     ensures { result ≡ cond (ltb t.0 many) (get_or types.now t.0 0) (length s.now) }
 {
     if t.0 < many {
-        return bytes_lookup::type_place(types, t);
+        bytes_lookup::type_place(types, t)
+    } else {
+        s.len()
     }
-    s.len()
 }
 
 // The shape of type `t` of `many`; that of any other type where there is no such type.
@@ -80,31 +82,31 @@ pub fn type_eligible(s: &[u8], types: &[u16], many: u16, t: TypeId, settings: Se
 }
 
 // The shape of a recorded type; where none is recorded, that of any other type.
-fn recorded_shape(s: &[u8], types: &[u16], many: u16, recorded: Recorded) -> u8
-    ensures { OfRecorded shape s.now types.now many recorded result }
+#[tactic(auto, unfolding(mir::specs::Lookup::row_of, mir::specs::Lookup::shape))]
+fn recorded_shape(s: &[u8], types: &[u16], many: u16, recorded: Option<TypeId>) -> u8
+    ensures { OfRecorded shape s.now types.now many (as_option recorded) result }
 {
-    if recorded.0 == 0 {
-        return shape::OTHER;
+    match recorded {
+        Some(t) => type_shape(s, types, many, t),
+        None => shape::OTHER,
     }
-    let number = recorded.0 - 1;
-    type_shape(s, types, many, TypeId(number))
 }
 
 // Whether a recorded type is eligible; none is not.
+#[tactic(auto, unfolding(mir::specs::Lookup::row_of, fold::specs::Scalarizable::is_scalarizable))]
 fn recorded_eligible(
     s: &[u8],
     types: &[u16],
     many: u16,
-    recorded: Recorded,
+    recorded: Option<TypeId>,
     settings: Settings,
 ) -> bool
-    ensures { OfRecorded (is_scalarizable settings) s.now types.now many recorded result }
+    ensures { OfRecorded (is_scalarizable settings) s.now types.now many (as_option recorded) result }
 {
-    if recorded.0 == 0 {
-        return false;
+    match recorded {
+        Some(t) => type_eligible(s, types, many, t, settings),
+        None => false,
     }
-    let number = recorded.0 - 1;
-    type_eligible(s, types, many, TypeId(number), settings)
 }
 
 // Fills both tables for the `next` values: the shape of each one's recorded type, and whether that type is eligible.
@@ -121,15 +123,13 @@ pub fn value_shapes(
     ensures { FillsShapes settings s.now types.now many recorded.now next
         shapes.old eligible.old shapes.new eligible.new }
 {
-    let mut v: u16 = 0;
-    while v < next {
-        let row = Recorded(table::number(recorded, v as usize));
-        table::set_byte(shapes, v as usize, recorded_shape(s, types, many, row));
+    for v in 0..next {
+        let t = bytes_lookup::recorded_type(recorded, ValueId(v));
+        table::set_byte(shapes, v as usize, recorded_shape(s, types, many, t));
         table::set_flag(
             eligible,
             v as usize,
-            recorded_eligible(s, types, many, row, settings),
+            recorded_eligible(s, types, many, t, settings),
         );
-        v = v + 1;
     }
 }

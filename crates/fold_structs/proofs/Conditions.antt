@@ -23,7 +23,7 @@ use Rattle.bytes_field.specs.Decode.{defined_of, type_id_of, list_of, field_init
 use Rattle.bytes_field.specs.declared.Bounds.{Bounds}
 use Rattle.bytes_operands.specs.Fields.{fields_place}
 use Rattle.bytes_operands.proofs.Instruction.{instruction_fields}
-use Rattle.bytes_sections.specs.Index.{recorded_number}
+use Rattle.bytes_sections.specs.Index.{recorded_from}
 use Rattle.fold_shapes.specs.Shapes.{OfType}
 use Rattle.fold.specs.declared.Settings.{Settings}
 use Rattle.mir.specs.Lookup.{Types, row_of, recorded_type, value_row, shape, is_struct, struct_fields_of, is_some}
@@ -36,6 +36,9 @@ use Rattle.bytes_index.specs.Code.{no_instruction}
 use Rattle.rewrite_parts.proofs.Builds.{build_inits}
 use Rattle.bytes_struct.proofs.Placed.{type_fields}
 use Rattle.fold.specs.Tables.{Ground}
+use Rattle.std.specs.Prelude.{Some, None, Option as Answered, unwrap_or}
+use Rattle.mir.specs.Option.{as_option}
+use Rattle.fold_shapes.proofs.Values.{recorded_back}
 use Rattle.fold_structs.specs.Told.{goes_by, AllGiven, TellsRow, Passes, StructTold, StructsTold}
 use Rattle.fold_climb.proofs.Found.{dest_at}
 
@@ -54,12 +57,10 @@ type_at types t p e =
 abbrev pub typed : ℕ → TypeId
 typed n = record { 0 = n }
 
-pub goes_on : (n : ℕ) (y : TypeId) → (n ≡ 0 → ⊥) → typed (n - 1) ≡ goes_by n y
-goes_on zero y h = absurd (h refl)
-goes_on (suc n) y h = let z : suc n - 1 ≡ n = omega arith in ap (λ (x : ℕ). typed x) z
-
-goes_suc : (t : ℕ) (y : TypeId) → goes_by (t + 1) y ≡ typed t
-goes_suc t y = let z : t + 1 - 1 ≡ t = omega arith in sym (goes_on (t + 1) y (λ e. omega arith)) ∙ ap (λ (x : ℕ). typed x) z
+-- what the code takes in place of a recorded type
+pub goes_told : (o : Answered TypeId) (y : TypeId) → unwrap_or o y ≡ goes_by (as_option o) y
+goes_told None y = refl
+goes_told (Some t) y = refl
 
 -- a number behind some bytes
 behind_16 : (o : ℕ) (t : List ℕ) (p : ℕ) → at16 (drop o t) p ≡ at16 t (o + p)
@@ -120,18 +121,18 @@ found (x ∷ xs) zero o h = refl
 found (x ∷ xs) (suc k) o h = found xs k o (omega arith)
 
 -- the row that a struct's parts go by
-struct_row_lem : (b : Bounds) (s types recorded : List ℕ) (τ : Types) → Ground b s types recorded τ → (d : ValueId) (y : TypeId) → d.0 < b.next → struct_row τ d y ≡ row_of τ (some (goes_by (get_or recorded d.0 0) y))
+struct_row_lem : (b : Bounds) (s types recorded : List ℕ) (τ : Types) → Ground b s types recorded τ → (d : ValueId) (y : TypeId) → d.0 < b.next → struct_row τ d y ≡ row_of τ (some (goes_by (recorded_from (get_or recorded d.0 0)) y))
 unfolding struct_row value_row recorded_type row_of or_else
 struct_row_lem b s types recorded τ g d y l = go (get_or τ.recorded d.0 none) refl
   where
-    n : get_or recorded d.0 0 ≡ recorded_number (get_or τ.recorded d.0 none)
-    n = g.known.recorded_types d.0 (omega (arith, g.values)) (omega (arith, g.values, g.known.long))
+    n : recorded_from (get_or recorded d.0 0) ≡ get_or τ.recorded d.0 none
+    n = ap recorded_from (g.known.recorded_types d.0 (omega (arith, g.values)) (omega (arith, g.values, g.known.long))) ∙ recorded_back _
 
-    go : (o : Option TypeId) → get_or τ.recorded d.0 none ≡ o → or_else (row_of τ o) (row_of τ (some y)) ≡ row_of τ (some (goes_by (get_or recorded d.0 0) y))
+    go : (o : Option TypeId) → get_or τ.recorded d.0 none ≡ o → or_else (row_of τ o) (row_of τ (some y)) ≡ row_of τ (some (goes_by (recorded_from (get_or recorded d.0 0)) y))
     go none e = rw (n, e) refl
     go (some t) e =
         let low : t.0 < length τ.rows = omega (arith, g.typed d.0 t e, g.rows) in
-        rw (n, e, goes_suc t.0 y) (found τ.rows t.0 (row_of τ (some y)) low)
+        rw (n, e) (found τ.rows t.0 (row_of τ (some y)) low)
 
 -- the row of a struct's number is there
 row_there : (l : List MirType) (k : ℕ) → shape (get_elem? l k) ≡ 2 → (k < length l) × (get_elem? l k ≡ some (get_or l k MirType.Unit))
@@ -204,14 +205,14 @@ module _ (b : Bounds) (s facts : List ℕ) (σ : Settings) (cross : Marks) (t : 
                 rw (p, eligible_named τ g y u, ok_type, z) refl
           ]
 
-      pub passes_told : marked ≡ false → (number : ℕ) → number ≡ get_or (recorded_in facts) d 0 → (w : TypeId) → w ≡ goes_by number named → (r : Bool) → TellsRow s facts b.types w t r → Passes b s facts σ cross t n r
+      pub passes_told : marked ≡ false → (w : TypeId) → w ≡ goes_by (recorded_from (get_or (recorded_in facts) d 0)) named → (r : Bool) → TellsRow s facts b.types w t r → Passes b s facts σ cross t n r
       unfolding buildable struct_parts
-      passes_told h number es w ws r tells τ i g e k =
+      passes_told h w ws r tells τ i g e k =
           elim (find_struct b t i n e k) [
             | struct_found v fs y p a l m u two ↦
                 let same : v.0 ≡ d = a ∙ sym ds in
                 let z : get_or cross v.0 false ≡ false = ap (λ c. get_or cross c false) same ∙ sym ms ∙ h in
-                let o : w ≡ goes_by (get_or (recorded_in facts) v.0 0) y = ws ∙ ap (λ c. goes_by c named) (es ∙ ap (λ c. get_or (recorded_in facts) c 0) (sym same)) ∙ ap (λ x. goes_by (get_or (recorded_in facts) v.0 0) (typed x)) (ns ∙ sym u) in
+                let o : w ≡ goes_by (recorded_from (get_or (recorded_in facts) v.0 0)) y = ws ∙ ap (λ c. goes_by (recorded_from (get_or (recorded_in facts) c 0)) named) (sym same) ∙ ap (λ x. goes_by (recorded_from (get_or (recorded_in facts) v.0 0)) (typed x)) (ns ∙ sym u) in
                 let q = tells b τ i n v fs y g.known.rows g.rows e p in
                 rw (p, eligible_named τ g y u, ok_type, z, struct_row_lem b s facts (recorded_in facts) τ g v y l, ← o) q
           ]

@@ -1,5 +1,5 @@
 -- Which MakeStructs pass their conditions: what the code finds it by.
-use Rattle.std.specs.Prelude.{ℕ, zero, suc, ◌≤◌, ◌≡◌, List, [], Bool, false, cond, length}
+use Rattle.std.specs.Prelude.{ℕ, ◌≤◌, ◌≡◌, List, [], Bool, false, cond, length}
 use Rattle.std.proofs.Math.Option.{Option, none, some}
 use Rattle.bytes_wire.specs.Parse.{ok}
 use Rattle.mir.specs.declared.ValueId.{ValueId}
@@ -31,10 +31,10 @@ told_by o fs = is_some (cond (is_struct o) (from_struct_fields fs (struct_fields
 abbrev pub far_place : ℕ
 far_place = 4611686018427387904
 
--- the type that a struct's parts go by: the recorded one, by one more than its number, or the named one where that is 0
-abbrev pub goes_by : ℕ → TypeId → TypeId
-goes_by zero named = named
-goes_by (suc t) named = record { 0 = t }
+-- the type that a struct's parts go by: the recorded one, or the named one where none is recorded
+abbrev pub goes_by : Option TypeId → TypeId → TypeId
+goes_by none named = named
+goes_by (some t) named = t
 
 -- whether each of m names, from `names` on, is given among the n inits from `at` on
 abbrev pub AllGiven : List ℕ → ℕ → ℕ → List ℕ → ℕ → ℕ → Bool → Type 0

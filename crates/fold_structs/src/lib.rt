@@ -4,12 +4,12 @@
 
 ghost use Rattle.std.specs.Prelude.{◌≡◌, ◌+◌, ◌≤◌, ◌<◌};
 ghost use Rattle.mir.specs.Most.{most_slots};
-ghost use Rattle.fold_structs.specs.Told.{far_place, goes_by, AllGiven, TellsRow, Passes, StructTold, StructsTold};
+ghost use Rattle.fold_structs.specs.Told.{far_place, AllGiven, TellsRow, Passes, StructTold, StructsTold};
 
 use bytes_field::Bounds;
 use bytes_types::layout;
 use fold::Settings;
-use mir::{NameId, Recorded, TypeId, ValueId, kind, shape};
+use mir::{NameId, TypeId, ValueId, kind, shape};
 
 // In the fields of a MakeStruct the number of its inits stands behind its dest, and the inits behind it.
 const COUNT: usize = 2;
@@ -21,27 +21,13 @@ fn all_given(t: &[u8], at: usize, n: u8, u: &[u8], names: usize, m: u8) -> bool
     requires { (at < far_place) × (names < far_place) }
     ensures { AllGiven t.now at n u.now names m result }
 {
-    let mut i: u8 = 0;
-    while i < m {
+    for i in 0..m {
         let name = NameId(bytes_wire::u16_at(u, names + 4 * i as usize));
-        let init = rewrite_parts::find_init(t, at, n, name);
-        if !init.given {
+        if rewrite_parts::find_init(t, at, n, name).is_none() {
             return false;
         }
-        i = i + 1;
     }
     true
-}
-
-// The type that a struct's parts go by: its recorded type, or the named one where none is recorded.
-fn goes_by(recorded: Recorded, named: TypeId) -> TypeId
-    ensures { result ≡ goes_by recorded.0 named }
-{
-    if recorded.0 == 0 {
-        return named;
-    }
-    let number = recorded.0 - 1;
-    TypeId(number)
 }
 
 // Type `y` is a struct, and each of its fields is given in the MakeStruct `t`.
@@ -86,9 +72,8 @@ fn struct_passes(
     if table::flag(cross, d.0 as usize) {
         return false;
     }
-    let recorded = Recorded(table::number(bytes_index::recorded(facts), d.0 as usize));
-    let y = goes_by(recorded, named);
-    told_by(s, facts, b.types, y, t)
+    let recorded = bytes_lookup::recorded_type(bytes_index::recorded(facts), d);
+    told_by(s, facts, b.types, recorded.unwrap_or(named), t)
 }
 
 // Whether the instruction in a slot is a MakeStruct that passes its conditions.
@@ -136,10 +121,8 @@ pub fn fill_structs(
     ensures { StructsTold b s.now facts.now first count settings cross.now
         structs.old structs.new }
 {
-    let mut k: u16 = 0;
-    while k < count {
+    for k in 0..count {
         let yes = struct_at(s, b, facts, settings, cross, first + k);
         table::set_flag(structs, k as usize, yes);
-        k = k + 1;
     }
 }

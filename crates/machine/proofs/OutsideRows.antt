@@ -9,8 +9,9 @@ use lib.Dec.{eqb, ltb}
 use Rattle.mir.specs.declared.TypeId.{TypeId}
 use Rattle.mir.specs.declared.Value.{Value}
 use Rattle.mir.specs.MirType.{MirType, Error, Unknown}
-use Rattle.mir.specs.Syntax.{Index, Field, InstructionKind, Call, Load, Store, Debug, MakeFixedArray, HeapAllocCells, Jump, Return, Unreachable}
-use Rattle.mir.specs.Syntax as S
+use Rattle.mir.specs.declared.Projection.TheVariants.{Index, Field}
+use Rattle.mir.specs.Syntax.{InstructionKind, Call, Load, Store, Debug, MakeFixedArray, HeapAllocCells, Jump, Return, Unreachable}
+use Rattle.mir.specs.declared.Projection.{Projection}
 use Rattle.mir.specs.Routine.{Routine}
 use Rattle.mir.specs.Lookup.{Types, row_of}
 use Rattle.mir.specs.Parts.{part_count, counts}
@@ -47,7 +48,7 @@ unfolding computes
 allocates = refl
 
 -- a Load: the pointer, and each step, an Index with its value
-pub loads : Does (6 ∷ 0 ∷ []) (scalar 100 ∷ scalar 9 ∷ []) (Load (val 1) (place 0 (Index (integer 3) ∷ Field (name 10) ∷ S.Tuple 1 ∷ [])) (typ 0)) (op 1 ∷ [])
+pub loads : Does (6 ∷ 0 ∷ []) (scalar 100 ∷ scalar 9 ∷ []) (Load (val 1) (place 0 (Index (integer 3) ∷ Field (name 10) ∷ Projection.Tuple 1 ∷ [])) (typ 0)) (op 1 ∷ [])
     (loaded (scalar 100) (index (scalar 3) ∷ field (name 10) ∷ tuple 1 ∷ []) ∷ returned (vals (scalar 9 ∷ [])) ∷ []) (ended at_return)
 unfolding computes
 loads = refl
@@ -58,7 +59,7 @@ unfolding computes
 loads_bare = refl
 
 -- a Store: the pointer, each step and the stored value; it takes no reply, and the pointer stays
-pub stores : Does (6 ∷ []) (scalar 100 ∷ []) (Store (place 0 (Index (integer 3) ∷ Field (name 10) ∷ S.Tuple 1 ∷ [])) (integer 5) (typ 0)) (op 0 ∷ [])
+pub stores : Does (6 ∷ []) (scalar 100 ∷ []) (Store (place 0 (Index (integer 3) ∷ Field (name 10) ∷ Projection.Tuple 1 ∷ [])) (integer 5) (typ 0)) (op 0 ∷ [])
     (stored (scalar 100) (index (scalar 3) ∷ field (name 10) ∷ tuple 1 ∷ []) (scalar 5) ∷ returned (vals (scalar 100 ∷ [])) ∷ []) (ended at_return)
 unfolding computes
 stores = refl

@@ -8,7 +8,8 @@ use lib.Dec.{eqb}
 use Rattle.mir.specs.declared.Literal.{Literal}
 use Rattle.mir.specs.declared.Value.{Value}
 use Rattle.mir.specs.MirType.{MirType}
-use Rattle.mir.specs.Syntax.{Index, Source, Instruction, InstructionKind, Assign, UnaryOp, BinaryOp, Call, Cast, Load, Store, Debug, Nop, Phi, MakeTuple, ExtractTupleElement}
+use Rattle.mir.specs.declared.Projection.TheVariants.{Index}
+use Rattle.mir.specs.Syntax.{Source, Instruction, InstructionKind, Assign, UnaryOp, BinaryOp, Call, Cast, Load, Store, Debug, Nop, Phi, MakeTuple, ExtractTupleElement}
 use Rattle.mir.specs.Syntax.{MakeStruct, InsertField, InsertTuple, MakeFixedArray, AssertEq, HeapAllocCells}
 use Rattle.mir.specs.Syntax.{Terminator, Jump, If, BranchCmp, Return, Unreachable, Block}
 use Rattle.bytes_wire.specs.Value.{integer, boolean}

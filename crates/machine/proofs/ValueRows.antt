@@ -4,7 +4,8 @@ use mathlib.Core.Path.{refl}
 use mathlib.Core.List.{List, [], ◌∷◌}
 use mathlib.Core.Bool.{false}
 use Rattle.mir.specs.declared.Value.{Value}
-use Rattle.mir.specs.Syntax.{Block, FieldInit, Index, Field, Tuple, InstructionKind, Assign, UnaryOp, BinaryOp, Call, Cast, Load, Store, Phi, MakeTuple, ExtractTupleElement}
+use Rattle.mir.specs.declared.Projection.TheVariants.{Index, Field, Tuple}
+use Rattle.mir.specs.Syntax.{Block, FieldInit, InstructionKind, Assign, UnaryOp, BinaryOp, Call, Cast, Load, Store, Phi, MakeTuple, ExtractTupleElement}
 use Rattle.mir.specs.Syntax.{MakeStruct, ExtractStructField, InsertField, InsertTuple, MakeFixedArray, AssertEq, HeapAllocCells, Jump, If, BranchCmp, Return}
 use Rattle.bytes_wire.specs.Value.{integer}
 use Rattle.machine.specs.Values.{Val, scalar}

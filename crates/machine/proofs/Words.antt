@@ -13,7 +13,8 @@ use Rattle.mir.specs.declared.NameId.{NameId}
 use Rattle.mir.specs.declared.Literal.{Literal}
 use Rattle.mir.specs.declared.Value.{Value}
 use Rattle.mir.specs.MirType.{MirType}
-use Rattle.mir.specs.Syntax.{InstructionKind, Instruction, Terminator, Block, Place, Projection}
+use Rattle.mir.specs.declared.Projection.{Projection}
+use Rattle.mir.specs.Syntax.{InstructionKind, Instruction, Terminator, Block, Place}
 use Rattle.mir.specs.Routine.{Routine}
 use Rattle.mir.specs.Lookup as Lk
 use Rattle.bytes_struct.specs.FindField as Ff

@@ -3,7 +3,8 @@ use Rattle.std.specs.Prelude.{ℕ, zero, suc, List, [], ◌∷◌}
 use Rattle.std.proofs.Math.Option.{Option, none, some}
 use Rattle.mir.specs.declared.Value.{Value}
 use Rattle.mir.specs.MirType.{MirType}
-use Rattle.mir.specs.Syntax.{Projection, Index, Field, Tuple}
+use Rattle.mir.specs.declared.Projection.{Projection}
+use Rattle.mir.specs.declared.Projection.TheVariants.{Index, Field, Tuple}
 use Rattle.machine.specs.Values.{Val, Vals, ends, cons_val}
 use Rattle.machine.specs.Meaning.{Meaning}
 use Rattle.machine.specs.Records.{Env, Step, index, field, tuple}

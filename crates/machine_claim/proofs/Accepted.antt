@@ -7,10 +7,11 @@ use lib.Dec.{T, ltb, lt→ltb}
 use Rattle.mir.specs.declared.ValueId.{ValueId}
 use Rattle.mir.specs.declared.Value.{Value}
 use Rattle.bytes_wire.specs.WellFormed.{FitValue}
-use Rattle.mir.specs.Syntax.{Projection, Index, Field, Place, FieldInit, Source, Instruction, InstructionKind, Assign, UnaryOp, BinaryOp, Call, Cast, Load, Store, Debug, Nop, Phi}
+use Rattle.mir.specs.declared.Projection.{Projection}
+use Rattle.mir.specs.declared.Projection.TheVariants.{Index, Field}
+use Rattle.mir.specs.Syntax.{Place, FieldInit, Source, Instruction, InstructionKind, Assign, UnaryOp, BinaryOp, Call, Cast, Load, Store, Debug, Nop, Phi}
 use Rattle.mir.specs.Syntax.{MakeTuple, ExtractTupleElement, MakeStruct, ExtractStructField, InsertField, InsertTuple, MakeFixedArray, AssertEq, HeapAllocCells}
 use Rattle.mir.specs.Syntax.{Terminator, Jump, If, BranchCmp, Return, Unreachable}
-use Rattle.mir.specs.Syntax as S
 use Rattle.mir.specs.Reads.{operand, operands, indices, place_reads, source_values, init_values, reads, dests, is_phi, terminator_reads}
 use Rattle.bytes_field.specs.Decode.{mark}
 use Rattle.bytes_field.specs.declared.Bounds.{Bounds}
@@ -53,7 +54,7 @@ indices_low : (b : Bounds) (ps : List Projection) → Each (FitProjection b) ps 
 indices_low b [] h = tt
 indices_low b (Index x ∷ ps) h = operand_low b.next x (operands (indices ps)) h.0 (indices_low b ps h.1)
 indices_low b (Field n ∷ ps) h = indices_low b ps h.1
-indices_low b (S.Tuple k ∷ ps) h = indices_low b ps h.1
+indices_low b (Projection.Tuple k ∷ ps) h = indices_low b ps h.1
 
 place_low : (b : Bounds) (p : Place) → FitPlace b p → T (every (low b.next) (place_reads p))
 place_low b p h = both (low b.next p.base) _ (fit_low b.next p.base h.0) (indices_low b p.projections h.1.1)

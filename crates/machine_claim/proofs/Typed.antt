@@ -7,9 +7,10 @@ use mathlib.Core.Bool as B
 use lib.Dec.{T}
 use Rattle.mir.specs.declared.TypeId.{TypeId}
 use Rattle.mir.specs.MirType.{MirType, Felt, Bool, U32, Tuple, Struct, FixedArray, Pointer, Function, Unit, Error, Unknown}
-use Rattle.mir.specs.Syntax.{Projection, Index, Field, Place, InstructionKind, Assign, UnaryOp, BinaryOp, Call, Cast, Load, Store, Debug, Nop, Phi}
+use Rattle.mir.specs.declared.Projection.{Projection}
+use Rattle.mir.specs.declared.Projection.TheVariants.{Index, Field}
+use Rattle.mir.specs.Syntax.{Place, InstructionKind, Assign, UnaryOp, BinaryOp, Call, Cast, Load, Store, Debug, Nop, Phi}
 use Rattle.mir.specs.Syntax.{MakeTuple, ExtractTupleElement, MakeStruct, ExtractStructField, InsertField, InsertTuple, MakeFixedArray, AssertEq, HeapAllocCells}
-use Rattle.mir.specs.Syntax as S
 use Rattle.mir.specs.Lookup.{Types, recorded_type, value_row, is_aggregate}
 use Rattle.shelf.specs.Lists.{every}
 use Rattle.mir.specs.Parts.{is_pointer}
@@ -26,7 +27,7 @@ unfolding pointed
 no_pointed τ [] = refl
 no_pointed τ (Index x ∷ ps) = nowhere τ ps
 no_pointed τ (Field n ∷ ps) = refl
-no_pointed τ (S.Tuple k ∷ ps) = refl
+no_pointed τ (Projection.Tuple k ∷ ps) = refl
 
 -- only a Pointer points
 no_pointee : (row : Option MirType) → T (not (is_pointer row)) → pointee row ≡ none

@@ -7,7 +7,8 @@ use mathlib.Core.List.{[], ◌∷◌}
 use Rattle.bytes_wire.specs.Value.{integer}
 use Rattle.mir.specs.declared.Value.{Value}
 use Rattle.mir.specs.MirType.{MirType}
-use Rattle.mir.specs.Syntax.{Projection, InstructionKind, Terminator}
+use Rattle.mir.specs.declared.Projection.{Projection}
+use Rattle.mir.specs.Syntax.{InstructionKind, Terminator}
 use Rattle.mir.specs.Routine.{Routine}
 use Rattle.bytes_sections.proofs.Examples.{example}
 use Rattle.rewrite.specs.Run.{Choice, choice, rewrite}

@@ -11,7 +11,9 @@ use Rattle.mir.specs.declared.TypeId.{TypeId}
 use Rattle.mir.specs.declared.NameId.{NameId}
 use Rattle.mir.specs.declared.Value.{Value}
 use Rattle.mir.specs.MirType.{StructField, MirType}
-use Rattle.mir.specs.Syntax.{Projection, Index, Field, Tuple, FieldInit, InstructionKind, Assign, UnaryOp, BinaryOp, Call, Cast, Load, Store, Debug, Nop, Phi}
+use Rattle.mir.specs.declared.Projection.{Projection}
+use Rattle.mir.specs.declared.Projection.TheVariants.{Index, Field, Tuple}
+use Rattle.mir.specs.Syntax.{FieldInit, InstructionKind, Assign, UnaryOp, BinaryOp, Call, Cast, Load, Store, Debug, Nop, Phi}
 use Rattle.mir.specs.Syntax.{MakeTuple, ExtractTupleElement, MakeStruct, ExtractStructField, InsertField, InsertTuple, MakeFixedArray, AssertEq, HeapAllocCells}
 use Rattle.mir.specs.Reads.{operand, operands, indices, init_values, reads, dests, store_base, counted}
 use Rattle.mir.specs.Lists.{Each}

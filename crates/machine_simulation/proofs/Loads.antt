@@ -11,7 +11,9 @@ use Rattle.mir.specs.declared.TypeId.{TypeId}
 use Rattle.mir.specs.declared.Literal.{Literal}
 use Rattle.mir.specs.declared.Value.{Value}
 use Rattle.mir.specs.MirType.{MirType}
-use Rattle.mir.specs.Syntax.{Meta, Place, Instruction, Terminator, Load, Projection, Index, Field, Tuple}
+use Rattle.mir.specs.declared.Projection.{Projection}
+use Rattle.mir.specs.declared.Projection.TheVariants.{Index, Field, Tuple}
+use Rattle.mir.specs.Syntax.{Meta, Place, Instruction, Terminator, Load}
 use Rattle.mir.specs.Reads.{operand, operands, indices}
 use Rattle.mir.specs.Lookup.{Types, row_of, recorded_type, value_row, shape, is_tuple, is_array, struct_fields_of, as_const_integer, on_some}
 use Rattle.bytes_struct.specs.FindField.{find_from, find_field, field_type_of}

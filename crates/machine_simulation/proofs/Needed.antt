@@ -11,7 +11,8 @@ use Rattle.mir.specs.declared.TypeId.{TypeId}
 use Rattle.mir.specs.declared.Literal.{Literal}
 use Rattle.mir.specs.declared.Value.{Value}
 use Rattle.mir.specs.MirType.{MirType}
-use Rattle.mir.specs.Syntax.{Projection, Instruction, InstructionKind, Terminator, Place}
+use Rattle.mir.specs.declared.Projection.{Projection}
+use Rattle.mir.specs.Syntax.{Instruction, InstructionKind, Terminator, Place}
 use Rattle.mir.specs.Routine.{Routine}
 use Rattle.machine.specs.Meaning.{Meaning}
 use Rattle.machine.specs.Values.{Val, scalar, aggregate, ends, then}

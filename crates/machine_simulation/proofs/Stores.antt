@@ -10,7 +10,9 @@ use Rattle.mir.specs.declared.ValueId.{ValueId}
 use Rattle.mir.specs.declared.TypeId.{TypeId}
 use Rattle.mir.specs.declared.Value.{Value}
 use Rattle.mir.specs.MirType.{MirType}
-use Rattle.mir.specs.Syntax.{Meta, Place, Instruction, Terminator, Store, Projection, Index, Field, Tuple}
+use Rattle.mir.specs.declared.Projection.{Projection}
+use Rattle.mir.specs.declared.Projection.TheVariants.{Index, Field, Tuple}
+use Rattle.mir.specs.Syntax.{Meta, Place, Instruction, Terminator, Store}
 use Rattle.mir.specs.Reads.{operand, operands, indices}
 use Rattle.mir.specs.Lookup.{Types, row_of, recorded_type, value_row, is_array, is_aggregate, on_some}
 use Rattle.mir.specs.declared.Literal.{Literal}

@@ -46,7 +46,8 @@ typed τ (ExtractTupleElement d x k t) =
     same_type (recorded_type τ d) (some t) && (is_tuple (operand_row τ x) && same_type (part_type (operand_row τ x) k) (some t))
 typed τ (MakeStruct d fs t) =
     same_type (recorded_type τ d) (some t)
-    && (is_struct (row_of τ (some t)) && (eqb (length fs) (length (struct_fields_of (row_of τ (some t)))) && fields_fit τ fs (struct_fields_of (row_of τ (some t)))))
+    && (is_struct (row_of τ (some t))
+    && (eqb (length fs) (length (struct_fields_of (row_of τ (some t)))) && fields_fit τ fs (struct_fields_of (row_of τ (some t)))))
 typed τ (ExtractStructField d x n t) = same_type (recorded_type τ d) (some t) && same_type (field_type_of (operand_row τ x) n) (some t)
 typed τ (InsertField d x n y t) = same_type (recorded_type τ d) (some t) && (fits τ x (some t) && fits τ y (field_type_of (row_of τ (some t)) n))
 typed τ (InsertTuple d x k y t) =

@@ -6,4 +6,9 @@ pub mod Lookup
 pub mod Parts
 pub mod Phis
 pub mod Most
+pub mod Option
 pub mod Lists
+pub mod Kind
+pub mod TypeKind
+pub mod TerminatorKind
+pub mod Shape

@@ -6,12 +6,7 @@ use Rattle.mir.specs.declared.ValueId.{ValueId}
 use Rattle.mir.specs.declared.BlockId.{BlockId}
 use Rattle.mir.specs.declared.TypeId.{TypeId}
 use Rattle.mir.specs.declared.NameId.{NameId}
-
--- value.rs, `Projection`
-pub data Projection : Type 0 where
-  Index : Value → Projection
-  Field : NameId → Projection
-  Tuple : ℕ → Projection
+use Rattle.mir.specs.declared.Projection.{Projection}
 
 -- value.rs, `Place`
 pub record Place : Type 0 where

@@ -8,6 +8,10 @@ pub mod shape;
 pub mod terminator;
 pub mod type_kind;
 
+// A number that stands for none of the things of a kind.
+#[derive(Clone, Copy, PartialEq, Eq, Debug)]
+pub struct UnknownNumber;
+
 #[derive(Clone, Copy)]
 pub struct ValueId(pub u16);
 
@@ -19,10 +23,6 @@ pub struct TypeId(pub u16);
 
 #[derive(Clone, Copy)]
 pub struct NameId(pub u16);
-
-// A recorded type or none: one more than the type's number, or 0.
-#[derive(Clone, Copy)]
-pub struct Recorded(pub u16);
 
 #[derive(Clone, Copy)]
 pub enum Literal {
@@ -36,4 +36,12 @@ pub enum Value {
     Literal(Literal),
     Operand(ValueId),
     Error,
+}
+
+// value.rs, `Projection`: a step of a place.
+#[derive(Clone, Copy)]
+pub enum Projection {
+    Index(Value),
+    Field(NameId),
+    Tuple(u32),
 }

@@ -13,7 +13,9 @@ use Rattle.pass_numbers.specs.declared.Numbers.{Numbers}
 use Rattle.pass_numbers.specs.declared.Totals.{Totals}
 use Rattle.pass_numbers.specs.Ten.{ten_numbers}
 use Rattle.pass_numbers.proofs.Laws.{Fit}
-use Rattle.pass_answers.specs.declared.Answer.{Answer}
+use Rattle.std.specs.Prelude.{Result, Ok, Err}
+use Rattle.pass_answers.specs.declared.Lowered.{Lowered}
+use Rattle.pass_answers.specs.declared.Refused.{Refused}
 use Rattle.pass_answers.specs.Numbers.{numbers_of, leaves, as_answer, Answers}
 use Rattle.pass_answers.specs.Totals.{after_answer}
 use Rattle.pass_answers.proofs.Laws.{as_given}
@@ -36,7 +38,7 @@ pub for_every_meaning : {A : Type 0} {σ : Settings} {input out out' numbers num
 for_every_meaning {A} {σ} {input} {out} {out'} b h = unseen σ input out out' b h.left
 
 -- the answer's numbers are those that are given
-pub lowers : (σ σ' : Settings) (s out out' numbers numbers' : List ℕ) (r : Answer) (n : Numbers) → Bytes s → given σ' (length out) s ≡ given σ (length out) s → Answers (given σ' (length out) s) r out out' → n ≡ as_answer r → numbers' ≡ sets numbers 0 (ten_numbers n) → Lowers σ s out out' numbers numbers'
+pub lowers : (σ σ' : Settings) (s out out' numbers numbers' : List ℕ) (r : Result Lowered Refused) (n : Numbers) → Bytes s → given σ' (length out) s ≡ given σ (length out) s → Answers (given σ' (length out) s) r out out' → n ≡ as_answer r → numbers' ≡ sets numbers 0 (ten_numbers n) → Lowers σ s out out' numbers numbers'
 lowers σ σ' s out out' numbers numbers' r n b e h q f =
     let left : out' ≡ leaves (given σ (length out) s) out = h.left ∙ ap (λ x. leaves x out) e in
     record {
@@ -46,5 +48,5 @@ lowers σ σ' s out out' numbers numbers' r n b e h q f =
     }
 
 -- and so are the totals
-pub counted : (σ : Settings) (s out out' : List ℕ) (r : Answer) (t t' : Totals) → Bytes s → Fit t → Answers (given σ (length out) s) r out out' → t' ≡ after_answer t r → Counted σ s out out' r t t'
+pub counted : (σ : Settings) (s out out' : List ℕ) (r : Result Lowered Refused) (t t' : Totals) → Bytes s → Fit t → Answers (given σ (length out) s) r out out' → t' ≡ after_answer t r → Counted σ s out out' r t t'
 counted σ s out out' r t t' b f h e = record { answers = h; counted = as_given (given σ (length out) s) r out out' t t' f h e; unseen = unseen σ s out out' b h.left }

@@ -6,7 +6,9 @@ use Rattle.rewrite.specs.declared.Counts.{Counts}
 use Rattle.shelf.specs.Answer.{lowered, answer}
 use Rattle.pass_numbers.specs.declared.Totals.{Totals}
 use Rattle.pass_numbers.specs.Ten.{ten_numbers}
-use Rattle.pass_answers.specs.declared.Answer.{Answer}
+use Rattle.std.specs.Prelude.{Result}
+use Rattle.pass_answers.specs.declared.Lowered.{Lowered}
+use Rattle.pass_answers.specs.declared.Refused.{Refused}
 use Rattle.pass_answers.specs.Numbers.{numbers_of, leaves, Answers}
 use Rattle.pass_answers.specs.Totals.{totals_after}
 use Rattle.machine.specs.Meaning.{Meaning}
@@ -30,7 +32,7 @@ pub record Lowers (σ : Settings) (input out out' numbers numbers' : List ℕ) :
   pub unseen : Unseen σ input out out'
 
 -- a call that updates the totals of its caller: "the five counts are one record that the run updates for its caller"
-pub record Counted (σ : Settings) (input out out' : List ℕ) (r : Answer) (t t' : Totals) : Type 0 where
+pub record Counted (σ : Settings) (input out out' : List ℕ) (r : Result Lowered Refused) (t t' : Totals) : Type 0 where
   pub answers : Answers (answer σ (length out) input) r out out'
   pub counted : t' ≡ totals_after t (answer σ (length out) input)
   pub unseen : Unseen σ input out out'

@@ -5,7 +5,7 @@ use mathlib.Core.List.{List}
 use mathlib.Core.Bool.{Bool}
 use lib.ListN.{length}
 use Rattle.bytes_wire.specs.Parse.{ok, bad, number_of_cause}
-use Rattle.bytes_wire.specs.declared.Cause.{Cause}
+use Rattle.bytes_wire.specs.declared.Refusal.{Refusal}
 use Rattle.mir.specs.Routine.{Routine}
 use Rattle.bytes_sections.specs.Decode.{mosts, whole_of}
 use Rattle.fold.specs.declared.Settings.{Settings}
@@ -18,7 +18,9 @@ use Rattle.shelf.specs.Reads.{with_debug}
 use Rattle.shelf.specs.Reason.{shelf_reason}
 use Rattle.shelf.specs.Answer.{refused, lowered, reason_of, with_reason, answer as given}
 use Rattle.pass_numbers.proofs.Laws.{given_refused}
-use Rattle.pass_answers.specs.declared.Answer.{Answer}
+use Rattle.std.specs.Prelude.{Result, Ok, Err}
+use Rattle.pass_answers.specs.declared.Lowered.{Lowered}
+use Rattle.pass_answers.specs.declared.Refused.{Refused}
 use Rattle.pass_answers.specs.Numbers.{Answers}
 use Rattle.pass_answers.proofs.Laws.{answers}
 
@@ -26,8 +28,8 @@ pub given_lowered : (σ : Settings) (room : ℕ) (s : List ℕ) (x : Routine) (n
 unfolding given with_reason reason_of
 given_lowered σ room s x n k w c bytes e f g = rw (e, g, f)
 
-pub answers_large : (σ : Settings) (s out : List ℕ) → 16 < σ.most → Answers (given σ (length out) s) Answer.TooLarge out out
+pub answers_large : (σ : Settings) (s out : List ℕ) → 16 < σ.most → Answers (given σ (length out) s) (Err Refused.TooLarge) out out
 answers_large σ s out h = answers _ (refused 12 0) _ out out (given_refused σ (length out) s 12 0 (too_large σ (length out) s h)) refl refl
 
-pub answers_input : (σ : Settings) (s out : List ℕ) (c : Cause) (o : ℕ) → σ.most ≤ 16 → whole_of mosts s ≡ bad c o → Answers (given σ (length out) s) (Answer.Malformed c o) out out
-answers_input σ s out c o h e = answers _ (refused (number_of_cause c) o) _ out out (given_refused σ (length out) s (number_of_cause c) o (refused_input σ (length out) s h c o e)) refl refl
+pub answers_input : (σ : Settings) (s out : List ℕ) (r : Refusal) → σ.most ≤ 16 → whole_of mosts s ≡ bad r.cause r.offset → Answers (given σ (length out) s) (Err (Refused.Malformed r)) out out
+answers_input σ s out r h e = answers _ (refused (number_of_cause r.cause) r.offset) _ out out (given_refused σ (length out) s (number_of_cause r.cause) r.offset (refused_input σ (length out) s h r.cause r.offset e)) refl refl

@@ -12,7 +12,9 @@ use Rattle.pass_numbers.specs.declared.Numbers.{Numbers}
 use Rattle.pass_numbers.specs.declared.Totals.{Totals}
 use Rattle.pass_numbers.specs.Totals.{with_counts}
 use Rattle.pass_numbers.proofs.Laws.{Fit, with_none}
-use Rattle.pass_answers.specs.declared.Answer.{Answer}
+use Rattle.std.specs.Prelude.{Result, Ok, Err}
+use Rattle.pass_answers.specs.declared.Lowered.{Lowered}
+use Rattle.pass_answers.specs.declared.Refused.{Refused}
 use Rattle.pass_answers.specs.Numbers.{numbers_of, leaves, as_answer, Answers}
 use Rattle.pass_answers.specs.Totals.{totals_after, after_answer}
 
@@ -21,25 +23,24 @@ pub some_folded : (n : ℕ) → ltb 0 n ≡ not (eqb n 0)
 some_folded zero = refl
 some_folded (suc n) = rw (lt-ltb 0 (suc n) (omega arith), ne_eqb (suc n) 0 (λ e. omega arith))
 
-pub answers : (o o' : Given) (r : Answer) (out out' : List ℕ) → o ≡ o' → as_answer r ≡ numbers_of o' → out' ≡ leaves o' out → Answers o r out out'
+pub answers : (o o' : Given) (r : Result Lowered Refused) (out out' : List ℕ) → o ≡ o' → as_answer r ≡ numbers_of o' → out' ≡ leaves o' out → Answers o r out out'
 answers o o' r out out' e f g = rw e (record { says = f; left = g })
 
 -- the counts among an answer's numbers
 abbrev counts_in : Numbers → Counts
 counts_in n = record { builds = n.builds; extracts = n.extracts; inserts = n.inserts; assigns = n.assigns; materializations = n.materializations }
 
-by_answer : (t : Totals) → Fit t → (r : Answer) → after_answer t r ≡ with_counts t (counts_in (as_answer r))
-unfolding after_answer
-by_answer t f (Answer.Malformed c o) = sym (with_none t f)
-by_answer t f Answer.Clash = sym (with_none t f)
-by_answer t f Answer.NoRoom = sym (with_none t f)
-by_answer t f Answer.TooLarge = sym (with_none t f)
-by_answer t f (Answer.Lowered w c k size) = refl
+by_answer : (t : Totals) → Fit t → (r : Result Lowered Refused) → after_answer t r ≡ with_counts t (counts_in (as_answer r))
+by_answer t f (Err (Refused.Malformed r)) = sym (with_none t f)
+by_answer t f (Err Refused.Clash) = sym (with_none t f)
+by_answer t f (Err Refused.NoRoom) = sym (with_none t f)
+by_answer t f (Err Refused.TooLarge) = sym (with_none t f)
+by_answer t f (Ok l) = refl
 
 by_given : (t : Totals) → Fit t → (o : Given) → totals_after t o ≡ with_counts t (counts_in (numbers_of o))
 unfolding totals_after
 by_given t f (refused n o) = sym (with_none t f)
 by_given t f (lowered w c k bytes) = refl
 
-pub as_given : (o : Given) (r : Answer) (out out' : List ℕ) (t t' : Totals) → Fit t → Answers o r out out' → t' ≡ after_answer t r → t' ≡ totals_after t o
+pub as_given : (o : Given) (r : Result Lowered Refused) (out out' : List ℕ) (t t' : Totals) → Fit t → Answers o r out out' → t' ≡ after_answer t r → t' ≡ totals_after t o
 as_given o r out out' t t' f h e = e ∙ by_answer t f r ∙ ap (λ n. with_counts t (counts_in n)) h.says ∙ sym (by_given t f o)

@@ -1,5 +1,5 @@
 -- What a call answers, as numbers, and what it leaves in the output.
-use Rattle.std.specs.Prelude.{ℕ, ◌≡◌, List, Bool, length}
+use Rattle.std.specs.Prelude.{ℕ, ◌≡◌, List, Bool, length, Result, Ok, Err}
 use Rattle.std.proofs.lemmas.List.Edits.{sets}
 use Rattle.bytes_wire.specs.Parse.{number_of_cause}
 use Rattle.bytes_wire.specs.Value.{bool_byte}
@@ -7,7 +7,8 @@ use Rattle.rewrite.specs.declared.Counts.{Counts}
 use Rattle.shelf.specs.Answer.{Answer as Given, refused, lowered}
 use Rattle.shelf_test.specs.Number.{number_of_reason}
 use Rattle.pass_numbers.specs.declared.Numbers.{Numbers}
-use Rattle.pass_answers.specs.declared.Answer.{Answer}
+use Rattle.pass_answers.specs.declared.Lowered.{Lowered}
+use Rattle.pass_answers.specs.declared.Refused.{Refused}
 
 -- a refusal: its number and its offset
 abbrev pub refusal : ℕ → ℕ → Numbers
@@ -39,14 +40,17 @@ leaves (refused n o) out = out
 leaves (lowered w c k bytes) out = sets out 0 bytes
 
 -- document 01's number and values of each answer of the code
-abbrev pub as_answer : Answer → Numbers
-as_answer (Answer.Malformed c o) = refusal (number_of_cause c) o
-as_answer Answer.Clash = refusal 10 0
-as_answer Answer.NoRoom = refusal 11 0
-as_answer Answer.TooLarge = refusal 12 0
-as_answer (Answer.Lowered w c k size) = acceptance w c (number_of_reason k) size
+abbrev pub as_refusal : Refused → Numbers
+as_refusal (Refused.Malformed r) = refusal (number_of_cause r.cause) r.offset
+as_refusal Refused.Clash = refusal 10 0
+as_refusal Refused.NoRoom = refusal 11 0
+as_refusal Refused.TooLarge = refusal 12 0
+
+abbrev pub as_answer : Result Lowered Refused → Numbers
+as_answer (Err r) = as_refusal r
+as_answer (Ok l) = acceptance l.result l.counts (number_of_reason l.reason) l.size
 
 -- the code answers what is given, and leaves what it should
-pub record Answers (o : Given) (r : Answer) (out out' : List ℕ) : Type 0 where
+pub record Answers (o : Given) (r : Result Lowered Refused) (out out' : List ℕ) : Type 0 where
   pub says : as_answer r ≡ numbers_of o
   pub left : out' ≡ leaves o out

@@ -1,8 +1,10 @@
 -- What one run adds to the totals of its caller.
+use Rattle.std.specs.Prelude.{Result, Ok, Err}
 use Rattle.shelf.specs.Answer.{Answer as Given, refused, lowered}
 use Rattle.pass_numbers.specs.declared.Totals.{Totals}
 use Rattle.pass_numbers.specs.Totals.{with_counts}
-use Rattle.pass_answers.specs.declared.Answer.{Answer}
+use Rattle.pass_answers.specs.declared.Lowered.{Lowered}
+use Rattle.pass_answers.specs.declared.Refused.{Refused}
 
 -- the totals after what is given: a refusal counts nothing
 unfoldable pub totals_after : Totals → Given → Totals
@@ -10,9 +12,6 @@ totals_after t (refused n o) = t
 totals_after t (lowered w c k bytes) = with_counts t c
 
 -- the same, of what the code answers
-unfoldable pub after_answer : Totals → Answer → Totals
-after_answer t (Answer.Malformed c o) = t
-after_answer t Answer.Clash = t
-after_answer t Answer.NoRoom = t
-after_answer t Answer.TooLarge = t
-after_answer t (Answer.Lowered w c k size) = with_counts t c
+abbrev pub after_answer : Totals → Result Lowered Refused → Totals
+after_answer t (Err r) = t
+after_answer t (Ok l) = with_counts t l.counts

@@ -1,15 +1,15 @@
 // What a call of the pass answers, and the numbers and totals that follow from it.
 #![tactic(auto)]
 
-ghost use Rattle.std.specs.Prelude.{◌≡◌, not, eqb};
-ghost use Rattle.bytes_wire.specs.Value.{bool_byte};
+ghost use Rattle.std.specs.Prelude.{◌≡◌, not, eqb, Ok};
 ghost use Rattle.shelf_test.specs.Number.{number_of_reason};
-ghost use Rattle.pass_answers.specs.Numbers.{refusal, acceptance, as_answer};
+ghost use Rattle.pass_answers.specs.declared.Refused.{Refused};
+ghost use Rattle.pass_answers.specs.Numbers.{refusal, acceptance, as_refusal, as_answer};
 ghost use Rattle.pass_answers.specs.Totals.{after_answer};
 
-use bytes_wire::Cause;
+use bytes_wire::Refusal;
 use pass_numbers::{Numbers, Totals};
-use rewrite::Counts;
+use rewrite::{Clash, Counts};
 use shelf_test::ShelfReason;
 
 // Rows 10 to 12 of document 01's table of refusals.
@@ -19,45 +19,59 @@ const NO_ROOM: u8 = 11;
 
 const TOO_LARGE: u8 = 12;
 
-// What a call answers.
-#[derive(Clone, Copy)]
-pub enum Answer {
-    // Rows 1 to 9 of document 01's table: the input is no routine; with the offset.
-    Malformed(Cause, usize),
+// Why a call is refused.
+#[derive(Clone, Copy, Debug, PartialEq, Eq)]
+pub enum Refused {
+    // Rows 1 to 9 of document 01's table: the input is no routine.
+    Malformed(Refusal),
     // Row 10: an array rebuild meets another count.
     Clash,
     // Row 11: the output is longer than the lent buffer.
     NoRoom,
     // Row 12: max_aggregate_size is above 16.
     TooLarge,
-    // The result, the counts, the shelf reason, and how many bytes the rewritten routine has.
-    Lowered {
-        result: bool,
-        counts: Counts,
-        reason: ShelfReason,
-        size: usize,
-    },
 }
 
-// What is not refused: the result goes by the builds.
-pub fn lowered(c: Counts, reason: ShelfReason, size: usize) -> Answer
-    ensures { as_answer result ≡ acceptance (not (eqb c.builds 0)) c (number_of_reason reason) size }
-{
-    Answer::Lowered {
-        result: 0 < c.builds,
-        counts: c,
-        reason: reason,
-        size: size,
+impl From<Refusal> for Refused {
+    ghost from_gives = { λ x r. r ≡ Refused.Malformed x };
+
+    fn from(refusal: Refusal) -> Refused {
+        Refused::Malformed(refusal)
     }
 }
 
-fn flag(w: bool) -> u64
-    ensures { result ≡ bool_byte w }
-{
-    if w { 1 } else { 0 }
+impl From<Clash> for Refused {
+    ghost from_gives = { λ _ r. r ≡ Refused.Clash };
+
+    fn from(_clash: Clash) -> Refused {
+        Refused::Clash
+    }
 }
 
-fn refused(number: u8, offset: usize) -> Numbers
+// What is not refused: the result, the counts, the shelf reason, and how many bytes the rewritten routine has.
+#[derive(Clone, Copy)]
+pub struct Lowered {
+    pub result: bool,
+    pub counts: Counts,
+    pub reason: ShelfReason,
+    pub size: usize,
+}
+
+impl Lowered {
+    // The result goes by the builds.
+    pub fn new(c: Counts, reason: ShelfReason, size: usize) -> Lowered
+        ensures { as_answer (Ok result) ≡ acceptance (not (eqb c.builds 0)) c (number_of_reason reason) size }
+    {
+        Lowered {
+            result: 0 < c.builds,
+            counts: c,
+            reason,
+            size,
+        }
+    }
+}
+
+fn numbers_refused(number: u8, offset: usize) -> Numbers
     ensures { result ≡ refusal number offset }
 {
     Numbers {
@@ -74,53 +88,45 @@ fn refused(number: u8, offset: usize) -> Numbers
     }
 }
 
+// The number and offset that document 01 gives a refusal.
+fn refusal_of(r: Refused) -> Numbers
+    ensures { result ≡ as_refusal r }
+{
+    match r {
+        Refused::Malformed(r) => numbers_refused(bytes_wire::cause_number(r.cause), r.offset),
+        Refused::Clash => numbers_refused(CLASH, 0),
+        Refused::NoRoom => numbers_refused(NO_ROOM, 0),
+        Refused::TooLarge => numbers_refused(TOO_LARGE, 0),
+    }
+}
+
 // The number and values that document 01 gives an answer.
-pub fn numbers_of(a: Answer) -> Numbers
+pub fn numbers_of(a: Result<Lowered, Refused>) -> Numbers
     ensures { result ≡ as_answer a }
 {
     match a {
-        Answer::Malformed(c, o) => refused(bytes_wire::cause_number(c), o),
-        Answer::Clash => refused(CLASH, 0),
-        Answer::NoRoom => refused(NO_ROOM, 0),
-        Answer::TooLarge => refused(TOO_LARGE, 0),
-        Answer::Lowered {
-            result: w,
-            counts: c,
-            reason,
-            size,
-        } => {
-            let result = flag(w);
-            let number = shelf_test::reason_number(reason);
-            Numbers {
-                number: 0,
-                offset: 0,
-                result: result,
-                builds: c.builds as u64,
-                extracts: c.extracts as u64,
-                inserts: c.inserts as u64,
-                assigns: c.assigns as u64,
-                materializations: c.materializations as u64,
-                reason: number as u64,
-                size: size as u64,
-            }
-        }
+        Err(r) => refusal_of(r),
+        Ok(l) => Numbers {
+            number: 0,
+            offset: 0,
+            result: l.result as u64,
+            builds: l.counts.builds as u64,
+            extracts: l.counts.extracts as u64,
+            inserts: l.counts.inserts as u64,
+            assigns: l.counts.assigns as u64,
+            materializations: l.counts.materializations as u64,
+            reason: shelf_test::reason_number(l.reason) as u64,
+            size: l.size as u64,
+        },
     }
 }
 
 // The totals after an answer: a refusal counts nothing.
-pub fn totals_after(t: Totals, a: Answer) -> Totals
+pub fn totals_after(t: Totals, a: Result<Lowered, Refused>) -> Totals
     ensures { result ≡ after_answer t a }
 {
     match a {
-        Answer::Malformed(_, _) => t,
-        Answer::Clash => t,
-        Answer::NoRoom => t,
-        Answer::TooLarge => t,
-        Answer::Lowered {
-            result: _,
-            counts: c,
-            reason: _,
-            size: _,
-        } => pass_numbers::with_counts(t, c),
+        Err(_) => t,
+        Ok(l) => pass_numbers::with_counts(t, l.counts),
     }
 }

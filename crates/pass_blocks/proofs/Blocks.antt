@@ -13,13 +13,15 @@ use Rattle.fold.specs.declared.Settings.{Settings}
 use Rattle.fold.specs.Family.{Marks}
 use Rattle.rewrite.specs.Run.{Rewritten, choice, all_blocks, rewritten_blocks}
 use Rattle.rewrite_progress.specs.Effect.{output_of, Output, further, behind, rewritten_effect, Puts, Low}
-use Rattle.rewrite_progress.specs.declared.Put.{Put}
+use Rattle.std.specs.Prelude.{Result, Ok, Err}
+use Rattle.rewrite.specs.declared.Clash.{Clash}
+use Rattle.rewrite_progress.specs.declared.Progress.{Progress}
 use Rattle.pass_input.specs.Accepted.{Accepted}
 use Rattle.pass_input.proofs.Accepted.{next_is, next_few, few_fresh}
 use Rattle.pass_input.proofs.Copied.{take_sets}
 use Rattle.pass_blocks.specs.Runs.{body_of, start_at, highest_start, Runs, Begun}
 
-runs_from_lem : (w : Rewritten) (to : ℕ) (out fresh out' fresh' : List ℕ) (dropped dropped' : Marks) (r : Put) → Puts (output_of out fresh dropped (start_at to)) (rewritten_effect w) w.clash out' fresh' dropped' r → Runs w to out fresh dropped out' fresh' dropped' r
+runs_from_lem : (w : Rewritten) (to : ℕ) (out fresh out' fresh' : List ℕ) (dropped dropped' : Marks) (r : Result Progress Clash) → Puts (output_of out fresh dropped (start_at to)) (rewritten_effect w) w.clash out' fresh' dropped' r → Runs w to out fresh dropped out' fresh' dropped' r
 unfolding behind further rewritten_effect
 runs_from_lem w to out fresh out' fresh' dropped dropped' r h =
     record {
@@ -51,8 +53,18 @@ module _ {s facts : List ℕ} {b : Bounds} (a : Accepted s facts b) (σ : Settin
   pub run_bound : b.next + 0 + length run.fresh < 65536
   run_bound = rw same_run (omega (arith, next_few a, few_fresh a σ))
 
-  pub runs_chosen : (to : ℕ) (out fresh out' fresh' : List ℕ) (dropped dropped' : Marks) (r : Put) → Puts (output_of out fresh dropped (start_at to)) (rewritten_effect run) run.clash out' fresh' dropped' r → Runs (rewritten_blocks σ a.routine) to out fresh dropped out' fresh' dropped' r
+  pub runs_chosen : (to : ℕ) (out fresh out' fresh' : List ℕ) (dropped dropped' : Marks) (r : Result Progress Clash) → Puts (output_of out fresh dropped (start_at to)) (rewritten_effect run) run.clash out' fresh' dropped' r → Runs (rewritten_blocks σ a.routine) to out fresh dropped out' fresh' dropped' r
   runs_chosen to out fresh out' fresh' dropped dropped' r h = rw (← same_run) (runs_from_lem run to out fresh out' fresh' dropped dropped' r h)
+
+  -- from a progress that begins
+  pub runs_begun : (to : ℕ) (p : Progress) → p ≡ start_at to → (out fresh out' fresh' : List ℕ) (dropped dropped' : Marks) (r : Result Progress Clash)
+      → (p.lines ≡ 0 → b.next + p.fresh + length (all_blocks σ (types_in a.routine) (choice σ a.routine) (b.next + p.fresh) a.routine.blocks).fresh < 65536 → Puts (output_of out fresh dropped p) (rewritten_effect (all_blocks σ (types_in a.routine) (choice σ a.routine) (b.next + p.fresh) a.routine.blocks)) (all_blocks σ (types_in a.routine) (choice σ a.routine) (b.next + p.fresh) a.routine.blocks).clash out' fresh' dropped' r)
+      → Runs (rewritten_blocks σ a.routine) to out fresh dropped out' fresh' dropped' r
+  runs_begun to p e out fresh out' fresh' dropped dropped' r put = let f = rw e at put in runs_chosen to out fresh out' fresh' dropped dropped' r (f refl run_bound)
+
+-- a progress with nothing but a place begins there
+pub begins : (to l f b e i s m : ℕ) → l ≡ 0 → f ≡ 0 → b ≡ 0 → e ≡ 0 → i ≡ 0 → s ≡ 0 → m ≡ 0 → ◌≡◌ {A = Progress} (record { to = to; lines = l; fresh = f; counts = record { builds = b; extracts = e; inserts = i; assigns = s; materializations = m } }) (start_at to)
+begins to l f b e i s m x₁ x₂ x₃ x₄ x₅ x₆ x₇ = rw (x₁, x₂, x₃, x₄, x₅, x₆, x₇) refl
 
 -- the numbers of a run that begins are low
 pub low_start : (to : ℕ) → to ≤ highest_start → Low 64 (start_at to)
@@ -60,9 +72,9 @@ low_start to l =
     record { to = omega arith; lines = omega arith; fresh = omega arith; builds = omega arith; extracts = omega arith; inserts = omega arith; assigns = omega arith; materializations = omega arith }
 
 -- another run writes what the first began
-pub run_again : (w : Rewritten) (body : List ℕ) (size to : ℕ) (out fresh out' fresh' : List ℕ) (dropped dropped' : Marks) (r : Put) → Begun w body size → Runs w to out fresh dropped out' fresh' dropped' r → out' ≡ sets out to (body_of w)
-run_again w body size to out fresh out' fresh' dropped dropped' Put.Clash h q = absurd (true_false (sym (q.clashed refl) ∙ h.calm))
-run_again w body size to out fresh out' fresh' dropped dropped' (Put.Went p) h q = (q.went p refl).written
+pub run_again : (w : Rewritten) (body : List ℕ) (size to : ℕ) (out fresh out' fresh' : List ℕ) (dropped dropped' : Marks) (r : Result Progress Clash) → Begun w body size → Runs w to out fresh dropped out' fresh' dropped' r → out' ≡ sets out to (body_of w)
+run_again w body size to out fresh out' fresh' dropped dropped' (Err x) h q = absurd (true_false (sym (q.clashed x refl) ∙ h.calm))
+run_again w body size to out fresh out' fresh' dropped dropped' (Ok p) h q = (q.went p refl).written
 
 -- all of it stands in the buffer, where that is long enough
 pub begun_all : (w : Rewritten) (body : List ℕ) (size : ℕ) → Begun w body size → size ≤ length body → take size body ≡ body_of w

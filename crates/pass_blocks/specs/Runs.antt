@@ -1,5 +1,5 @@
 -- What a run over the blocks of a routine gives.
-use Rattle.std.specs.Prelude.{ℕ, ◌+◌, ◌≡◌, List, true, false, length}
+use Rattle.std.specs.Prelude.{ℕ, ◌+◌, ◌≡◌, List, true, false, length, Result, Ok, Err}
 use Rattle.std.proofs.lemmas.List.Edits.{sets}
 use Rattle.bytes_field.specs.Encode.{each_bytes}
 use Rattle.bytes_block.specs.Encode.{block_bytes}
@@ -8,7 +8,7 @@ use Rattle.rewrite.specs.Step.{no_counts}
 use Rattle.rewrite.specs.Run.{Rewritten}
 use Rattle.rewrite_progress.specs.Effect.{type_numbers, mark_all}
 use Rattle.rewrite_progress.specs.declared.Progress.{Progress}
-use Rattle.rewrite_progress.specs.declared.Put.{Put}
+use Rattle.rewrite.specs.declared.Clash.{Clash}
 
 -- the last place at which a run may begin: far behind any head, and so that no place passes a number
 abbrev pub highest_start : ℕ
@@ -39,9 +39,9 @@ pub record Ran (w : Rewritten) (to : ℕ) (out fresh : List ℕ) (dropped : Mark
 
 -- a run's answer: Clash only where the rewriting has one, else all of it is written
 pub record Runs (w : Rewritten) (to : ℕ) (out fresh : List ℕ) (dropped : Marks)
-    (out' fresh' : List ℕ) (dropped' : Marks) (r : Put) : Type 0 where
-  pub clashed : r ≡ Put.Clash → w.clash ≡ true
-  pub went : (p : Progress) → r ≡ Put.Went p → Ran w to out fresh dropped out' fresh' dropped' p
+    (out' fresh' : List ℕ) (dropped' : Marks) (r : Result Progress Clash) : Type 0 where
+  pub clashed : (x : Clash) → r ≡ Err x → w.clash ≡ true
+  pub went : (p : Progress) → r ≡ Ok p → Ran w to out fresh dropped out' fresh' dropped' p
 
 -- the blocks have `size` bytes, and `body` begins with them, as far as it has room
 pub record Begun (w : Rewritten) (body : List ℕ) (size : ℕ) : Type 0 where

@@ -12,8 +12,8 @@ ghost use Rattle.pass_blocks.specs.Runs.{body_of, Runs, Begun, highest_start, ro
 ghost use Rattle.mir.specs.Most.{most_blocks};
 
 use mir::most;
-use rewrite::Counts;
-use rewrite_progress::{Progress, Put, Setup};
+use rewrite::Clash;
+use rewrite_progress::{Progress, Setup};
 
 // In the working table the rows of parts come first; from here on it has the types of the fresh numbers.
 pub const FRESH: usize = 2432;
@@ -31,25 +31,16 @@ pub fn run_blocks(
     dropped: &mut [bool],
     work: &mut [u16],
     out: &mut [u8],
-) -> Put
+) -> Result<Progress, Clash>
     requires { (to ≤ highest_start) × ((setup.bounds.blocks ≤ most_blocks) × (row_places ≤ length work.old)) }
     ensures put_low { PutLow routine_low result }
     ensures runs { (h : Chosen setup.settings s.now facts.now setup.bounds choice.now)
         → Runs (rewritten_blocks setup.settings h.accepted.routine) to out.old (fresh_in work.old) dropped.old
         out.new (fresh_in work.new) dropped.new result }
 {
-    let none = Counts {
-        builds: 0,
-        extracts: 0,
-        inserts: 0,
-        assigns: 0,
-        materializations: 0,
-    };
     let start = Progress {
-        to: to,
-        lines: 0,
-        fresh: 0,
-        counts: none,
+        to,
+        ..Progress::default()
     };
     let mut tracked: [bool; most::VALUES] = [false; most::VALUES];
     rewrite_blocks::put_blocks(
@@ -88,5 +79,5 @@ pub fn put_body(
     }
     let mut work: [u16; WORK] = [0; WORK];
     let mut dropped: [bool; most::VALUES] = [false; most::VALUES];
-    run_blocks(s, setup, facts, choice, to, &mut dropped, &mut work, out);
+    let _ = run_blocks(s, setup, facts, choice, to, &mut dropped, &mut work, out);
 }

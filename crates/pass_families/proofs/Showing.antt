@@ -1,17 +1,19 @@
 -- What a line says of a build is so.
-use Prim.Native.Nat.{ℕ, ◌<◌}
+use Prim.Native.Nat.{ℕ, ◌≤◌, ◌<◌}
 use mathlib.Core.Path.{◌≡◌, refl, ap, ◌∙◌, sym, subst}
 use mathlib.Core.List.{List}
 use mathlib.Core.Bool.{Bool, false}
 use native.Mathlib.Nat.{le_trans}
 use native.Mathlib.Omega.{arith}
-use lib.ListN.{length, get_or, replicate, length-replicate}
+use lib.ListN.{length, get_or, take, replicate, length-replicate}
 use Rattle.mir.specs.declared.ValueId.{ValueId}
 use Rattle.fold.specs.Family.{Marks}
 use Rattle.fold_family.specs.Turns.{size}
 use Rattle.fold_family.specs.Search.{Members, FindsFamily, MemberIndexed}
 use Rattle.fold_family.specs.declared.Found.{Found}
 use Rattle.fold_family.proofs.Closed.{copies_few}
+use Rattle.fold_family.proofs.Listed.{first_listed}
+use Rattle.fold_family.proofs.Sweeps.{family_length}
 use Rattle.fold_family.proofs.Dynamic.{dynamics_length}
 use Rattle.fold_scan.specs.Noted.{dest_in}
 use Rattle.fold_scan.proofs.Placed.{build_at, build_place}
@@ -23,24 +25,27 @@ use Rattle.pass_families.specs.Shown.{found_numbers, FindsBuild, PutsBuild}
 use Rattle.pass_families.specs.declared.BuildFamily.{BuildFamily}
 
 -- a build's dest is its first field; its family is found, whose members are held against the dynamic marks
-pub finds_build : (s facts : List ℕ) (slot : ℕ) (shapes table : List ℕ) (dynamic clear marks : Marks) (room members : List ℕ)
+pub finds_build : (s facts : List ℕ) (slot : ℕ) (shapes table : List ℕ) (dynamic clear marks : Marks) (room members listed : List ℕ)
     → (v : ValueId) (shp : ℕ) (found : Found) (looked : Bool)
     → v.0 ≡ dest_in s facts slot → shp ≡ get_or shapes v.0 0
-    → FindsFamily table shp v clear marks room members found → MemberIndexed members found.members dynamic looked
+    → length members ≡ length room → listed ≡ take found.members members
+    → FindsFamily table shp v clear marks room members found → MemberIndexed listed (length listed) dynamic looked
     → FindsBuild s facts slot shapes table dynamic clear marks room
     (record { dest = v; members = found.members; turns = found.turns; looked = looked })
-finds_build s facts slot shapes table dynamic clear marks room members v shp found looked ds ss finds index σ τ is b i d eligible k sh l at h =
+finds_build s facts slot shapes table dynamic clear marks room members listed v shp found looked ds ss long el finds index σ τ is b i d eligible k sh l at h =
     elim (build_place b s facts slot i d at h) [
       | build_at a low ↦
           let z : v ≡ d = ap (λ (x : ℕ). record { 0 = x }) (ds ∙ sym a) in
           let below : v.0 < length τ.recorded = rw (z, l) low in
           let f = finds τ is k.rows (le_trans (copies_few τ is) k.short) (ss ∙ sh.shaped v.0 below) below k.few k.wide k.cleared in
+          let few : length marks ≤ length members = omega (arith, k.few, k.wide, ap length f.same, family_length τ v is) in
+          let all : Members listed (length listed) marks = rw el (first_listed members found.members marks f.listed few) in
           rw (sym z) record {
             dest = refl;
             marks = f.same;
             members = f.listed.many ∙ ap size f.same;
             turns = f.turned;
-            looked = index τ v is (subst (Members members found.members) f.same f.listed) k.dynamic_all;
+            looked = index τ v is (subst (Members listed (length listed)) f.same all) k.dynamic_all;
           }
     ]
 

@@ -12,7 +12,6 @@ ghost use Rattle.pass_families.specs.Lines.{marked_from, families_of};
 ghost use Rattle.pass_families.specs.Shown.{found_numbers, FindsBuild, PutsBuild, PutsOne, PutsAll, PutsBlock, PutsBlocks, PutsRoutine};
 
 use bytes_field::Bounds;
-use bytes_sections::Checked;
 use fold::Settings;
 use mir::{BlockId, ValueId, kind, most};
 
@@ -68,12 +67,13 @@ fn find_build(
     let v = fold_scan::dest(s, facts, slot);
     let shape = bytes_wire::byte_at(shapes, v.0 as usize);
     let found = fold_family::family(copies, shape, v, family, members);
-    let looked = fold_family::member_indexed(members, found.members, dynamic);
+    let listed = fold_family::first_members(members, found.members);
+    let looked = fold_family::member_indexed(listed, dynamic);
     BuildFamily {
         dest: v,
         members: found.members,
         turns: found.turns,
-        looked: looked,
+        looked,
     }
 }
 
@@ -84,13 +84,11 @@ fn list_members(family: &[bool], line: &mut [u64]) -> usize
     ensures upper_bound { result ≤ length family.now }
 {
     let mut n = 0;
-    let mut v = 0;
-    while v < family.len() {
-        if family[v] {
+    for (v, marked) in family.iter().enumerate() {
+        if *marked {
             line[n] = v as u64;
             n = n + 1;
         }
-        v = v + 1;
     }
     n
 }
@@ -189,8 +187,7 @@ fn put_all(
     ensures upper_bound { result ≤ line_width * count }
 {
     let mut to = 0;
-    let mut j: u16 = 0;
-    while j < count {
+    for j in 0..count {
         let at = Spot {
             block: from.block,
             instruction: j,
@@ -207,7 +204,6 @@ fn put_all(
                 named,
                 &mut text[to..],
             );
-        j = j + 1;
     }
     to
 }
@@ -250,17 +246,15 @@ fn put_blocks(
 {
     let mut to = 0;
     let mut slot: u16 = 0;
-    let mut k: u16 = 0;
-    while k < b.blocks {
+    for k in 0..b.blocks {
         let count = bytes_index::instruction_count(facts, BlockId(k));
         let from = Spot {
             block: k,
             instruction: 0,
-            slot: slot,
+            slot,
         };
         to = to + put_block(s, b, facts, from, count, shapes, named, &mut text[to..]);
         slot = slot + count + 1;
-        k = k + 1;
     }
     to
 }
@@ -294,9 +288,11 @@ pub fn families_text(s: &[u8], named: bool, text: &mut [u8]) -> usize
 {
     let mut facts: [u16; bytes_index::SIZE] = [0; bytes_index::SIZE];
     match bytes_read::read_routine(s, &mut facts) {
-        Checked::Refused(c, o) => {
-            text_lines::checked_line(text, bytes_wire::cause_number(c) as u64, o as u64)
-        }
-        Checked::Accepted(b) => put_routine(s, b, &facts, named, text),
+        Ok(b) => put_routine(s, b, &facts, named, text),
+        Err(e) => text_lines::checked_line(
+            text,
+            bytes_wire::cause_number(e.cause) as u64,
+            e.offset as u64,
+        ),
     }
 }

@@ -24,7 +24,8 @@ use Rattle.bytes_sections.specs.Decode.{mosts, whole_of}
 use Rattle.bytes_sections.specs.Encode.{encode}
 use Rattle.bytes_sections.specs.Index.{as_checked}
 use Rattle.bytes_sections.specs.Facts.{RoutineRead}
-use Rattle.bytes_sections.specs.declared.Checked.{Checked}
+use Rattle.std.specs.Prelude.{Result, Ok, Err}
+use Rattle.bytes_wire.specs.declared.Refusal.{Refusal}
 use Rattle.bytes_laws_whole.specs.WellFormed.{FitBlocks, WellFormed, bounds, unmarked}
 use Rattle.bytes_laws_whole.proofs.Whole.{whole_canon, whole_fit}
 use Rattle.fold.specs.declared.Settings.{Settings}
@@ -138,14 +139,14 @@ bad_unit : {A : Type 0} (d : Parse A) (c : Cause) (o : ℕ) → map_parse unit d
 bad_unit (ok x n) c o z = absurd (no_ok (sym z))
 bad_unit (bad c' o') c o z = let u : c' ≡ c = cc in let v : o' ≡ o = cc in rw (u, v)
 
-module _ {before : List ℕ} (s facts : List ℕ) (h : Bytes s) (answer : Checked) (q : RoutineRead s answer before facts) where
+module _ {before : List ℕ} (s facts : List ℕ) (h : Bytes s) (answer : Result Bounds Refusal) (q : RoutineRead s answer before facts) where
   -- what is accepted is a routine
-  pub accepted_read : (b : Bounds) → answer ≡ Checked.Accepted b → Accepted s facts b
+  pub accepted_read : (b : Bounds) → answer ≡ Ok b → Accepted s facts b
   accepted_read b e =
       elim (map_inv unit (whole_of mosts s) (sym q.answers ∙ ap (as_checked (length s)) e)) [
         | image r p c ↦ record { routine = r; used = length s; reads = p; bytes = h; facts_of = q.found b r (length s) h e p }
       ]
 
   -- what is refused is not
-  pub refused_read : (c : Cause) (o : ℕ) → answer ≡ Checked.Refused c o → whole_of mosts s ≡ bad c o
-  refused_read c o e = bad_unit (whole_of mosts s) c o (sym q.answers ∙ ap (as_checked (length s)) e)
+  pub refused_read : (r : Refusal) → answer ≡ Err r → whole_of mosts s ≡ bad r.cause r.offset
+  refused_read r e = bad_unit (whole_of mosts s) r.cause r.offset (sym q.answers ∙ ap (as_checked (length s)) e)

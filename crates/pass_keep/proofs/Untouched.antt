@@ -2,7 +2,7 @@
 use Prim.Native.Nat.{ℕ, zero, suc, ◌+◌, ◌-◌, ◌≤◌, ◌<◌}
 use mathlib.Core.Path.{◌≡◌, refl, ap, ◌∙◌, sym}
 use mathlib.Core.List.{List}
-use mathlib.Core.Bool.{Bool, false}
+use mathlib.Core.Bool.{Bool, false, not}
 use native.Mathlib.Nat.{le_refl}
 use native.Mathlib.Omega.{arith}
 use lib.ListN.{length, get_or, take}
@@ -27,7 +27,10 @@ use Rattle.shelf_test.specs.Number.{number_of_reason}
 use Rattle.shelf_test.specs.Shelved.{input_reason}
 use Rattle.shelf_test.proofs.Reasons.{reason_undropped}
 use Rattle.pass_numbers.proofs.Laws.{given_refused}
-use Rattle.pass_answers.specs.declared.Answer.{Answer}
+use Rattle.std.specs.Prelude.{Result, Ok, Err}
+use Rattle.pass_answers.specs.declared.Lowered.{Lowered}
+use Rattle.pass_answers.specs.declared.Refused.{Refused}
+use lib.Dec.{eqb}
 use Rattle.pass_answers.specs.Numbers.{acceptance, as_answer, Answers}
 use Rattle.pass_answers.proofs.Laws.{answers}
 use Rattle.pass_input.specs.Accepted.{Accepted, Chosen, Unchanged}
@@ -65,7 +68,7 @@ module _ {σ : Settings} {s facts : List ℕ} {b : Bounds} (u : Unchanged σ s f
   untouched = unchanged_result σ x u.still
 
   -- where the input is longer than the output
-  pub same_long : length out < length s → Answers (given σ (length out) s) Answer.NoRoom out out
+  pub same_long : length out < length s → Answers (given σ (length out) s) (Err Refused.NoRoom) out out
   same_long l =
       let e : encode (rewrite σ x) ≡ s = ap encode (unchanged σ x u.still) ∙ canon u.accepted in
       answers _ (refused 11 0) _ out out (given_refused σ (length out) s 11 0 (too_long σ (length out) s u.small x u.accepted.used u.accepted.reads (ap (λ (w : Rewritten). w.clash) untouched) (rw e l))) refl refl
@@ -74,9 +77,13 @@ module _ {σ : Settings} {s facts : List ℕ} {b : Bounds} (u : Unchanged σ s f
   none_dropped v = ap (λ (w : Rewritten). among v w.dropped) untouched
 
   -- where it has room
-  pub same_written : length s ≤ length out → (k : ShelfReason) → number_of_reason k ≡ input_reason x → (r : Answer) → as_answer r ≡ acceptance false no_counts (number_of_reason k) (length s) → (out' : List ℕ) → out' ≡ sets out 0 s → Answers (given σ (length out) s) r out out'
+  pub same_written : length s ≤ length out → (k : ShelfReason) → number_of_reason k ≡ input_reason x → (r : Result Lowered Refused) → as_answer r ≡ acceptance false no_counts (number_of_reason k) (length s) → (out' : List ℕ) → out' ≡ sets out 0 s → Answers (given σ (length out) s) r out out'
   same_written l k ek r er out' eo =
       let e : encode x ≡ s = canon u.accepted in
       answers _ (lowered false no_counts (number_of_reason k) (encode x)) r out out'
       (given_lowered σ (length out) s x u.accepted.used (number_of_reason k) false no_counts (encode x) u.accepted.reads (reason_undropped x (rewritten_blocks σ x) (number_of_reason k) ek none_dropped) (accepted_unchanged σ (length out) s u.small x u.accepted.used u.accepted.reads u.still (rw e l)))
       (rw e er) (rw e eo)
+
+-- default counts are no counts
+pub counts_none : (b e i s m k n : ℕ) → b ≡ 0 → e ≡ 0 → i ≡ 0 → s ≡ 0 → m ≡ 0 → acceptance (not (eqb b 0)) (record { builds = b; extracts = e; inserts = i; assigns = s; materializations = m }) k n ≡ acceptance false no_counts k n
+counts_none b e i s m k n x₁ x₂ x₃ x₄ x₅ = rw (x₁, x₂, x₃, x₄, x₅) refl

@@ -6,26 +6,19 @@ ghost use Rattle.shelf.specs.Answer.{answer as given};
 ghost use Rattle.pass_answers.specs.Numbers.{Answers};
 ghost use Rattle.pass_input.specs.Accepted.{Unchanged};
 
-use pass_answers::Answer;
+use pass_answers::{Lowered, Refused};
 use rewrite::Counts;
 use rewrite_progress::Setup;
 
 // Answers for a routine that is not changed.
-pub fn lower_same(s: &[u8], setup: Setup, facts: &[u16], out: &mut [u8]) -> Answer
+pub fn lower_same(s: &[u8], setup: Setup, facts: &[u16], out: &mut [u8]) -> Result<Lowered, Refused>
     requires { Unchanged setup.settings s.now facts.now setup.bounds }
     ensures { Answers (given setup.settings (length out.old) s.now) result out.old out.new }
 {
     if out.len() < s.len() {
-        return Answer::NoRoom;
+        return Err(Refused::NoRoom);
     }
     bytes_emit::copy_whole(s, out, 0);
     let reason = shelf_test::input_reason(s, setup.bounds, facts);
-    let none = Counts {
-        builds: 0,
-        extracts: 0,
-        inserts: 0,
-        assigns: 0,
-        materializations: 0,
-    };
-    pass_answers::lowered(none, reason, s.len())
+    Ok(Lowered::new(Counts::default(), reason, s.len()))
 }

@@ -6,16 +6,15 @@ ghost use Rattle.shelf.specs.Answer.{answer as given};
 ghost use Rattle.pass_answers.specs.Numbers.{Answers};
 ghost use Rattle.pass_input.specs.Accepted.{Accepted};
 
-use bytes_sections::Checked;
 use fold::Settings;
-use pass_answers::Answer;
+use pass_answers::{Lowered, Refused};
 use rewrite_progress::{FLAGS, SKIPS, Setup};
 
 // The largest max_aggregate_size that is not refused.
 const LARGEST: u8 = 16;
 
 // Lowers an accepted routine by its table of facts; one without builds, or of which no build is folded, is not changed.
-fn lower_read(s: &[u8], setup: Setup, facts: &[u16], out: &mut [u8]) -> Answer
+fn lower_read(s: &[u8], setup: Setup, facts: &[u16], out: &mut [u8]) -> Result<Lowered, Refused>
     requires { Accepted s.now facts.now setup.bounds × (setup.settings.most ≤ 16) }
     ensures { Answers (given setup.settings (length out.old) s.now) result out.old out.new }
 {
@@ -32,21 +31,13 @@ fn lower_read(s: &[u8], setup: Setup, facts: &[u16], out: &mut [u8]) -> Answer
 }
 
 // The whole pass: 12, then 1 to 9, then 10, then 11; else the rewritten routine from the output's first byte on.
-pub fn lower_into(input: &[u8], out: &mut [u8], settings: Settings) -> Answer
+pub fn lower_into(input: &[u8], out: &mut [u8], settings: Settings) -> Result<Lowered, Refused>
     ensures { Answers (given settings (length out.old) input.now) result out.old out.new }
 {
     if LARGEST < settings.most {
-        return Answer::TooLarge;
+        return Err(Refused::TooLarge);
     }
     let mut facts: [u16; bytes_index::SIZE] = [0; bytes_index::SIZE];
-    match bytes_read::read_routine(input, &mut facts) {
-        Checked::Refused(c, o) => Answer::Malformed(c, o),
-        Checked::Accepted(b) => {
-            let setup = Setup {
-                bounds: b,
-                settings: settings,
-            };
-            lower_read(input, setup, &facts, out)
-        }
-    }
+    let bounds = bytes_read::read_routine(input, &mut facts)?;
+    lower_read(input, Setup { bounds, settings }, &facts, out)
 }

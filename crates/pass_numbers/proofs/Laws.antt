@@ -1,5 +1,6 @@
 -- Laws of the settings, the ten numbers and the totals.
 use Prim.Native.Nat.{ℕ, ◌+◌, ◌≤◌, ◌<◌}
+use Rattle.std.specs.Prelude.{min}
 use mathlib.Core.Path.{◌≡◌, refl, ap, ◌∙◌, sym}
 use mathlib.Core.List.{List, [], ◌∷◌}
 use mathlib.Core.Bool.{Bool, true, false}
@@ -56,6 +57,14 @@ added_all total n h = rw (lt-ltb _ _ h)
 pub added_most : (total n : ℕ) → numbers64 ≤ total + n → added total n ≡ highest64
 unfolding added
 added_most total n h = rw (le-ltb _ _ h)
+
+-- so it is the library's sum
+pub added_min : (total n : ℕ) → added total n ≡ min (total + n) 18446744073709551615
+added_min total n = split (ltb (total + n) numbers64) refl
+  where
+    split : (x : Bool) → ltb (total + n) numbers64 ≡ x → added total n ≡ min (total + n) 18446744073709551615
+    split true e = let h = ltb-true (total + n) numbers64 e in added_all total n h ∙ omega arith
+    split false e = let h = ltb-false (total + n) numbers64 e in added_most total n h ∙ omega arith
 
 -- totals that are numbers of 64 bits
 pub record Fit (t : Totals) : Type 0 where

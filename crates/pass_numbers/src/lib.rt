@@ -1,22 +1,18 @@
 // The numbers that the entries of the pass take and give: the settings, the ten numbers of an answer, the totals.
 #![tactic(auto)]
 
-ghost use Rattle.std.specs.Prelude.{◌≡◌, List, ℕ, ◌≤◌, ◌<◌, set};
+ghost use Rattle.std.specs.Prelude.{◌≡◌, List, ℕ, set};
 ghost use Rattle.std.proofs.lemmas.List.Edits.{sets};
 ghost use Rattle.rewrite.specs.Outcome.{settings_of};
 ghost use Rattle.shelf.specs.Answer.{answer as given};
 ghost use Rattle.pass_numbers.specs.Ten.{ten_numbers};
-ghost use Rattle.pass_numbers.specs.Totals.{added, with_counts};
+ghost use Rattle.pass_numbers.specs.Totals.{with_counts};
 
 use fold::Settings;
 use rewrite::Counts;
 
-// The largest max_aggregate_size that is not refused, and a number above it.
-const LARGEST: u64 = 16;
-
-const TOO_LARGE: u8 = 17;
-// The largest number of 64 bits.
-const HIGHEST: u64 = 18446744073709551615;
+// A max_aggregate_size that is refused; all greater ones are refused alike.
+const TOO_LARGE: u64 = 17;
 
 // The places of the ten numbers in a caller's answer.
 const NUMBER: usize = 0;
@@ -65,25 +61,14 @@ pub struct Totals {
     pub materializations: u64,
 }
 
-// The setting most: all numbers above 16 are refused alike.
-fn most_of(most: u64) -> u8
-    ensures { (most ≤ 16 → result ≡ most) × (16 < most → 16 < result) }
-{
-    if LARGEST < most {
-        return TOO_LARGE;
-    }
-    most as u8
-}
-
 // A flag is on when its number is not 0.
 pub fn settings_of(tuples: u64, structs: u64, most: u64) -> Settings
     ensures { (room : ℕ) (s : List ℕ) → given result room s ≡ given (settings_of tuples structs most) room s }
 {
-    let small = most_of(most);
     Settings {
         tuples: tuples != 0,
         structs: structs != 0,
-        most: small,
+        most: most.min(TOO_LARGE) as u8,
     }
 }
 
@@ -111,30 +96,17 @@ pub fn put_numbers(answer: &mut [u64], n: Numbers)
     put_number(answer, SIZE, n.size);
 }
 
-fn add(total: u64, n: u32) -> u64
-    ensures { result ≡ added total n }
-{
-    let more = n as u64;
-    if HIGHEST - total < more {
-        return HIGHEST;
-    }
-    total + more
-}
-
 // The totals with the counts of one more run.
 pub fn with_counts(t: Totals, c: Counts) -> Totals
     ensures { result ≡ with_counts t c }
 {
-    let builds = add(t.builds, c.builds);
-    let extracts = add(t.extracts, c.extracts);
-    let inserts = add(t.inserts, c.inserts);
-    let assigns = add(t.assigns, c.assigns);
-    let materializations = add(t.materializations, c.materializations);
     Totals {
-        builds: builds,
-        extracts: extracts,
-        inserts: inserts,
-        assigns: assigns,
-        materializations: materializations,
+        builds: t.builds.saturating_add(u64::from(c.builds)),
+        extracts: t.extracts.saturating_add(u64::from(c.extracts)),
+        inserts: t.inserts.saturating_add(u64::from(c.inserts)),
+        assigns: t.assigns.saturating_add(u64::from(c.assigns)),
+        materializations: t
+            .materializations
+            .saturating_add(u64::from(c.materializations)),
     }
 }

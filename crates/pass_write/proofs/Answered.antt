@@ -26,7 +26,6 @@ use Rattle.rewrite.proofs.Result.{result_count}
 use Rattle.bytes_emit.specs.Written.{Writes}
 use Rattle.rewrite_progress.specs.Effect.{type_numbers as fresh_numbers, Low, PutLow}
 use Rattle.rewrite_progress.specs.declared.Progress.{Progress}
-use Rattle.rewrite_progress.specs.declared.Put.{Put}
 use Rattle.rewrite_progress.proofs.Laws.{numbers_length}
 use Rattle.rewrite_head.specs.Head.{head_bytes, Tabled}
 use Rattle.rewrite_opening.specs.Opens.{Opens}
@@ -37,7 +36,10 @@ use Rattle.shelf_test.specs.declared.ShelfReason.{ShelfReason}
 use Rattle.shelf_test.specs.Number.{number_of_reason}
 use Rattle.shelf_test.specs.Shelved.{Shelved}
 use Rattle.pass_numbers.proofs.Laws.{given_refused}
-use Rattle.pass_answers.specs.declared.Answer.{Answer}
+use Rattle.std.specs.Prelude.{Result, Ok, Err}
+use Rattle.rewrite.specs.declared.Clash.{Clash}
+use Rattle.pass_answers.specs.declared.Lowered.{Lowered}
+use Rattle.pass_answers.specs.declared.Refused.{Refused}
 use Rattle.pass_answers.specs.Numbers.{acceptance, as_answer, Answers}
 use Rattle.pass_answers.proofs.Laws.{answers}
 use Rattle.pass_input.specs.Accepted.{Accepted, Chosen}
@@ -73,11 +75,11 @@ sets_first zeros ns k l h =
     ap (λ t. get_or t k 0) (sets-eq ns zeros 0 (omega arith) ∙ append_assoc [] ns (drop (0 + length ns) zeros)) ∙ get_or-append ns (drop (0 + length ns) zeros) 0 k h
 
 -- a run into a buffer measures
-pub measured : {σ : Settings} {s facts : List ℕ} {b : Bounds} {flags : List Bool} (h : Chosen σ s facts b flags) (buffer zeros body fresh fresh' : List ℕ) (dropped : Marks) (r : Put) (p : Progress)
+pub measured : {σ : Settings} {s facts : List ℕ} {b : Bounds} {flags : List Bool} (h : Chosen σ s facts b flags) (buffer zeros body fresh fresh' : List ℕ) (dropped : Marks) (r : Result Progress Clash) (p : Progress)
     → fresh_places ≤ length zeros
     → PutLow 4300 r
     → Runs (rewritten_blocks σ h.accepted.routine) 0 buffer zeros (replicate 256 false) body fresh dropped r
-    → r ≡ Put.Went p
+    → r ≡ Ok p
     → fresh' ≡ fresh
     → Measured σ s facts b flags fresh' dropped body p
 measured h buffer zeros body fresh fresh' dropped r p l low q e f =
@@ -87,11 +89,11 @@ measured h buffer zeros body fresh fresh' dropped r p l low q e f =
 -- ## The answer
 
 module _ {σ : Settings} {s facts : List ℕ} {b : Bounds} {flags : List Bool} (h : Chosen σ s facts b flags) (out : List ℕ) where
-  pub answers_clash : (rewritten_blocks σ h.accepted.routine).clash ≡ true → Answers (given σ (length out) s) Answer.Clash out out
+  pub answers_clash : (rewritten_blocks σ h.accepted.routine).clash ≡ true → Answers (given σ (length out) s) (Err Refused.Clash) out out
   answers_clash e = answers _ (refused 10 0) _ out out (given_refused σ (length out) s 10 0 (clashing σ (length out) s h.small h.accepted.routine h.accepted.used h.accepted.reads e)) refl refl
 
 -- the numbers of a run that went through
-numbers_of : (r : Answer) (w : Bool) (c d : Counts) (k n m : ℕ) → as_answer r ≡ acceptance (not (eqb c.builds 0)) c k n → c ≡ d → w ≡ not (eqb d.builds 0) → n ≡ m → as_answer r ≡ acceptance w d k m
+numbers_of : (r : Result Lowered Refused) (w : Bool) (c d : Counts) (k n m : ℕ) → as_answer r ≡ acceptance (not (eqb c.builds 0)) c k n → c ≡ d → w ≡ not (eqb d.builds 0) → n ≡ m → as_answer r ≡ acceptance w d k m
 numbers_of r w c d k n m z e f g = z ∙ rw (e, f, g)
 
 module _ {σ : Settings} {s facts : List ℕ} {b : Bounds} {flags : List Bool} {fresh : List ℕ} {dropped : Marks} {body : List ℕ} {p : Progress} (m : Measured σ s facts b flags fresh dropped body p) where
@@ -138,7 +140,7 @@ module _ {σ : Settings} {s facts : List ℕ} {b : Bounds} {flags : List Bool} {
 
   module _ (out : List ℕ) where
     -- where it is too long
-    pub answers_long : (out' : List ℕ) → (length out < length head + p.to) × (out' ≡ out) → Answers (given σ (length out) s) Answer.NoRoom out out'
+    pub answers_long : (out' : List ℕ) → (length out < length head + p.to) × (out' ≡ out) → Answers (given σ (length out) s) (Err Refused.NoRoom) out out'
     answers_long out' l = answers _ (refused 11 0) _ out out' (given_refused σ (length out) s 11 0 (too_long σ (length out) s m.chosen.small x a.used a.reads m.ran.calm (omega (arith, l.0, whole_length, begun.place)))) refl l.1
 
     module _ (l : length head + p.to ≤ length out) (out₁ out₂ : List ℕ) (to : ℕ) (h : Writes head out out₁ 0 to) (g : out₂ ≡ sets out₁ to (body_of w)) where
@@ -148,7 +150,7 @@ module _ {σ : Settings} {s facts : List ℕ} {b : Bounds} {flags : List Bool} {
           let z : sets out 0 (head ++ body_of w) ≡ sets (sets out 0 head) (0 + length head) (body_of w) = sets_append out 0 head (body_of w) in
           g ∙ ap (λ k. sets out₁ k (body_of w)) h.0 ∙ ap (λ t. sets t (0 + length head) (body_of w)) h.1 ∙ sym z
 
-      pub answers_written : (k : ShelfReason) (r : Answer) → number_of_reason k ≡ shelf_reason with_debug x w → as_answer r ≡ acceptance (not (eqb p.counts.builds 0)) p.counts (number_of_reason k) (to + p.to) → Answers (given σ (length out) s) r out out₂
+      pub answers_written : (k : ShelfReason) (r : Result Lowered Refused) → number_of_reason k ≡ shelf_reason with_debug x w → as_answer r ≡ acceptance (not (eqb p.counts.builds 0)) p.counts (number_of_reason k) (to + p.to) → Answers (given σ (length out) s) r out out₂
       answers_written k r f z =
           let i : to + p.to ≡ length (encode (rewrite σ x)) = omega (arith, whole_length, begun.place, h.0) in
           let j : out₂ ≡ sets out 0 (encode (rewrite σ x)) = written_all ∙ ap (sets out 0) (sym (rewritten_bytes σ x)) in

@@ -8,7 +8,7 @@
 
 mod compared;
 
-ghost use Rattle.std.specs.Prelude.{◌≤◌, ◌<◌, length};
+ghost use Rattle.std.specs.Prelude.{◌<◌, length};
 
 use std::io;
 use std::io::Write;
@@ -35,30 +35,20 @@ fn replayed(row: &[u8], input: &[u8], told: &[u8], bytes: &[u8], out: &mut [u8])
     let structs = bytes_wire::byte_at(row, 1) as u64;
     let most = bytes_wire::byte_at(row, 2) as u64;
     pass::lower(input, out, tuples, structs, most, &mut answer);
-    if !compared::same_numbers(&answer, told) {
-        return false;
-    }
-    compared::same_bytes(out, bytes)
+    compared::same_numbers(&answer, told) && compared::same_bytes(out, bytes)
 }
 
 // Replays the row at the head of `row`, whose input has `n` bytes and whose output has `size`, with an output of its own, of the
-// length that was lent: 1 where it was answered otherwise, else 0.
-fn otherwise(row: &[u8], n: usize, size: usize) -> u64
+// length that was lent: whether it is answered as is told.
+fn answers_alike(row: &[u8], n: usize, size: usize) -> bool
     requires { n < 4294967296 }
-    ensures { result ≤ 1 }
 {
     let input = compared::part(row, INPUT, n);
     let told = compared::part(row, INPUT + n, TOLD);
     let bytes = compared::part(row, INPUT + n + TOLD, size);
     let mut out = [compared::FILL; MOST_LENT];
     let lent = bytes_wire::u32_at(row, LENT) as usize;
-    if MOST_LENT < lent {
-        return 1;
-    }
-    if replayed(row, input, told, bytes, &mut out[0..lent]) {
-        return 0;
-    }
-    1
+    lent <= MOST_LENT && replayed(row, input, told, bytes, &mut out[..lent])
 }
 
 // How many rows there are, and how many were answered otherwise.
@@ -71,21 +61,19 @@ struct Tally {
 fn replay(s: &[u8]) -> Tally
     requires { length s.now < 1048576 }
 {
-    let mut rows: u64 = 0;
-    let mut others: u64 = 0;
-    let mut at: usize = 0;
-    while at < s.len() {
-        let row = compared::part(s, at, s.len());
-        let n = bytes_wire::u32_at(row, INPUT_LENGTH) as usize;
-        let size = bytes_wire::u32_at(row, INPUT + n + SIZE) as usize;
-        others = others + otherwise(row, n, size);
-        rows = rows + 1;
-        at = at + (INPUT + n + TOLD + size);
+    let mut tally = Tally { rows: 0, others: 0 };
+    let mut rest = s;
+    // A row tells how long it is: no index is counted, and an iterator over rows would be this loop with a state of its own.
+    while !rest.is_empty() {
+        let n = bytes_wire::u32_at(rest, INPUT_LENGTH) as usize;
+        let size = bytes_wire::u32_at(rest, INPUT + n + SIZE) as usize;
+        if !answers_alike(rest, n, size) {
+            tally.others = tally.others + 1;
+        }
+        tally.rows = tally.rows + 1;
+        rest = &rest[(INPUT + n + TOLD + size).min(rest.len())..];
     }
-    Tally {
-        rows: rows,
-        others: others,
-    }
+    tally
 }
 
 // How many bytes of standard input are kept.

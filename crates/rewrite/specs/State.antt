@@ -6,7 +6,9 @@ use Rattle.std.proofs.Math.ListN.{get_elem?}
 use Rattle.mir.specs.declared.ValueId.{ValueId}
 use Rattle.mir.specs.declared.Literal.{Literal}
 use Rattle.mir.specs.declared.Value.{Value}
-use Rattle.mir.specs.Syntax.{Projection, Index, Field, Tuple, Place}
+use Rattle.mir.specs.declared.Projection.{Projection}
+use Rattle.mir.specs.declared.Projection.TheVariants.{Index, Field, Tuple}
+use Rattle.mir.specs.Syntax.{Place}
 use Rattle.mir.specs.Lookup.{Types, value_row, as_const_integer, on_some}
 use Rattle.bytes_struct.specs.FindField.{field_index}
 

@@ -3,7 +3,7 @@
 #![tactic(auto)]
 
 // sroa.rs, `Stats`: builds and extracts scalarized, inserts and assigns forwarded, materializations.
-#[derive(Clone, Copy)]
+#[derive(Clone, Copy, Default)]
 pub struct Counts {
     pub builds: u32,
     pub extracts: u32,
@@ -11,3 +11,7 @@ pub struct Counts {
     pub assigns: u32,
     pub materializations: u32,
 }
+
+// An array rebuild met another count of parts than its type has.
+#[derive(Clone, Copy, Debug, PartialEq, Eq)]
+pub struct Clash;

@@ -1,6 +1,6 @@
 -- What the arms decide, from what they have found.
 use Prim.Native.Nat.{ℕ, ◌≤◌, ◌<◌}
-use mathlib.Core.Path.{◌≡◌, refl, ◌∙◌, sym}
+use mathlib.Core.Path.{◌≡◌, refl, sym}
 use mathlib.Core.List.{List}
 use mathlib.Core.Bool.{true, false, cond}
 use mathlib.Core.Bool as B
@@ -15,19 +15,18 @@ use Rattle.mir.specs.Lookup.{is_some, on_some}
 use Rattle.fold.specs.Family.{Marks}
 use Rattle.rewrite.specs.State.{AggStates, insert_state, state_of, replaced}
 use Rattle.rewrite.specs.Step.{Piece, kept, left, tracked, step_build, step_insert, hand_on, step_assign}
-use Rattle.rewrite_parts.specs.Rows.{ValueAt, Rep, InitAt, given_parts}
-use Rattle.rewrite_parts.specs.declared.Init.{Init}
+use Rattle.rewrite_parts.specs.Rows.{ValueAt, Rep, There, given_parts}
 use Rattle.rewrite_parts.proofs.Tables.{element_some, replaced_set, replaced_past}
 use Rattle.bytes_operands.proofs.Places.{listed_past}
-use Rattle.rewrite_arms.specs.Decided.{counted_as, assigned_from, Decided, Planned, SourceOf, found, nothing, step_taken, built_as}
-use Rattle.rewrite_arms.specs.declared.Source.{Source}
+use Rattle.rewrite_arms.specs.Decided.{counted_as, assigned_from, Decided, Planned, SourceOf, found, nothing, step_taken}
+use Rattle.std.specs.Prelude.{Some, None, Option as Answered}
 use Rattle.rewrite_arms.specs.declared.Counted.{Counted}
 use Rattle.rewrite_arms.specs.declared.Action.{Action}
 use Rattle.rewrite_arms.specs.declared.Plan.{Plan}
 use Rattle.rewrite_arms.specs.declared.Spot.{Spot}
 
 -- an untracked value has no parts
-pub no_parts : {S : AggStates} {o : Option (List Value)} {r : Source} → SourceOf S o r → r ≡ Source.Untracked → o ≡ none
+pub no_parts : {S : AggStates} {o : Option (List Value)} {r : Answered ValueId} → SourceOf S o r → r ≡ None → o ≡ none
 no_parts (found v xs f g) e = absurd (let u : ◌≡◌ {A = ℕ} 0 1 = cc in omega arith)
 no_parts (nothing f) e = f
 
@@ -35,7 +34,7 @@ no_parts (nothing f) e = f
 pub data Has (S : AggStates) (o : Option (List Value)) (v : ValueId) : Type 0 where
   has : (xs : List Value) → o ≡ some xs → S v.0 ≡ some xs → Has S o v
 
-pub has_parts : {S : AggStates} {o : Option (List Value)} {r : Source} {v : ValueId} → SourceOf S o r → r ≡ Source.Tracked v → Has S o v
+pub has_parts : {S : AggStates} {o : Option (List Value)} {r : Answered ValueId} {v : ValueId} → SourceOf S o r → r ≡ Some v → Has S o v
 has_parts {S} {o} {r} {v} (found w xs f g) e = let z : v ≡ w = cc in rw z (has xs f g)
 has_parts (nothing f) e = absurd (let u : ◌≡◌ {A = ℕ} 0 1 = cc in omega arith)
 
@@ -50,10 +49,15 @@ unfolding tracked left
 tracks c d xs e r = record { rep = rw e r; does = rw e refl }
 
 -- a struct's build, by whether its parts were found
-pub struct_built : {next : ℕ} {s : List ℕ} {marks : Marks} {rows : List ℕ} {used : ℕ} {S : AggStates} {i : Instruction} {x : Piece} {a : Action} (d : ValueId) (o : Option (List Value)) (all : B.Bool) → x ≡ step_build S i d o → a ≡ built_as all d → all ≡ is_some o → Rep next s marks rows used (given_parts S d o) → Decided next s marks rows S i x (record { action = a; used = used })
+pub struct_tracks : {next : ℕ} {s : List ℕ} {marks : Marks} {rows : List ℕ} {used : ℕ} {S : AggStates} {i : Instruction} {x : Piece} (d : ValueId) (o : Option (List Value)) → x ≡ step_build S i d o → true ≡ is_some o → Rep next s marks rows used (given_parts S d o) → Decided next s marks rows S i x (record { action = Action.Track d Counted.Build; used = used })
 unfolding step_build given_parts is_some
-struct_built d none all e f g r = rw (f, g) (stays e r)
-struct_built d (some xs) all e f g r = rw (f, g) (tracks Counted.Build d xs e r)
+struct_tracks d none e g r = absurd (let u : ◌≡◌ {A = ℕ} 0 1 = cc in omega arith)
+struct_tracks d (some xs) e g r = tracks Counted.Build d xs e r
+
+pub struct_stays : {next : ℕ} {s : List ℕ} {marks : Marks} {rows : List ℕ} {used : ℕ} {S : AggStates} {i : Instruction} {x : Piece} (d : ValueId) (o : Option (List Value)) → x ≡ step_build S i d o → false ≡ is_some o → Rep next s marks rows used (given_parts S d o) → Decided next s marks rows S i x (record { action = Action.Keep; used = used })
+unfolding step_build given_parts is_some
+struct_stays d none e g r = stays e r
+struct_stays d (some xs) e g r = absurd (let u : ◌≡◌ {A = ℕ} 0 1 = cc in omega arith)
 
 module _ {next : ℕ} {s facts : List ℕ} {S : AggStates} {i : Instruction} {p : Spot} where
   -- nothing is planned
@@ -110,41 +114,15 @@ module _ {next : ℕ} {s facts : List ℕ} {S : AggStates} {i : Instruction} {p 
   unfolding step_taken
   take_stays whole t o e = plans_keep (rw e refl)
 
--- parts, found or not
-pub init_none : {next place : ℕ} {s : List ℕ} {o : Option Value} → o ≡ none → InitAt next s o (record { given = false; place = place })
-unfolding is_some
-init_none {o} e = record { told = rw e refl; stands = λ x f. absurd (let z : none ≡ some x = sym e ∙ f in let u : ◌≡◌ {A = ℕ} 0 1 = cc in omega arith) }
-
-pub init_some : {next place : ℕ} {s : List ℕ} {o : Option Value} {x : Value} → o ≡ some x → ValueAt next s place x → InitAt next s o (record { given = true; place = place })
-unfolding is_some
-init_some {o} {x} e v = record { told = rw e refl; stands = λ y f. let z : some y ≡ some x = sym f ∙ e in let w : y ≡ x = cc in rw w v }
-
-pub init_same : {next : ℕ} {s : List ℕ} {o o' : Option Value} {r : Init} → o ≡ o' → InitAt next s o' r → InitAt next s o r
-init_same e a = rw e a
-
-module _ {next : ℕ} {s : List ℕ} (S : AggStates) (x : Value) (k : ℕ) where
-  pub part_none : {place : ℕ} → state_of S x ≡ none → InitAt next s (on_some (state_of S x) (λ xs. get_elem? xs k)) (record { given = false; place = place })
+module _ (S : AggStates) (x : Value) (k : ℕ) where
+  pub part_none : state_of S x ≡ none → on_some (state_of S x) (λ xs. get_elem? xs k) ≡ none
   unfolding on_some
-  part_none e = init_none (rw e refl)
+  part_none e = rw e refl
 
-  pub part_past : {place : ℕ} (xs : List Value) → state_of S x ≡ some xs → length xs ≤ k → InitAt next s (on_some (state_of S x) (λ xs. get_elem? xs k)) (record { given = false; place = place })
+  pub part_past : (xs : List Value) → state_of S x ≡ some xs → length xs ≤ k → on_some (state_of S x) (λ xs. get_elem? xs k) ≡ none
   unfolding on_some
-  part_past xs e h = init_none (rw e (sym (listed_past xs k h)))
+  part_past xs e h = rw e (sym (listed_past xs k h))
 
-  pub part_some : {place : ℕ} (xs : List Value) → state_of S x ≡ some xs → k < length xs → ValueAt next s place (get_or xs k Value.Error) → InitAt next s (on_some (state_of S x) (λ xs. get_elem? xs k)) (record { given = true; place = place })
+  pub part_some : {next : ℕ} {s : List ℕ} {place : ℕ} (xs : List Value) → state_of S x ≡ some xs → k < length xs → ValueAt next s place (get_or xs k Value.Error) → There next s (on_some (state_of S x) (λ xs. get_elem? xs k)) place
   unfolding on_some
-  part_some xs e h v = init_some (rw e (element_some xs k h)) v
-
--- what a found part is
-pub init_gone : {next : ℕ} {s : List ℕ} {o : Option Value} {r : Init} → InitAt next s o r → r.given ≡ false → o ≡ none
-unfolding is_some
-init_gone {o = none} a e = refl
-init_gone {o = some x} a e = absurd (let z : true ≡ false = sym a.told ∙ e in let u : ◌≡◌ {A = ℕ} 0 1 = cc in omega arith)
-
-pub data There (next : ℕ) (s : List ℕ) (o : Option Value) (place : ℕ) : Type 0 where
-  there : (x : Value) → o ≡ some x → ValueAt next s place x → There next s o place
-
-pub init_there : {next : ℕ} {s : List ℕ} {o : Option Value} {r : Init} → InitAt next s o r → r.given ≡ true → There next s o r.place
-unfolding is_some
-init_there {o = none} a e = absurd (let z : false ≡ true = sym a.told ∙ e in let u : ◌≡◌ {A = ℕ} 0 1 = cc in omega arith)
-init_there {o = some x} a e = there x refl (a.stands x refl)
+  part_some xs e h v = record { value = get_or xs k Value.Error; is = rw e (element_some xs k h); stands = v }

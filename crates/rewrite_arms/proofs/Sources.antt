@@ -14,41 +14,40 @@ use Rattle.mir.specs.declared.ValueId.{ValueId}
 use Rattle.mir.specs.declared.TypeId.{TypeId}
 use Rattle.mir.specs.MirType.{MirType, Felt, Bool, U32, Tuple, Struct, FixedArray, Pointer, Function, Unit, Error, Unknown}
 use Rattle.bytes_field.specs.declared.Bounds.{Bounds}
-use Rattle.bytes_lookup.specs.declared.TypeFound.{TypeFound}
 use Rattle.bytes_sections.specs.Index.{recorded_number, recorded_from}
-use Rattle.bytes_lookup.specs.Found.{as_type}
 use Rattle.mir.specs.Lookup.{Types, row_of, recorded_type, value_row, shape, is_tuple, is_struct, is_array, is_aggregate, is_some}
 use Rattle.mir.specs.Parts.{or_else, struct_row}
 use Rattle.rewrite.specs.State.{AggStates, state_of}
 use Rattle.fold.specs.Tables.{Ground}
 use Rattle.rewrite_arms.specs.Decided.{SourceOf, found, nothing}
-use Rattle.rewrite_arms.specs.declared.Source.{Source}
+use Rattle.std.specs.Prelude.{Some, None, Option as Answered, unwrap_or}
+use Rattle.mir.specs.Option.{as_option}
 
 -- a literal, and Error, have no parts
-pub literal_source : (S : AggStates) {x : Value} {l : Literal} → x ≡ Value.Literal l → SourceOf S (state_of S x) Source.Untracked
+pub literal_source : (S : AggStates) {x : Value} {l : Literal} → x ≡ Value.Literal l → SourceOf S (state_of S x) None
 unfolding state_of
 literal_source S e = nothing (ap (state_of S) e)
 
-pub error_source : (S : AggStates) {x : Value} → x ≡ Value.Error → SourceOf S (state_of S x) Source.Untracked
+pub error_source : (S : AggStates) {x : Value} → x ≡ Value.Error → SourceOf S (state_of S x) None
 unfolding state_of
 error_source S e = nothing (ap (state_of S) e)
 
 -- an operand has them where it is marked
-marked_source : (S : AggStates) (v : ValueId) (o : Option (List Value)) → S v.0 ≡ o → is_some o ≡ B.true → SourceOf S (S v.0) (Source.Tracked v)
+marked_source : (S : AggStates) (v : ValueId) (o : Option (List Value)) → S v.0 ≡ o → is_some o ≡ B.true → SourceOf S (S v.0) (Some v)
 unfolding is_some
 marked_source S v none f e = absurd (let z : ◌≡◌ {A = ℕ} 0 1 = cc in omega arith)
 marked_source S v (some xs) f e = found v xs f f
 
-pub operand_source : (S : AggStates) {x : Value} {v : ValueId} {m : B.Bool} → x ≡ Value.Operand v → m ≡ is_some (S v.0) → m ≡ B.true → SourceOf S (state_of S x) (Source.Tracked v)
+pub operand_source : (S : AggStates) {x : Value} {v : ValueId} {m : B.Bool} → x ≡ Value.Operand v → m ≡ is_some (S v.0) → m ≡ B.true → SourceOf S (state_of S x) (Some v)
 unfolding state_of
 operand_source S {x} {v} {m} e f h = rw e (marked_source S v (S v.0) refl (sym f ∙ h))
 
-clear_source : (S : AggStates) (v : ValueId) (o : Option (List Value)) → S v.0 ≡ o → is_some o ≡ B.false → SourceOf S (S v.0) Source.Untracked
+clear_source : (S : AggStates) (v : ValueId) (o : Option (List Value)) → S v.0 ≡ o → is_some o ≡ B.false → SourceOf S (S v.0) None
 unfolding is_some
 clear_source S v none f e = nothing f
 clear_source S v (some xs) f e = absurd (let z : ◌≡◌ {A = ℕ} 0 1 = cc in omega arith)
 
-pub operand_untracked : (S : AggStates) {x : Value} {v : ValueId} {m : B.Bool} → x ≡ Value.Operand v → m ≡ is_some (S v.0) → m ≡ B.false → SourceOf S (state_of S x) Source.Untracked
+pub operand_untracked : (S : AggStates) {x : Value} {v : ValueId} {m : B.Bool} → x ≡ Value.Operand v → m ≡ is_some (S v.0) → m ≡ B.false → SourceOf S (state_of S x) None
 unfolding state_of
 operand_untracked S {x} {v} {m} e f h = rw e (clear_source S v (S v.0) refl (sym f ∙ h))
 
@@ -83,21 +82,26 @@ element_at [] k d h = absurd (omega arith)
 element_at (x ∷ xs) zero d h = refl
 element_at (x ∷ xs) (suc k) d h = element_at xs k d (omega arith)
 
-module _ {b : Bounds} {s types recorded : List ℕ} {τ : Types} (g : Ground b s types recorded τ) (d : ValueId) (l : d.0 < b.next) (r : TypeFound) (e : as_type r ≡ recorded_from (get_or recorded d.0 0)) where
-  recorded_is : as_type r ≡ recorded_type τ d
+module _ {b : Bounds} {s types recorded : List ℕ} {τ : Types} (g : Ground b s types recorded τ) (d : ValueId) (l : d.0 < b.next) {r : Option TypeId} (e : r ≡ recorded_from (get_or recorded d.0 0)) where
+  recorded_is : r ≡ recorded_type τ d
   unfolding recorded_type
   recorded_is =
       e ∙ ap recorded_from (g.known.recorded_types d.0 (omega (arith, g.values)) (omega (arith, g.values, g.known.long))) ∙ number_back (get_or τ.recorded d.0 none)
 
   -- a struct goes by its recorded type
-  pub row_recorded : (named : TypeId) {t : TypeId} → r ≡ TypeFound.Type t → struct_row τ d named ≡ row_of τ (some t)
+  pub row_recorded : (named : TypeId) {t : TypeId} → r ≡ some t → struct_row τ d named ≡ row_of τ (some t)
   unfolding struct_row value_row row_of or_else recorded_type
   row_recorded named {t} f =
-      let z : recorded_type τ d ≡ some t = sym recorded_is ∙ ap as_type f in
+      let z : recorded_type τ d ≡ some t = sym recorded_is ∙ f in
       let w : t.0 < length τ.rows = omega (arith, g.rows, g.typed d.0 t z) in
       rw (z, element_at τ.rows t.0 MirType.Unit w)
 
   -- and where none is recorded by the named one
-  pub row_named : (named : TypeId) → r ≡ TypeFound.Nothing → struct_row τ d named ≡ row_of τ (some named)
+  pub row_named : (named : TypeId) → r ≡ none → struct_row τ d named ≡ row_of τ (some named)
   unfolding struct_row value_row row_of or_else recorded_type
-  row_named named f = let z : recorded_type τ d ≡ none = sym recorded_is ∙ ap as_type f in rw z
+  row_named named f = let z : recorded_type τ d ≡ none = sym recorded_is ∙ f in rw z
+
+-- a struct goes by its recorded type, and where none is recorded by the named one
+pub row_found : {b : Bounds} {s types recorded : List ℕ} {τ : Types} (g : Ground b s types recorded τ) (d : ValueId) (l : d.0 < b.next) (r : Answered TypeId) → as_option r ≡ recorded_from (get_or recorded d.0 0) → (named : TypeId) → struct_row τ d named ≡ row_of τ (some (unwrap_or r named))
+row_found g d l (Some t) e named = row_recorded g d l e named refl
+row_found g d l None e named = row_named g d l e named refl

@@ -20,21 +20,18 @@ use Rattle.mir.specs.Syntax.{FieldInit, Instruction}
 use Rattle.bytes_field.specs.declared.Bounds.{Bounds}
 use Rattle.mir.specs.Lookup.{Types, row_of, value_row, shape, is_struct, struct_fields_of, on_some}
 use Rattle.bytes_struct.specs.FindField.{find_field, field_index}
-use Rattle.bytes_struct.specs.Found.{as_found}
-use Rattle.bytes_struct.specs.declared.FieldLookup.{FieldLookup}
+use Rattle.bytes_struct.specs.declared.FoundField.{FoundField}
 use Rattle.mir.specs.Parts.{from_struct_fields, struct_parts, struct_row}
-use Rattle.rewrite.specs.State.{AggStates, state_of}
+use Rattle.rewrite.specs.State.{AggStates}
 use Rattle.rewrite.specs.Step.{step_build, extract_index}
 use Rattle.bytes_index.specs.Table.{recorded_in}
-use Rattle.rewrite_parts.specs.Rows.{Inits, InitAt}
+use Rattle.rewrite_parts.specs.Rows.{Inits}
 use Rattle.bytes_struct.specs.Fields.{Names}
-use Rattle.rewrite_parts.specs.declared.Init.{Init}
 use Rattle.bytes_struct.proofs.Placed.{type_fields}
 use Rattle.fold.specs.Tables.{Ground}
 use Rattle.rewrite_arms.specs.Decided.{Planned}
 use Rattle.rewrite_arms.specs.declared.Plan.{Plan}
 use Rattle.rewrite_arms.specs.declared.Spot.{Spot}
-use Rattle.rewrite_arms.proofs.Actions.{init_same}
 
 module _ (τ : Types) (x : Value) (f : NameId) (g : ℕ → Option Value) where
   -- only an operand has fields
@@ -47,20 +44,13 @@ module _ (τ : Types) (x : Value) (f : NameId) (g : ℕ → Option Value) where
   field_error e = rw e refl
 
   -- by the name's position
-  pub field_unknown : {v : ValueId} {r : FieldLookup} → x ≡ Value.Operand v → r ≡ FieldLookup.Absent → as_found r ≡ find_field (value_row τ v) f → on_some (extract_index τ x f) g ≡ none
+  pub field_unknown : {v : ValueId} → x ≡ Value.Operand v → none ≡ find_field (value_row τ v) f → on_some (extract_index τ x f) g ≡ none
   unfolding on_some extract_index field_index
-  field_unknown {v} {r} e p h = let z : find_field (value_row τ v) f ≡ none = sym h ∙ ap as_found p in rw (e, z) refl
+  field_unknown {v} e h = rw (e, ← h) refl
 
-  field_known : {v : ValueId} {r : FieldLookup} {k n : ℕ} {t : TypeId} → x ≡ Value.Operand v → r ≡ FieldLookup.Found k t n → as_found r ≡ find_field (value_row τ v) f → on_some (extract_index τ x f) g ≡ g k
+  pub field_known : {v : ValueId} {r : FoundField} → x ≡ Value.Operand v → some r ≡ find_field (value_row τ v) f → on_some (extract_index τ x f) g ≡ g r.position
   unfolding on_some extract_index field_index
-  field_known {v} {r} {k} {n} {t} e p h = let z : find_field (value_row τ v) f ≡ some (record { position = k; part = t; fields = n }) = sym h ∙ ap as_found p in rw (e, z) refl
-
--- the part at that position
-pub field_part : {next : ℕ} {s : List ℕ} {v : ValueId} {r : FieldLookup} {k n : ℕ} {t : TypeId} {q : Init} (S : AggStates) (τ : Types) (x : Value) (f : NameId)
-    → x ≡ Value.Operand v → r ≡ FieldLookup.Found k t n → as_found r ≡ find_field (value_row τ v) f
-    → InitAt next s (on_some (state_of S (Value.Operand v)) (λ xs. get_elem? xs k)) q
-    → InitAt next s (on_some (extract_index τ x f) (λ k. on_some (state_of S x) (λ xs. get_elem? xs k))) q
-field_part S τ x f e p h a = init_same (field_known τ x f (λ k. on_some (state_of S x) (λ xs. get_elem? xs k)) e p h) (rw e a)
+  field_known {v} {r} e h = rw (e, ← h) refl
 
 -- only a struct has the shape 2
 data IsStruct (o : Option MirType) : Type 0 where

@@ -1,5 +1,5 @@
 -- What is decided of one instruction, in the words of `step`.
-use Rattle.std.specs.Prelude.{ℕ, ◌+◌, ◌≤◌, ◌<◌, ◌≡◌, List, [], ◌∷◌, Bool, true, false, cond, length, get_or, drop, eqb}
+use Rattle.std.specs.Prelude.{ℕ, ◌+◌, ◌≤◌, ◌<◌, ◌≡◌, List, [], ◌∷◌, Bool, true, false, cond, length, get_or, drop, eqb, Some, None, Option as Answered}
 use Rattle.std.proofs.Math.Option.{Option, none, some}
 use Rattle.std.proofs.Math.ListN.{get_elem?}
 use Rattle.bytes_wire.specs.Number.{at16}
@@ -23,12 +23,10 @@ use Rattle.rewrite.specs.Step.{one_build, one_extract, one_insert, one_assign}
 use Rattle.mir.specs.Most.{most_values}
 use Rattle.rewrite_parts.specs.Rows.{most_parts, ValueAt, Rep, Room, Values, Inits, InitAt}
 use Rattle.bytes_struct.specs.Fields.{Names}
-use Rattle.rewrite_parts.specs.declared.Init.{Init}
 use Rattle.rewrite_arms.specs.declared.Counted.{Counted}
 use Rattle.rewrite_arms.specs.declared.Action.{Action}
 use Rattle.rewrite_arms.specs.declared.Decision.{Decision}
 use Rattle.rewrite_arms.specs.declared.Plan.{Plan}
-use Rattle.rewrite_arms.specs.declared.Source.{Source}
 use Rattle.rewrite_arms.specs.declared.Spot.{Spot}
 
 -- what an instruction that is left out counts
@@ -60,9 +58,9 @@ pub record SpotAt (s facts : List ℕ) (slot : ℕ) (p : Spot) : Type 0 where
   pub dest : p.dest.0 ≡ at16 s p.off
 
 -- parts that are some tracked value's, and which, or none
-pub data SourceOf (S : AggStates) (o : Option (List Value)) : Source → Type 0 where
-  found : (v : ValueId) (xs : List Value) → o ≡ some xs → S v.0 ≡ some xs → SourceOf S o (Source.Tracked v)
-  nothing : o ≡ none → SourceOf S o Source.Untracked
+pub data SourceOf (S : AggStates) (o : Option (List Value)) : Answered ValueId → Type 0 where
+  found : (v : ValueId) (xs : List Value) → o ≡ some xs → S v.0 ≡ some xs → SourceOf S o (Some v)
+  nothing : o ≡ none → SourceOf S o None
 
 -- an operand is one of the `next` values there are
 pub record Below (next : ℕ) (x : Value) : Type 0 where
@@ -72,11 +70,6 @@ pub record Below (next : ℕ) (x : Value) : Type 0 where
 unfoldable pub step_taken : Bool → AggStates → Instruction → ValueId → TypeId → Option Value → Piece
 step_taken whole S i d t none = kept S i
 step_taken whole S i d t (some x) = hand_on S d t x (cond whole (state_of S x) none)
-
--- a struct's build, by whether its parts were found
-abbrev pub built_as : Bool → ValueId → Action
-built_as true d = Action.Track d Counted.Build
-built_as false d = Action.Keep
 
 -- what a plan goes by: the parts of the value whose row is shared
 pub record Sharing (S : AggStates) (d : ValueId) (x : Piece) (v : ValueId) (c : Counted) : Type 0 where
@@ -127,12 +120,12 @@ pub record Planned (next : ℕ) (s facts : List ℕ) (S : AggStates) (i : Instru
   pub dest : (r ≡ Plan.Keep → ⊥) → p.dest.0 < next
 
 -- what is planned of a part that is taken
-abbrev pub TakePlanned : ℕ → List ℕ → Init → TypeId → Bool → Marks → Plan → Type 0
-TakePlanned next s init t whole marks r =
+abbrev pub TakePlanned : ℕ → List ℕ → Answered ℕ → TypeId → Bool → Marks → Plan → Type 0
+TakePlanned next s found_at t whole marks r =
     (facts rows : List ℕ) (used : ℕ) (S : AggStates) (i : Instruction) (p : Spot) (o : Option Value)
     → Rep next s marks rows used S
     → p.dest.0 < next
-    → InitAt next s o init
+    → InitAt next s o found_at
     → Planned next s facts S i p (step_taken whole S i p.dest t o) r
 
 -- of an Assign
@@ -173,7 +166,7 @@ FieldsBuilt s facts p t marks rows used marks' rows' r =
     → Decided next s marks' rows' S i x r
 
 -- the part that a name stands for
-abbrev pub FieldPart : Bounds → List ℕ → List ℕ → Marks → List ℕ → Value → NameId → Init → Type 0
+abbrev pub FieldPart : Bounds → List ℕ → List ℕ → Marks → List ℕ → Value → NameId → Answered ℕ → Type 0
 FieldPart b s facts marks rows x name r =
     (τ : Types) (used : ℕ) (S : AggStates)
     → Ground b s facts (recorded_in facts) τ

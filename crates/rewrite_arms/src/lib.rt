@@ -12,15 +12,12 @@ ghost use Rattle.fold.specs.Tables.{Ground};
 ghost use Rattle.mir.specs.Parts.{struct_row};
 ghost use Rattle.rewrite.specs.State.{AggStates, state_of};
 ghost use Rattle.rewrite_parts.specs.Rows.{row_most, used_below, Rep, InitAt};
-ghost use Rattle.rewrite_arms.specs.Decided.{SourceOf, built_as, FieldPart, TakePlanned, AssignPlanned, InsertPlanned, StructPlanned, FieldsBuilt};
+ghost use Rattle.rewrite_arms.specs.Decided.{SourceOf, FieldPart, TakePlanned, AssignPlanned, InsertPlanned, StructPlanned, FieldsBuilt};
 ghost use Rattle.bytes_operands.specs.Reach.{offset_reach};
 
 use bytes_field::Bounds;
-use bytes_lookup::TypeFound;
-use bytes_struct::FieldLookup;
 use bytes_types::layout;
 use mir::{NameId, TypeId, Value, ValueId, shape};
-use rewrite_parts::Init;
 
 // How many bytes the dest has that an instruction's own fields begin with; behind it a build has the number of its parts,
 // and then these.
@@ -90,13 +87,6 @@ pub enum Plan {
     Fields(TypeId),
 }
 
-// A value that is tracked, or any other.
-#[derive(Clone, Copy)]
-pub enum Source {
-    Tracked(ValueId),
-    Untracked,
-}
-
 // An instruction: where its own fields begin, where it ends, what its first field defines.
 #[derive(Clone, Copy)]
 pub struct Spot {
@@ -105,22 +95,22 @@ pub struct Spot {
     pub dest: ValueId,
 }
 
-// Whether a value is tracked, where that is asked for.
-pub fn tracked_source(tracked: &[bool], x: Value, whole: bool) -> Source
+// The operand that a value is, where it is tracked and that is asked for.
+pub fn tracked_source(tracked: &[bool], x: Value, whole: bool) -> Option<ValueId>
     ensures { (next : ℕ) (s rows : List ℕ) (used : ℕ) (S : AggStates) → Rep next s tracked.now rows used S
         → SourceOf S (cond whole (state_of S x) none) result }
 {
     if !whole {
-        return Source::Untracked;
+        return None;
     }
     match x {
-        Value::Literal(_) => Source::Untracked,
-        Value::Error => Source::Untracked,
+        Value::Literal(_) => None,
+        Value::Error => None,
         Value::Operand(v) => {
             if rewrite_parts::tracked(tracked, v) {
-                return Source::Tracked(v);
+                return Some(v);
             }
-            Source::Untracked
+            None
         }
     }
 }
@@ -148,10 +138,7 @@ fn struct_type(recorded: &[u16], d: ValueId, named: TypeId) -> TypeId
     ensures { (b : BoundsOf) (s types : List ℕ) (τ : Types) → Ground b s types recorded.now τ → d.0 < b.next
         → struct_row τ d named ≡ row_of τ (some result) }
 {
-    match bytes_lookup::recorded_type(recorded, d) {
-        TypeFound::Type(t) => t,
-        TypeFound::Nothing => named,
-    }
+    bytes_lookup::recorded_type(recorded, d).unwrap_or(named)
 }
 
 // A build of a struct that is taken apart.
@@ -165,20 +152,7 @@ pub fn plan_struct(s: &[u8], b: Bounds, facts: &[u16], p: Spot, named: TypeId) -
     Plan::Fields(t)
 }
 
-// The build is left out where its parts were found.
-fn built(given: bool, d: ValueId) -> Action
-    ensures { result ≡ built_as given d }
-{
-    if given {
-        return Action::Track {
-            dest: d,
-            what: Counted::Build,
-        };
-    }
-    Action::Keep
-}
-
-// A build of a struct by its type: its dest gets the values of its inits, where all are given.
+// A build of a struct by its type: its dest gets the values of its inits and it is left out, where all are given.
 pub fn build_fields(
     s: &[u8],
     facts: &[u16],
@@ -196,7 +170,7 @@ pub fn build_fields(
     let row = bytes_field::tail(s, bytes_lookup::type_place(facts, t));
     let n = bytes_wire::byte_at(s, p.off + DEST_BYTES);
     let m = bytes_wire::byte_at(row, layout::STRUCT_COUNT);
-    let r = rewrite_parts::track_named(
+    match rewrite_parts::track_named(
         s,
         tracked,
         rows,
@@ -207,10 +181,18 @@ pub fn build_fields(
         row,
         layout::STRUCT_NAMES,
         m,
-    );
-    Decision {
-        action: built(r.given, p.dest),
-        used: r.used,
+    ) {
+        Some(end) => Decision {
+            action: Action::Track {
+                dest: p.dest,
+                what: Counted::Build,
+            },
+            used: end,
+        },
+        None => Decision {
+            action: Action::Keep,
+            used,
+        },
     }
 }
 
@@ -219,46 +201,33 @@ pub fn plan_insert(x: Value, k: u32, place: usize, tracked: &[bool], rows: &[u16
     ensures { InsertPlanned x k place tracked.now rows.now result }
 {
     match tracked_source(tracked, x, true) {
-        Source::Untracked => Plan::Keep,
-        Source::Tracked(v) => {
+        None => Plan::Keep,
+        Some(v) => {
             if rewrite_parts::part_count(rows, v) as u32 <= k {
                 return Plan::Keep;
             }
             Plan::Replace {
                 source: v,
                 part: k,
-                place: place,
+                place,
             }
         }
     }
 }
 
-// Part `k` of a tracked value.
-pub fn part(tracked: &[bool], rows: &[u16], x: Value, k: u32) -> Init
+// Where part `k` of a tracked value stands.
+pub fn part(tracked: &[bool], rows: &[u16], x: Value, k: u32) -> Option<usize>
     ensures { (next : ℕ) (s : List ℕ) (used : ℕ) (S : AggStates) → Rep next s tracked.now rows.now used S
         → InitAt next s (on_some (state_of S x) (λ xs. get_elem? xs k)) result }
 {
-    match tracked_source(tracked, x, true) {
-        Source::Untracked => Init {
-            given: false,
-            place: 0,
-        },
-        Source::Tracked(v) => {
-            if rewrite_parts::part_count(rows, v) as u32 <= k {
-                return Init {
-                    given: false,
-                    place: 0,
-                };
-            }
-            Init {
-                given: true,
-                place: rewrite_parts::part_place(rows, v, k),
-            }
-        }
+    let v = tracked_source(tracked, x, true)?;
+    if rewrite_parts::part_count(rows, v) as u32 <= k {
+        return None;
     }
+    Some(rewrite_parts::part_place(rows, v, k))
 }
 
-// The part of a tracked value that a name stands for, by the value's recorded type.
+// Where the part of a tracked value stands that a name stands for, by the value's recorded type.
 pub fn field_part(
     s: &[u8],
     b: Bounds,
@@ -267,52 +236,38 @@ pub fn field_part(
     rows: &[u16],
     x: Value,
     name: NameId,
-) -> Init
+) -> Option<usize>
     ensures { FieldPart b s.now facts.now tracked.now rows.now x name result }
 {
     match x {
-        Value::Literal(_) => Init {
-            given: false,
-            place: 0,
-        },
-        Value::Error => Init {
-            given: false,
-            place: 0,
-        },
-        Value::Operand(v) => match rewrite_chains::value_field(
-            s,
-            facts,
-            b.types,
-            bytes_index::recorded(facts),
-            v,
-            name,
-        ) {
-            FieldLookup::Absent => Init {
-                given: false,
-                place: 0,
-            },
-            FieldLookup::Found { position, .. } => part(tracked, rows, x, position),
-        },
+        Value::Literal(_) => None,
+        Value::Error => None,
+        Value::Operand(v) => {
+            let recorded = bytes_index::recorded(facts);
+            let found = rewrite_chains::value_field(s, facts, b.types, recorded, v, name)?;
+            part(tracked, rows, x, found.position)
+        }
     }
 }
 
 // A part that is taken: a tracked one hands its parts on, any other is assigned.
-pub fn plan_take(s: &[u8], next: u16, init: Init, t: TypeId, whole: bool, tracked: &[bool]) -> Plan
-    ensures { TakePlanned next s.now init t whole tracked.now result }
+pub fn plan_take(
+    s: &[u8],
+    next: u16,
+    found: Option<usize>,
+    t: TypeId,
+    whole: bool,
+    tracked: &[bool],
+) -> Plan
+    ensures { TakePlanned next s.now found t whole tracked.now result }
 {
-    if !init.given {
+    let Some(place) = found else {
         return Plan::Keep;
-    }
-    match tracked_source(
-        tracked,
-        bytes_operands::value_at(s, init.place, next),
-        whole,
-    ) {
-        Source::Untracked => Plan::Assign {
-            place: init.place,
-            named: t,
-        },
-        Source::Tracked(v) => Plan::Share {
+    };
+    let x = bytes_operands::value_at(s, place, next);
+    match tracked_source(tracked, x, whole) {
+        None => Plan::Assign { place, named: t },
+        Some(v) => Plan::Share {
             source: v,
             what: Counted::Extract,
         },
@@ -324,8 +279,8 @@ pub fn plan_assign(x: Value, whole: bool, tracked: &[bool]) -> Plan
     ensures { AssignPlanned x whole tracked.now result }
 {
     match tracked_source(tracked, x, whole) {
-        Source::Untracked => Plan::Keep,
-        Source::Tracked(v) => Plan::Share {
+        None => Plan::Keep,
+        Some(v) => Plan::Share {
             source: v,
             what: Counted::Assign,
         },

@@ -26,7 +26,8 @@ use Rattle.rewrite.specs.Step.{Piece, step_call}
 use Rattle.rewrite_parts.specs.Rows.{rows_in, fresh_in}
 use Rattle.rewrite_parts.specs.Here.{Here}
 use Rattle.rewrite_progress.specs.declared.Progress.{Progress}
-use Rattle.rewrite_progress.specs.declared.Put.{Put}
+use Rattle.std.specs.Prelude.{Result, Ok, Err}
+use Rattle.rewrite.specs.declared.Clash.{Clash}
 use Rattle.rewrite_progress.specs.Effect.{output_of, rebuilt_effect, piece_effect, Puts}
 use Rattle.rewrite_wanted.specs.Asked.{Setting, asked_list}
 use Rattle.rewrite_list.specs.declared.ValueList.{ValueList}
@@ -37,7 +38,7 @@ use Rattle.rewrite_before.proofs.Effects.{Idle, idle, clash_put, went_put, spent
 
 module _ (b : Bounds) (s facts : List ℕ) (slot : ℕ) (tracked : Marks) (out work : List ℕ) (p : Progress) (at : ℕ) (t : List ℕ) (place : ℕ) (f : List ℕ) (l : ValueList)
     (ha : at ≡ place_in facts slot) (ht : t ≡ drop at s) (hp : place ≡ fields_place t) (hf : f ≡ drop place t) (hl : l ≡ call_list f)
-    (r : Put) (out₁ work₁ : List ℕ) (u : AllPut b s facts f tracked l out work p out₁ work₁ r) where
+    (r : Result Progress Clash) (out₁ work₁ : List ℕ) (u : AllPut b s facts f tracked l out work p out₁ work₁ r) where
   -- what is known in each case
   module _ (τ : Types) (S : AggStates) (used : ℕ) (i : Instruction) (ds : List ValueId) (g : ℕ) (xs : List Value) (ps rs : List TypeId) (dropped : Marks) (q : Piece) (a : Here b s facts slot tracked (rows_in work) used τ S i) (k : i.kind ≡ Call ds g xs ps rs)
       (y : q ≡ step_call S i ds g ps rs (rebuild_all τ S (b.next + p.fresh) (wanted_arguments τ xs ps)) (rebuild_all τ S (b.next + p.fresh) (wanted_arguments τ xs ps)).fresh) (h : b.next + p.fresh + length q.fresh < 65536) where
@@ -84,14 +85,14 @@ module _ (b : Bounds) (s facts : List ℕ) (slot : ℕ) (tracked : Marks) (out w
     short = instruction_size b [] false t bs te a.ground.listed a.ground.projected
 
     -- no argument is rebuilt: the Call as it stands
-    kept_case : (q' s' : Progress) (out₂ : List ℕ) (to : ℕ) → r ≡ Put.Went q' → q'.fresh ≡ p.fresh → InstructionWritten s facts slot out₁ out₂ q'.to to → s' ≡ onward q' to 1 0 → Puts (output_of out (fresh_in work) dropped p) (piece_effect q) q.clash out₂ (fresh_in work₁) dropped (Put.Went s')
+    kept_case : (q' s' : Progress) (out₂ : List ℕ) (to : ℕ) → r ≡ Ok q' → q'.fresh ≡ p.fresh → InstructionWritten s facts slot out₁ out₂ q'.to to → s' ≡ onward q' to 1 0 → Puts (output_of out (fresh_in work) dropped p) (piece_effect q) q.clash out₂ (fresh_in work₁) dropped (Ok s')
     kept_case q' s' out₂ to z c v o =
         let none : length R.fresh ≡ 0 = omega (arith, spent out (fresh_in work) dropped p R r out₁ (fresh_in work₁) puts q' z) in
         went_put out (fresh_in work) dropped p R r out₁ (fresh_in work₁) puts q' (instruction_bytes i) out₂ to 1 0 _ _ s' z (v b τ i a.ground a.line) o (call_kept S i ds g ps rs R none calm ∙ ap piece_effect (sym same)) clash_same
 
     -- else it is built anew
-    anew_case : (q' s' : Progress) (out₂ : List ℕ) (to end : ℕ) → r ≡ Put.Went q' → (q'.fresh ≡ p.fresh → ⊥) → end ≡ end_in facts slot - (at + place) → l.first ≤ 1024 → CallWritten b s facts f tracked l p.fresh end out₁ out₂ q'.to to → s' ≡ onward q' to 1 (q'.fresh - p.fresh)
-        → Puts (output_of out (fresh_in work) dropped p) (piece_effect q) q.clash out₂ (fresh_in work₁) dropped (Put.Went s')
+    anew_case : (q' s' : Progress) (out₂ : List ℕ) (to end : ℕ) → r ≡ Ok q' → (q'.fresh ≡ p.fresh → ⊥) → end ≡ end_in facts slot - (at + place) → l.first ≤ 1024 → CallWritten b s facts f tracked l p.fresh end out₁ out₂ q'.to to → s' ≡ onward q' to 1 (q'.fresh - p.fresh)
+        → Puts (output_of out (fresh_in work) dropped p) (piece_effect q) q.clash out₂ (fresh_in work₁) dropped (Ok s')
     anew_case q' s' out₂ to end z c he hs v o =
         let e : end ≡ n - fields_place t = omega (arith, he, ha, hp) in
         let v' = subst (λ m. CallWritten b s facts f tracked m p.fresh (n - fields_place t) out₁ out₂ q'.to to) hl (subst (λ j. CallWritten b s facts f tracked l p.fresh j out₁ out₂ q'.to to) e v) in
@@ -105,11 +106,11 @@ module _ (b : Bounds) (s facts : List ℕ) (slot : ℕ) (tracked : Marks) (out w
         (call_anew S i ds g ps rs R W (λ m. c (omega (arith, made))) (known.bytes R.values (as_many τ S (b.next + p.fresh) f (call_list f).asks xs)) ∙ ap piece_effect (sym same))
         clash_same
 
-  pub call_clashed : r ≡ Put.Clash → CallPut b s facts slot tracked out work p out₁ work₁ Put.Clash
-  call_clashed z = λ τ S used i ds g xs ps rs dropped q a k y h. clash_put out (fresh_in work) dropped p _ r out₁ (fresh_in work₁) (puts τ S used i ds g xs ps rs dropped q a k y h) _ _ z (clash_same τ S used i ds g xs ps rs dropped q a k y h)
+  pub call_clashed : (x y : Clash) → r ≡ Err x → CallPut b s facts slot tracked out work p out₁ work₁ (Err y)
+  call_clashed c c' z = λ τ S used i ds g xs ps rs dropped q a k y h. clash_put out (fresh_in work) dropped p _ r out₁ (fresh_in work₁) (puts τ S used i ds g xs ps rs dropped q a k y h) _ _ c c' z (clash_same τ S used i ds g xs ps rs dropped q a k y h)
 
-  pub call_stayed : (q' s' : Progress) (out₂ : List ℕ) (to : ℕ) → r ≡ Put.Went q' → q'.fresh ≡ p.fresh → InstructionWritten s facts slot out₁ out₂ q'.to to → s' ≡ onward q' to 1 0 → CallPut b s facts slot tracked out work p out₂ work₁ (Put.Went s')
+  pub call_stayed : (q' s' : Progress) (out₂ : List ℕ) (to : ℕ) → r ≡ Ok q' → q'.fresh ≡ p.fresh → InstructionWritten s facts slot out₁ out₂ q'.to to → s' ≡ onward q' to 1 0 → CallPut b s facts slot tracked out work p out₂ work₁ (Ok s')
   call_stayed q' s' out₂ to z c v o = λ τ S used i ds g xs ps rs dropped q a k y h. kept_case τ S used i ds g xs ps rs dropped q a k y h q' s' out₂ to z c v o
 
-  pub call_built : (q' s' : Progress) (out₂ : List ℕ) (to end : ℕ) → r ≡ Put.Went q' → (q'.fresh ≡ p.fresh → ⊥) → end ≡ end_in facts slot - (at + place) → l.first ≤ 1024 → CallWritten b s facts f tracked l p.fresh end out₁ out₂ q'.to to → s' ≡ onward q' to 1 (q'.fresh - p.fresh) → CallPut b s facts slot tracked out work p out₂ work₁ (Put.Went s')
+  pub call_built : (q' s' : Progress) (out₂ : List ℕ) (to end : ℕ) → r ≡ Ok q' → (q'.fresh ≡ p.fresh → ⊥) → end ≡ end_in facts slot - (at + place) → l.first ≤ 1024 → CallWritten b s facts f tracked l p.fresh end out₁ out₂ q'.to to → s' ≡ onward q' to 1 (q'.fresh - p.fresh) → CallPut b s facts slot tracked out work p out₂ work₁ (Ok s')
   call_built q' s' out₂ to end z c he hs v o = λ τ S used i ds g xs ps rs dropped q a k y h. anew_case τ S used i ds g xs ps rs dropped q a k y h q' s' out₂ to end z c he hs v o

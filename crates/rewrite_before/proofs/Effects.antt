@@ -23,9 +23,10 @@ use Rattle.rewrite.specs.Step.{Piece, no_counts, materialized, kept, step_call, 
 use Rattle.rewrite.specs.Run.{returned}
 use Rattle.bytes_emit.specs.Written.{Writes}
 use Rattle.rewrite_progress.specs.declared.Progress.{Progress}
-use Rattle.rewrite_progress.specs.declared.Put.{Put}
+use Rattle.std.specs.Prelude.{Result, Ok, Err}
+use Rattle.rewrite.specs.declared.Clash.{Clash}
 use Rattle.rewrite_progress.specs.Effect.{Effect, output_of, type_numbers, mark_all, further, behind, then_effect, rebuilt_effect, piece_effect, walked_effect, Puts, Low}
-use Rattle.rewrite_progress.proofs.Laws.{no_went, no_clash, each_append, behind_then}
+use Rattle.rewrite_progress.proofs.Laws.{each_append, behind_then}
 use Rattle.rewrite_wanted.specs.declared.Asks.{Asks}
 use Rattle.rewrite_wanted.specs.Asked.{asked_list}
 use Rattle.rewrite_list.specs.Lists.{Few}
@@ -39,25 +40,25 @@ one_further : (out fresh : List ℕ) (dropped : Marks) (q : Progress) (w out' : 
 unfolding behind further mark_all type_numbers
 one_further out fresh dropped q w out' to lines made v = rw (v.0, v.1, add-zero q.fresh) refl
 
-module _ (out fresh : List ℕ) (dropped : Marks) (p : Progress) (R : Rebuilt) (r : Put) (out₁ fresh₁ : List ℕ) (u : Puts (output_of out fresh dropped p) (rebuilt_effect R) R.clash out₁ fresh₁ dropped r) where
+module _ (out fresh : List ℕ) (dropped : Marks) (p : Progress) (R : Rebuilt) (r : Result Progress Clash) (out₁ fresh₁ : List ℕ) (u : Puts (output_of out fresh dropped p) (rebuilt_effect R) R.clash out₁ fresh₁ dropped r) where
   -- a clash among the builds is one of the whole
-  pub clash_put : (E : Effect) (c : Bool) → r ≡ Put.Clash → c ≡ R.clash → Puts (output_of out fresh dropped p) E c out₁ fresh₁ dropped Put.Clash
-  clash_put E c e f = record { clashed = λ _. f ∙ u.clashed e; went = λ q z. absurd (no_went z) }
+  pub clash_put : (E : Effect) (c : Bool) → (x y : Clash) → r ≡ Err x → c ≡ R.clash → Puts (output_of out fresh dropped p) E c out₁ fresh₁ dropped (Err y)
+  clash_put E c x y e f = record { clashed = λ _ _. f ∙ u.clashed x e; went = λ q z. absurd (let u : ◌≡◌ {A = ℕ} 0 1 = cc in omega arith) }
 
   -- else the rest is written behind them
-  pub went_put : (q : Progress) (w out₂ : List ℕ) (to lines made : ℕ) (E : Effect) (c : Bool) (s : Progress) → r ≡ Put.Went q → Writes w out₁ out₂ q.to to → s ≡ onward q to lines made → then_effect (rebuilt_effect R) (line w lines made) ≡ E → c ≡ R.clash
-      → Puts (output_of out fresh dropped p) E c out₂ fresh₁ dropped (Put.Went s)
+  pub went_put : (q : Progress) (w out₂ : List ℕ) (to lines made : ℕ) (E : Effect) (c : Bool) (s : Progress) → r ≡ Ok q → Writes w out₁ out₂ q.to to → s ≡ onward q to lines made → then_effect (rebuilt_effect R) (line w lines made) ≡ E → c ≡ R.clash
+      → Puts (output_of out fresh dropped p) E c out₂ fresh₁ dropped (Ok s)
   went_put q w out₂ to lines made E c s e v t f g =
       let h = u.went q e in
       record {
-        clashed = λ z. absurd (no_clash z);
+        clashed = λ x z. absurd (let y : ◌≡◌ {A = ℕ} 0 1 = cc in omega arith);
         went = λ q' z.
             let y : q' ≡ onward q to lines made = (let y' : q' ≡ s = cc in y') ∙ t in
             (g ∙ h.0, ap (output_of out₂ fresh₁ dropped) y ∙ one_further out₁ fresh₁ dropped q w out₂ to lines made v ∙ ap (λ o. behind o (line w lines made)) h.1 ∙ behind_then (output_of out fresh dropped p) (rebuilt_effect R) (line w lines made) ∙ ap (behind (output_of out fresh dropped p)) f);
       }
 
   -- as many fresh numbers as the builds took
-  pub spent : (q : Progress) → r ≡ Put.Went q → q.fresh ≡ p.fresh + length R.fresh
+  pub spent : (q : Progress) → r ≡ Ok q → q.fresh ≡ p.fresh + length R.fresh
   unfolding behind further rebuilt_effect
   spent q e = ap (λ o. o.progress.fresh) (u.went q e).1
 

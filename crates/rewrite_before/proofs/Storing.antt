@@ -25,7 +25,8 @@ use Rattle.rewrite.specs.Step.{Piece, store_kept}
 use Rattle.rewrite_parts.specs.Rows.{rows_in, fresh_in}
 use Rattle.rewrite_parts.specs.Here.{Here}
 use Rattle.rewrite_progress.specs.declared.Progress.{Progress}
-use Rattle.rewrite_progress.specs.declared.Put.{Put}
+use Rattle.std.specs.Prelude.{Result, Ok, Err}
+use Rattle.rewrite.specs.declared.Clash.{Clash}
 use Rattle.rewrite_progress.specs.Effect.{output_of, rebuilt_effect, piece_effect, Puts}
 use Rattle.rewrite_wanted.specs.declared.Asks.{Asks}
 use Rattle.rewrite_wanted.specs.Asked.{Setting, asked_at, asked_list}
@@ -41,7 +42,7 @@ one_listed τ t a x = refl
 
 module _ (b : Bounds) (s facts : List ℕ) (slot : ℕ) (tracked : Marks) (out work : List ℕ) (p : Progress) (at : ℕ) (t : List ℕ) (l : ValueList)
     (ha : at ≡ place_in facts slot) (ht : t ≡ drop at s) (hl : l ≡ store_list t)
-    (r : Put) (out₁ work₁ : List ℕ) (u : AllPut b s facts t tracked l out work p out₁ work₁ r) where
+    (r : Result Progress Clash) (out₁ work₁ : List ℕ) (u : AllPut b s facts t tracked l out work p out₁ work₁ r) where
   -- what is known in each case
   module _ (τ : Types) (S : AggStates) (used : ℕ) (i : Instruction) (to' : Place) (x : Value) (ty : TypeId) (dropped : Marks) (q : Piece) (a : Here b s facts slot tracked (rows_in work) used τ S i) (k : i.kind ≡ Store to' x ty)
       (y : q ≡ store_kept τ S (b.next + p.fresh) i to' x ty (on_some (aggregate_type τ ty) (λ u. state_of S x))) (h : b.next + p.fresh + length q.fresh < 65536) where
@@ -84,14 +85,14 @@ module _ (b : Bounds) (s facts : List ℕ) (slot : ℕ) (tracked : Marks) (out w
     short = instruction_size b [] false t bs te a.ground.listed a.ground.projected
 
     -- nothing is rebuilt: the Store as it stands
-    kept_case : (q' s' : Progress) (out₂ : List ℕ) (to : ℕ) → r ≡ Put.Went q' → q'.fresh ≡ p.fresh → InstructionWritten s facts slot out₁ out₂ q'.to to → s' ≡ onward q' to 1 0 → Puts (output_of out (fresh_in work) dropped p) (piece_effect q) q.clash out₂ (fresh_in work₁) dropped (Put.Went s')
+    kept_case : (q' s' : Progress) (out₂ : List ℕ) (to : ℕ) → r ≡ Ok q' → q'.fresh ≡ p.fresh → InstructionWritten s facts slot out₁ out₂ q'.to to → s' ≡ onward q' to 1 0 → Puts (output_of out (fresh_in work) dropped p) (piece_effect q) q.clash out₂ (fresh_in work₁) dropped (Ok s')
     kept_case q' s' out₂ to z c v o =
         let none : length R.fresh ≡ 0 = omega (arith, spent out (fresh_in work) dropped p R r out₁ (fresh_in work₁) puts q' z) in
         went_put out (fresh_in work) dropped p R r out₁ (fresh_in work₁) puts q' (instruction_bytes i) out₂ to 1 0 _ _ s' z (v b τ i a.ground a.line) o (store_kept_lem S i to' x ty R q cases none) clash_same
 
     -- else its value is a fresh number
-    anew_case : (q' s' : Progress) (out₂ : List ℕ) (to end : ℕ) → r ≡ Put.Went q' → (q'.fresh ≡ p.fresh → ⊥) → end ≡ end_in facts slot - at → AnewWritten b s facts t tracked l p.fresh end out₁ out₂ q'.to to → s' ≡ onward q' to 1 0
-        → Puts (output_of out (fresh_in work) dropped p) (piece_effect q) q.clash out₂ (fresh_in work₁) dropped (Put.Went s')
+    anew_case : (q' s' : Progress) (out₂ : List ℕ) (to end : ℕ) → r ≡ Ok q' → (q'.fresh ≡ p.fresh → ⊥) → end ≡ end_in facts slot - at → AnewWritten b s facts t tracked l p.fresh end out₁ out₂ q'.to to → s' ≡ onward q' to 1 0
+        → Puts (output_of out (fresh_in work) dropped p) (piece_effect q) q.clash out₂ (fresh_in work₁) dropped (Ok s')
     unfolding after
     anew_case q' s' out₂ to end z c he v o =
         let e : end ≡ n = he ∙ ap (λ j. end_in facts slot - j) ha in
@@ -105,11 +106,11 @@ module _ (b : Bounds) (s facts : List ℕ) (slot : ℕ) (tracked : Marks) (out w
         (store_built S i to' x ty R q cases W (take (store_first t) t) (take (n - list_end t (store_list t)) (drop (list_end t (store_list t)) t)) (λ m. c (omega (arith, made))) refl known.bytes)
         clash_same
 
-  pub store_clashed : r ≡ Put.Clash → StorePut b s facts slot tracked out work p out₁ work₁ Put.Clash
-  store_clashed z = λ τ S used i to' x ty dropped q a k y h. clash_put out (fresh_in work) dropped p _ r out₁ (fresh_in work₁) (puts τ S used i to' x ty dropped q a k y h) _ _ z (clash_same τ S used i to' x ty dropped q a k y h)
+  pub store_clashed : (x y : Clash) → r ≡ Err x → StorePut b s facts slot tracked out work p out₁ work₁ (Err y)
+  store_clashed c c' z = λ τ S used i to' x ty dropped q a k y h. clash_put out (fresh_in work) dropped p _ r out₁ (fresh_in work₁) (puts τ S used i to' x ty dropped q a k y h) _ _ c c' z (clash_same τ S used i to' x ty dropped q a k y h)
 
-  pub store_stayed : (q' s' : Progress) (out₂ : List ℕ) (to : ℕ) → r ≡ Put.Went q' → q'.fresh ≡ p.fresh → InstructionWritten s facts slot out₁ out₂ q'.to to → s' ≡ onward q' to 1 0 → StorePut b s facts slot tracked out work p out₂ work₁ (Put.Went s')
+  pub store_stayed : (q' s' : Progress) (out₂ : List ℕ) (to : ℕ) → r ≡ Ok q' → q'.fresh ≡ p.fresh → InstructionWritten s facts slot out₁ out₂ q'.to to → s' ≡ onward q' to 1 0 → StorePut b s facts slot tracked out work p out₂ work₁ (Ok s')
   store_stayed q' s' out₂ to z c v o = λ τ S used i to' x ty dropped q a k y h. kept_case τ S used i to' x ty dropped q a k y h q' s' out₂ to z c v o
 
-  pub store_made : (q' s' : Progress) (out₂ : List ℕ) (to end : ℕ) → r ≡ Put.Went q' → (q'.fresh ≡ p.fresh → ⊥) → end ≡ end_in facts slot - at → AnewWritten b s facts t tracked l p.fresh end out₁ out₂ q'.to to → s' ≡ onward q' to 1 0 → StorePut b s facts slot tracked out work p out₂ work₁ (Put.Went s')
+  pub store_made : (q' s' : Progress) (out₂ : List ℕ) (to end : ℕ) → r ≡ Ok q' → (q'.fresh ≡ p.fresh → ⊥) → end ≡ end_in facts slot - at → AnewWritten b s facts t tracked l p.fresh end out₁ out₂ q'.to to → s' ≡ onward q' to 1 0 → StorePut b s facts slot tracked out work p out₂ work₁ (Ok s')
   store_made q' s' out₂ to end z c he v o = λ τ S used i to' x ty dropped q a k y h. anew_case τ S used i to' x ty dropped q a k y h q' s' out₂ to end z c he v o

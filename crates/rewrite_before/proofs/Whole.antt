@@ -20,7 +20,8 @@ use Rattle.rewrite.specs.Rebuild.{Rebuilt, rebuild_all}
 use Rattle.rewrite.specs.Run.{Walked, finish, returned}
 use Rattle.rewrite_parts.specs.Rows.{Rep, rows_in, fresh_in}
 use Rattle.rewrite_progress.specs.declared.Progress.{Progress}
-use Rattle.rewrite_progress.specs.declared.Put.{Put}
+use Rattle.std.specs.Prelude.{Result, Ok, Err}
+use Rattle.rewrite.specs.declared.Clash.{Clash}
 use Rattle.rewrite_progress.specs.Ground.{Ground}
 use Rattle.rewrite_progress.specs.Effect.{output_of, rebuilt_effect, walked_effect, Puts}
 use Rattle.rewrite_wanted.specs.declared.Asks.{Asks}
@@ -31,7 +32,7 @@ use Rattle.rewrite_before.specs.Materialized.{onward, return_list, with_values, 
 use Rattle.rewrite_before.proofs.Returning.{asked_returns, return_many, return_around, return_bytes, return_lies}
 use Rattle.rewrite_before.proofs.Effects.{clash_put, went_put, spent, as_many, return_effect}
 
-module _ (b : Bounds) (s facts : List ℕ) (slot : ℕ) (tracked : Marks) (out work : List ℕ) (p : Progress) (at : ℕ) (t : List ℕ) (l : ValueList) (ha : at ≡ place_in facts slot) (ht : t ≡ drop at s) (hl : l ≡ return_list t) (r : Put) (out₁ work₁ : List ℕ) (u : AllPut b s facts t tracked l out work p out₁ work₁ r) where
+module _ (b : Bounds) (s facts : List ℕ) (slot : ℕ) (tracked : Marks) (out work : List ℕ) (p : Progress) (at : ℕ) (t : List ℕ) (l : ValueList) (ha : at ≡ place_in facts slot) (ht : t ≡ drop at s) (hl : l ≡ return_list t) (r : Result Progress Clash) (out₁ work₁ : List ℕ) (u : AllPut b s facts t tracked l out work p out₁ work₁ r) where
   -- what is known in each case
   module _ (τ : Types) (S : AggStates) (used : ℕ) (xs : List Value) (dropped : Marks) (w : Walked) (g : Ground b s facts (recorded_in facts) τ) (a : Rep b.next s tracked (rows_in work) used S) (e : TerminatorIn b s facts slot (Return xs)) (k : w ≡ finish τ S (b.next + p.fresh) (Return xs)) (h : b.next + p.fresh + length w.fresh < 65536) where
     abbrev R : Rebuilt
@@ -73,7 +74,7 @@ module _ (b : Bounds) (s facts : List ℕ) (slot : ℕ) (tracked : Marks) (out w
     puts : Puts (output_of out (fresh_in work) dropped p) (rebuilt_effect R) R.clash out₁ (fresh_in work₁) dropped r
     puts = subst (λ m. AllPut b s facts t tracked m out work p out₁ work₁ r) hl u τ S xs setting lie long few dropped
 
-    went_case : (q s' : Progress) (out₂ : List ℕ) (to : ℕ) → r ≡ Put.Went q → AnewWritten b s facts t tracked l p.fresh 0 out₁ out₂ q.to to → s' ≡ onward q to 0 (q.fresh - p.fresh) → Puts (output_of out (fresh_in work) dropped p) (walked_effect w) w.clash out₂ (fresh_in work₁) dropped (Put.Went s')
+    went_case : (q s' : Progress) (out₂ : List ℕ) (to : ℕ) → r ≡ Ok q → AnewWritten b s facts t tracked l p.fresh 0 out₁ out₂ q.to to → s' ≡ onward q to 0 (q.fresh - p.fresh) → Puts (output_of out (fresh_in work) dropped p) (walked_effect w) w.clash out₂ (fresh_in work₁) dropped (Ok s')
     went_case q s' out₂ to z v o =
         let v' = subst (λ m. AnewWritten b s facts t tracked m p.fresh 0 out₁ out₂ q.to to) hl v in
         let made : q.fresh - p.fresh ≡ length R.fresh = omega (arith, spent out (fresh_in work) dropped p R r out₁ (fresh_in work₁) puts q z) in
@@ -84,8 +85,8 @@ module _ (b : Bounds) (s facts : List ℕ) (slot : ℕ) (tracked : Marks) (out w
         (return_effect R W (return_bytes b t xs _ bs te R.values (as_many τ S (b.next + p.fresh) t Asks.Recorded xs)) ∙ ap walked_effect (sym same))
         clash_same
 
-  pub return_clash : r ≡ Put.Clash → ReturnPut b s facts slot tracked out work p out₁ work₁ Put.Clash
-  return_clash z = λ τ S used xs dropped w g a e k h. clash_put out (fresh_in work) dropped p _ r out₁ (fresh_in work₁) (puts τ S used xs dropped w g a e k h) _ _ z (clash_same τ S used xs dropped w g a e k h)
+  pub return_clash : (x y : Clash) → r ≡ Err x → ReturnPut b s facts slot tracked out work p out₁ work₁ (Err y)
+  return_clash c c' z = λ τ S used xs dropped w g a e k h. clash_put out (fresh_in work) dropped p _ r out₁ (fresh_in work₁) (puts τ S used xs dropped w g a e k h) _ _ c c' z (clash_same τ S used xs dropped w g a e k h)
 
-  pub return_went : (q s' : Progress) (out₂ : List ℕ) (to : ℕ) → r ≡ Put.Went q → AnewWritten b s facts t tracked l p.fresh 0 out₁ out₂ q.to to → s' ≡ onward q to 0 (q.fresh - p.fresh) → ReturnPut b s facts slot tracked out work p out₂ work₁ (Put.Went s')
+  pub return_went : (q s' : Progress) (out₂ : List ℕ) (to : ℕ) → r ≡ Ok q → AnewWritten b s facts t tracked l p.fresh 0 out₁ out₂ q.to to → s' ≡ onward q to 0 (q.fresh - p.fresh) → ReturnPut b s facts slot tracked out work p out₂ work₁ (Ok s')
   return_went q s' out₂ to z v o = λ τ S used xs dropped w g a e k h. went_case τ S used xs dropped w g a e k h q s' out₂ to z v o

@@ -1,5 +1,5 @@
 -- What the writers of a Call, a Store and a Return promise.
-use Rattle.std.specs.Prelude.{ℕ, ◌+◌, ◌*◌, ◌-◌, ◌≤◌, ◌≡◌, List, ◌∷◌, ◌++◌, length, get_or, take, drop}
+use Rattle.std.specs.Prelude.{ℕ, ◌+◌, ◌*◌, ◌-◌, ◌≤◌, ◌≡◌, List, ◌∷◌, ◌++◌, length, get_or, take, drop, Result}
 use Rattle.bytes_wire.specs.Value.{value_bytes}
 use Rattle.mir.specs.declared.ValueId.{ValueId}
 use Rattle.mir.specs.declared.TypeId.{TypeId}
@@ -20,7 +20,7 @@ use Rattle.rewrite_parts.specs.Rows.{Rep, rows_in, fresh_in}
 use Rattle.rewrite_parts.specs.Here.{Here}
 use Rattle.bytes_emit.specs.Written.{Writes}
 use Rattle.rewrite_progress.specs.declared.Progress.{Progress}
-use Rattle.rewrite_progress.specs.declared.Put.{Put}
+use Rattle.rewrite.specs.declared.Clash.{Clash}
 use Rattle.rewrite_progress.specs.Ground.{Ground}
 use Rattle.rewrite_progress.specs.Effect.{output_of, piece_effect, walked_effect, Puts, fresh_from, Enough}
 use Rattle.rewrite_wanted.specs.declared.Asks.{Asks}
@@ -107,7 +107,7 @@ abbrev pub rebuilt_arguments : Types → AggStates → ℕ → List Value → Li
 rebuilt_arguments τ S n xs ps = rebuild_all τ S n (wanted_arguments τ xs ps)
 
 -- a Call is put out
-abbrev pub CallPut : Bounds → List ℕ → List ℕ → ℕ → Marks → List ℕ → List ℕ → Progress → List ℕ → List ℕ → Put → Type 0
+abbrev pub CallPut : Bounds → List ℕ → List ℕ → ℕ → Marks → List ℕ → List ℕ → Progress → List ℕ → List ℕ → Result Progress Clash → Type 0
 CallPut b s facts slot tracked out work p out' work' r =
     (τ : Types) (S : AggStates) (used : ℕ) (i : Instruction)
     (ds : List ValueId) (g : ℕ) (xs : List Value) (ps rs : List TypeId) (dropped : Marks) (q : Piece)
@@ -118,7 +118,7 @@ CallPut b s facts slot tracked out work p out' work' r =
     → Puts (output_of out (fresh_in work) dropped p) (piece_effect q) q.clash out' (fresh_in work') dropped r
 
 -- a Store that is not forwarded
-abbrev pub StorePut : Bounds → List ℕ → List ℕ → ℕ → Marks → List ℕ → List ℕ → Progress → List ℕ → List ℕ → Put → Type 0
+abbrev pub StorePut : Bounds → List ℕ → List ℕ → ℕ → Marks → List ℕ → List ℕ → Progress → List ℕ → List ℕ → Result Progress Clash → Type 0
 StorePut b s facts slot tracked out work p out' work' r =
     (τ : Types) (S : AggStates) (used : ℕ) (i : Instruction) (l : Place) (x : Value) (t : TypeId) (dropped : Marks) (q : Piece)
     → Here b s facts slot tracked (rows_in work) used τ S i
@@ -128,7 +128,7 @@ StorePut b s facts slot tracked out work p out' work' r =
     → Puts (output_of out (fresh_in work) dropped p) (piece_effect q) q.clash out' (fresh_in work') dropped r
 
 -- a Return
-abbrev pub ReturnPut : Bounds → List ℕ → List ℕ → ℕ → Marks → List ℕ → List ℕ → Progress → List ℕ → List ℕ → Put → Type 0
+abbrev pub ReturnPut : Bounds → List ℕ → List ℕ → ℕ → Marks → List ℕ → List ℕ → Progress → List ℕ → List ℕ → Result Progress Clash → Type 0
 ReturnPut b s facts slot tracked out work p out' work' r =
     (τ : Types) (S : AggStates) (used : ℕ) (xs : List Value) (dropped : Marks) (w : Walked)
     → Ground b s facts (recorded_in facts) τ

@@ -12,9 +12,9 @@ ghost use Rattle.bytes_emit.specs.Written.{value_room, rebuilt_room, call_room};
 
 use bytes_field::Bounds;
 use mir::kind;
-use rewrite::Counts;
+use rewrite::{Clash, Counts};
 use rewrite_list::ValueList;
-use rewrite_progress::{Progress, Put};
+use rewrite_progress::Progress;
 use rewrite_wanted::Asks;
 
 // The kind of a Call.
@@ -30,31 +30,19 @@ const STORE_STEPS: usize = 2;
 
 const STORE_FIRST_STEP: usize = 3;
 
-// What `a` is more than `b`, else 0.
-fn minus(a: usize, b: usize) -> usize
-    ensures { result ≡ a - b }
-{
-    if a < b { 0 } else { a - b }
-}
-
 // The output is written up to `to`: so many instructions further, and so many more materializations.
 fn put_further(p: Progress, to: usize, lines: u32, made: u32) -> Progress
     requires { (p.lines < counts_below) × ((p.counts.materializations < counts_below) × ((lines < most_lines) × (made < most_lines))) }
     ensures { result ≡ onward p to lines made }
 {
-    let c = p.counts;
-    let counts = Counts {
-        builds: c.builds,
-        extracts: c.extracts,
-        inserts: c.inserts,
-        assigns: c.assigns,
-        materializations: c.materializations + made,
-    };
     Progress {
-        to: to,
+        to,
         lines: p.lines + lines,
-        fresh: p.fresh,
-        counts: counts,
+        counts: Counts {
+            materializations: p.counts.materializations + made,
+            ..p.counts
+        },
+        ..p
     }
 }
 
@@ -69,7 +57,7 @@ fn copy_instruction(out: &mut [u8], to: usize, s: &[u8], facts: &[u16], slot: u1
         out,
         to,
         bytes_field::tail(s, at),
-        minus(bytes_index::end(facts, slot), at),
+        bytes_index::end(facts, slot).saturating_sub(at),
     )
 }
 
@@ -94,7 +82,12 @@ fn put_anew(
     let front = rewrite_list::copy_bytes(out, to, t, list.first);
     let back = rewrite_list::put_values(out, front, taken, s, b, facts, t, list, tracked);
     let behind = bytes_operands::values_end(t, list.first, 0, 0, list.many);
-    rewrite_list::copy_bytes(out, back, bytes_field::tail(t, behind), minus(end, behind))
+    rewrite_list::copy_bytes(
+        out,
+        back,
+        bytes_field::tail(t, behind),
+        end.saturating_sub(behind),
+    )
 }
 
 // The arguments of the Call that has the fields f.
@@ -104,14 +97,13 @@ fn call_list(f: &[u8]) -> ValueList
     let first = 4 + 2 * bytes_wire::byte_at(f, 0) as usize;
     let many = bytes_wire::byte_at(f, first - 1);
     let behind = bytes_operands::values_end(f, first, 0, 0, many);
-    let asks = Asks::Types {
-        first: behind + 1,
-        many: bytes_wire::byte_at(f, behind),
-    };
     ValueList {
-        first: first,
-        many: many,
-        asks: asks,
+        first,
+        many,
+        asks: Asks::Types {
+            first: behind + 1,
+            many: bytes_wire::byte_at(f, behind),
+        },
     }
 }
 
@@ -149,7 +141,7 @@ pub fn put_call(
     slot: u16,
     tracked: &[bool],
     work: &mut [u16],
-) -> Put
+) -> Result<Progress, Clash>
     requires { Low low_enough p }
     ensures by_index { (k : ℕ) → Low k p → PutLow (k + 1) result }
     ensures work_unchanged { rows_in work.new ≡ rows_in work.old }
@@ -161,17 +153,14 @@ pub fn put_call(
     let place = bytes_operands::fields_place(t);
     let f = bytes_field::tail(t, place);
     let list = call_list(f);
-    let q = match rewrite_list::put_builds(out, p, s, b, facts, f, list, tracked, work) {
-        Put::Clash => return Put::Clash,
-        Put::Went(q) => q,
-    };
+    let q = rewrite_list::put_builds(out, p, s, b, facts, f, list, tracked, work)?;
     if q.fresh == p.fresh {
         let kept = copy_instruction(out, q.to, s, facts, slot);
-        return Put::Went(put_further(q, kept, 1, 0));
+        return Ok(put_further(q, kept, 1, 0));
     }
-    let end = minus(bytes_index::end(facts, slot), at + place);
+    let end = bytes_index::end(facts, slot).saturating_sub(at + place);
     let to = put_call_anew(out, q.to, p.fresh, s, b, facts, f, list, tracked, end);
-    Put::Went(put_further(q, to, 1, q.fresh - p.fresh))
+    Ok(put_further(q, to, 1, q.fresh - p.fresh))
 }
 
 // The value of the Store that begins here.
@@ -182,14 +171,13 @@ fn store_list(t: &[u8]) -> ValueList
     let f = bytes_field::tail(t, place);
     let first = place
         + bytes_operands::projections_end(f, STORE_FIRST_STEP, bytes_wire::byte_at(f, STORE_STEPS));
-    let asks = Asks::Types {
-        first: bytes_operands::value_end(t, first),
-        many: 1,
-    };
     ValueList {
-        first: first,
+        first,
         many: 1,
-        asks: asks,
+        asks: Asks::Types {
+            first: bytes_operands::value_end(t, first),
+            many: 1,
+        },
     }
 }
 
@@ -203,7 +191,7 @@ pub fn put_store(
     slot: u16,
     tracked: &[bool],
     work: &mut [u16],
-) -> Put
+) -> Result<Progress, Clash>
     requires { Low low_enough p }
     ensures by_index { (k : ℕ) → Low k p → PutLow (k + 1) result }
     ensures work_unchanged { rows_in work.new ≡ rows_in work.old }
@@ -213,17 +201,14 @@ pub fn put_store(
     let at = bytes_index::place(facts, slot);
     let t = bytes_field::tail(s, at);
     let list = store_list(t);
-    let q = match rewrite_list::put_builds(out, p, s, b, facts, t, list, tracked, work) {
-        Put::Clash => return Put::Clash,
-        Put::Went(q) => q,
-    };
+    let q = rewrite_list::put_builds(out, p, s, b, facts, t, list, tracked, work)?;
     if q.fresh == p.fresh {
         let kept = copy_instruction(out, q.to, s, facts, slot);
-        return Put::Went(put_further(q, kept, 1, 0));
+        return Ok(put_further(q, kept, 1, 0));
     }
-    let end = minus(bytes_index::end(facts, slot), at);
+    let end = bytes_index::end(facts, slot).saturating_sub(at);
     let to = put_anew(out, q.to, p.fresh, s, b, facts, t, list, tracked, end);
-    Put::Went(put_further(q, to, 1, 0))
+    Ok(put_further(q, to, 1, 0))
 }
 
 // A slot's Return: rebuilds of its tracked values at their recorded types, then the Return with the fresh numbers.
@@ -236,7 +221,7 @@ pub fn put_return(
     slot: u16,
     tracked: &[bool],
     work: &mut [u16],
-) -> Put
+) -> Result<Progress, Clash>
     requires { Low low_enough p }
     ensures by_index { (k : ℕ) → Low k p → PutLow (k + 1) result }
     ensures work_unchanged { rows_in work.new ≡ rows_in work.old }
@@ -244,16 +229,12 @@ pub fn put_return(
         out.old work.old p out.new work.new result }
 {
     let t = bytes_field::tail(s, bytes_index::place(facts, slot));
-    let asks = Asks::Recorded;
     let list = ValueList {
         first: RETURN_VALUES,
         many: bytes_wire::byte_at(t, RETURN_COUNT),
-        asks: asks,
+        asks: Asks::Recorded,
     };
-    let q = match rewrite_list::put_builds(out, p, s, b, facts, t, list, tracked, work) {
-        Put::Clash => return Put::Clash,
-        Put::Went(q) => q,
-    };
+    let q = rewrite_list::put_builds(out, p, s, b, facts, t, list, tracked, work)?;
     let to = put_anew(out, q.to, p.fresh, s, b, facts, t, list, tracked, 0);
-    Put::Went(put_further(q, to, 0, q.fresh - p.fresh))
+    Ok(put_further(q, to, 0, q.fresh - p.fresh))
 }

@@ -20,7 +20,8 @@ use Rattle.fold.specs.Family.{Marks}
 use Rattle.rewrite.specs.State.{AggStates}
 use Rattle.rewrite.specs.Run.{ends, finish}
 use Rattle.rewrite_progress.specs.declared.Progress.{Progress}
-use Rattle.rewrite_progress.specs.declared.Put.{Put}
+use Rattle.std.specs.Prelude.{Result, Ok, Err}
+use Rattle.rewrite.specs.declared.Clash.{Clash}
 use Rattle.rewrite_progress.specs.Effect.{output_of, behind, further, walked_effect, mark_all, type_numbers, Puts}
 use Rattle.rewrite_perform.specs.Performed.{moved_to}
 use Rattle.rewrite_perform.proofs.Counting.{puts_went}
@@ -78,7 +79,7 @@ module _ (b : Bounds) (s facts : List ℕ) (slot : ℕ) (t : Terminator) (h : By
   pub other_end : (τ : Types) (S : AggStates) (m end : ℕ) (part out out' types : List ℕ) (dropped : Marks) (p r : Progress) → (k ≡ 3 → ⊥)
       → (end ≡ end_in facts slot) × (end < 65536) → part ≡ take (end - at) (drop at s)
       → (length part ≤ 65536 → (r ≡ moved_to p (p.to + length part) (p.lines + 0)) × (out' ≡ sets out p.to part))
-      → Puts (output_of out types dropped p) (walked_effect (finish τ S m t)) (finish τ S m t).clash out' types dropped (Put.Went r)
+      → Puts (output_of out types dropped p) (walked_effect (finish τ S m t)) (finish τ S m t).clash out' types dropped (Ok r)
   unfolding behind further walked_effect ends mark_all type_numbers
   other_end τ S m end part out out' types dropped p r n ee f w =
       let z : finish τ S m t ≡ ends t = not_three τ S m t (λ x. n (sym tag_is ∙ x)) in

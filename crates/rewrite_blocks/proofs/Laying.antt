@@ -1,6 +1,6 @@
 -- One block: its slots, its begin, its end, and a skipped one.
 use Prim.Native.Nat.{ℕ, zero, suc, ◌+◌, ◌-◌, ◌≤◌, ◌<◌}
-use mathlib.Core.Path.{◌≡◌, ap, ◌∙◌, sym}
+use mathlib.Core.Path.{◌≡◌, refl, ap, ◌∙◌, sym}
 use mathlib.Core.List.{List, [], ◌∷◌}
 use mathlib.Core.Bool.{Bool, true, false}
 use native.Mathlib.Omega.{arith}
@@ -21,13 +21,13 @@ use Rattle.rewrite.specs.State.{no_states}
 use Rattle.rewrite.specs.Run.{Walked, Rewritten, Choice, walk}
 use Rattle.rewrite_parts.specs.Rows.{Rep, rows_from, rows_size, rows_in, fresh_in}
 use Rattle.rewrite_progress.specs.declared.Progress.{Progress}
-use Rattle.rewrite_progress.specs.declared.Put.{Put}
+use Rattle.std.specs.Prelude.{Result, Ok, Err}
+use Rattle.rewrite.specs.declared.Clash.{Clash}
 use Rattle.rewrite_progress.specs.declared.Setup.{Setup}
 use Rattle.rewrite_progress.specs.Ground.{Coded}
 use Rattle.rewrite_progress.specs.Chosen.{skips_from, Follows}
 use Rattle.rewrite_progress.specs.Effect.{behind, further, walked_effect, rewritten_effect, type_numbers, mark_all, Puts, Low, PutLow}
 use Rattle.rewrite_step.specs.declared.Reached.{Reached}
-use Rattle.rewrite_step.specs.declared.Stepped.{Stepped}
 use Rattle.rewrite_perform.specs.Performed.{moved_to}
 use Rattle.rewrite_step.specs.Stepping.{Lent, lent_as, output_in, PutsIn, Enough, SteppedLow}
 use Rattle.rewrite_perform.proofs.Lows.{low_mono, low_moved}
@@ -99,27 +99,39 @@ module _ (setup : Setup) (s facts : List ℕ) (choice : List Bool) (k : ℕ) (p 
             bound = transfer (λ q. Enough setup.bounds q (own q).fresh) (moved_to p (p.to + 2) 0) w.progress (sym body) (omega (arith, en, ap (λ y. length y) same.1.1));
           }
 
-      module _ (l' : Lent) (r : Stepped) (put : InstructionsPut setup s facts choice at l w l' r) where
+      module _ (l' : Lent) (r : Result Reached Clash) (put : InstructionsPut setup s facts choice at l w l' r) where
         -- an array rebuild met another count
-        pub block_clash : r ≡ Stepped.Clash → PutsIn (output_in l p) (rewritten_effect alone) alone.clash l' Put.Clash
-        block_clash e = puts_clash _ _ _ _ _ _ (same.1.0 ∙ transfer (λ q. (own q).clash ≡ true) w.progress (moved_to p (p.to + 2) 0) body ((put τ (c.folds this) this begun).clashed e))
+        pub block_clash : (x y : Clash) → r ≡ Err x → PutsIn (output_in l p) (rewritten_effect alone) alone.clash l' (Err y)
+        block_clash x y e = puts_clash _ _ _ _ _ _ y (same.1.0 ∙ transfer (λ q. (own q).clash ≡ true) w.progress (moved_to p (p.to + 2) 0) body ((put τ (c.folds this) this begun).clashed x e))
 
-        -- its terminator is put out, and its count in front
-        pub block_end : (v : Reached) (work out out' : List ℕ) (a z : Put) → r ≡ Stepped.Went v
+        -- its terminator is put out
+        ended_as : (v : Reached) (work out : List ℕ) (a : Result Progress Clash) → r ≡ Ok v
             → EndPut setup.bounds s facts (at.first + at.count) l'.tracked l'.work l'.out v.progress work out a
-            → CountPut p out a out' z
-            → p.lines ≡ 0
-            → Puts (output_in l p) (rewritten_effect alone) alone.clash out' (fresh_in work) l'.dropped z
+            → Puts (output_in l (moved_to p (p.to + 2) 0)) (walked_effect (own (moved_to p (p.to + 2) 0))) (own (moved_to p (p.to + 2) 0)).clash out (fresh_in work) l'.dropped a
         unfolding walk
-        block_end v work out out' a z e ended counted first =
+        ended_as v work out a e ended =
             let left = (put τ (c.folds this) this begun).went v e in
             let line = transfer (λ n. TerminatorIn setup.bounds s facts (at.first + n) this.terminator) (length this.instructions) at.count begun.many begun.block.terminator in
             let end = ended τ left.states v.used this.terminator l'.dropped co.ground left.rep line left.bound in
             let whole : Puts (output_in l w.progress) (walked_effect (own w.progress)) (own w.progress).clash out (fresh_in work) l'.dropped a =
-            record { clashed = λ y. sym left.clash ∙ end.clashed y; went = λ q y. (sym left.clash ∙ (end.went q y).0, (end.went q y).1 ∙ left.same) } in
-            let from = transfer (λ q. Puts (output_in l q) (walked_effect (own q)) (own q).clash out (fresh_in work) l'.dropped a) w.progress (moved_to p (p.to + 2) 0) body whole in
-            let b = counted l.out (fresh_in l.work) (fresh_in work) l.dropped l'.dropped (own p) first from in
-            record { clashed = λ y. same.1.0 ∙ b.clashed y; went = λ q y. (same.1.0 ∙ (b.went q y).0, (b.went q y).1 ∙ sym (ap (λ d. behind (output_in l p) d) same.0)) }
+            record { clashed = λ x y. sym left.clash ∙ end.clashed x y; went = λ q y. (sym left.clash ∙ (end.went q y).0, (end.went q y).1 ∙ left.same) } in
+            transfer (λ q. Puts (output_in l q) (walked_effect (own q)) (own q).clash out (fresh_in work) l'.dropped a) w.progress (moved_to p (p.to + 2) 0) body whole
+
+        -- it met another count
+        pub block_end_clash : (v : Reached) (work out : List ℕ) (x y : Clash) → r ≡ Ok v
+            → EndPut setup.bounds s facts (at.first + at.count) l'.tracked l'.work l'.out v.progress work out (Err x)
+            → Puts (output_in l p) (rewritten_effect alone) alone.clash out (fresh_in work) l'.dropped (Err y)
+        block_end_clash v work out x y e ended = puts_clash _ _ _ _ _ _ y (same.1.0 ∙ (ended_as v work out (Err x) e ended).clashed x refl)
+
+        -- else its count is put in front
+        pub block_end : (v : Reached) (work out out' : List ℕ) (a z : Progress) → r ≡ Ok v
+            → EndPut setup.bounds s facts (at.first + at.count) l'.tracked l'.work l'.out v.progress work out (Ok a)
+            → CountPut p out a out' z
+            → p.lines ≡ 0
+            → Puts (output_in l p) (rewritten_effect alone) alone.clash out' (fresh_in work) l'.dropped (Ok z)
+        block_end v work out out' a z e ended counted first =
+            let b = counted l.out (fresh_in l.work) (fresh_in work) l.dropped l'.dropped (own p) first (ended_as v work out (Ok a) e ended) in
+            record { clashed = λ x y. same.1.0 ∙ b.clashed x y; went = λ q y. (same.1.0 ∙ (b.went q y).0, (b.went q y).1 ∙ sym (ap (λ d. behind (output_in l p) d) same.0)) }
 
   -- a skipped block is copied
   stands_short : (τ : Types) (ks : List Block) → Coded setup.bounds s facts τ ks → k < length ks → length (block_bytes (get_or ks k no_block)) ≤ 65536
@@ -131,7 +143,7 @@ module _ (setup : Setup) (s facts : List ℕ) (choice : List Bool) (k : ℕ) (p 
   pub skipped_puts : (l : Lent) (skips : Bool) (part out : List ℕ) (r : Progress) → skips ≡ get_or choice (skips_from + k) false → skips ≡ true
       → ((τ : Types) (ks : List Block) → Coded setup.bounds s facts τ ks → k < length ks → part ≡ block_bytes (get_or ks k no_block))
       → (length part ≤ 65536 → (r ≡ moved_to p (p.to + length part) (p.lines + 0)) × (out ≡ sets l.out p.to part))
-      → OnePut setup s facts choice k l p (lent_as l.tracked l.dropped l.work out) (Put.Went r)
+      → OnePut setup s facts choice k l p (lent_as l.tracked l.dropped l.work out) (Ok r)
   unfolding behind further type_numbers mark_all
   skipped_puts l skips part out r fs sk stands put τ c ks co fo h z en =
       let x = get_or ks k no_block in
@@ -144,10 +156,8 @@ module _ (setup : Setup) (s facts : List ℕ) (choice : List Bool) (k : ℕ) (p 
 pub low_begun : (n : ℕ) (p w : Progress) → w ≡ moved_to p (p.to + 2) 0 → Low n p → Low (n + 1) w
 low_begun n p w e l = low_moved n p l w (p.to + 2) 0 e (omega arith) (omega arith)
 
-pub low_walked : (n j used : ℕ) (v : Reached) (r : Stepped) → j ≤ most_instructions → r ≡ Stepped.Went v → SteppedLow (n + 1 + j) used r → Low (n + 129) v.progress
-low_walked n j used v r h e l =
-    let m : Low (n + 1 + j) v.progress × (v.used ≤ used) = rw e at l in
-    low_mono (n + 1 + j) (n + 129) v.progress (omega arith) m.0
+pub low_walked : (n j used : ℕ) (v : Reached) → j ≤ most_instructions → SteppedLow (n + 1 + j) used (Ok v) → Low (n + 129) v.progress
+low_walked n j used v h l = low_mono (n + 1 + j) (n + 129) v.progress (omega arith) l.0
 
-pub low_end : (n : ℕ) (v : Progress) (r z : Put) → Low (n + 129) v → ((k : ℕ) → Low k v → PutLow (k + 1) r) → ((k : ℕ) → PutLow k r → PutLow k z) → PutLow (n + 130) z
-low_end n v r z l f g = g (n + 130) (transfer (λ m. PutLow m r) (n + 129 + 1) (n + 130) (omega arith) (f (n + 129) l))
+pub low_end : (n : ℕ) (v q z : Progress) → Low (n + 129) v → ((k : ℕ) → Low k v → Low (k + 1) q) → ((k : ℕ) → Low k q → Low k z) → Low (n + 130) z
+low_end n v q z l f g = g (n + 130) (transfer (λ m. Low m q) (n + 129 + 1) (n + 130) (omega arith) (f (n + 129) l))

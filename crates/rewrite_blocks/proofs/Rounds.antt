@@ -12,7 +12,8 @@ use Rattle.bytes_index.specs.Code.{no_block}
 use Rattle.mir.specs.Lookup.{Types}
 use Rattle.rewrite.specs.Run.{Rewritten, Choice, all_blocks}
 use Rattle.rewrite_progress.specs.declared.Progress.{Progress}
-use Rattle.rewrite_progress.specs.declared.Put.{Put}
+use Rattle.std.specs.Prelude.{Result, Ok, Err}
+use Rattle.rewrite.specs.declared.Clash.{Clash}
 use Rattle.rewrite_progress.specs.declared.Setup.{Setup}
 use Rattle.rewrite_progress.specs.Ground.{Coded}
 use Rattle.rewrite_progress.specs.Chosen.{Follows}
@@ -102,14 +103,14 @@ module _ (setup : Setup) (s facts : List ℕ) (choice : List Bool) (l₀ : Lent)
 
   module _ (l : Lent) (q : Progress) (k : ℕ) (inv : Laid setup s facts choice l₀ p l q k) where
     -- all blocks are behind
-    pub laid_all : setup.bounds.blocks ≤ k → AllPut setup s facts choice l₀ p l (Put.Went q)
+    pub laid_all : setup.bounds.blocks ≤ k → AllPut setup s facts choice l₀ p l (Ok q)
     laid_all h τ c ks co fo z en =
         let y : k ≡ length ks = omega (arith, inv.few, co.many) in
         let d : drop k ks ≡ [] = ap (λ n. drop n ks) y ∙ drop-length ks in
         let w = left_none setup τ c _ _ _ l q (rw d at (inv.left τ c ks co fo z en)) in
         puts_went _ _ _ _ _ _ q w.0 w.1
 
-    module _ (h : k < setup.bounds.blocks) (l' : Lent) (r : Put) (one : OnePut setup s facts choice k l q l' r) where
+    module _ (h : k < setup.bounds.blocks) (l' : Lent) (r : Result Progress Clash) (one : OnePut setup s facts choice k l q l' r) where
       module _ (τ : Types) (c : Choice) (ks : List Block) (co : Coded setup.bounds s facts τ ks) (fo : Follows c facts choice ks) (z : p.lines ≡ 0) (en : Enough setup.bounds p (rewritten setup τ c p ks).fresh) where
         abbrev all : Rewritten
         all = rewritten setup τ c p ks
@@ -127,14 +128,14 @@ module _ (setup : Setup) (s facts : List ℕ) (choice : List Bool) (l₀ : Lent)
         turned = one τ c ks co fo below next_left.first (first_bound setup τ c (output_in l₀ p) (rewritten_effect all) all.clash this (drop (suc k) ks) l q next_left)
 
         -- an array rebuild met another count
-        pub laid_clash : r ≡ Put.Clash → PutsIn (output_in l₀ p) (rewritten_effect all) all.clash l' Put.Clash
-        laid_clash v = puts_clash _ _ _ _ _ _ (first_clash setup τ c (output_in l₀ p) (rewritten_effect all) all.clash this (drop (suc k) ks) l q next_left (turned.clashed v))
+        pub laid_clash : (x y : Clash) → r ≡ Err x → PutsIn (output_in l₀ p) (rewritten_effect all) all.clash l' (Err y)
+        laid_clash x y v = puts_clash _ _ _ _ _ _ y (first_clash setup τ c (output_in l₀ p) (rewritten_effect all) all.clash this (drop (suc k) ks) l q next_left (turned.clashed x v))
 
-        went_on : (w : Progress) → r ≡ Put.Went w → BlocksLeft setup τ c (output_in l₀ p) (rewritten_effect all) all.clash (drop (suc k) ks) l' w
+        went_on : (w : Progress) → r ≡ Ok w → BlocksLeft setup τ c (output_in l₀ p) (rewritten_effect all) all.clash (drop (suc k) ks) l' w
         went_on w v = blocks_again setup τ c (output_in l₀ p) (rewritten_effect all) all.clash this (drop (suc k) ks) l q next_left l' w (turned.went w v).0 (turned.went w v).1
 
       -- one more is behind
-      pub laid_again : (w : Progress) → r ≡ Put.Went w → ((n : ℕ) → Low n q → PutLow (n + 130) r) → length l'.tracked ≡ length l.tracked → length l'.dropped ≡ length l.dropped → length l'.work ≡ length l.work → length l'.out ≡ length l.out → Laid setup s facts choice l₀ p l' w (k + 1)
+      pub laid_again : (w : Progress) → r ≡ Ok w → ((n : ℕ) → Low n q → PutLow (n + 130) r) → length l'.tracked ≡ length l.tracked → length l'.dropped ≡ length l.dropped → length l'.work ≡ length l.work → length l'.out ≡ length l.out → Laid setup s facts choice l₀ p l' w (k + 1)
       laid_again w v lo lt ld lw lu =
           let lows : (n : ℕ) → Low n q → Low (n + 130) w = λ n y. rw v at (lo n y) in
           record {

@@ -19,7 +19,8 @@ use Rattle.rewrite_progress.specs.declared.Setup.{Setup}
 use Rattle.rewrite_progress.specs.Effect.{Output, behind, further, piece_effect, walked_effect, Low}
 use Rattle.rewrite_progress.proofs.Laws.{behind_then, glue_effect}
 use Rattle.rewrite_step.specs.declared.Reached.{Reached}
-use Rattle.rewrite_step.specs.declared.Stepped.{Stepped}
+use Rattle.std.specs.Prelude.{Result, Ok, Err}
+use Rattle.rewrite.specs.declared.Clash.{Clash}
 use Rattle.rewrite_step.specs.Stepping.{Lent, output_in, fresh_from, Enough, SteppedLow, Gone, Steps, StepsOn}
 use Rattle.rewrite_perform.proofs.Lows.{low_mono}
 use Rattle.rewrite_blocks.specs.declared.Slots.{Slots}
@@ -82,10 +83,6 @@ pub record Walking (setup : Setup) (s facts : List ℕ) (choice : List Bool) (at
   pub left : (τ : Types) (folds : ValueId → Bool) (x : Block) → Begun setup s facts choice at l₀ w₀ τ folds x
       → Left setup τ folds s x.terminator (output_in l₀ w₀.progress) (walk_of setup τ folds w₀.progress x) (drop j x.instructions) l w
 
--- a step that went, or clashed
-went_not_clash : {v : Reached} → Stepped.Went v ≡ Stepped.Clash → ⊥
-went_not_clash {v} e = let z : ◌≡◌ {A = ℕ} 0 1 = cc in omega arith
-
 module _ (setup : Setup) (s facts : List ℕ) (choice : List Bool) (at : Slots) (l₀ : Lent) (w₀ : Reached) where
   pub walking_start : Walking setup s facts choice at l₀ w₀ l₀ w₀ 0
   walking_start =
@@ -102,19 +99,19 @@ module _ (setup : Setup) (s facts : List ℕ) (choice : List Bool) (at : Slots) 
 
   module _ (l : Lent) (w : Reached) (j : ℕ) (inv : Walking setup s facts choice at l₀ w₀ l w j) where
     -- all instructions are behind
-    pub walking_done : at.count ≤ j → InstructionsPut setup s facts choice at l₀ w₀ l (Stepped.Went w)
+    pub walking_done : at.count ≤ j → InstructionsPut setup s facts choice at l₀ w₀ l (Ok w)
     walking_done h τ folds x a =
         let z : j ≡ length x.instructions = omega (arith, inv.few, a.many) in
         let q : drop j x.instructions ≡ [] = ap (λ n. drop n x.instructions) z ∙ drop-length x.instructions in
         let own = rw q at (inv.left τ folds x a) in
-        record { clashed = λ e. absurd (went_not_clash e); went = λ v e. let y : v ≡ w = cc in rw y own }
+        record { clashed = λ y e. absurd (let u : ◌≡◌ {A = ℕ} 0 1 = cc in omega arith); went = λ v e. let y : v ≡ w = cc in rw y own }
 
     module _ (ready : Ready at w₀ l₀.work) where
       -- the tables are long enough for a step
       pub walking_long : rows_size ≤ length l.work
       walking_long = omega (arith, ready.long, inv.work_size)
 
-      module _ (h : j < at.count) (fold : Bool) (ef : fold ≡ get_or choice (at.first + j) false) (l' : Lent) (r : Stepped) (st : StepsOn setup s facts (at.first + j) fold l w l' r) where
+      module _ (h : j < at.count) (fold : Bool) (ef : fold ≡ get_or choice (at.first + j) false) (l' : Lent) (r : Result Reached Clash) (st : StepsOn setup s facts (at.first + j) fold l w l' r) where
         -- there is room for one more row
         room : Room (rows_in l.work) w.used
         room = omega (arith, length-take-le rows_size l.work walking_long, inv.used, ready.used, ready.most)
@@ -143,19 +140,19 @@ module _ (setup : Setup) (s facts : List ℕ) (choice : List Bool) (at : Slots) 
               (λ d e. ef ∙ a.flags j d below e)
               (left_bound setup τ folds s x.terminator (output_in l₀ w₀.progress) whole this rest l w next_left)
 
-          went_turn : (v : Reached) → r ≡ Stepped.Went v → Left setup τ folds s x.terminator (output_in l₀ w₀.progress) whole rest l' v
+          went_turn : (v : Reached) → r ≡ Ok v → Left setup τ folds s x.terminator (output_in l₀ w₀.progress) whole rest l' v
           went_turn v e = left_again setup τ folds s x.terminator (output_in l₀ w₀.progress) whole this rest l w next_left l' v (turned.went v e)
 
         -- an array rebuild met another count
-        pub walking_clash : r ≡ Stepped.Clash → InstructionsPut setup s facts choice at l₀ w₀ l' Stepped.Clash
-        walking_clash e τ folds x a =
+        pub walking_clash : (y z : Clash) → r ≡ Err y → InstructionsPut setup s facts choice at l₀ w₀ l' (Err z)
+        walking_clash y z e τ folds x a =
             record {
-              clashed = λ z. left_clash setup τ folds s x.terminator (output_in l₀ w₀.progress) (whole τ folds x a) (this τ folds x a) (rest τ folds x a) l w (next_left τ folds x a) ((turned τ folds x a).clashed e);
-              went = λ v z. absurd (went_not_clash (sym z));
+              clashed = λ _ _. left_clash setup τ folds s x.terminator (output_in l₀ w₀.progress) (whole τ folds x a) (this τ folds x a) (rest τ folds x a) l w (next_left τ folds x a) ((turned τ folds x a).clashed y e);
+              went = λ v z. absurd (let u : ◌≡◌ {A = ℕ} 0 1 = cc in omega arith);
             }
 
         -- one more is behind
-        pub walking_again : (v : Reached) → r ≡ Stepped.Went v → ((n : ℕ) → Low n w.progress → SteppedLow (n + 1) (w.used + row_most) r)
+        pub walking_again : (v : Reached) → r ≡ Ok v → ((n : ℕ) → Low n w.progress → SteppedLow (n + 1) (w.used + row_most) r)
             → length l'.tracked ≡ length l.tracked
             → length l'.dropped ≡ length l.dropped
             → length l'.work ≡ length l.work

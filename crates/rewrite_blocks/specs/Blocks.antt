@@ -1,5 +1,5 @@
 -- What a block adds to the output, and what the writers of blocks answer.
-use Rattle.std.specs.Prelude.{ℕ, ◌+◌, ◌≤◌, ◌<◌, ◌≡◌, List, [], ◌∷◌, Bool, true, false, length, get_or}
+use Rattle.std.specs.Prelude.{ℕ, ◌+◌, ◌≤◌, ◌<◌, ◌≡◌, List, [], ◌∷◌, Bool, true, false, length, get_or, Result, Ok, Err}
 use Rattle.std.proofs.Math.Option.{some}
 use Rattle.mir.specs.declared.ValueId.{ValueId}
 use Rattle.mir.specs.Syntax.{Instruction, Terminator, Block}
@@ -13,13 +13,12 @@ use Rattle.rewrite.specs.Run.{Walked, Rewritten, Choice, finish, walk, all_block
 use Rattle.mir.specs.Most.{most_values, most_instructions, most_slots}
 use Rattle.rewrite_parts.specs.Rows.{Rep, rows_from, rows_size, rows_in, fresh_in}
 use Rattle.rewrite_progress.specs.declared.Progress.{Progress}
-use Rattle.rewrite_progress.specs.declared.Put.{Put}
+use Rattle.rewrite.specs.declared.Clash.{Clash}
 use Rattle.rewrite_progress.specs.declared.Setup.{Setup}
 use Rattle.rewrite_progress.specs.Ground.{Ground, Coded}
 use Rattle.rewrite_progress.specs.Chosen.{Follows}
 use Rattle.rewrite_progress.specs.Effect.{Output, output_of, behind, walked_effect, rewritten_effect, Puts, Low}
 use Rattle.rewrite_step.specs.declared.Reached.{Reached}
-use Rattle.rewrite_step.specs.declared.Stepped.{Stepped}
 use Rattle.rewrite_step.specs.Stepping.{Lent, output_in, PutsIn, fresh_from, Enough}
 use Rattle.rewrite_blocks.specs.declared.Slots.{Slots}
 
@@ -32,7 +31,7 @@ pub record SlotsOf (facts : List ℕ) (k : ℕ) (at : Slots) : Type 0 where
       → length (get_or ks k no_block).instructions ≤ most_instructions → at.count ≡ length (get_or ks k no_block).instructions
 
 -- the terminator behind a block's instructions is put out
-abbrev pub EndPut : Bounds → List ℕ → List ℕ → ℕ → Marks → List ℕ → List ℕ → Progress → List ℕ → List ℕ → Put → Type 0
+abbrev pub EndPut : Bounds → List ℕ → List ℕ → ℕ → Marks → List ℕ → List ℕ → Progress → List ℕ → List ℕ → Result Progress Clash → Type 0
 EndPut b s facts slot tracked work out p work' out' r =
     (τ : Types) (S : AggStates) (used : ℕ) (t : Terminator) (dropped : Marks) →
     Ground b s facts (recorded_in facts) τ →
@@ -81,13 +80,13 @@ pub record Ready (at : Slots) (w : Reached) (work : List ℕ) : Type 0 where
 
 -- all instructions of x are behind, or an array rebuild met another count
 pub record Through (setup : Setup) (s : List ℕ) (τ : Types) (folds : ValueId → Bool) (x : Block)
-    (l : Lent) (w : Reached) (l' : Lent) (r : Stepped) : Type 0 where
-  pub clashed : r ≡ Stepped.Clash → (walk_of setup τ folds w.progress x).clash ≡ true
-  pub went : (v : Reached) → r ≡ Stepped.Went v
+    (l : Lent) (w : Reached) (l' : Lent) (r : Result Reached Clash) : Type 0 where
+  pub clashed : (y : Clash) → r ≡ Err y → (walk_of setup τ folds w.progress x).clash ≡ true
+  pub went : (v : Reached) → r ≡ Ok v
       → Left setup τ folds s x.terminator (output_in l w.progress) (walk_of setup τ folds w.progress x) [] l' v
 
 -- the instructions of a block that begins in these slots are put out
-abbrev pub InstructionsPut : Setup → List ℕ → List ℕ → List Bool → Slots → Lent → Reached → Lent → Stepped → Type 0
+abbrev pub InstructionsPut : Setup → List ℕ → List ℕ → List Bool → Slots → Lent → Reached → Lent → Result Reached Clash → Type 0
 InstructionsPut setup s facts choice at l w l' r =
     (τ : Types) (folds : ValueId → Bool) (x : Block) →
     Begun setup s facts choice at l w τ folds x →
@@ -102,14 +101,14 @@ abbrev pub rewritten : Setup → Types → Choice → Progress → List Block �
 rewritten setup τ c p ks = all_blocks setup.settings τ c (fresh_from setup.bounds p) ks
 
 -- they are put out, where the fresh numbers are enough
-abbrev pub BlocksPut : Setup → Types → Choice → Lent → Progress → List Block → Lent → Put → Type 0
+abbrev pub BlocksPut : Setup → Types → Choice → Lent → Progress → List Block → Lent → Result Progress Clash → Type 0
 BlocksPut setup τ c l p ks l' r =
     p.lines ≡ 0 →
     Enough setup.bounds p (rewritten setup τ c p ks).fresh →
     PutsIn (output_in l p) (rewritten_effect (rewritten setup τ c p ks)) (rewritten setup τ c p ks).clash l' r
 
 -- block k of a routine is put out, and all blocks are
-abbrev pub OnePut : Setup → List ℕ → List ℕ → List Bool → ℕ → Lent → Progress → Lent → Put → Type 0
+abbrev pub OnePut : Setup → List ℕ → List ℕ → List Bool → ℕ → Lent → Progress → Lent → Result Progress Clash → Type 0
 OnePut setup s facts choice k l p l' r =
     (τ : Types) (c : Choice) (ks : List Block) →
     Coded setup.bounds s facts τ ks →
@@ -117,7 +116,7 @@ OnePut setup s facts choice k l p l' r =
     k < length ks →
     BlocksPut setup τ c l p (get_or ks k no_block ∷ []) l' r
 
-abbrev pub AllPut : Setup → List ℕ → List ℕ → List Bool → Lent → Progress → Lent → Put → Type 0
+abbrev pub AllPut : Setup → List ℕ → List ℕ → List Bool → Lent → Progress → Lent → Result Progress Clash → Type 0
 AllPut setup s facts choice l p l' r =
     (τ : Types) (c : Choice) (ks : List Block) →
     Coded setup.bounds s facts τ ks →

@@ -11,9 +11,10 @@ ghost use Rattle.mir.specs.Most.{most_blocks};
 
 use bytes_field::Bounds;
 use mir::{BlockId, most, terminator};
+use rewrite::Clash;
 use rewrite_parts::ROWS_FROM;
-use rewrite_progress::{Progress, Put, SKIPS, Setup};
-use rewrite_step::{Reached, Stepped};
+use rewrite_progress::{Progress, SKIPS, Setup};
+use rewrite_step::Reached;
 
 // The most instructions of a block, and the most slots of a routine: its instructions and its terminators.
 const MOST_INSTRUCTIONS: u16 = most::INSTRUCTIONS as u16;
@@ -30,20 +31,13 @@ pub struct Slots {
     pub count: u16,
 }
 
-// A number that is at most `most`; a greater one is 0.
-fn capped(n: u16, most: u16) -> u16
-    ensures { (result ≤ most) × (n ≤ most → result ≡ n) }
-{
-    if n <= most { n } else { 0 }
-}
-
 // The slots of block k.
 fn block_slots(facts: &[u16], k: BlockId) -> Slots
     ensures { SlotsOf facts.now k.0 result }
 {
     Slots {
-        first: capped(bytes_index::first_slot(facts, k), MOST_SLOTS),
-        count: capped(bytes_index::instruction_count(facts, k), MOST_INSTRUCTIONS),
+        first: bytes_index::first_slot(facts, k).min(MOST_SLOTS),
+        count: bytes_index::instruction_count(facts, k).min(MOST_INSTRUCTIONS),
     }
 }
 
@@ -57,7 +51,7 @@ fn put_end(
     slot: u16,
     tracked: &[bool],
     work: &mut [u16],
-) -> Put
+) -> Result<Progress, Clash>
     requires { Low low_enough p }
     ensures by_index { (k : ℕ) → Low k p → PutLow (k + 1) result }
     ensures end_put { EndPut b s.now facts.now slot
@@ -68,7 +62,7 @@ fn put_end(
         return rewrite_before::put_return(out, p, s, b, facts, slot, tracked, work);
     }
     let part = bytes_field::between(s, at, bytes_index::end(facts, slot));
-    Put::Went(rewrite_perform::put_part(out, p, part, 0))
+    Ok(rewrite_perform::put_part(out, p, part, 0))
 }
 
 // The instructions of a block's slots, one after another.
@@ -83,31 +77,20 @@ fn put_instructions(
     work: &mut [u16],
     out: &mut [u8],
     w: Reached,
-) -> Stepped
+) -> Result<Reached, Clash>
     requires { Ready at w work.old }
     ensures by_index { (n : ℕ) → Low n w.progress → SteppedLow (n + at.count) (w.used + row_most * at.count) result }
     ensures instructions_put { InstructionsPut setup s.now facts.now choice.now at
         (lent_as tracked.old dropped.old work.old out.old) w
         (lent_as tracked.new dropped.new work.new out.new) result }
 {
-    let first = at.first;
-    let count = at.count;
     let mut v = w;
-    let mut j: u16 = 0;
-    while j < count {
-        let slot = first + j;
+    for j in 0..at.count {
+        let slot = at.first + j;
         let fold = table::flag(choice, slot as usize);
-        match rewrite_step::step(s, setup, facts, slot, fold, tracked, dropped, work, out, v) {
-            Stepped::Clash => {
-                return Stepped::Clash;
-            }
-            Stepped::Went(q) => {
-                v = q;
-            }
-        }
-        j = j + 1;
+        v = rewrite_step::step(s, setup, facts, slot, fold, tracked, dropped, work, out, v)?;
     }
-    Stepped::Went(v)
+    Ok(v)
 }
 
 // Block k, which is not skipped: nothing is tracked where it begins, and its body is written behind its count.
@@ -122,7 +105,7 @@ fn put_rewritten(
     work: &mut [u16],
     out: &mut [u8],
     p: Progress,
-) -> Put
+) -> Result<Progress, Clash>
     requires { Low block_low p × Lendable tracked.old work.old }
     ensures by_index { (n : ℕ) → Low n p → PutLow (n + block_rise) result }
     ensures one_put { get_or choice.now (skips_from + k.0) false ≡ false
@@ -137,15 +120,10 @@ fn put_rewritten(
         progress: body,
         used: ROWS_FROM,
     };
-    match put_instructions(s, setup, facts, choice, at, tracked, dropped, work, out, w) {
-        Stepped::Clash => Put::Clash,
-        Stepped::Went(q) => {
-            let b = setup.bounds;
-            let done = q.progress;
-            let r = put_end(out, done, s, b, facts, at.first + at.count, tracked, work);
-            rewrite_perform::put_count(out, p, r)
-        }
-    }
+    let q = put_instructions(s, setup, facts, choice, at, tracked, dropped, work, out, w)?;
+    let slot = at.first + at.count;
+    let done = put_end(out, q.progress, s, setup.bounds, facts, slot, tracked, work)?;
+    Ok(rewrite_perform::put_count(out, p, done))
 }
 
 // Block k: copied where it is skipped, else rewritten.
@@ -160,7 +138,7 @@ fn put_block(
     work: &mut [u16],
     out: &mut [u8],
     p: Progress,
-) -> Put
+) -> Result<Progress, Clash>
     requires { Low block_low p × Lendable tracked.old work.old }
     ensures by_index { (n : ℕ) → Low n p → PutLow (n + block_rise) result }
     ensures one_put { OnePut setup s.now facts.now choice.now k.0
@@ -169,7 +147,7 @@ fn put_block(
 {
     if table::flag(choice, SKIPS + k.0 as usize) {
         let part = bytes_lookup::block_bytes(s, bytes_index::blocks(facts), k);
-        return Put::Went(rewrite_perform::put_part(out, p, part, 0));
+        return Ok(rewrite_perform::put_part(out, p, part, 0));
     }
     put_rewritten(s, setup, facts, choice, k, tracked, dropped, work, out, p)
 }
@@ -187,19 +165,16 @@ pub fn put_blocks(
     dropped: &mut [bool],
     work: &mut [u16],
     out: &mut [u8],
-) -> Put
+) -> Result<Progress, Clash>
     requires { Low start_low p × ((setup.bounds.blocks ≤ most_blocks) × Lendable tracked.old work.old) }
     ensures put_low { PutLow routine_low result }
     ensures all_put { AllPut setup s.now facts.now choice.now
         (lent_as tracked.old dropped.old work.old out.old) p
         (lent_as tracked.new dropped.new work.new out.new) result }
 {
-    let b = setup.bounds;
-    let many = b.blocks;
     let mut q = p;
-    let mut k: u16 = 0;
-    while k < many {
-        match put_block(
+    for k in 0..setup.bounds.blocks {
+        q = put_block(
             s,
             setup,
             facts,
@@ -210,15 +185,7 @@ pub fn put_blocks(
             work,
             out,
             q,
-        ) {
-            Put::Clash => {
-                return Put::Clash;
-            }
-            Put::Went(w) => {
-                q = w;
-            }
-        }
-        k = k + 1;
+        )?;
     }
-    Put::Went(q)
+    Ok(q)
 }

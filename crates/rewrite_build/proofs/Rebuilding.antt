@@ -21,11 +21,10 @@ use Rattle.bytes_field.specs.Encode.{each_bytes, instruction_bytes}
 use Rattle.mir.specs.MirType.{StructField, MirType}
 use Rattle.bytes_types.specs.Decode.{type_of}
 use Rattle.bytes_types.specs.Index.{TypesAt}
-use Rattle.bytes_before.proofs.Same.{no_true}
 use Rattle.mir.specs.Lookup.{Types, row_of}
 use Rattle.rewrite.specs.Rebuild.{fitted, named, rebuild_at, clashes}
 use Rattle.bytes_emit.specs.Written.{Writes}
-use Rattle.rewrite_build.specs.Written.{Rebuilds}
+use Rattle.rewrite_build.specs.Written.{Clashes, Written}
 use Rattle.bytes_struct.specs.Fields.{first_name, Names}
 use Rattle.rewrite_build.proofs.Shape.{tuple, struct, array, other, shape_of}
 
@@ -124,17 +123,9 @@ module _ (most : ℕ) (τ : Types) (t : TypeId) (s types row : List ℕ) (place 
     clash_of = c most t.0 _ T row_bytes row_read ∙ ap (clashes xs) (sym row_of_lem)
 
     -- a clash writes nothing
-    pub rebuild_clash : b ≡ true → Rebuilds τ d xs t out out to (record { to = to; clash = true })
-    rebuild_clash g = record {
-      clashed = sym g ∙ clash_of;
-      written = λ i. absurd (no_true (sym i));
-      kept = λ _. (refl, refl);
-    }
+    pub rebuild_clash : b ≡ true → Clashes τ xs t out out
+    rebuild_clash g = record { told = sym clash_of ∙ g; kept = refl }
 
     -- else the rebuild is written
-    pub rebuild_made : b ≡ false → (out' : List ℕ) (p : ℕ) → ((m o n : ℕ) (U : MirType) → Bytes row → type_of m o row ≡ ok U n → Writes (each_bytes instruction_bytes (rebuild_at d xs t (some U))) out out' to p) → Rebuilds τ d xs t out out' to (record { to = p; clash = false })
-    rebuild_made g out' p w = record {
-      clashed = sym g ∙ clash_of;
-      written = λ _. rw row_of_lem (w most t.0 _ T row_bytes row_read);
-      kept = λ i. absurd (no_true i);
-    }
+    pub rebuild_made : b ≡ false → (out' : List ℕ) (p : ℕ) → ((m o n : ℕ) (U : MirType) → Bytes row → type_of m o row ≡ ok U n → Writes (each_bytes instruction_bytes (rebuild_at d xs t (some U))) out out' to p) → Written τ d xs t out out' to p
+    rebuild_made g out' p w = record { told = sym clash_of ∙ g; written = rw row_of_lem (w most t.0 _ T row_bytes row_read) }

@@ -1,5 +1,5 @@
 -- What the writers of a rebuild promise.
-use Rattle.std.specs.Prelude.{ℕ, ◌<◌, ◌≡◌, List, true, false, length}
+use Rattle.std.specs.Prelude.{ℕ, ◌<◌, ◌≡◌, List, true, false, length, Result, Ok, Err}
 use Rattle.std.proofs.Math.Option.{some}
 use Rattle.bytes_wire.specs.Parse.{ok}
 use Rattle.bytes_wire.specs.WellFormed.{Bytes}
@@ -15,7 +15,7 @@ use Rattle.mir.specs.Lookup.{Types, row_of}
 use Rattle.rewrite.specs.Rebuild.{rebuild_at, clashes}
 use Rattle.rewrite_parts.specs.Rows.{RowAt}
 use Rattle.bytes_struct.specs.Fields.{first_name, Names}
-use Rattle.rewrite_build.specs.declared.Rebuilt.{Rebuilt}
+use Rattle.rewrite.specs.declared.Clash.{Clash}
 
 -- a row of parts begins before this
 abbrev pub row_room : ℕ
@@ -45,8 +45,17 @@ OfTable s types t P = (most : ℕ) (τ : Types) → Bytes s → TypesAt most s t
 abbrev pub rebuild_bytes : Types → ValueId → List Value → TypeId → List ℕ
 rebuild_bytes τ d xs t = each_bytes instruction_bytes (rebuild_at d xs t (row_of τ (some t)))
 
--- the answer tells a clash; without one the rebuild is written, and with one nothing is
-pub record Rebuilds (τ : Types) (d : ValueId) (xs : List Value) (t : TypeId) (out out' : List ℕ) (to : ℕ) (r : Rebuilt) : Type 0 where
-  pub clashed : r.clash ≡ clashes xs (row_of τ (some t))
-  pub written : r.clash ≡ false → Writes (rebuild_bytes τ d xs t) out out' to r.to
-  pub kept : r.clash ≡ true → (r.to ≡ to) × (out' ≡ out)
+-- with a clash nothing is written
+pub record Clashes (τ : Types) (xs : List Value) (t : TypeId) (out out' : List ℕ) : Type 0 where
+  pub told : clashes xs (row_of τ (some t)) ≡ true
+  pub kept : out' ≡ out
+
+-- without one the rebuild is
+pub record Written (τ : Types) (d : ValueId) (xs : List Value) (t : TypeId) (out out' : List ℕ) (to end : ℕ) : Type 0 where
+  pub told : clashes xs (row_of τ (some t)) ≡ false
+  pub written : Writes (rebuild_bytes τ d xs t) out out' to end
+
+-- the answer tells which of the two
+abbrev pub Rebuilds : Types → ValueId → List Value → TypeId → List ℕ → List ℕ → ℕ → Result ℕ Clash → Type 0
+Rebuilds τ d xs t out out' to (Err clash) = Clashes τ xs t out out'
+Rebuilds τ d xs t out out' to (Ok end) = Written τ d xs t out out' to end

@@ -1,7 +1,7 @@
 // The rebuild of an aggregate from its parts: sroa.rs 1420, `materialize`. The parts are places of values in the input.
 #![tactic(auto)]
 
-ghost use Rattle.std.specs.Prelude.{◌≡◌, List, [], ◌∷◌, ◌++◌, false, ◌+◌, ◌*◌, ◌≤◌, ◌<◌, length, get_or};
+ghost use Rattle.std.specs.Prelude.{◌≡◌, List, [], ◌∷◌, ◌++◌, false, ◌+◌, ◌*◌, ◌≤◌, ◌<◌, length, get_or, IfOk};
 ghost use Rattle.std.proofs.Math.Option.{some};
 ghost use Rattle.std.proofs.lemmas.List.Edits.{sets};
 ghost use Rattle.bytes_wire.specs.Value.{value_bytes, unit};
@@ -14,6 +14,7 @@ ghost use Rattle.rewrite_build.specs.Written.{rebuild_most, OfParts, OfFields, O
 
 use bytes_types::layout;
 use mir::{Literal, NameId, TypeId, Value, ValueId, kind, type_kind};
+use rewrite::Clash;
 
 // The kinds of the builds, as a byte.
 const MAKE_TUPLE: u8 = kind::MAKE_TUPLE as u8;
@@ -24,13 +25,6 @@ const MAKE_FIXED_ARRAY: u8 = kind::MAKE_FIXED_ARRAY as u8;
 
 // What a build begins with: no bits, its kind, what it defines and the number of its parts.
 const HEAD_BYTES: usize = 5;
-
-// The place behind a rebuild, and whether it met an array of another count.
-#[derive(Clone, Copy)]
-pub struct Rebuilt {
-    pub to: usize,
-    pub clash: bool,
-}
 
 // Writes the value that stands at a place of the input, and returns the place behind it.
 pub fn put_value_at(out: &mut [u8], to: usize, s: &[u8], at: usize, next: u16) -> usize
@@ -81,10 +75,8 @@ fn put_parts(
         Writes (each_bytes value_bytes (fitted want xs)) out.old out.new to result) }
 {
     let mut p = to;
-    let mut i: u8 = 0;
-    while i < want {
+    for i in 0..want {
         p = put_part(out, p, s, next, rows, from, have, i);
-        i = i + 1;
     }
     p
 }
@@ -107,15 +99,13 @@ fn put_fields(
         Writes (each_bytes field_init_bytes (named fs xs)) out.old out.new to result)) }
 {
     let mut p = to;
-    let mut i: u8 = 0;
-    while i < want {
+    for i in 0..want {
         let name = bytes_wire::u16_at(
             row,
             layout::STRUCT_NAMES + layout::STRUCT_APART * (i as usize),
         );
         bytes_emit::put_name_id(out, p, NameId(name));
         p = put_part(out, p + 2, s, next, rows, from, have, i);
-        i = i + 1;
     }
     p
 }
@@ -245,7 +235,7 @@ fn put_make(
 }
 
 // Writes the rebuild of d at type t from `have` parts whose places stand in the rows from `from` on. A type that is no
-// aggregate has none; an array of another count clashes. `types` has the types' places.
+// aggregate has none; an array of another count clashes. Returns the place behind it. `types` has the types' places.
 pub fn put_rebuild(
     out: &mut [u8],
     to: usize,
@@ -257,22 +247,15 @@ pub fn put_rebuild(
     rows: &[u16],
     from: usize,
     have: u16,
-) -> Rebuilt
+) -> Result<usize, Clash>
     requires { (to < build_room) × (from < row_room) }
-    ensures to_bound { result.to ≤ to + rebuild_most }
+    ensures to_bound { IfOk result (λ end. end ≤ to + rebuild_most) }
     ensures of_table { OfTable s.now types.now t (λ τ. OfParts next s.now rows.now from have (λ xs.
         have ≤ most_parts → Rebuilds τ d xs t out.old out.new to result)) }
 {
     let row = bytes_field::tail(s, bytes_lookup::type_place(types, t));
     if array_clashes(row, have) {
-        return Rebuilt {
-            to: to,
-            clash: true,
-        };
+        return Err(Clash);
     }
-    let p = put_make(out, to, s, next, row, t, d, rows, from, have);
-    Rebuilt {
-        to: p,
-        clash: false,
-    }
+    Ok(put_make(out, to, s, next, row, t, d, rows, from, have))
 }

@@ -1,6 +1,6 @@
 -- The last step of a chain: what all but the last projection lead to holds the part.
 use Prim.Native.Nat.{ℕ, zero, suc, ◌+◌, ◌-◌, ◌<◌}
-use mathlib.Core.Path.{◌≡◌, refl, ap, ◌∙◌, sym}
+use mathlib.Core.Path.{◌≡◌, refl, ap, ◌∙◌, sym, subst}
 use mathlib.Core.List.{List, [], ◌∷◌}
 use mathlib.Core.Bool.{false}
 use mathlib.Core.Option.{Option, none, some}
@@ -12,27 +12,25 @@ use Rattle.mir.specs.declared.TypeId.{TypeId}
 use Rattle.mir.specs.declared.Value.{Value}
 use Rattle.mir.specs.declared.ValueId.{ValueId}
 use Rattle.bytes_wire.proofs.Canon.{bytes_drop}
-use Rattle.mir.specs.Syntax.{Projection, Index, Field, Tuple, Place, Instruction, InstructionKind}
+use Rattle.mir.specs.declared.Projection.{Projection}
+use Rattle.mir.specs.declared.Projection.TheVariants.{Index, Field, Tuple}
+use Rattle.mir.specs.Syntax.{Place, Instruction, InstructionKind}
 use Rattle.mir.specs.Reads.{reads, kind_number}
 use Rattle.bytes_field.specs.Decode.{instruction_of}
 use Rattle.bytes_field.specs.declared.Bounds.{Bounds}
 use Rattle.bytes_laws.specs.WellFormed.{Wide, FitKind}
 use Rattle.bytes_laws.proofs.Instruction.{instruction}
 use Rattle.bytes_index.specs.Table.{place_in, end_in, read_in}
-use Rattle.bytes_operands.specs.Fields.{place_steps, fields_place, as_step, step_count}
-use Rattle.bytes_operands.specs.declared.Step.{Step}
+use Rattle.bytes_operands.specs.Fields.{place_steps, fields_place, step_count}
 use Rattle.bytes_operands.proofs.Instruction.{instruction_fields, instruction_stands}
 use Rattle.fold.specs.Family.{Marks}
 use Rattle.mir.specs.Lookup.{Types, as_const_integer, on_some}
 use Rattle.rewrite.specs.State.{AggStates, step_index, step_part, chain, first_integer, store_last, store_deeper, store_from, forward_store}
-use Rattle.rewrite_parts.specs.Rows.{InitAt}
 use Rattle.rewrite_parts.specs.Here.{Here}
-use Rattle.rewrite_parts.specs.declared.Init.{Init}
+use Rattle.std.specs.Prelude.{Some, None}
 use Rattle.rewrite_chains.specs.Chained.{operand_in, LeadsTo, StepsAt, steps_at, held, loaded_part}
-use Rattle.rewrite_chains.specs.declared.Walked.{Walked}
 use Rattle.table.proofs.Elements.{some_at}
-use Rattle.rewrite_chains.proofs.Steps.{init_none}
-use Rattle.rewrite_chains.proofs.Walks.{leads_some, leads_none}
+use Rattle.rewrite_chains.proofs.Walks.{leads_some, leads_none, no_next}
 
 -- two steps at once
 on_both : {A B C : Type 0} (o : Option A) (f : A → Option B) (g : A → Option C) (h : C → Option B) → ((a : A) → f a ≡ on_some (g a) h) → on_some o f ≡ on_some (on_some o g) h
@@ -165,8 +163,8 @@ last_long ps {many} l h = omega arith
 
 module _ {b : Bounds} {t : List ℕ} (τ : Types) (S : AggStates) (p : Place) {at many : ℕ} (r : PlaceRead b t p at many) where
   -- no projection
-  pub load_empty : {s : List ℕ} → many ≡ 0 → InitAt b.next s (loaded_part τ S p) (record { given = false; place = 0 })
-  load_empty h = init_none (load_nothing τ S p.base p.projections (r.long ∙ h))
+  pub load_empty : many ≡ 0 → loaded_part τ S p ≡ none
+  load_empty h = load_nothing τ S p.base p.projections (r.long ∙ h)
 
   -- where the base is read
   pub held_base : (last : ℕ) → held τ S (record { 0 = at }) p.projections last ≡ held τ S p.base p.projections last
@@ -174,25 +172,24 @@ module _ {b : Bounds} {t : List ℕ} (τ : Types) (S : AggStates) (p : Place) {a
 
   module _ (h : many ≡ 0 → ⊥) where
     -- no operand holds the part
-    pub load_stuck : {s : List ℕ} {w : Walked} → LeadsTo b.next (held τ S (record { 0 = at }) p.projections (many - 1)) w → w ≡ Walked.Nothing → InitAt b.next s (loaded_part τ S p) (record { given = false; place = 0 })
+    pub load_stuck : LeadsTo b.next (held τ S (record { 0 = at }) p.projections (many - 1)) None → loaded_part τ S p ≡ none
     unfolding step_part
-    load_stuck w f =
+    load_stuck w =
         let l = last_long p.projections r.long h in
-        let w' : LeadsTo b.next (held τ S (record { 0 = at }) p.projections (many - 1)) Walked.Nothing = rw f at w in
         elim (the_last p.projections (many - 1) l) [
           | last_of q e ↦
-              init_none (load_held τ S p.base p.projections (many - 1) q l e ∙ leads_none (held τ S p.base p.projections (many - 1)) (λ z. step_part τ S z q) (λ k. refl) refl (w'.told ∙ ap operand_in (held_base (many - 1))))
+              load_held τ S p.base p.projections (many - 1) q l e ∙ leads_none (held τ S p.base p.projections (many - 1)) (λ z. step_part τ S z q) (λ k. refl) refl (w.told ∙ ap operand_in (held_base (many - 1)))
         ]
 
+    -- the last projection is there
+    pub last_there : {A : Type 0} → none ≡ get_elem? p.projections (many - 1) → A
+    last_there e = no_next p.projections (many - 1) (omega (arith, last_long p.projections r.long h)) e
+
     -- an operand does
-    pub load_ends : {s : List ℕ} (v : ValueId) {w : Walked} → LeadsTo b.next (held τ S (record { 0 = at }) p.projections (many - 1)) w → w ≡ Walked.Operand v → (j : Step) → as_step j ≡ get_elem? p.projections (many - 1) → {o : Init} → ((q : Projection) → v.0 < b.next → as_step j ≡ some q → InitAt b.next s (step_part τ S (Value.Operand v) q) o) → InitAt b.next s (loaded_part τ S p) o
+    pub load_ends : {v : ValueId} {q : Projection} (P : Option Value → Type 0) → LeadsTo b.next (held τ S (record { 0 = at }) p.projections (many - 1)) (Some v) → some q ≡ get_elem? p.projections (many - 1) → (v.0 < b.next → P (step_part τ S (Value.Operand v) q)) → P (loaded_part τ S p)
     unfolding on_some
-    load_ends {s} v {w} to f j look {o} step =
+    load_ends {v} {q} P to look step =
         let l = last_long p.projections r.long h in
-        elim (the_last p.projections (many - 1) l) [
-          | last_of q e ↦
-              let to' : LeadsTo b.next (held τ S (record { 0 = at }) p.projections (many - 1)) (Walked.Operand v) = rw f at to in
-              let z : held τ S p.base p.projections (many - 1) ≡ some (Value.Operand v) = sym (held_base (many - 1)) ∙ leads_some to' in
-              let y : loaded_part τ S p ≡ step_part τ S (Value.Operand v) q = load_held τ S p.base p.projections (many - 1) q l e ∙ ap (λ a. on_some a (λ x. step_part τ S x q)) z in
-              rw y (step q (to'.below v refl) (look ∙ e))
-        ]
+        let z : held τ S p.base p.projections (many - 1) ≡ some (Value.Operand v) = sym (held_base (many - 1)) ∙ leads_some to in
+        let y : loaded_part τ S p ≡ step_part τ S (Value.Operand v) q = load_held τ S p.base p.projections (many - 1) q l (sym look) ∙ ap (λ a. on_some a (λ x. step_part τ S x q)) z in
+        subst P (sym y) (step (to.below v refl))

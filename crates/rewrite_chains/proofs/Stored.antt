@@ -1,6 +1,6 @@
 -- A Store: where its value stands, and what it changes.
 use Prim.Native.Nat.{ℕ, ◌+◌, ◌-◌, ◌≤◌, ◌<◌}
-use mathlib.Core.Path.{◌≡◌, refl, ap, ◌∙◌, sym}
+use mathlib.Core.Path.{◌≡◌, refl, ap, ◌∙◌, sym, subst}
 use mathlib.Core.List.{List, [], ◌∷◌}
 use mathlib.Core.Bool.{Bool, true, false, cond}
 use mathlib.Core.Option.{Option, none, some}
@@ -14,24 +14,22 @@ use Rattle.bytes_wire.specs.Value.{value_of}
 use Rattle.mir.specs.declared.TypeId.{TypeId}
 use Rattle.mir.specs.declared.Value.{Value}
 use Rattle.mir.specs.declared.ValueId.{ValueId}
-use Rattle.mir.specs.Syntax.{Projection, Place, Instruction, InstructionKind}
+use Rattle.mir.specs.declared.Projection.{Projection}
+use Rattle.mir.specs.Syntax.{Place, Instruction, InstructionKind}
 use Rattle.mir.specs.Reads.{kind_number}
 use Rattle.bytes_field.specs.Decode.{instruction_of, bit}
 use Rattle.bytes_field.specs.declared.Bounds.{Bounds}
-use Rattle.bytes_operands.specs.Fields.{operand_fields, fields_place, projection_end, after, as_step}
-use Rattle.bytes_operands.specs.declared.Step.{Step}
+use Rattle.bytes_operands.specs.Fields.{operand_fields, fields_place, projection_end, after}
 use Rattle.bytes_operands.proofs.EachKind.{At, at}
 use Rattle.bytes_operands.proofs.Places.{Listed, empty, ◌&◌}
 use Rattle.bytes_operands.proofs.Instruction.{instruction_fields, instruction_stands}
 use Rattle.mir.specs.Lookup.{is_some, Types, on_some}
 use Rattle.fold.specs.Family.{Marks}
 use Rattle.rewrite.specs.State.{AggStates, insert_state, replaced, step_index, store_part, store_last, forward_store}
-use Rattle.rewrite_parts.specs.Rows.{ValueAt, stands, Rep}
+use Rattle.rewrite_parts.specs.Rows.{ValueAt, stands, Rep, told, used_after}
+use Rattle.std.specs.Prelude.{Some, None, Option as Answered}
 use Rattle.rewrite_parts.proofs.Tables.{replaced_set, replaced_past}
-use Rattle.rewrite_chains.specs.Chained.{as_position, operand_in, LeadsTo, has_part, held, states_after, Forwards}
-use Rattle.rewrite_chains.specs.declared.Forwarded.{Forwarded}
-use Rattle.rewrite_chains.specs.declared.Position.{Position}
-use Rattle.rewrite_chains.specs.declared.Walked.{Walked}
+use Rattle.rewrite_chains.specs.Chained.{operand_in, LeadsTo, has_part, held, states_after, Forwards}
 use Rattle.rewrite_chains.proofs.Steps.{has, has_part_lem}
 use Rattle.rewrite_chains.proofs.Walks.{leads_some, leads_none}
 use Rattle.rewrite_chains.proofs.Ends.{PlaceRead, last_of, the_last, last_long, held_base, store_held, store_nothing}
@@ -66,9 +64,9 @@ stored_value b s t u from f many far i n p x y et ef eu em ea e k =
     ]
 
 -- nothing is forwarded
-pub forwards_none : {next : ℕ} {s : List ℕ} {tracked : Marks} {rows : List ℕ} {used : ℕ} {S : AggStates} {o : Option AggStates} → o ≡ none → Rep next s tracked rows used S → Forwards next s S o tracked rows (record { forwarded = false; used = used })
+pub forwards_none : {next : ℕ} {s : List ℕ} {tracked : Marks} {rows : List ℕ} {used : ℕ} {S : AggStates} {o : Option AggStates} → o ≡ none → Rep next s tracked rows used S → Forwards next s S o tracked rows used None
 unfolding states_after is_some
-forwards_none e r = record { told = rw e; rep = rw e r }
+forwards_none e r = record { is_told = rw e; rep = rw e r }
 
 module _ (S : AggStates) (v : ValueId) (k : ℕ) (y : Value) {h : Bool} (e : h ≡ has_part (S v.0) k) where
   -- no such part
@@ -84,7 +82,7 @@ module _ (S : AggStates) (v : ValueId) (k : ℕ) (y : Value) {h : Bool} (e : h �
           rw (g, w)
 
   -- the part
-  pub store_replaced : {next : ℕ} {s : List ℕ} {tracked : Marks} {rows : List ℕ} {more : ℕ} → h ≡ true → ((xs ys : List Value) → S v.0 ≡ some xs → replaced xs k y ≡ some ys → Rep next s tracked rows more (insert_state S v ys)) → Forwards next s S (store_part S v k y) tracked rows (record { forwarded = true; used = more })
+  pub store_replaced : {next : ℕ} {s : List ℕ} {tracked : Marks} {rows : List ℕ} {used more : ℕ} → h ≡ true → ((xs ys : List Value) → S v.0 ≡ some xs → replaced xs k y ≡ some ys → Rep next s tracked rows more (insert_state S v ys)) → Forwards next s S (store_part S v k y) tracked rows used (Some more)
   unfolding store_part on_some states_after is_some
   store_replaced {next} {s} f w =
       elim (has_part_lem (S v.0) k (sym e ∙ f)) [
@@ -92,17 +90,17 @@ module _ (S : AggStates) (v : ValueId) (k : ℕ) (y : Value) {h : Bool} (e : h �
             let z : replaced xs k y ≡ some (set xs k y) = replaced_set xs k y l in
             let r : Rep next s _ _ _ (insert_state S v (set xs k y)) = w xs (set xs k y) g z in
             let o : store_part S v k y ≡ some (insert_state S v (set xs k y)) = rw (g, z) in
-            record { told = rw o; rep = rw o r }
+            record { is_told = rw o; rep = rw o r }
       ]
 
 -- the part that a projection names
-pub last_none : (τ : Types) (S : AggStates) (v : ValueId) (q : Projection) (y : Value) {o : Position} → as_position o ≡ step_index τ v q → o ≡ Position.Nothing → store_last τ S (Value.Operand v) q y ≡ none
+pub last_none : (τ : Types) (S : AggStates) (v : ValueId) (q : Projection) (y : Value) → none ≡ step_index τ v q → store_last τ S (Value.Operand v) q y ≡ none
 unfolding store_last on_some
-last_none τ S v q y e f = let z : step_index τ v q ≡ none = sym e ∙ ap as_position f in rw z
+last_none τ S v q y e = rw (← e) refl
 
-pub last_some : (τ : Types) (S : AggStates) (v : ValueId) (q : Projection) (y : Value) (k : ℕ) {o : Position} → as_position o ≡ step_index τ v q → o ≡ Position.At k → store_last τ S (Value.Operand v) q y ≡ store_part S v k y
+pub last_some : (τ : Types) (S : AggStates) (v : ValueId) (q : Projection) (y : Value) (k : ℕ) → some k ≡ step_index τ v q → store_last τ S (Value.Operand v) q y ≡ store_part S v k y
 unfolding store_last on_some
-last_some τ S v q y k e f = let z : step_index τ v q ≡ some k = sym e ∙ ap as_position f in rw z
+last_some τ S v q y k e = rw (← e) refl
 
 module _ {b : Bounds} {t : List ℕ} (τ : Types) (S : AggStates) (p : Place) (y : Value) {at many : ℕ} (r : PlaceRead b t p at many) where
   -- no projection
@@ -111,33 +109,24 @@ module _ {b : Bounds} {t : List ℕ} (τ : Types) (S : AggStates) (p : Place) (y
 
   module _ (h : many ≡ 0 → ⊥) where
     -- no operand holds the part
-    pub store_stuck : {w : Walked} → LeadsTo b.next (held τ S (record { 0 = at }) p.projections (many - 1)) w → w ≡ Walked.Nothing → forward_store τ S p y ≡ none
+    pub store_stuck : LeadsTo b.next (held τ S (record { 0 = at }) p.projections (many - 1)) None → forward_store τ S p y ≡ none
     unfolding store_last
-    store_stuck to f =
+    store_stuck to =
         let l = last_long p.projections r.long h in
-        let to' : LeadsTo b.next (held τ S (record { 0 = at }) p.projections (many - 1)) Walked.Nothing = rw f at to in
         elim (the_last p.projections (many - 1) l) [
           | last_of q e ↦
-              store_held τ S p.base y p.projections (many - 1) q l e ∙ leads_none (held τ S p.base p.projections (many - 1)) (λ z. store_last τ S z q y) (λ k. refl) refl (to'.told ∙ ap operand_in (held_base τ S p r (many - 1)))
+              store_held τ S p.base y p.projections (many - 1) q l e ∙ leads_none (held τ S p.base p.projections (many - 1)) (λ z. store_last τ S z q y) (λ k. refl) refl (to.told ∙ ap operand_in (held_base τ S p r (many - 1)))
         ]
 
     -- an operand does
-    pub store_ends : {s : List ℕ} {tracked : Marks} {rows : List ℕ} {o : Forwarded} (v : ValueId) {w : Walked}
-        → LeadsTo b.next (held τ S (record { 0 = at }) p.projections (many - 1)) w → w ≡ Walked.Operand v → (j : Step)
-        → as_step j ≡ get_elem? p.projections (many - 1)
-        → ((q : Projection) → v.0 < b.next → as_step j ≡ some q → Forwards b.next s S (store_last τ S (Value.Operand v) q y) tracked rows o)
-        → Forwards b.next s S (forward_store τ S p y) tracked rows o
+    pub store_ends : {v : ValueId} {q : Projection} (P : Option AggStates → Type 0) → LeadsTo b.next (held τ S (record { 0 = at }) p.projections (many - 1)) (Some v) → some q ≡ get_elem? p.projections (many - 1) → (v.0 < b.next → P (store_last τ S (Value.Operand v) q y)) → P (forward_store τ S p y)
     unfolding on_some
-    store_ends v to f j look step =
+    store_ends {v} {q} P to look step =
         let l = last_long p.projections r.long h in
-        elim (the_last p.projections (many - 1) l) [
-          | last_of q e ↦
-              let to' : LeadsTo b.next (held τ S (record { 0 = at }) p.projections (many - 1)) (Walked.Operand v) = rw f at to in
-              let z : held τ S p.base p.projections (many - 1) ≡ some (Value.Operand v) = sym (held_base τ S p r (many - 1)) ∙ leads_some to' in
-              let g : forward_store τ S p y ≡ store_last τ S (Value.Operand v) q y = store_held τ S p.base y p.projections (many - 1) q l e ∙ ap (λ a. on_some a (λ x. store_last τ S x q y)) z in
-              rw g (step q (to'.below v refl) (look ∙ e))
-        ]
+        let z : held τ S p.base p.projections (many - 1) ≡ some (Value.Operand v) = sym (held_base τ S p r (many - 1)) ∙ leads_some to in
+        let g : forward_store τ S p y ≡ store_last τ S (Value.Operand v) q y = store_held τ S p.base y p.projections (many - 1) q l (sym look) ∙ ap (λ a. on_some a (λ x. store_last τ S x q y)) z in
+        subst P (sym g) (step (to.below v refl))
 
 -- both facts of a Store's answer
-pub both_facts : {next : ℕ} {s : List ℕ} {tracked : Marks} {rows : List ℕ} {S : AggStates} {o : Option AggStates} {r : Forwarded} → Forwards next s S o tracked rows r → (r.forwarded ≡ is_some o) × Rep next s tracked rows r.used (states_after S o)
-both_facts f = (f.told, f.rep)
+pub both_facts : {next : ℕ} {s : List ℕ} {tracked : Marks} {rows : List ℕ} {used : ℕ} {S : AggStates} {o : Option AggStates} {r : Answered ℕ} → Forwards next s S o tracked rows used r → (told r ≡ is_some o) × Rep next s tracked rows (used_after used r) (states_after S o)
+both_facts f = (f.is_told, f.rep)

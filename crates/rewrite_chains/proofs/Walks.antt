@@ -6,21 +6,24 @@ use mathlib.Core.Bool.{Bool, true, false}
 use mathlib.Core.Option.{Option, none, some}
 use native.Mathlib.Nat.{sub-zero}
 use native.Mathlib.Omega.{arith}
-use lib.ListN.{length, get_elem?, drop, take}
+use lib.ListN.{length, get_or, get_elem?, drop, take}
+use Rattle.table.proofs.Elements.{some_at}
 use Rattle.mir.specs.declared.Literal.{Literal}
 use Rattle.mir.specs.declared.Value.{Value}
 use Rattle.mir.specs.declared.ValueId.{ValueId}
 use Rattle.bytes_wire.specs.Parse.{ok}
-use Rattle.mir.specs.Syntax.{Projection, Index, Field, Tuple, Instruction}
+use Rattle.mir.specs.declared.Projection.{Projection}
+use Rattle.mir.specs.declared.Projection.TheVariants.{Index, Field, Tuple}
+use Rattle.mir.specs.Syntax.{Instruction}
 use Rattle.bytes_field.specs.Decode.{instruction_of}
 use Rattle.bytes_field.specs.declared.Bounds.{Bounds}
-use Rattle.bytes_operands.specs.Fields.{as_step, place_steps}
-use Rattle.bytes_operands.specs.declared.Step.{Step}
+use Rattle.bytes_operands.specs.Fields.{place_steps}
 use Rattle.mir.specs.Lookup.{is_some, Types, on_some}
 use Rattle.fold.specs.Family.{Marks}
 use Rattle.rewrite.specs.State.{AggStates, step_part, chain, first_integer}
-use Rattle.rewrite_chains.specs.Chained.{as_walked, operand_in, LeadsTo, Walking, StepsAt, steps_at, held, integer_step}
-use Rattle.rewrite_chains.specs.declared.Walked.{Walked}
+use Rattle.mir.specs.Option.{as_option}
+use Rattle.rewrite_chains.specs.Chained.{operand_in, LeadsTo, Walking, StepsAt, steps_at, held, integer_step}
+use Rattle.std.specs.Prelude.{Some, None, Option as Answered}
 
 -- the operand that was found
 operand_inv : (o : Option Value) {w : ValueId} → some w ≡ operand_in o → o ≡ some (Value.Operand w)
@@ -29,7 +32,7 @@ operand_inv (some (Value.Literal l)) {w} e = absurd (let z : ◌≡◌ {A = ℕ}
 operand_inv (some (Value.Operand v)) {w} e = let z : v ≡ w = cc in rw z
 operand_inv (some Value.Error) {w} e = absurd (let z : ◌≡◌ {A = ℕ} 0 1 = cc in omega arith)
 
-pub leads_some : {next : ℕ} {o : Option Value} {w : ValueId} → LeadsTo next o (Walked.Operand w) → o ≡ some (Value.Operand w)
+pub leads_some : {next : ℕ} {o : Option Value} {w : ValueId} → LeadsTo next o (Some w) → o ≡ some (Value.Operand w)
 leads_some {next} {o} h = operand_inv o h.told
 
 -- where no operand is found, no further step is made
@@ -70,57 +73,63 @@ next_of (p ∷ ps) (suc k) (suc i) h l =
           this q e (rw (y, z, w) f)
     ]
 
+-- it is the one that is looked up
+next_is : (ps : List Projection) (k i : ℕ) (p : Projection) → i < k → k ≤ length ps → some p ≡ get_elem? ps i → take (k - i) (drop i ps) ≡ p ∷ take (k - (i + 1)) (drop (i + 1) ps)
+next_is ps k i p h l e = elim (next_of ps k i h l) [ this q f g ↦ let z : some p ≡ some q = e ∙ f in let y : p ≡ q = cc in rw y g ]
+
+-- there is one
+pub no_next : {A : Type 0} (ps : List Projection) (i : ℕ) → i < length ps → none ≡ get_elem? ps i → A
+no_next ps i h e = absurd (let z : none ≡ some (get_or ps i (Tuple 0)) = e ∙ some_at ps i (Tuple 0) h in let y : ◌≡◌ {A = ℕ} 0 1 = cc in omega arith)
+
 -- i of k projections are behind, and v is the operand that they lead to
-pub record Going (b : Bounds) (s t facts : List ℕ) (tracked : Marks) (rows : List ℕ) (base : ValueId) (k v i : ℕ) : Type 0 where
+pub record Going (b : Bounds) (s t facts : List ℕ) (tracked : Marks) (rows : List ℕ) (base : ValueId) (k : ℕ) (v : ValueId) (i : ℕ) : Type 0 where
   pub under : i ≤ k
-  pub below : (τ : Types) (S : AggStates) (ps : List Projection) → Walking b s facts tracked rows τ S → StepsAt b t ps → base.0 < b.next → k ≤ length ps → v < b.next
-  pub left : (τ : Types) (S : AggStates) (ps : List Projection) → Walking b s facts tracked rows τ S → StepsAt b t ps → base.0 < b.next → k ≤ length ps → chain τ S (Value.Operand base) (take k ps) ≡ chain τ S (Value.Operand (record { 0 = v })) (take (k - i) (drop i ps))
+  pub below : (τ : Types) (S : AggStates) (ps : List Projection) → Walking b s facts tracked rows τ S → StepsAt b t ps → base.0 < b.next → k ≤ length ps → v.0 < b.next
+  pub left : (τ : Types) (S : AggStates) (ps : List Projection) → Walking b s facts tracked rows τ S → StepsAt b t ps → base.0 < b.next → k ≤ length ps → chain τ S (Value.Operand base) (take k ps) ≡ chain τ S (Value.Operand v) (take (k - i) (drop i ps))
 
 module _ {b : Bounds} {s t facts : List ℕ} {tracked : Marks} {rows : List ℕ} {base : ValueId} {k : ℕ} where
   -- none is yet
-  pub going : Going b s t facts tracked rows base k base.0 0
+  pub going : Going b s t facts tracked rows base k base 0
   going = record { under = zero-le; below = λ τ S ps w a h l. h; left = λ τ S ps w a h l. rw sub-zero }
 
-  module _ {v i : ℕ} (o : Going b s t facts tracked rows base k v i) (h : i < k) (p : Step) (look : (ps : List Projection) → StepsAt b t ps → as_step p ≡ get_elem? ps i) {r : Walked} (step : (τ : Types) (S : AggStates) (q : Projection) → Walking b s facts tracked rows τ S → v < b.next → as_step p ≡ some q → LeadsTo b.next (step_part τ S (Value.Operand (record { 0 = v })) q) r) where
-    -- one more
-    pub going_more : (w : ValueId) → r ≡ Walked.Operand w → Going b s t facts tracked rows base k w.0 (i + 1)
-    unfolding chain on_some
-    going_more w e =
-        record {
-          under = omega arith;
-          below = λ τ S ps a c d l. elim (next_of ps k i h l) [ this q f g ↦ (step τ S q a (o.below τ S ps a c d l) (look ps c ∙ f)).below w (ap as_walked e) ];
-          left = λ τ S ps a c d l.
-              elim (next_of ps k i h l) [
-                | this q f g ↦
-                    let to : LeadsTo b.next (step_part τ S (Value.Operand (record { 0 = v })) q) (Walked.Operand w) = rw e at (step τ S q a (o.below τ S ps a c d l) (look ps c ∙ f)) in
-                    let z = leads_some to in
-                    o.left τ S ps a c d l ∙ ap (chain τ S (Value.Operand (record { 0 = v }))) g ∙ rw z
-              ];
-        }
+  module _ {v : ValueId} {i : ℕ} (o : Going b s t facts tracked rows base k v i) (h : i < k) where
+    -- there is a next projection
+    pub going_nowhere : ((ps : List Projection) → StepsAt b t ps → none ≡ get_elem? ps i) → {A : Type 0} (ps : List Projection) → StepsAt b t ps → k ≤ length ps → A
+    going_nowhere look ps c l = no_next ps i (omega arith) (look ps c)
 
-    -- no operand
-    pub going_ends : r ≡ Walked.Nothing → (τ : Types) (S : AggStates) (ps : List Projection) → Walking b s facts tracked rows τ S → StepsAt b t ps → base.0 < b.next → k ≤ length ps → LeadsTo b.next (chain τ S (Value.Operand base) (take k ps)) Walked.Nothing
-    unfolding chain
-    going_ends e τ S ps a c d l =
-        elim (next_of ps k i h l) [
-          | this q f g ↦
-              let to : LeadsTo b.next (step_part τ S (Value.Operand (record { 0 = v })) q) Walked.Nothing = rw e at (step τ S q a (o.below τ S ps a c d l) (look ps c ∙ f)) in
-              let z = o.left τ S ps a c d l ∙ ap (chain τ S (Value.Operand (record { 0 = v }))) g in
-              record {
-                told = chain_none τ S (step_part τ S (Value.Operand (record { 0 = v })) q) (take (k - (i + 1)) (drop (i + 1) ps)) to.told ∙ ap operand_in (sym z);
-                below = λ u y. absurd (let n : ◌≡◌ {A = ℕ} 0 1 = cc in omega arith);
-              }
-        ]
+    module _ (p : Projection) (look : (ps : List Projection) → StepsAt b t ps → some p ≡ get_elem? ps i) where
+      -- one more
+      pub going_more : (w : ValueId) → ((τ : Types) (S : AggStates) → Walking b s facts tracked rows τ S → v.0 < b.next → LeadsTo b.next (step_part τ S (Value.Operand v) p) (Some w)) → Going b s t facts tracked rows base k w (i + 1)
+      unfolding chain on_some
+      going_more w step =
+          record {
+            under = omega arith;
+            below = λ τ S ps a c d l. (step τ S a (o.below τ S ps a c d l)).below w refl;
+            left = λ τ S ps a c d l.
+                let z = leads_some (step τ S a (o.below τ S ps a c d l)) in
+                o.left τ S ps a c d l ∙ ap (chain τ S (Value.Operand v)) (next_is ps k i p h l (look ps c)) ∙ rw z;
+          }
+
+      -- no operand
+      pub going_ends : ((τ : Types) (S : AggStates) → Walking b s facts tracked rows τ S → v.0 < b.next → LeadsTo b.next (step_part τ S (Value.Operand v) p) None) → (τ : Types) (S : AggStates) (ps : List Projection) → Walking b s facts tracked rows τ S → StepsAt b t ps → base.0 < b.next → k ≤ length ps → LeadsTo b.next (chain τ S (Value.Operand base) (take k ps)) None
+      unfolding chain
+      going_ends step τ S ps a c d l =
+          let to = step τ S a (o.below τ S ps a c d l) in
+          let z = o.left τ S ps a c d l ∙ ap (chain τ S (Value.Operand v)) (next_is ps k i p h l (look ps c)) in
+          record {
+            told = chain_none τ S (step_part τ S (Value.Operand v) p) (take (k - (i + 1)) (drop (i + 1) ps)) to.told ∙ ap operand_in (sym z);
+            below = λ u y. absurd (let n : ◌≡◌ {A = ℕ} 0 1 = cc in omega arith);
+          }
 
   -- all are behind
-  pub going_done : {v i : ℕ} → Going b s t facts tracked rows base k v i → k ≤ i → (τ : Types) (S : AggStates) (ps : List Projection) → Walking b s facts tracked rows τ S → StepsAt b t ps → base.0 < b.next → k ≤ length ps → LeadsTo b.next (chain τ S (Value.Operand base) (take k ps)) (Walked.Operand (record { 0 = v }))
+  pub going_done : {v : ValueId} {i : ℕ} → Going b s t facts tracked rows base k v i → k ≤ i → (τ : Types) (S : AggStates) (ps : List Projection) → Walking b s facts tracked rows τ S → StepsAt b t ps → base.0 < b.next → k ≤ length ps → LeadsTo b.next (chain τ S (Value.Operand base) (take k ps)) (Some v)
   unfolding chain
   going_done {v} {i} o h τ S ps a c d l =
       let n : k - i ≡ 0 = omega arith in
-      let z : chain τ S (Value.Operand base) (take k ps) ≡ some (Value.Operand (record { 0 = v })) = o.left τ S ps a c d l ∙ ap (λ m. chain τ S (Value.Operand (record { 0 = v })) (take m (drop i ps))) n in
+      let z : chain τ S (Value.Operand base) (take k ps) ≡ some (Value.Operand v) = o.left τ S ps a c d l ∙ ap (λ m. chain τ S (Value.Operand v) (take m (drop i ps))) n in
       record {
         told = sym (ap operand_in z);
-        below = λ u y. let e : u.0 ≡ v = (let w : u ≡ record { 0 = v } = cc in ap (λ (x : ValueId). x.0) w) in rw e (o.below τ S ps a c d l);
+        below = λ u y. let e : u ≡ v = cc in rw e (o.below τ S ps a c d l);
       }
 
 -- the first projection is an Integer literal
@@ -135,21 +144,21 @@ first_integer_lem (Index Value.Error ∷ ps) = refl
 first_integer_lem (Field n ∷ ps) = refl
 first_integer_lem (Tuple k ∷ ps) = refl
 
-module _ (τ : Types) (S : AggStates) (v : ValueId) (ps : List Projection) (last : ℕ) (p : Step) {h : Bool} (e : h ≡ integer_step (as_step p)) (look : as_step p ≡ get_elem? ps 0) where
+module _ (τ : Types) (S : AggStates) (v : ValueId) (ps : List Projection) (last : ℕ) (p : Answered Projection) {h : Bool} (e : h ≡ integer_step (as_option p)) (look : as_option p ≡ get_elem? ps 0) where
   told_first : h ≡ is_some (first_integer ps)
   told_first = e ∙ ap integer_step look ∙ first_integer_lem ps
 
   -- it is not
-  pub held_not : {next : ℕ} → h ≡ false → LeadsTo next (held τ S v ps last) Walked.Nothing
+  pub held_not : {next : ℕ} → h ≡ false → LeadsTo next (held τ S v ps last) None
   unfolding held on_some is_some
   held_not {next} f = go (first_integer ps) refl
     where
-      go : (o : Option ℕ) → first_integer ps ≡ o → LeadsTo next (held τ S v ps last) Walked.Nothing
+      go : (o : Option ℕ) → first_integer ps ≡ o → LeadsTo next (held τ S v ps last) None
       go none g = record { told = rw g; below = λ u y. absurd (let n : ◌≡◌ {A = ℕ} 0 1 = cc in omega arith) }
       go (some k) g = absurd (let z : false ≡ true = sym f ∙ told_first ∙ rw g in let n : ◌≡◌ {A = ℕ} 0 1 = cc in omega arith)
 
   -- it is: the walk's answer
-  pub held_walked : {next : ℕ} {r : Walked} → h ≡ true → LeadsTo next (chain τ S (Value.Operand v) (take last ps)) r → LeadsTo next (held τ S v ps last) r
+  pub held_walked : {next : ℕ} {r : Answered ValueId} → h ≡ true → LeadsTo next (chain τ S (Value.Operand v) (take last ps)) r → LeadsTo next (held τ S v ps last) r
   unfolding held on_some is_some
   held_walked {next} {r} f w = go (first_integer ps) refl
     where
@@ -158,5 +167,5 @@ module _ (τ : Types) (S : AggStates) (v : ValueId) (ps : List Projection) (last
       go (some k) g = rw g w
 
 -- what a lookup finds
-pub looked : (b : Bounds) (t : List ℕ) (i : ℕ) (p : Step) → ((seen : List Bool) (late : Bool) (j : Instruction) (n : ℕ) → instruction_of b seen late t ≡ ok j n → as_step p ≡ get_elem? (place_steps j.kind) i) → (ps : List Projection) → StepsAt b t ps → as_step p ≡ get_elem? ps i
+pub looked : (b : Bounds) (t : List ℕ) (i : ℕ) (p : Option Projection) → ((seen : List Bool) (late : Bool) (j : Instruction) (n : ℕ) → instruction_of b seen late t ≡ ok j n → p ≡ get_elem? (place_steps j.kind) i) → (ps : List Projection) → StepsAt b t ps → p ≡ get_elem? ps i
 looked b t i p f ps (steps_at j n e g) = f [] false j n e ∙ ap (λ (qs : List Projection). get_elem? qs i) g

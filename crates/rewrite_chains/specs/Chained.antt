@@ -1,5 +1,5 @@
 -- What the walks over a place's projections answer.
-use Rattle.std.specs.Prelude.{ℕ, ◌<◌, ◌≡◌, List, [], Bool, true, false, length, take, ltb}
+use Rattle.std.specs.Prelude.{ℕ, ◌<◌, ◌≡◌, List, [], Bool, true, false, length, take, ltb, Option as Answered}
 use Rattle.std.proofs.Math.Option.{Option, none, some}
 use Rattle.std.proofs.Math.ListN.{get_elem?}
 use Rattle.bytes_wire.specs.Parse.{ok}
@@ -8,44 +8,32 @@ use Rattle.mir.specs.declared.Value.{Value}
 use Rattle.mir.specs.declared.ValueId.{ValueId}
 use Rattle.mir.specs.declared.TypeId.{TypeId}
 use Rattle.mir.specs.declared.NameId.{NameId}
-use Rattle.mir.specs.Syntax.{Projection, Index, Field, Tuple, Place, Instruction, InstructionKind}
+use Rattle.mir.specs.declared.Projection.{Projection}
+use Rattle.mir.specs.declared.Projection.TheVariants.{Index, Field, Tuple}
+use Rattle.mir.specs.Syntax.{Place, Instruction, InstructionKind}
 use Rattle.bytes_field.specs.Decode.{instruction_of}
 use Rattle.bytes_field.specs.declared.Bounds.{Bounds}
 use Rattle.bytes_index.specs.Table.{recorded_in}
-use Rattle.bytes_operands.specs.Fields.{place_steps, as_step}
-use Rattle.bytes_operands.specs.declared.Step.{Step}
+use Rattle.bytes_operands.specs.Fields.{place_steps}
 use Rattle.mir.specs.Lookup.{is_some, Types, on_some, value_row}
+use Rattle.mir.specs.Option.{as_option}
 use Rattle.bytes_struct.specs.FindField.{find_field}
-use Rattle.bytes_struct.specs.Found.{as_found}
-use Rattle.bytes_struct.specs.declared.FieldLookup.{FieldLookup}
+use Rattle.bytes_struct.specs.declared.FoundField.{FoundField}
 use Rattle.fold.specs.Family.{Marks}
 use Rattle.fold.specs.Tables.{Known, Ground}
 use Rattle.rewrite.specs.State.{AggStates, chain, first_integer, step_part, store_part, store_last, forward_store}
 use Rattle.mir.specs.Most.{most_values}
-use Rattle.rewrite_parts.specs.Rows.{ValueAt, Rep, Room, InitAt}
+use Rattle.rewrite_parts.specs.Rows.{ValueAt, Rep, Room, InitAt, told, used_after}
 use Rattle.rewrite_parts.specs.Here.{Here}
-use Rattle.rewrite_parts.specs.declared.Init.{Init}
-use Rattle.rewrite_chains.specs.declared.Position.{Position}
-use Rattle.rewrite_chains.specs.declared.Walked.{Walked}
-use Rattle.rewrite_chains.specs.declared.Forwarded.{Forwarded}
-
--- a part's number, and an operand, where there is one
-abbrev pub as_position : Position → Option ℕ
-as_position (Position.At k) = some k
-as_position Position.Nothing = none
-
-abbrev pub as_walked : Walked → Option ValueId
-as_walked (Walked.Operand v) = some v
-as_walked Walked.Nothing = none
 
 -- a field by its name in the recorded type of v
-abbrev pub FoundInType : List ℕ → List ℕ → ℕ → List ℕ → ValueId → NameId → FieldLookup → Type 0
+abbrev pub FoundInType : List ℕ → List ℕ → ℕ → List ℕ → ValueId → NameId → Answered FoundField → Type 0
 FoundInType s types many recorded v name r =
     (most : ℕ) (τ : Types)
     → Known most s types recorded τ
     → length τ.rows ≡ many
     → v.0 < length τ.recorded
-    → as_found r ≡ find_field (value_row τ v) name
+    → as_option r ≡ find_field (value_row τ v) name
 
 -- the value where it is an operand
 abbrev pub operand_in : Option Value → Option ValueId
@@ -55,9 +43,9 @@ operand_in (some (Value.Operand v)) = some v
 operand_in (some Value.Error) = none
 
 -- where a walk comes to, if that is an operand
-pub record LeadsTo (next : ℕ) (o : Option Value) (r : Walked) : Type 0 where
-  pub told : as_walked r ≡ operand_in o
-  pub below : (v : ValueId) → as_walked r ≡ some v → v.0 < next
+pub record LeadsTo (next : ℕ) (o : Option Value) (r : Answered ValueId) : Type 0 where
+  pub told : as_option r ≡ operand_in o
+  pub below : (v : ValueId) → as_option r ≡ some v → v.0 < next
 
 -- a part of a value, by its position
 abbrev pub part_at : AggStates → ValueId → Option ℕ → Option Value
@@ -79,16 +67,15 @@ pub data StepsAt (b : Bounds) (t : List ℕ) (ps : List Projection) : Type 0 whe
   steps_at : (i : Instruction) (n : ℕ) → instruction_of b [] false t ≡ ok i n → place_steps i.kind ≡ ps → StepsAt b t ps
 
 -- so it is with the part of v that a projection names
-abbrev pub OfStep : Bounds → List ℕ → List ℕ → Marks → List ℕ → ValueId → Step → (Option Value → Type 0) → Type 0
+abbrev pub OfStep : Bounds → List ℕ → List ℕ → Marks → List ℕ → ValueId → Projection → (Option Value → Type 0) → Type 0
 OfStep b s facts tracked rows v p So =
-    (τ : Types) (S : AggStates) (q : Projection)
+    (τ : Types) (S : AggStates)
     → Walking b s facts tracked rows τ S
     → v.0 < b.next
-    → as_step p ≡ some q
-    → So (step_part τ S (Value.Operand v) q)
+    → So (step_part τ S (Value.Operand v) p)
 
 -- a walk from `base` on, by the projections ps of the instruction t, of which there are enough, comes to `end`
-abbrev pub OfSteps : Bounds → List ℕ → List ℕ → List ℕ → Marks → List ℕ → ValueId → Walked
+abbrev pub OfSteps : Bounds → List ℕ → List ℕ → List ℕ → Marks → List ℕ → ValueId → Answered ValueId
     → (List Projection → Type 0)
     → (Types → AggStates → List Projection → Option Value)
     → Type 0
@@ -126,13 +113,13 @@ unfoldable pub states_after : AggStates → Option AggStates → AggStates
 states_after S none = S
 states_after S (some S') = S'
 
--- a Store's answer: whether it is forwarded, and the tables hold the states behind it
-pub record Forwards (next : ℕ) (s : List ℕ) (S : AggStates) (o : Option AggStates) (tracked : Marks) (rows : List ℕ) (r : Forwarded) : Type 0 where
-  pub told : r.forwarded ≡ is_some o
-  pub rep : Rep next s tracked rows r.used (states_after S o)
+-- a Store's answer: it tells whether it is forwarded, and the tables hold the states behind it
+pub record Forwards (next : ℕ) (s : List ℕ) (S : AggStates) (o : Option AggStates) (tracked : Marks) (rows : List ℕ) (used : ℕ) (r : Answered ℕ) : Type 0 where
+  pub is_told : told r ≡ is_some o
+  pub rep : Rep next s tracked rows (used_after used r) (states_after S o)
 
 -- the Load in a slot: the part that it takes
-abbrev pub PartLoaded : Bounds → List ℕ → List ℕ → ℕ → Marks → List ℕ → Init → Type 0
+abbrev pub PartLoaded : Bounds → List ℕ → List ℕ → ℕ → Marks → List ℕ → Answered ℕ → Type 0
 PartLoaded b s facts slot tracked rows r =
     (τ : Types) (S : AggStates) (used : ℕ) (i : Instruction) (d : ValueId) (p : Place) (y : TypeId)
     → Here b s facts slot tracked rows used τ S i
@@ -140,33 +127,32 @@ PartLoaded b s facts slot tracked rows r =
     → InitAt b.next s (loaded_part τ S p) r
 
 -- part k of v is the value at a place
-abbrev pub PartStored : ValueId → ℕ → ℕ → Marks → List ℕ → ℕ → Marks → List ℕ → Forwarded → Type 0
+abbrev pub PartStored : ValueId → ℕ → ℕ → Marks → List ℕ → ℕ → Marks → List ℕ → Answered ℕ → Type 0
 PartStored v k place tracked rows used tracked' rows' r =
     (next : ℕ) (s : List ℕ) (S : AggStates) (y : Value)
     → Rep next s tracked rows used S
     → Room rows used
     → v.0 < most_values
     → ValueAt next s place y
-    → Forwards next s S (store_part S v k y) tracked' rows' r
+    → Forwards next s S (store_part S v k y) tracked' rows' used r
 
 -- the part of v that a projection names is the value at a place
-abbrev pub LastStored : Bounds → List ℕ → List ℕ → ValueId → Step → ℕ → Marks → List ℕ → ℕ → Marks → List ℕ → Forwarded → Type 0
+abbrev pub LastStored : Bounds → List ℕ → List ℕ → ValueId → Projection → ℕ → Marks → List ℕ → ℕ → Marks → List ℕ → Answered ℕ → Type 0
 LastStored b s facts v p place tracked rows used tracked' rows' r =
-    (τ : Types) (S : AggStates) (q : Projection) (y : Value)
+    (τ : Types) (S : AggStates) (y : Value)
     → Ground b s facts (recorded_in facts) τ
     → Rep b.next s tracked rows used S
     → Room rows used
     → v.0 < b.next
-    → as_step p ≡ some q
     → ValueAt b.next s place y
-    → Forwards b.next s S (store_last τ S (Value.Operand v) q y) tracked' rows' r
+    → Forwards b.next s S (store_last τ S (Value.Operand v) p y) tracked' rows' used r
 
 -- the Store in a slot: whether it is forwarded, and the states behind it
-abbrev pub StoreForwarded : Bounds → List ℕ → List ℕ → ℕ → Marks → List ℕ → ℕ → Marks → List ℕ → Forwarded → Type 0
+abbrev pub StoreForwarded : Bounds → List ℕ → List ℕ → ℕ → Marks → List ℕ → ℕ → Marks → List ℕ → Answered ℕ → Type 0
 StoreForwarded b s facts slot tracked rows used tracked' rows' r =
     (τ : Types) (S : AggStates) (i : Instruction) (p : Place) (x : Value) (y : TypeId)
     → Here b s facts slot tracked rows used τ S i
     → Room rows used
     → i.kind ≡ InstructionKind.Store p x y
-    → (r.forwarded ≡ is_some (forward_store τ S p x))
-    × Rep b.next s tracked' rows' r.used (states_after S (forward_store τ S p x))
+    → (told r ≡ is_some (forward_store τ S p x))
+    × Rep b.next s tracked' rows' (used_after used r) (states_after S (forward_store τ S p x))

@@ -3,17 +3,14 @@
 
 mod path;
 
-ghost use Rattle.std.specs.Prelude.{◌+◌, ◌≤◌, ◌<◌};
+ghost use Rattle.std.specs.Prelude.{◌+◌, ◌≤◌, ◌<◌, IfSome};
 ghost use Rattle.rewrite_parts.specs.Rows.{row_most, used_below};
 ghost use Rattle.rewrite_chains.specs.Chained.{FoundInType};
 ghost use Rattle.rewrite_chains.specs.Chained.{PartLoaded, PartStored, LastStored, StoreForwarded};
 
 use bytes_field::Bounds;
-use bytes_lookup::TypeFound;
-use bytes_operands::Step;
-use bytes_struct::FieldLookup;
-use mir::{NameId, ValueId};
-use rewrite_parts::Init;
+use bytes_struct::FoundField;
+use mir::{NameId, Projection, ValueId};
 
 // Where the number of projections stands in the fields of a Load, behind its dest and its base, and in those of a Store,
 // behind its base; the projections stand behind it.
@@ -23,28 +20,7 @@ const STORE_STEPS: usize = 2;
 
 const STORE_FIRST_STEP: usize = 3;
 
-// The number of a part, or none.
-#[derive(Clone, Copy)]
-pub enum Position {
-    At(u32),
-    Nothing,
-}
-
-// The operand that a walk comes to, or none.
-#[derive(Clone, Copy)]
-pub enum Walked {
-    Operand(ValueId),
-    Nothing,
-}
-
-// Whether a Store went into the states, and how much of the rows is used then.
-#[derive(Clone, Copy)]
-pub struct Forwarded {
-    pub forwarded: bool,
-    pub used: usize,
-}
-
-// A field by its name in the recorded type of a value; absent where it has none.
+// A field by its name in the recorded type of a value, where it has one.
 pub fn value_field(
     s: &[u8],
     types: &[u16],
@@ -52,13 +28,11 @@ pub fn value_field(
     recorded: &[u16],
     v: ValueId,
     name: NameId,
-) -> FieldLookup
+) -> Option<FoundField>
     ensures { FoundInType s.now types.now many recorded.now v name result }
 {
-    match bytes_lookup::recorded_type(recorded, v) {
-        TypeFound::Type(t) => bytes_struct::find_field(s, types, many, t, name),
-        TypeFound::Nothing => FieldLookup::Absent,
-    }
+    let t = bytes_lookup::recorded_type(recorded, v)?;
+    bytes_struct::find_field(s, types, many, t, name)
 }
 
 // sroa.rs 1489, `forward_projection_chain`: the place of the part that the Load in a slot takes.
@@ -69,32 +43,22 @@ pub fn load_part(
     slot: u16,
     tracked: &[bool],
     rows: &[u16],
-) -> Init
+) -> Option<usize>
     ensures { PartLoaded b s.now facts.now slot tracked.now rows.now result }
 {
     let t = bytes_field::tail(s, bytes_index::place(facts, slot));
     let u = bytes_field::tail(t, bytes_operands::fields_place(t));
     let n = bytes_wire::byte_at(u, LOAD_STEPS);
     if n == 0 {
-        return Init {
-            given: false,
-            place: 0,
-        };
+        return None;
     }
     let base = bytes_index::read(facts, slot, 0);
-    match path::holder(s, t, b, facts, tracked, rows, base, n - 1) {
-        Walked::Nothing => Init {
-            given: false,
-            place: 0,
-        },
-        Walked::Operand(v) => {
-            let p = bytes_operands::projection(t, b, n - 1);
-            path::step_part(s, b, facts, tracked, rows, v, p)
-        }
-    }
+    let v = path::holder(s, t, b, facts, tracked, rows, base, n - 1)?;
+    let p = bytes_operands::projection(t, b, n - 1)?;
+    path::step_part(s, b, facts, tracked, rows, v, p)
 }
 
-// Part `k` of `v` is the value at a place now, where `v` is tracked and has that part.
+// Part `k` of `v` is the value at a place now, where `v` is tracked and has that part: how much of the rows is used then.
 fn store_part(
     tracked: &mut [bool],
     rows: &mut [u16],
@@ -102,23 +66,17 @@ fn store_part(
     v: ValueId,
     k: u32,
     place: usize,
-) -> Forwarded
+) -> Option<usize>
     requires { used < used_below }
-    ensures used_bound { result.used ≤ used + row_most }
+    ensures used_bound { IfSome result (λ end. end ≤ used + row_most) }
     ensures part_stored { PartStored v k place tracked.old rows.old used
         tracked.new rows.new result }
 {
-    if path::has_part(tracked, rows, v, k) {
-        let more = rewrite_parts::replace(tracked, rows, used, v, v, k, place);
-        return Forwarded {
-            forwarded: true,
-            used: more,
-        };
+    if !path::has_part(tracked, rows, v, k) {
+        return None;
     }
-    Forwarded {
-        forwarded: false,
-        used: used,
-    }
+    let more = rewrite_parts::replace(tracked, rows, used, v, v, k, place);
+    Some(more)
 }
 
 // The part of `v` that a projection names is the value at a place now.
@@ -130,24 +88,20 @@ fn store_last(
     rows: &mut [u16],
     used: usize,
     v: ValueId,
-    p: Step,
+    p: Projection,
     place: usize,
-) -> Forwarded
+) -> Option<usize>
     requires { used < used_below }
-    ensures used_bound { result.used ≤ used + row_most }
+    ensures used_bound { IfSome result (λ end. end ≤ used + row_most) }
     ensures last_stored { LastStored b s.now facts.now v p place tracked.old rows.old used
         tracked.new rows.new result }
 {
-    match path::step_index(s, b, facts, bytes_index::recorded(facts), v, p) {
-        Position::At(k) => store_part(tracked, rows, used, v, k, place),
-        Position::Nothing => Forwarded {
-            forwarded: false,
-            used: used,
-        },
-    }
+    let k = path::step_index(s, b, facts, bytes_index::recorded(facts), v, p)?;
+    store_part(tracked, rows, used, v, k, place)
 }
 
-// sroa.rs 1548, `try_forward_store_chain`: the Store in a slot changes the part that its projections name.
+// sroa.rs 1548, `try_forward_store_chain`: the Store in a slot changes the part that its projections name: how much of the
+// rows is used then, or nothing where it changes none.
 pub fn forward_store(
     s: &[u8],
     b: Bounds,
@@ -156,9 +110,9 @@ pub fn forward_store(
     tracked: &mut [bool],
     rows: &mut [u16],
     used: usize,
-) -> Forwarded
+) -> Option<usize>
     requires { used < used_below }
-    ensures used_bound { result.used ≤ used + row_most }
+    ensures used_bound { IfSome result (λ end. end ≤ used + row_most) }
     ensures store_forwarded { StoreForwarded b s.now facts.now slot tracked.old rows.old used
         tracked.new rows.new result }
 {
@@ -168,21 +122,11 @@ pub fn forward_store(
     let u = bytes_field::tail(t, f);
     let n = bytes_wire::byte_at(u, STORE_STEPS);
     if n == 0 {
-        return Forwarded {
-            forwarded: false,
-            used: used,
-        };
+        return None;
     }
     let base = bytes_index::read(facts, slot, 0);
-    match path::holder(s, t, b, facts, tracked, rows, base, n - 1) {
-        Walked::Nothing => Forwarded {
-            forwarded: false,
-            used: used,
-        },
-        Walked::Operand(v) => {
-            let p = bytes_operands::projection(t, b, n - 1);
-            let far = bytes_operands::projections_end(u, STORE_FIRST_STEP, n);
-            store_last(s, b, facts, tracked, rows, used, v, p, at + f + far)
-        }
-    }
+    let v = path::holder(s, t, b, facts, tracked, rows, base, n - 1)?;
+    let p = bytes_operands::projection(t, b, n - 1)?;
+    let far = bytes_operands::projections_end(u, STORE_FIRST_STEP, n);
+    store_last(s, b, facts, tracked, rows, used, v, p, at + f + far)
 }

@@ -1,49 +1,29 @@
 // The steps of a chain of projections.
 ghost use Rattle.std.specs.Prelude.{◌≡◌, List, ℕ, ◌+◌, ◌≤◌, ◌<◌, length, take};
 ghost use Rattle.std.proofs.Math.Option.{some};
-ghost use Rattle.bytes_wire.specs.WellFormed.{Bytes};
 ghost use Rattle.mir.specs.declared.Value.{Value as AnyValue};
-ghost use Rattle.mir.specs.Syntax.{Projection};
-ghost use Rattle.bytes_operands.specs.Fields.{as_step};
+ghost use Rattle.mir.specs.Option.{as_option};
 ghost use Rattle.mir.specs.Lookup.{Types, as_const_integer};
-ghost use Rattle.bytes_struct.specs.FindField.{position_in};
-ghost use Rattle.bytes_struct.specs.Found.{as_found};
 ghost use Rattle.fold.specs.Tables.{Ground};
 ghost use Rattle.rewrite.specs.State.{AggStates, step_index, chain};
 ghost use Rattle.rewrite_parts.specs.Rows.{ValueAt, Rep, InitAt};
-ghost use Rattle.rewrite_chains.specs.Chained.{as_position, LeadsTo, has_part, part_at, OfStep, OfSteps, integer_step, held};
+ghost use Rattle.rewrite_chains.specs.Chained.{LeadsTo, has_part, OfStep, OfSteps, integer_step, held};
+ghost use Rattle.bytes_wire.specs.WellFormed.{Bytes};
 ghost use Rattle.table.specs.Number.{numbers_below};
 
-use crate::{Position, Walked};
 use bytes_field::Bounds;
-use bytes_operands::Step;
-use bytes_struct::FieldLookup;
-use bytes_wire::ReadValue;
-use mir::{Literal, Value, ValueId};
-use rewrite_parts::Init;
+use mir::{Literal, Projection, Value, ValueId};
 
 // value.rs, `as_const_integer`.
-fn const_integer(x: Value) -> Position
-    ensures { as_position result ≡ as_const_integer x }
+fn const_integer(x: Value) -> Option<u32>
+    ensures { as_option result ≡ as_const_integer x }
 {
     match x {
-        Value::Literal(l) => match l {
-            Literal::Integer(k) => Position::At(k),
-            Literal::Boolean(b) => Position::At(b as u32),
-            Literal::Unit => Position::Nothing,
-        },
-        Value::Operand(_) => Position::Nothing,
-        Value::Error => Position::Nothing,
-    }
-}
-
-// The position of a field that was looked for.
-fn position_of(f: FieldLookup) -> Position
-    ensures { as_position result ≡ position_in (as_found f) }
-{
-    match f {
-        FieldLookup::Found { position, .. } => Position::At(position),
-        FieldLookup::Absent => Position::Nothing,
+        Value::Literal(Literal::Integer(k)) => Some(k),
+        Value::Literal(Literal::Boolean(b)) => Some(b as u32),
+        Value::Literal(Literal::Unit) => None,
+        Value::Operand(_) => None,
+        Value::Error => None,
     }
 }
 
@@ -54,18 +34,18 @@ pub fn step_index(
     types: &[u16],
     recorded: &[u16],
     v: ValueId,
-    p: Step,
-) -> Position
-    ensures { (τ : Types) (q : Projection) → Ground b s.now types.now recorded.now τ → v.0 < b.next
-        → as_step p ≡ some q → as_position result ≡ step_index τ v q }
+    p: Projection,
+) -> Option<u32>
+    ensures { (τ : Types) → Ground b s.now types.now recorded.now τ → v.0 < b.next
+        → as_option result ≡ step_index τ v p }
 {
     match p {
-        Step::Index(x) => const_integer(x),
-        Step::Field(name) => {
-            position_of(crate::value_field(s, types, b.types, recorded, v, name))
+        Projection::Index(x) => const_integer(x),
+        Projection::Field(name) => {
+            let found = crate::value_field(s, types, b.types, recorded, v, name)?;
+            Some(found.position)
         }
-        Step::Tuple(k) => Position::At(k),
-        Step::Nothing => Position::Nothing,
+        Projection::Tuple(k) => Some(k),
     }
 }
 
@@ -80,32 +60,7 @@ pub fn has_part(tracked: &[bool], rows: &[u16], v: ValueId, k: u32) -> bool
     k < rewrite_parts::part_count(rows, v) as u32
 }
 
-// A value's part at a position, where it is tracked and has that part.
-fn part_at(tracked: &[bool], rows: &[u16], v: ValueId, q: Position) -> Init
-    ensures { (next : ℕ) (s : List ℕ) (used : ℕ) (S : AggStates) → Rep next s tracked.now rows.now used S
-        → InitAt next s (part_at S v (as_position q)) result }
-{
-    match q {
-        Position::Nothing => Init {
-            given: false,
-            place: 0,
-        },
-        Position::At(k) => {
-            if has_part(tracked, rows, v, k) {
-                return Init {
-                    given: true,
-                    place: rewrite_parts::part_place(rows, v, k),
-                };
-            }
-            Init {
-                given: false,
-                place: 0,
-            }
-        }
-    }
-}
-
-// One step of a chain: the part of `v` that a projection names.
+// One step of a chain: where the part of `v` that a projection names stands, where `v` is tracked and has that part.
 pub fn step_part(
     s: &[u8],
     b: Bounds,
@@ -113,31 +68,27 @@ pub fn step_part(
     tracked: &[bool],
     rows: &[u16],
     v: ValueId,
-    p: Step,
-) -> Init
+    p: Projection,
+) -> Option<usize>
     ensures { OfStep b s.now facts.now tracked.now rows.now v p
         (λ x. InitAt b.next s.now x result) }
 {
-    part_at(
-        tracked,
-        rows,
-        v,
-        step_index(s, b, facts, bytes_index::recorded(facts), v, p),
-    )
+    let k = step_index(s, b, facts, bytes_index::recorded(facts), v, p)?;
+    if !has_part(tracked, rows, v, k) {
+        return None;
+    }
+    Some(rewrite_parts::part_place(rows, v, k))
 }
 
 // The value that stands at a place, where it is an operand.
-fn operand_at(s: &[u8], at: usize, next: u16) -> Walked
+fn operand_at(s: &[u8], at: usize, next: u16) -> Option<ValueId>
     ensures { (x : AnyValue) → Bytes s.now → next ≤ numbers_below
         → ValueAt next s.now at x → LeadsTo next (some x) result }
 {
-    match bytes_wire::read_value(bytes_field::tail(s, at), next) {
-        ReadValue::Refused(_, _) => Walked::Nothing,
-        ReadValue::Got(x, _) => match x {
-            Value::Literal(_) => Walked::Nothing,
-            Value::Operand(v) => Walked::Operand(v),
-            Value::Error => Walked::Nothing,
-        },
+    match bytes_operands::value_at(s, at, next) {
+        Value::Operand(v) => Some(v),
+        Value::Literal(_) => None,
+        Value::Error => None,
     }
 }
 
@@ -149,15 +100,12 @@ fn step_operand(
     tracked: &[bool],
     rows: &[u16],
     v: ValueId,
-    p: Step,
-) -> Walked
+    p: Projection,
+) -> Option<ValueId>
     ensures { OfStep b s.now facts.now tracked.now rows.now v p (λ x. LeadsTo b.next x result) }
 {
-    let part = step_part(s, b, facts, tracked, rows, v, p);
-    if !part.given {
-        return Walked::Nothing;
-    }
-    operand_at(s, part.place, b.next)
+    let place = step_part(s, b, facts, tracked, rows, v, p)?;
+    operand_at(s, place, b.next)
 }
 
 // The operand that the first `k` projections of the instruction `t` lead to, from `base` on.
@@ -170,43 +118,26 @@ fn walk(
     rows: &[u16],
     base: ValueId,
     k: u8,
-) -> Walked
+) -> Option<ValueId>
     ensures { OfSteps b s.now facts.now t.now tracked.now rows.now base result
         (λ ps. k ≤ length ps) (λ τ S ps. chain τ S (AnyValue.Operand base) (take k ps)) }
 {
-    let mut v = base.0;
-    let mut i: u8 = 0;
-    while i < k {
-        let p = bytes_operands::projection(t, b, i);
-        match step_operand(s, b, facts, tracked, rows, ValueId(v), p) {
-            Walked::Nothing => return Walked::Nothing,
-            Walked::Operand(w) => {
-                v = w.0;
-            }
-        }
-        i = i + 1;
+    let mut v = base;
+    for i in 0..k {
+        let p = bytes_operands::projection(t, b, i)?;
+        v = step_operand(s, b, facts, tracked, rows, v, p)?;
     }
-    Walked::Operand(ValueId(v))
+    Some(v)
 }
 
 // The projection is an Index by an Integer literal.
-fn is_integer(p: Step) -> bool
-    ensures { result ≡ integer_step (as_step p) }
+fn is_integer(p: Option<Projection>) -> bool
+    ensures { result ≡ integer_step (as_option p) }
 {
-    match p {
-        Step::Index(x) => match x {
-            Value::Literal(l) => match l {
-                Literal::Integer(_) => true,
-                Literal::Boolean(_) => false,
-                Literal::Unit => false,
-            },
-            Value::Operand(_) => false,
-            Value::Error => false,
-        },
-        Step::Field(_) => false,
-        Step::Tuple(_) => false,
-        Step::Nothing => false,
-    }
+    matches!(
+        p,
+        Some(Projection::Index(Value::Literal(Literal::Integer(_))))
+    )
 }
 
 // The value of which the last projection, number `last`, names a part. The first one is an Integer literal.
@@ -219,12 +150,12 @@ pub fn holder(
     rows: &[u16],
     base: ValueId,
     last: u8,
-) -> Walked
+) -> Option<ValueId>
     ensures { OfSteps b s.now facts.now t.now tracked.now rows.now base result
         (λ ps. length ps ≡ last + 1) (λ τ S ps. held τ S base ps last) }
 {
-    if is_integer(bytes_operands::projection(t, b, 0)) {
-        return walk(s, t, b, facts, tracked, rows, base, last);
+    if !is_integer(bytes_operands::projection(t, b, 0)) {
+        return None;
     }
-    Walked::Nothing
+    walk(s, t, b, facts, tracked, rows, base, last)
 }

@@ -26,8 +26,8 @@ use Rattle.bytes_operands.proofs.Instruction.{chosen, instruction_fields}
 use Rattle.fold.specs.declared.Settings.{Settings}
 use Rattle.mir.specs.Lookup.{Types, row_of, is_aggregate, on_some}
 use Rattle.bytes_struct.specs.FindField.{find_field, field_index}
-use Rattle.bytes_struct.specs.Found.{as_found}
-use Rattle.bytes_struct.specs.declared.FieldLookup.{FieldLookup}
+use Rattle.bytes_struct.specs.declared.FoundField.{FoundField}
+use Rattle.std.specs.Prelude.{Option as Answered}
 use Rattle.mir.specs.Parts.{struct_parts}
 use Rattle.fold.specs.Family.{Marks, build_dest}
 use Rattle.rewrite.specs.State.{AggStates, state_of, replaced, first_integer}
@@ -35,7 +35,6 @@ use Rattle.rewrite.specs.Rebuild.{aggregate_type}
 use Rattle.rewrite.specs.Step.{Piece, kept, guarded, step, step_kind, step_build, folded_parts, step_insert, step_load, step_assign, extract_index}
 use Rattle.rewrite_parts.specs.Rows.{ValueAt, Values, Inits, InitAt}
 use Rattle.rewrite_parts.specs.Here.{Here}
-use Rattle.rewrite_parts.specs.declared.Init.{Init}
 use Rattle.rewrite_parts.proofs.Builds.{build_values, build_inits}
 use Rattle.rewrite_chains.specs.Chained.{loaded_part}
 use Rattle.rewrite_arms.specs.Decided.{Planned, SpotAt, Below, step_taken, acts}
@@ -133,7 +132,7 @@ module _ {b : Bounds} {s facts : List ℕ} {slot : ℕ} {tracked : Marks} {rows 
             rw (← dest_is dd, o) (f (dest_below dd))
 
     -- a Load
-    pub load_step : {r : Plan} → kind_number i.kind ≡ 5 → σ.tuples ≡ true → (t : TypeId) (whole : Bool) (init : Init) → Typed t → whole ≡ is_aggregate (row_of τ (some t)) → ((d : ValueId) (q : Place) (y : TypeId) → i.kind ≡ InstructionKind.Load d q y → InitAt b.next s (loaded_part τ S q) init)
+    pub load_step : {r : Plan} → kind_number i.kind ≡ 5 → σ.tuples ≡ true → (t : TypeId) (whole : Bool) (init : Answered ℕ) → Typed t → whole ≡ is_aggregate (row_of τ (some t)) → ((d : ValueId) (q : Place) (y : TypeId) → i.kind ≡ InstructionKind.Load d q y → InitAt b.next s (loaded_part τ S q) init)
         → ((o : Option Value) → p.dest.0 < b.next → InitAt b.next s o init → Plans r (step_taken whole S i p.dest t o)) → Done r
     unfolding step step_kind guarded
     load_step {r} e on t whole init ft fw fi f = go i.kind (0 + c.size) ((load_stands b (drop p.off s)).each i.kind c.size c.read) refl refl
@@ -188,27 +187,27 @@ module _ {b : Bounds} {s facts : List ℕ} {slot : ℕ} {tracked : Marks} {rows 
             rw (on, ← dest_is dd, ← operand_is fx o, index_is q fe fk) (f v (dest_below dd) there)
 
     -- an insert of a struct's field: where its type has the name, and where not
-    module _ (e : kind_number i.kind ≡ 14) (on : σ.structs ≡ true) (name : NameId) (t : TypeId) (end : ℕ) (o : FieldLookup) (fe : end ≡ value_end s (p.off + 2)) (fk : name.0 ≡ at16 s end) (ft : Typed t) (fo : as_found o ≡ find_field (get_elem? τ.rows t.0) name) where
+    module _ (e : kind_number i.kind ≡ 14) (on : σ.structs ≡ true) (name : NameId) (t : TypeId) (end : ℕ) (o : Option FoundField) (fe : end ≡ value_end s (p.off + 2)) (fk : name.0 ≡ at16 s end) (ft : Typed t) (fo : o ≡ find_field (get_elem? τ.rows t.0) name) where
       c : Chosen 14
       c = chose 14 e
 
-      pub insert_field_step : {r : Plan} {part : TypeId} {many : ℕ} (x : Value) (k : ℕ) → Operand x → o ≡ FieldLookup.Found k part many → ((y : Value) → p.dest.0 < b.next → ValueAt b.next s (end + 2) y → Plans r (step_insert S i p.dest (on_some (state_of S x) (λ xs. replaced xs k y)))) → Done r
+      pub insert_field_step : {r : Plan} (x : Value) (z : FoundField) → Operand x → o ≡ some z → ((y : Value) → p.dest.0 < b.next → ValueAt b.next s (end + 2) y → Plans r (step_insert S i p.dest (on_some (state_of S x) (λ xs. replaced xs z.position y)))) → Done r
       unfolding step step_kind guarded row_of on_some field_index
-      insert_field_step {r} {part} {many} x k fx at f = go i.kind (0 + c.size) ((insert_field_stands b (drop p.off s)).each i.kind c.size c.read) refl
+      insert_field_step {r} x r' fx at f = go i.kind (0 + c.size) ((insert_field_stands b (drop p.off s)).each i.kind c.size c.read) refl
         where
           go : (kind : InstructionKind) (a : ℕ) → IsInsertField b (drop p.off s) kind a → a ≡ 0 + c.size → Plans r (step_kind σ τ folds S m i kind)
           go kind a (is_insert_field d y j v u dd l q w tw) z =
               let there : ValueAt b.next s (end + 2) v = value_behind b.next s p.off (value_end (drop p.off s) 2 + 2) (end + 2) v (omega (arith, behind_value p.off 2 s, fe)) w in
-              let found : find_field (get_elem? τ.rows t.0) name ≡ some (record { position = k; part = part; fields = many }) = sym fo ∙ ap as_found at in
+              let found : find_field (get_elem? τ.rows t.0) name ≡ some r' = sym fo ∙ at in
               rw (on, ← dest_is dd, ← operand_is fx l, ← type_is c tw z ft, name_is {name = name} q fe fk, found) (f v (dest_below dd) there)
 
-      pub insert_field_unknown : o ≡ FieldLookup.Absent → step σ τ folds S m i ≡ kept S i
+      pub insert_field_unknown : o ≡ none → step σ τ folds S m i ≡ kept S i
       unfolding step step_kind guarded row_of on_some field_index step_insert
       insert_field_unknown at = go i.kind (0 + c.size) ((insert_field_stands b (drop p.off s)).each i.kind c.size c.read) refl
         where
           go : (kind : InstructionKind) (a : ℕ) → IsInsertField b (drop p.off s) kind a → a ≡ 0 + c.size → step_kind σ τ folds S m i kind ≡ kept S i
           go kind a (is_insert_field d y j v u dd l q w tw) z =
-              let found : find_field (get_elem? τ.rows t.0) name ≡ none = sym fo ∙ ap as_found at in
+              let found : find_field (get_elem? τ.rows t.0) name ≡ none = sym fo ∙ at in
               rw (on, ← type_is c tw z ft, name_is {name = name} q fe fk, found) refl
 
     -- a build that is taken apart

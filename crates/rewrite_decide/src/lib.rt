@@ -10,7 +10,6 @@ ghost use Rattle.rewrite_decide.specs.Stepped.{Near, always, of_tuples, of_struc
 ghost use Rattle.rewrite_decide.specs.Stepped.{ValuesBuilt, CarriedOut, StepDecided};
 
 use bytes_field::Bounds;
-use bytes_struct::FieldLookup;
 use fold::Settings;
 use mir::{NameId, ValueId, kind};
 use rewrite_arms::{Action, Counted, DEST_BYTES, Decision, PARTS, Plan, Spot};
@@ -27,7 +26,7 @@ fn find_spot(s: &[u8], facts: &[u16], slot: u16) -> Spot
     let at = bytes_index::place(facts, slot);
     let off = at + bytes_operands::fields_place(bytes_field::tail(s, at));
     Spot {
-        off: off,
+        off,
         end: bytes_index::end(facts, slot),
         dest: ValueId(bytes_wire::u16_at(s, off)),
     }
@@ -77,9 +76,9 @@ fn load(
         tracked.now rows.now result }
 {
     let t = rewrite_arms::last_type(s, p.end);
-    let init = rewrite_chains::load_part(s, b, facts, slot, tracked, rows);
+    let found = rewrite_chains::load_part(s, b, facts, slot, tracked, rows);
     let whole = rewrite_arms::is_aggregate(s, facts, b.types, t);
-    rewrite_arms::plan_take(s, b.next, init, t, whole, tracked)
+    rewrite_arms::plan_take(s, b.next, found, t, whole, tracked)
 }
 
 // An extract takes the tuple's element of its index.
@@ -91,8 +90,8 @@ fn extract_element(s: &[u8], b: Bounds, p: Spot, tracked: &[bool], rows: &[u16])
     let x = bytes_operands::value_at(s, p.off + DEST_BYTES, b.next);
     let end = bytes_operands::value_end(s, p.off + DEST_BYTES);
     let t = rewrite_arms::last_type(s, p.end);
-    let init = rewrite_arms::part(tracked, rows, x, bytes_wire::u32_at(s, end));
-    rewrite_arms::plan_take(s, b.next, init, t, true, tracked)
+    let found = rewrite_arms::part(tracked, rows, x, bytes_wire::u32_at(s, end));
+    rewrite_arms::plan_take(s, b.next, found, t, true, tracked)
 }
 
 // An extract takes the struct's field of its name.
@@ -112,8 +111,8 @@ fn extract_field(
     let end = bytes_operands::value_end(s, p.off + DEST_BYTES);
     let t = rewrite_arms::last_type(s, p.end);
     let name = NameId(bytes_wire::u16_at(s, end));
-    let init = rewrite_arms::field_part(s, b, facts, tracked, rows, x, name);
-    rewrite_arms::plan_take(s, b.next, init, t, true, tracked)
+    let found = rewrite_arms::field_part(s, b, facts, tracked, rows, x, name);
+    rewrite_arms::plan_take(s, b.next, found, t, true, tracked)
 }
 
 // An insert replaces the struct's field of its name, which its type has.
@@ -127,9 +126,9 @@ fn insert_field(s: &[u8], b: Bounds, facts: &[u16], p: Spot, tracked: &[bool], r
     let t = rewrite_arms::last_type(s, p.end);
     let name = NameId(bytes_wire::u16_at(s, end));
     match bytes_struct::find_field(s, facts, b.types, t, name) {
-        FieldLookup::Absent => Plan::Keep,
-        FieldLookup::Found { position, .. } => {
-            rewrite_arms::plan_insert(x, position, end + NAME_BYTES, tracked, rows)
+        None => Plan::Keep,
+        Some(found) => {
+            rewrite_arms::plan_insert(x, found.position, end + NAME_BYTES, tracked, rows)
         }
     }
 }
@@ -224,22 +223,22 @@ fn carry_out(
     match plan {
         Plan::Keep => Decision {
             action: Action::Keep,
-            used: used,
+            used,
         },
         Plan::Share { source: v, what: c } => {
             rewrite_parts::share(tracked, rows, d, v);
             Decision {
                 action: Action::Track { dest: d, what: c },
-                used: used,
+                used,
             }
         }
         Plan::Assign { place, named: t } => Decision {
             action: Action::Assign {
                 dest: d,
-                place: place,
+                place,
                 named: t,
             },
-            used: used,
+            used,
         },
         Plan::Replace {
             source: v,

@@ -58,6 +58,7 @@ fn bit_of(recorded: &[u16], next: u16, fresh: &[u16], many: u32, v: u32) -> u8
 }
 
 // The eight bits from value v on, the lowest first.
+// No fold: eight names and one sum are no longer, and the proof goes bit by bit.
 fn map_byte(recorded: &[u16], next: u16, fresh: &[u16], many: u32, v: u32) -> u8
     requires { v < bits_below }
     ensures { OfRecorded recorded.now fresh.now next many (λ all.
@@ -91,11 +92,9 @@ fn put_map(
         out.new ≡ sets out.old to (to_bytes ((next + many + 7) / 8) (map_number all))) }
 {
     let bytes = (next as u32 + many + 7) / BYTE_BITS;
-    let mut k: u32 = 0;
-    while k < bytes {
+    for k in 0..bytes {
         let byte = map_byte(recorded, next, fresh, many, BYTE_BITS * k);
         bytes_emit::put_u8(out, to + k as usize, byte);
-        k = k + 1;
     }
     to + bytes as usize
 }
@@ -139,10 +138,8 @@ fn put_types(
 {
     let all = next as u32 + many;
     let mut p = to;
-    let mut v: u32 = 0;
-    while v < all {
+    for v in 0..all {
         p = put_type(out, p, recorded, next, fresh, many, v);
-        v = v + 1;
     }
     p
 }

@@ -8,10 +8,11 @@ use Rattle.mir.specs.declared.TypeId.{TypeId}
 use Rattle.mir.specs.declared.BlockId.{BlockId}
 use Rattle.mir.specs.declared.Literal.{Literal}
 use Rattle.mir.specs.declared.Value.{Value}
-use Rattle.mir.specs.Syntax.{Projection, Index, Field, Place, FieldInit, Source, InstructionKind, Assign, UnaryOp, BinaryOp, Call, Cast, Load, Store, Debug, Nop, Phi}
+use Rattle.mir.specs.declared.Projection.{Projection}
+use Rattle.mir.specs.declared.Projection.TheVariants.{Index, Field}
+use Rattle.mir.specs.Syntax.{Place, FieldInit, Source, InstructionKind, Assign, UnaryOp, BinaryOp, Call, Cast, Load, Store, Debug, Nop, Phi}
 use Rattle.mir.specs.Syntax.{MakeTuple, ExtractTupleElement, MakeStruct, ExtractStructField, InsertField, InsertTuple, MakeFixedArray, AssertEq, HeapAllocCells}
 use Rattle.mir.specs.Syntax.{Terminator, Jump, If, BranchCmp, Return, Unreachable}
-use Rattle.mir.specs.Syntax as S
 use Rattle.mir.specs.Reads.{dests}
 use Rattle.bytes_field.specs.declared.Bounds.{Bounds}
 use Rattle.mir.specs.Lists.{Each}
@@ -53,7 +54,7 @@ module _ (b c : Bounds) (w : Wider b c) where
   projection_wider : (p : Projection) → FitProjection b p → FitProjection c p
   projection_wider (Index x) h = value_wider x h
   projection_wider (Field n) h = h
-  projection_wider (S.Tuple k) h = h
+  projection_wider (Projection.Tuple k) h = h
 
   pub place_wider : (p : Place) → FitPlace b p → FitPlace c p
   place_wider p h = (omega (arith, h.0, w.next), list_wider w.projections projection_wider p.projections h.1)

@@ -23,15 +23,15 @@ use Rattle.rewrite.specs.State.{AggStates}
 use Rattle.rewrite.specs.Rebuild.{Rebuilt, untouched, rebuild_at, clashes, rebuild_value, rebuild_all}
 use Rattle.rewrite_parts.specs.Rows.{ValueAt, RowAt, Rep, rows_in, fresh_in}
 use Rattle.rewrite_parts.proofs.Tables.{found_row}
-use Rattle.rewrite_build.specs.declared.Rebuilt.{Rebuilt as Answer}
+use Rattle.rewrite.specs.declared.Clash.{Clash}
 use Rattle.bytes_emit.specs.Written.{Writes}
-use Rattle.rewrite_build.specs.Written.{rebuild_bytes, Rebuilds}
+use Rattle.rewrite_build.specs.Written.{rebuild_bytes, Clashes, Written}
 use Rattle.rewrite_progress.specs.declared.Progress.{Progress}
-use Rattle.rewrite_progress.specs.declared.Put.{Put}
+use Rattle.std.specs.Prelude.{Some, None, Option as Answered, Result, Ok, Err}
 use Rattle.rewrite_progress.specs.Effect.{Output, output_of, rebuilt_effect, behind, further, mark_all, type_numbers, Puts, Low}
-use Rattle.rewrite_progress.proofs.Laws.{no_went, no_clash, behind_then, behind_none}
+use Rattle.rewrite_progress.proofs.Laws.{behind_then, behind_none}
 use Rattle.rewrite_wanted.specs.declared.Asks.{Asks}
-use Rattle.rewrite_wanted.specs.declared.Wants.{Wants}
+use Rattle.rewrite_wanted.specs.declared.Build.{Build}
 use Rattle.rewrite_wanted.specs.Asked.{Setting, asked_at, asked_list, Told}
 use Rattle.rewrite_list.specs.declared.ValueList.{ValueList}
 use Rattle.rewrite_list.specs.Lists.{Few, PutFew, Roomy, Lies, ◌&◌, line_count, one_wanted, OfList, BuildsPut, TrackedPut, WantedPut, AllPut}
@@ -67,28 +67,24 @@ pub row_from : {next : ℕ} {s : List ℕ} {tracked : Marks} {rows : List ℕ} {
 row_from v r e f = rw f (found_row r v.0 e).parts
 
 -- one rebuild, under the number n
-module _ (τ : Types) (n : ℕ) (t : TypeId) (xs : List Value) (out out' : List ℕ) (p : Progress) (r : Answer) (d : ℕ) (e : d ≡ n) (w : Rebuilds τ (record { 0 = d }) xs t out out' p.to r) where
-  R : Rebuilt
-  R = rebuild_value τ n t xs (untouched [])
-
+module _ (τ : Types) (n : ℕ) (t : TypeId) (xs : List Value) (out out' : List ℕ) (p : Progress) where
   -- a clash
-  pub build_clash : (fresh fresh' : List ℕ) (dropped : Marks) → r.clash ≡ true → Puts (output_of out fresh dropped p) (rebuilt_effect (rebuild_value τ n t xs (untouched []))) (rebuild_value τ n t xs (untouched [])).clash out' fresh' dropped Put.Clash
+  pub build_clash : Clashes τ xs t out out' → (x : Clash) (fresh fresh' : List ℕ) (dropped : Marks) → Puts (output_of out fresh dropped p) (rebuilt_effect (rebuild_value τ n t xs (untouched []))) (rebuild_value τ n t xs (untouched [])).clash out' fresh' dropped (Err x)
   unfolding rebuild_value
-  build_clash fresh fresh' dropped c =
-      record { clashed = λ _. or-false (clashes xs (row_of τ (some t))) ∙ sym w.clashed ∙ c; went = λ q z. absurd (no_went z) }
+  build_clash w x fresh fresh' dropped = record { clashed = λ _ _. or-false (clashes xs (row_of τ (some t))) ∙ w.told; went = λ q z. absurd (let y : ◌≡◌ {A = ℕ} 0 1 = cc in omega arith) }
 
   -- else it is written
-  pub build_made : (fresh fresh' : List ℕ) (dropped : Marks) (lines : ℕ) → r.clash ≡ false → fresh' ≡ set fresh p.fresh t.0 → lines ≡ line_count p.to r.to
-      → Puts (output_of out fresh dropped p) (rebuilt_effect (rebuild_value τ n t xs (untouched []))) (rebuild_value τ n t xs (untouched [])).clash out' fresh' dropped (Put.Went (record { to = r.to; lines = p.lines + lines; fresh = p.fresh + 1; counts = p.counts }))
+  pub build_made : (to d : ℕ) → d ≡ n → Written τ (record { 0 = d }) xs t out out' p.to to → (fresh fresh' : List ℕ) (dropped : Marks) (lines : ℕ) → fresh' ≡ set fresh p.fresh t.0 → lines ≡ line_count p.to to
+      → Puts (output_of out fresh dropped p) (rebuilt_effect (rebuild_value τ n t xs (untouched []))) (rebuild_value τ n t xs (untouched [])).clash out' fresh' dropped (Ok (record { to = to; lines = p.lines + lines; fresh = p.fresh + 1; counts = p.counts }))
   unfolding rebuild_value rebuilt_effect behind further mark_all type_numbers
-  build_made fresh fresh' dropped lines c f l =
-      let v : Writes (rebuild_bytes τ (record { 0 = n }) xs t) out out' p.to r.to = rw (← e) (w.written c) in
-      let m : lines ≡ length (rebuild_at (record { 0 = n }) xs t (row_of τ (some t))) = l ∙ lines_of (record { 0 = n }) xs t (row_of τ (some t)) p.to r.to v.0 in
+  build_made to d e w fresh fresh' dropped lines f l =
+      let v : Writes (rebuild_bytes τ (record { 0 = n }) xs t) out out' p.to to = rw (← e) w.written in
+      let m : lines ≡ length (rebuild_at (record { 0 = n }) xs t (row_of τ (some t))) = l ∙ lines_of (record { 0 = n }) xs t (row_of τ (some t)) p.to to v.0 in
       record {
-        clashed = λ z. absurd (no_clash z);
+        clashed = λ x z. absurd (let y : ◌≡◌ {A = ℕ} 0 1 = cc in omega arith);
         went = λ q z.
-            let y : q ≡ record { to = r.to; lines = p.lines + lines; fresh = p.fresh + 1; counts = p.counts } = cc in
-            (or-false (clashes xs (row_of τ (some t))) ∙ sym w.clashed ∙ c, rw (y, f, m, v.0, v.1, append-nil) (simp (add-zero)));
+            let y : q ≡ record { to = to; lines = p.lines + lines; fresh = p.fresh + 1; counts = p.counts } = cc in
+            (or-false (clashes xs (row_of τ (some t))) ∙ w.told, rw (y, f, m, v.0, v.1, append-nil) (simp (add-zero)));
       }
 
 -- what is left of the list, where o is the output so far: values from number i on, which stand from `here` on
@@ -189,10 +185,6 @@ few_all p q i many h a = record { to = omega (arith, a.to); lines = omega (arith
 pub roomy_on : (p q : Progress) (i : ℕ) → Low 8000 p → Few p i q → i < 255 → Roomy q
 roomy_on p q i l f h = record { to = omega (arith, l.to, f.to); lines = omega (arith, l.lines, f.lines); fresh = omega (arith, l.fresh, f.fresh) }
 
-pub few_put : (p q : Progress) (k : ℕ) (r : Put) → PutFew p k r → r ≡ Put.Went q → Few p k q
-few_put p q k Put.Clash f e = absurd (no_went e)
-few_put p q k (Put.Went z) f e = let y : q ≡ z = cc in rw y f
-
 pub few_none : (p : Progress) (k : ℕ) → Few p k p
 few_none p k = record { to = omega arith; lines = omega arith; fresh = omega arith; taken = omega arith; counts = refl }
 
@@ -209,14 +201,14 @@ module _ (b : Bounds) (s facts t : List ℕ) (tracked : Marks) (l : ValueList) (
         left = λ dropped τ S xs e y m h. left_start b.next t l.asks τ S l.many (output_of out₀ (fresh_in work₀) dropped p₀) _ l.first xs y m refl;
       }
 
-  module _ (out work : List ℕ) (p : Progress) (here i : ℕ) (c : Building b s facts t tracked l out₀ work₀ p₀ out work p here i) (wants : Wants) (out' work' : List ℕ) (r : Put) (h : i < l.many)
+  module _ (out work : List ℕ) (p : Progress) (here i : ℕ) (c : Building b s facts t tracked l out₀ work₀ p₀ out work p here i) (wants : Answered Build) (out' work' : List ℕ) (r : Result Progress Clash) (h : i < l.many)
       (d : (τ : Types) (S : AggStates) (rows : List ℕ) (x : Value) → Setting b s facts tracked rows τ S → ValueAt b.next t here x → Told τ S x (asked_at τ t l.asks i x) wants) (f : WantedPut b s facts wants out work p out' work' r) where
     -- of the value that stands here
     one : (dropped : Marks) (τ : Types) (S : AggStates) → Setting b s facts tracked (rows_in work₀) τ S → (x : Value) → ValueAt b.next t here x → b.next + p.fresh + length (one_wanted τ S (b.next + p.fresh) x (asked_at τ t l.asks i x)).fresh < 65536
         → Puts (output_of out (fresh_in work) dropped p) (rebuilt_effect (one_wanted τ S (b.next + p.fresh) x (asked_at τ t l.asks i x))) (one_wanted τ S (b.next + p.fresh) x (asked_at τ t l.asks i x)).clash out' (fresh_in work') dropped r
     one dropped τ S g x y w = f tracked τ S x (asked_at τ t l.asks i x) (d τ S (rows_in work₀) x g y) w (rw c.rows g) dropped
 
-    pub building_again : (q : Progress) (there : ℕ) → r ≡ Put.Went q → Few p 1 q → length out' ≡ length out → length work' ≡ length work → rows_in work' ≡ rows_in work → there ≡ value_end t here → there ≤ here + 5
+    pub building_again : (q : Progress) (there : ℕ) → r ≡ Ok q → Few p 1 q → length out' ≡ length out → length work' ≡ length work → rows_in work' ≡ rows_in work → there ≡ value_end t here → there ≤ here + 5
         → Building b s facts t tracked l out₀ work₀ p₀ out' work' q there (i + 1)
     building_again q there e few k j u v n = record {
       under = omega arith;
@@ -228,37 +220,36 @@ module _ (b : Bounds) (s facts t : List ℕ) (tracked : Marks) (l : ValueList) (
       left = λ dropped τ S xs g a m small. left_again b.next t l.asks τ S l.many (output_of out₀ (fresh_in work₀) dropped p₀) _ (output_of out (fresh_in work) dropped p) here i (c.left dropped τ S xs g a m small) (output_of out' (fresh_in work') dropped q) there h v small (λ x y w. (one dropped τ S g x y w).went q e);
     }
 
-    pub building_clash : r ≡ Put.Clash → AllPut b s facts t tracked l out₀ work₀ p₀ out' work' Put.Clash
-    building_clash e = λ τ S xs g a m small dropped.
+    pub building_clash : (y z : Clash) → r ≡ Err y → AllPut b s facts t tracked l out₀ work₀ p₀ out' work' (Err z)
+    building_clash y z e = λ τ S xs g a m small dropped.
         record {
-          clashed = λ _. left_clash b.next t l.asks τ S l.many (output_of out₀ (fresh_in work₀) dropped p₀) _ (output_of out (fresh_in work) dropped p) here i (c.left dropped τ S xs g a m small) h small (λ x y w. (one dropped τ S g x y w).clashed e);
-          went = λ q z. absurd (no_went z);
+          clashed = λ _ _. left_clash b.next t l.asks τ S l.many (output_of out₀ (fresh_in work₀) dropped p₀) _ (output_of out (fresh_in work) dropped p) here i (c.left dropped τ S xs g a m small) h small (λ x y w. (one dropped τ S g x y w).clashed _ e);
+          went = λ q n. absurd (let u : ◌≡◌ {A = ℕ} 0 1 = cc in omega arith);
         }
 
-  pub building_done : (out work : List ℕ) (p : Progress) (here i : ℕ) (c : Building b s facts t tracked l out₀ work₀ p₀ out work p here i) → l.many ≤ i → AllPut b s facts t tracked l out₀ work₀ p₀ out work (Put.Went p)
+  pub building_done : (out work : List ℕ) (p : Progress) (here i : ℕ) (c : Building b s facts t tracked l out₀ work₀ p₀ out work p here i) → l.many ≤ i → AllPut b s facts t tracked l out₀ work₀ p₀ out work (Ok p)
   building_done out work p here i c h = λ τ S xs g a m small dropped.
       record {
-        clashed = λ z. absurd (no_clash z);
+        clashed = λ x z. absurd (let y : ◌≡◌ {A = ℕ} 0 1 = cc in omega arith);
         went = λ q z.
             let y : q ≡ p = cc in
             rw y (left_done b.next t l.asks τ S l.many (output_of out₀ (fresh_in work₀) dropped p₀) _ (output_of out (fresh_in work) dropped p) here i (c.left dropped τ S xs g a m small) h);
       }
 
 -- a value that stays puts nothing out
-pub none_put : (R : Rebuilt) (x : Value) (out work : List ℕ) (p : Progress) → R ≡ untouched (x ∷ []) → BuildsPut R out work p out work (Put.Went p)
+pub none_put : (R : Rebuilt) (x : Value) (out work : List ℕ) (p : Progress) → R ≡ untouched (x ∷ []) → BuildsPut R out work p out work (Ok p)
 unfolding rebuilt_effect
 none_put R x out work p e dropped =
-    record { clashed = λ z. absurd (no_clash z); went = λ q z. let y : q ≡ p = cc in rw (e, y) (refl, sym (behind_none (output_of out (fresh_in work) dropped p))) }
+    record { clashed = λ x z. absurd (let y : ◌≡◌ {A = ℕ} 0 1 = cc in omega arith); went = λ q z. let y : q ≡ p = cc in rw (e, y) (refl, sym (behind_none (output_of out (fresh_in work) dropped p))) }
 
 -- one that is rebuilt puts its build out, or clashes
-module _ (b : Bounds) (s facts work : List ℕ) (v : ValueId) (u : TypeId) (out out' : List ℕ) (p : Progress) (d : ValueId) (a : Answer) (w : Wants) (e : w ≡ Wants.Build v u)
-    (hd : b.next + p.fresh < 65536 → d.0 ≡ b.next + p.fresh) (g : TrackedPut b s facts work v u d out out' p.to a) where
-  pub wanted_clash : a.clash ≡ true → WantedPut b s facts w out work p out' work Put.Clash
-  wanted_clash c = λ tracked τ S x o k h y dropped.
-      elim (one_built τ S (b.next + p.fresh) x o v u k e) [ built xs i l z ↦ rw z (build_clash τ _ u xs out out' p a d.0 (hd (omega arith)) (g τ S tracked xs y i l) _ _ dropped c) ]
+module _ (b : Bounds) (s facts work : List ℕ) (z : Build) (out out' : List ℕ) (p : Progress) (d : ValueId) (w : Answered Build) (e : w ≡ Some z) where
+  pub wanted_clash : (x y : Clash) → TrackedPut b s facts work z.value z.named d out out' p.to (Err x) → WantedPut b s facts w out work p out' work (Err y)
+  wanted_clash _ c g = λ tracked τ S x o k h y dropped.
+      elim (one_built τ S (b.next + p.fresh) x o z k e) [ built xs i l a ↦ rw a (build_clash τ _ z.named xs out out' p (g τ S tracked xs y i l) c _ _ dropped) ]
 
-  pub wanted_made : (work' : List ℕ) (lines : ℕ) → a.clash ≡ false → work' ≡ set work (2432 + p.fresh) u.0 → lines ≡ line_count p.to a.to
-      → WantedPut b s facts w out work p out' work' (Put.Went (record { to = a.to; lines = p.lines + lines; fresh = p.fresh + 1; counts = p.counts }))
-  wanted_made work' lines c f n = λ tracked τ S x o k h y dropped.
-      let f' : fresh_in work' ≡ set (fresh_in work) p.fresh u.0 = ap fresh_in f ∙ drop-set-add 2432 work p.fresh u.0 in
-      elim (one_built τ S (b.next + p.fresh) x o v u k e) [ built xs i l z ↦ rw z (build_made τ _ u xs out out' p a d.0 (hd (omega arith)) (g τ S tracked xs y i l) _ _ dropped lines c f' n) ]
+  pub wanted_made : (to : ℕ) (work' : List ℕ) (lines : ℕ) → (b.next + p.fresh < 65536 → d.0 ≡ b.next + p.fresh) → TrackedPut b s facts work z.value z.named d out out' p.to (Ok to) → work' ≡ set work (2432 + p.fresh) z.named.0 → lines ≡ line_count p.to to
+      → WantedPut b s facts w out work p out' work' (Ok (record { to = to; lines = p.lines + lines; fresh = p.fresh + 1; counts = p.counts }))
+  wanted_made to work' lines hd g f n = λ tracked τ S x o k h y dropped.
+      let f' : fresh_in work' ≡ set (fresh_in work) p.fresh z.named.0 = ap fresh_in f ∙ drop-set-add 2432 work p.fresh z.named.0 in
+      elim (one_built τ S (b.next + p.fresh) x o z k e) [ built xs i l a ↦ rw a (build_made τ _ z.named xs out out' p to d.0 (hd (omega arith)) (g τ S tracked xs y i l) _ _ dropped lines f' n) ]

@@ -1,6 +1,6 @@
 -- What is rebuilt of a list: of its first value, then of the others.
 use Prim.Native.Nat.{ℕ, ◌+◌, ◌<◌}
-use mathlib.Core.Path.{◌≡◌, refl}
+use mathlib.Core.Path.{◌≡◌, refl, ap}
 use mathlib.Core.List.{List, [], ◌∷◌, ◌++◌, append-nil}
 use mathlib.Core.Bool.{Bool, true, false, ◌||◌}
 use mathlib.Core.Option.{Option, none, some}
@@ -17,7 +17,8 @@ use Rattle.rewrite.specs.State.{AggStates, state_of}
 use Rattle.rewrite.specs.Rebuild.{Rebuilt, Wanted, untouched, keep_value, rebuild_value, one_value, rebuild_all}
 use Rattle.rewrite_progress.specs.Effect.{rebuilt_effect, then_effect}
 use Rattle.rewrite_progress.proofs.Laws.{each_append}
-use Rattle.rewrite_wanted.specs.declared.Wants.{Wants}
+use Rattle.rewrite_wanted.specs.declared.Build.{Build}
+use Rattle.std.specs.Prelude.{Some, None, Option as Answered}
 use Rattle.rewrite_wanted.specs.Asked.{Told, stays, build}
 
 -- two lists, one behind the other
@@ -45,7 +46,7 @@ unfolding rebuilt_effect then_effect
 join_effect a b = rw (each_append instruction_bytes a.before b.before, length-append a.before b.before) refl
 
 -- one value that stays
-pub one_stays : (τ : Types) (S : AggStates) (n : ℕ) (x : Value) (o : Option TypeId) {w : Wants} → Told τ S x o w → w ≡ Wants.Nothing → rebuild_all τ S n (record { value = x; at = o } ∷ []) ≡ untouched (x ∷ [])
+pub one_stays : (τ : Types) (S : AggStates) (n : ℕ) (x : Value) (o : Option TypeId) {w : Answered Build} → Told τ S x o w → w ≡ None → rebuild_all τ S n (record { value = x; at = o } ∷ []) ≡ untouched (x ∷ [])
 unfolding rebuild_all keep_value
 one_stays τ S n x o (stays f) e = f n (λ m. untouched [])
 one_stays τ S n x o (build v t xs p q r l) e = absurd (let z : ◌≡◌ {A = ℕ} 0 1 = cc in omega arith)
@@ -54,13 +55,14 @@ one_stays τ S n x o (build v t xs p q r l) e = absurd (let z : ◌≡◌ {A = �
 pub data OneBuilt (τ : Types) (S : AggStates) (n : ℕ) (x : Value) (o : Option TypeId) (v : ValueId) (t : TypeId) : Type 0 where
   built : (xs : List Value) → S v.0 ≡ some xs → t.0 < length τ.rows → rebuild_all τ S n (record { value = x; at = o } ∷ []) ≡ rebuild_value τ n t xs (untouched []) → OneBuilt τ S n x o v t
 
-pub one_built : (τ : Types) (S : AggStates) (n : ℕ) (x : Value) (o : Option TypeId) (v : ValueId) (t : TypeId) {w : Wants} → Told τ S x o w → w ≡ Wants.Build v t → OneBuilt τ S n x o v t
+pub one_built : (τ : Types) (S : AggStates) (n : ℕ) (x : Value) (o : Option TypeId) (z : Build) {w : Answered Build} → Told τ S x o w → w ≡ Some z → OneBuilt τ S n x o z.value z.named
 unfolding rebuild_all one_value state_of
-one_built τ S n x o v t (stays f) e = absurd (let z : ◌≡◌ {A = ℕ} 0 1 = cc in omega arith)
-one_built τ S n x o v t (build v' t' xs p q r l) e =
-    let a : v' ≡ v = cc in
-    let b : t' ≡ t = cc in
-    let r' : S v.0 ≡ some xs = rw (← a) r in
-    let q' : o ≡ some t = rw (← b) q in
-    let p' : x ≡ Value.Operand v = rw (← a) p in
+one_built τ S n x o z (stays f) e = absurd (let z : ◌≡◌ {A = ℕ} 0 1 = cc in omega arith)
+one_built τ S n x o z (build v' t' xs p q r l) e =
+    let same : record { value = v'; named = t' } ≡ z = cc in
+    let a : v' ≡ z.value = ap (λ (y : Build). y.value) same in
+    let b : t' ≡ z.named = ap (λ (y : Build). y.named) same in
+    let r' : S z.value.0 ≡ some xs = rw (← a) r in
+    let q' : o ≡ some z.named = rw (← b) q in
+    let p' : x ≡ Value.Operand z.value = rw (← a) p in
     built xs r' (rw (← b) l) (rw (p', q', r') refl)

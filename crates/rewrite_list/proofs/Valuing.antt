@@ -24,7 +24,8 @@ use Rattle.rewrite_parts.specs.Rows.{ValueAt}
 use Rattle.bytes_emit.specs.Written.{Writes}
 use Rattle.rewrite_progress.proofs.Laws.{each_append}
 use Rattle.rewrite_wanted.specs.declared.Asks.{Asks}
-use Rattle.rewrite_wanted.specs.declared.Wants.{Wants}
+use Rattle.rewrite_wanted.specs.declared.Build.{Build}
+use Rattle.std.specs.Prelude.{Some, Option as Answered}
 use Rattle.rewrite_wanted.specs.Asked.{Setting, asked_at, asked_list, Told}
 use Rattle.rewrite_list.specs.declared.ValueList.{ValueList}
 use Rattle.rewrite_list.specs.declared.Written.{Written}
@@ -106,7 +107,7 @@ module _ (b : Bounds) (s facts t : List ℕ) (tracked : Marks) (l : ValueList) (
   valuing = record { under = zero-le; bound = omega arith; spent = omega arith; near = omega arith; len = refl; left = λ rows τ S xs e y m h. unwritten_start b.next t l.asks τ S l.many out₀ w₀.to w₀.fresh _ l.first xs y m refl }
 
   module _ (out : List ℕ) (w : Written) (here i : ℕ) (c : Valuing b s facts t tracked l out₀ w₀ out w here i) where
-    pub valuing_again : (wants : Wants) (out' : List ℕ) (w' : Written) (there : ℕ) → i < l.many → length out' ≡ length out → (w'.to ≤ w.to + 5) × (w'.fresh ≤ w.fresh + 1) → there ≡ value_end t here → there ≤ here + 5
+    pub valuing_again : (wants : Answered Build) (out' : List ℕ) (w' : Written) (there : ℕ) → i < l.many → length out' ≡ length out → (w'.to ≤ w.to + 5) × (w'.fresh ≤ w.fresh + 1) → there ≡ value_end t here → there ≤ here + 5
         → ((τ : Types) (S : AggStates) (rows : List ℕ) (x : Value) → Setting b s facts tracked rows τ S → ValueAt b.next t here x → Told τ S x (asked_at τ t l.asks i x) wants) → WantedWritten b.next t here wants out w out' w'
         → Valuing b s facts t tracked l out₀ w₀ out' w' there (i + 1)
     valuing_again wants out' w' there h k p e r d f = record {
@@ -129,7 +130,7 @@ pub value_built : (R : Rebuilt) (τ : Types) (n d : ℕ) (t : TypeId) (xs : List
 unfolding rebuild_value
 value_built R τ n d t xs out out' to to' taken e f w = rw (e, ← f) (w, refl)
 
-pub one_valued : (τ : Types) (S : AggStates) (n : ℕ) (x : Value) (o : Option TypeId) (v : ValueId) (u : TypeId) (out out' : List ℕ) (to to' taken : ℕ) (d : ValueId) (w : Wants) → Told τ S x o w → w ≡ Wants.Build v u → n + length (rebuild_all τ S n (record { value = x; at = o } ∷ [])).fresh < 65536 → (n < 65536 → d.0 ≡ n) → Writes (value_bytes (Value.Operand d)) out out' to to'
+pub one_valued : (τ : Types) (S : AggStates) (n : ℕ) (x : Value) (o : Option TypeId) (b : Build) (out out' : List ℕ) (to to' taken : ℕ) (d : ValueId) (w : Answered Build) → Told τ S x o w → w ≡ Some b → n + length (rebuild_all τ S n (record { value = x; at = o } ∷ [])).fresh < 65536 → (n < 65536 → d.0 ≡ n) → Writes (value_bytes (Value.Operand d)) out out' to to'
     → Writes (each_bytes value_bytes (rebuild_all τ S n (record { value = x; at = o } ∷ [])).values) out out' to to' × (taken + 1 ≡ taken + length (rebuild_all τ S n (record { value = x; at = o } ∷ [])).fresh)
-one_valued τ S n x o v u out out' to to' taken d w a e h f q =
-    elim (one_built τ S n x o v u a e) [ built xs y l z ↦ value_built _ τ n d.0 u xs out out' to to' taken z (f (omega arith)) q ]
+one_valued τ S n x o b out out' to to' taken d w a e h f q =
+    elim (one_built τ S n x o b a e) [ built xs y l z ↦ value_built _ τ n d.0 b.named xs out out' to to' taken z (f (omega arith)) q ]

@@ -1,5 +1,5 @@
 -- What the writers of rebuilds promise and need.
-use Rattle.std.specs.Prelude.{ℕ, ◌+◌, ◌*◌, ◌≤◌, ◌<◌, ◌≡◌, List, [], ◌∷◌, cond, length, eqb}
+use Rattle.std.specs.Prelude.{ℕ, ◌+◌, ◌*◌, ◌≤◌, ◌<◌, ◌≡◌, List, [], ◌∷◌, cond, length, eqb, Option as Answered, Result, Ok, Err}
 use Rattle.std.proofs.Math.Option.{Option, some}
 use Rattle.bytes_wire.specs.Value.{value_bytes}
 use Rattle.mir.specs.declared.ValueId.{ValueId}
@@ -13,14 +13,13 @@ use Rattle.fold.specs.Family.{Marks}
 use Rattle.rewrite.specs.State.{AggStates}
 use Rattle.rewrite.specs.Rebuild.{Rebuilt, Wanted, rebuild_all}
 use Rattle.rewrite_parts.specs.Rows.{ValueAt, rows_in, fresh_in}
-use Rattle.rewrite_build.specs.declared.Rebuilt.{Rebuilt as Answer}
+use Rattle.rewrite.specs.declared.Clash.{Clash}
 use Rattle.bytes_emit.specs.Written.{Writes}
 use Rattle.rewrite_build.specs.Written.{rebuild_most, Rebuilds}
 use Rattle.rewrite_progress.specs.declared.Progress.{Progress}
-use Rattle.rewrite_progress.specs.declared.Put.{Put}
 use Rattle.table.specs.Number.{numbers_below}
 use Rattle.rewrite_progress.specs.Effect.{output_of, rebuilt_effect, Puts}
-use Rattle.rewrite_wanted.specs.declared.Wants.{Wants}
+use Rattle.rewrite_wanted.specs.declared.Build.{Build}
 use Rattle.rewrite_wanted.specs.Asked.{Setting, asked_list, Told}
 use Rattle.rewrite_list.specs.declared.ValueList.{ValueList}
 use Rattle.rewrite_list.specs.declared.Written.{Written}
@@ -45,9 +44,9 @@ pub record Few (p : Progress) (k : ℕ) (q : Progress) : Type 0 where
   pub taken : p.fresh ≤ q.fresh
   pub counts : q.counts ≡ p.counts
 
-abbrev pub PutFew : Progress → ℕ → Put → Type 0
-PutFew p k Put.Clash = Unit {0}
-PutFew p k (Put.Went q) = Few p k q
+abbrev pub PutFew : Progress → ℕ → Result Progress Clash → Type 0
+PutFew p k (Err x) = Unit {0}
+PutFew p k (Ok q) = Few p k q
 
 -- there is room for one more
 pub record Roomy (p : Progress) : Type 0 where
@@ -78,7 +77,7 @@ abbrev pub EnoughFor : ℕ → Rebuilt → Type 0
 EnoughFor n R = n + length R.fresh < numbers_below
 
 -- P holds of what becomes of a value x of which o is asked and `wants` is told, where so many fresh numbers are taken before
-abbrev pub OfValue : ℕ → ℕ → Wants → (Types → AggStates → Value → Rebuilt → Type 0) → Type 0
+abbrev pub OfValue : ℕ → ℕ → Answered Build → (Types → AggStates → Value → Rebuilt → Type 0) → Type 0
 OfValue next taken wants P =
     (τ : Types) (S : AggStates) (x : Value) (o : Option TypeId)
     → Told τ S x o wants
@@ -96,7 +95,7 @@ OfList b s facts t tracked rows l taken P =
     → P τ S (rebuild_all τ S (b.next + taken) (list_wanted τ t l xs))
 
 -- the builds of R are put out; their types stand behind the rows of the working table
-abbrev pub BuildsPut : Rebuilt → List ℕ → List ℕ → Progress → List ℕ → List ℕ → Put → Type 0
+abbrev pub BuildsPut : Rebuilt → List ℕ → List ℕ → Progress → List ℕ → List ℕ → Result Progress Clash → Type 0
 BuildsPut R out work p out' work' r =
     (dropped : Marks) → Puts (output_of out (fresh_in work) dropped p) (rebuilt_effect R) R.clash out' (fresh_in work') dropped r
 
@@ -105,7 +104,7 @@ abbrev pub ValuesWritten : Rebuilt → List ℕ → List ℕ → ℕ → ℕ →
 ValuesWritten R out out' to r = Writes (each_bytes value_bytes R.values) out out' to r
 
 -- the rebuild of the tracked value v at type t, under the number d
-abbrev pub TrackedPut : Bounds → List ℕ → List ℕ → List ℕ → ValueId → TypeId → ValueId → List ℕ → List ℕ → ℕ → Answer → Type 0
+abbrev pub TrackedPut : Bounds → List ℕ → List ℕ → List ℕ → ValueId → TypeId → ValueId → List ℕ → List ℕ → ℕ → Result ℕ Clash → Type 0
 TrackedPut b s facts work v t d out out' to r =
     (τ : Types) (S : AggStates) (tracked : Marks) (xs : List Value)
     → Setting b s facts tracked (rows_in work) τ S
@@ -114,18 +113,18 @@ TrackedPut b s facts work v t d out out' to r =
     → Rebuilds τ d xs t out out' to r
 
 -- what is wanted of one value
-abbrev pub WantedPut : Bounds → List ℕ → List ℕ → Wants → List ℕ → List ℕ → Progress → List ℕ → List ℕ → Put → Type 0
+abbrev pub WantedPut : Bounds → List ℕ → List ℕ → Answered Build → List ℕ → List ℕ → Progress → List ℕ → List ℕ → Result Progress Clash → Type 0
 WantedPut b s facts wants out work p out' work' r =
     (tracked : Marks) → OfValue b.next p.fresh wants (λ τ S x R.
     Setting b s facts tracked (rows_in work) τ S → BuildsPut R out work p out' work' r)
 
 -- what is wanted of the values of a list
-abbrev pub AllPut : Bounds → List ℕ → List ℕ → List ℕ → Marks → ValueList → List ℕ → List ℕ → Progress → List ℕ → List ℕ → Put → Type 0
+abbrev pub AllPut : Bounds → List ℕ → List ℕ → List ℕ → Marks → ValueList → List ℕ → List ℕ → Progress → List ℕ → List ℕ → Result Progress Clash → Type 0
 AllPut b s facts t tracked l out work p out' work' r =
     OfList b s facts t tracked (rows_in work) l p.fresh (λ τ S R. BuildsPut R out work p out' work' r)
 
 -- one value, as it stands or under its fresh number
-abbrev pub WantedWritten : ℕ → List ℕ → ℕ → Wants → List ℕ → Written → List ℕ → Written → Type 0
+abbrev pub WantedWritten : ℕ → List ℕ → ℕ → Answered Build → List ℕ → Written → List ℕ → Written → Type 0
 WantedWritten next t at wants out w out' r =
     OfValue next w.fresh wants (λ τ S x R.
     ValueAt next t at x → ValuesWritten R out out' w.to r.to × (r.fresh ≡ w.fresh + length R.fresh))

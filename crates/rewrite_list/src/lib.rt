@@ -1,7 +1,7 @@
 // A list of values some of which are rebuilt: the builds, then the values with the fresh numbers put in.
 #![tactic(auto)]
 
-ghost use Rattle.std.specs.Prelude.{◌≡◌, ◌+◌, ◌≤◌, ◌<◌, length, take};
+ghost use Rattle.std.specs.Prelude.{◌≡◌, ◌+◌, ◌≤◌, ◌<◌, length, take, IfOk};
 ghost use Rattle.rewrite_parts.specs.Rows.{rows_in};
 ghost use Rattle.bytes_emit.specs.Written.{Writes, value_room, instruction_room, build_room, rebuilt_room};
 ghost use Rattle.rewrite_build.specs.Written.{rebuild_most};
@@ -12,10 +12,10 @@ ghost use Rattle.rewrite_list.specs.Lists.{TrackedPut, WantedPut, AllPut, Wanted
 
 use bytes_field::Bounds;
 use mir::{TypeId, Value, ValueId};
-use rewrite_build::Rebuilt;
+use rewrite::Clash;
 use rewrite_parts::ROWS;
-use rewrite_progress::{Progress, Put};
-use rewrite_wanted::{Asks, Wants};
+use rewrite_progress::Progress;
+use rewrite_wanted::{Asks, Build};
 
 // How many value numbers there are: a number has two bytes.
 const NUMBERS: u32 = 65536;
@@ -89,9 +89,9 @@ fn put_tracked(
     v: ValueId,
     t: TypeId,
     d: ValueId,
-) -> Rebuilt
+) -> Result<usize, Clash>
     requires { to < rebuilt_room }
-    ensures to_bound { result.to ≤ to + rebuild_most }
+    ensures to_bound { IfOk result (λ end. end ≤ to + rebuild_most) }
     ensures tracked_put { TrackedPut b s.now facts.now work.now v t d
         out.old out.new to result }
 {
@@ -109,32 +109,27 @@ fn put_wanted(
     b: Bounds,
     facts: &[u16],
     work: &mut [u16],
-    wants: Wants,
-) -> Put
+    wants: Option<Build>,
+) -> Result<Progress, Clash>
     requires { Roomy p }
     ensures put_few { PutFew p 1 result }
     ensures work_unchanged { rows_in work.new ≡ rows_in work.old }
     ensures wanted_put { WantedPut b s.now facts.now wants
         out.old work.old p out.new work.new result }
 {
-    match wants {
-        Wants::Nothing => Put::Went(p),
-        Wants::Build { value: v, named: t } => {
-            let d = fresh_value(b.next, p.fresh);
-            let r = put_tracked(out, p.to, s, b, facts, work, v, t, d);
-            if r.clash {
-                return Put::Clash;
-            }
-            table::set_number(work, ROWS + p.fresh as usize, t.0);
-            let counts = p.counts;
-            Put::Went(Progress {
-                to: r.to,
-                lines: p.lines + moved(p.to, r.to),
-                fresh: p.fresh + 1,
-                counts: counts,
-            })
-        }
-    }
+    let Some(build) = wants else {
+        return Ok(p);
+    };
+    let t = build.named;
+    let d = fresh_value(b.next, p.fresh);
+    let to = put_tracked(out, p.to, s, b, facts, work, build.value, t, d)?;
+    table::set_number(work, ROWS + p.fresh as usize, t.0);
+    Ok(Progress {
+        to,
+        lines: p.lines + moved(p.to, to),
+        fresh: p.fresh + 1,
+        ..p
+    })
 }
 
 // The rebuilds of the values of a list that stands in t.
@@ -148,7 +143,7 @@ pub fn put_builds(
     list: ValueList,
     tracked: &[bool],
     work: &mut [u16],
-) -> Put
+) -> Result<Progress, Clash>
     requires { Low low_enough p × (list.first < counts_below) }
     ensures put_few { PutFew p 255 result }
     ensures work_unchanged { rows_in work.new ≡ rows_in work.old }
@@ -157,18 +152,12 @@ pub fn put_builds(
 {
     let mut q = p;
     let mut here = list.first;
-    let mut i: u8 = 0;
-    while i < list.many {
-        let asks = list.asks;
-        let wants = rewrite_wanted::wanted_at(s, b, facts, t, here, tracked, asks, i);
-        q = match put_wanted(out, q, s, b, facts, work, wants) {
-            Put::Clash => return Put::Clash,
-            Put::Went(next) => next,
-        };
+    for i in 0..list.many {
+        let wants = rewrite_wanted::wanted_at(s, b, facts, t, here, tracked, list.asks, i);
+        q = put_wanted(out, q, s, b, facts, work, wants)?;
         here = bytes_operands::value_end(t, here);
-        i = i + 1;
     }
-    Put::Went(q)
+    Ok(q)
 }
 
 // The value that stands at place `at` of t: as it stands, or the fresh number it is rebuilt under.
@@ -178,25 +167,22 @@ fn put_wanted_value(
     t: &[u8],
     at: usize,
     next: u16,
-    wants: Wants,
+    wants: Option<Build>,
 ) -> Written
     requires { (w.to < instruction_room) × (w.fresh < fresh_below) }
     ensures to_bound { (result.to ≤ w.to + 5) × (result.fresh ≤ w.fresh + 1) }
     ensures wanted_written { WantedWritten next t.now at wants out.old w out.new result }
 {
     match wants {
-        Wants::Nothing => {
-            let p = rewrite_build::put_value_at(out, w.to, t, at, next);
-            Written {
-                to: p,
-                fresh: w.fresh,
-            }
+        None => {
+            let to = rewrite_build::put_value_at(out, w.to, t, at, next);
+            Written { to, ..w }
         }
-        Wants::Build { value: _, named: _ } => {
+        Some(_) => {
             let d = fresh_value(next, w.fresh);
-            let p = bytes_emit::put_value(out, w.to, Value::Operand(d));
+            let to = bytes_emit::put_value(out, w.to, Value::Operand(d));
             Written {
-                to: p,
+                to,
                 fresh: w.fresh + 1,
             }
         }
@@ -220,18 +206,12 @@ pub fn put_values(
     ensures all_written { AllWritten b s.now facts.now t.now tracked.now list taken
         out.old out.new to result }
 {
-    let mut w = Written {
-        to: to,
-        fresh: taken,
-    };
+    let mut w = Written { to, fresh: taken };
     let mut here = list.first;
-    let mut i: u8 = 0;
-    while i < list.many {
-        let asks = list.asks;
-        let wants = rewrite_wanted::wanted_at(s, b, facts, t, here, tracked, asks, i);
+    for i in 0..list.many {
+        let wants = rewrite_wanted::wanted_at(s, b, facts, t, here, tracked, list.asks, i);
         w = put_wanted_value(out, w, t, here, b.next, wants);
         here = bytes_operands::value_end(t, here);
-        i = i + 1;
     }
     w.to
 }

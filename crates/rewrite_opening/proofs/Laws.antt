@@ -1,6 +1,6 @@
 -- The writer of the head meets what it is told.
 use Prim.Native.Nat.{ℕ, ◌+◌, ◌≤◌, ◌<◌}
-use mathlib.Core.Path.{◌≡◌, refl, ap, ◌∙◌, sym}
+use mathlib.Core.Path.{◌≡◌, refl, ◌∙◌, sym}
 use mathlib.Core.List.{List}
 use native.Mathlib.Omega.{arith}
 use lib.ListN.{length, get_or}
@@ -9,28 +9,19 @@ use Rattle.bytes_emit.specs.Written.{Writes}
 use Rattle.rewrite_head.specs.Head.{front_end}
 use Rattle.rewrite_head.proofs.Front.{front_within}
 use Rattle.rewrite_opening.specs.Opens.{Opens, Opening}
-use Rattle.rewrite_opening.specs.declared.Opened.{Opened}
+use Rattle.std.specs.Prelude.{Some, None}
 
 -- what the head's writer asks for
 pub head_asks : {s facts fresh : List ℕ} {b : Bounds} {many size : ℕ} (h : Opens s facts fresh b many size) (at : ℕ) → at ≡ get_or facts b.types 0 → (front_end s at ≤ length s) × (length s < 1073741824) × (b.next + many < 65536)
 head_asks {s = s} h at e = (front_within h.routine s at h.reads (sym (e ∙ h.behind)), omega (arith, h.short), h.few)
 
-place : Opened → ℕ
-place Opened.NoRoom = 0
-place (Opened.Head to) = to
-
-flag : Opened → ℕ
-flag Opened.NoRoom = 0
-flag (Opened.Head to) = 1
-
-no_room : {to : ℕ} → Opened.Head to ≡ Opened.NoRoom → ⊥
-unfolding flag
-no_room e = let z : ◌≡◌ {A = ℕ} 1 0 = ap flag e in absurd (omega arith)
-
 module _ (head : List ℕ) (size n : ℕ) (out : List ℕ) (e : n ≡ 0 + length head) where
-  pub opening_long : length out < n + size → Opening head size out out Opened.NoRoom
-  opening_long l = record { long = λ q. (omega (arith, e), refl); fits = λ to q. absurd (no_room (sym q)) }
+  pub opening_long : length out < n + size → Opening head size out out None
+  opening_long l = record { long = λ q. (omega (arith, e), refl); fits = λ to q. absurd (let z : ◌≡◌ {A = ℕ} 0 1 = cc in omega arith) }
 
-  pub opening_fits : n + size ≤ length out → (out' : List ℕ) (to : ℕ) → to ≤ 204800 → Writes head out out' 0 to → Opening head size out out' (Opened.Head to)
-  unfolding place
-  opening_fits l out' to k w = record { long = λ q. absurd (no_room q); fits = λ to' q. let z : to ≡ to' = ap place q in (rw (← z) k, (omega (arith, e), rw (← z) w)) }
+  pub opening_fits : n + size ≤ length out → (out' : List ℕ) (to : ℕ) → to ≤ 204800 → Writes head out out' 0 to → Opening head size out out' (Some to)
+  opening_fits l out' to k w =
+      record {
+        long = λ q. absurd (let z : ◌≡◌ {A = ℕ} 0 1 = cc in omega arith);
+        fits = λ to' q. let z : to ≡ to' = cc in (rw (← z) k, (omega (arith, e), rw (← z) w));
+      }

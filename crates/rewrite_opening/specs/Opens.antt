@@ -1,5 +1,5 @@
 -- What the writer of the head is told of a routine, and what it answers.
-use Rattle.std.specs.Prelude.{ℕ, ◌+◌, ◌≤◌, ◌<◌, ◌≡◌, List, length, get_or}
+use Rattle.std.specs.Prelude.{ℕ, ◌+◌, ◌≤◌, ◌<◌, ◌≡◌, List, length, get_or, Option, Some, None}
 use Rattle.mir.specs.declared.TypeId.{TypeId}
 use Rattle.bytes_field.specs.declared.Bounds.{Bounds}
 use Rattle.bytes_index.specs.Table.{recorded_in}
@@ -8,7 +8,6 @@ use Rattle.mir.specs.Routine.{Routine}
 use Rattle.bytes_sections.specs.Encode.{encode}
 use Rattle.bytes_emit.specs.Written.{Writes}
 use Rattle.rewrite_head.specs.Head.{Tabled}
-use Rattle.rewrite_opening.specs.declared.Opened.{Opened}
 
 -- the routine that s is, its table of facts, the types of its `many` fresh numbers, and how many bytes are to follow
 pub record Opens (s facts fresh : List ℕ) (b : Bounds) (many size : ℕ) : Type 0 where
@@ -23,6 +22,6 @@ pub record Opens (s facts fresh : List ℕ) (b : Bounds) (many size : ℕ) : Typ
   pub low : size ≤ 4508876800
 
 -- with no room for all nothing is written; else the head is
-pub record Opening (head : List ℕ) (size : ℕ) (out out' : List ℕ) (r : Opened) : Type 0 where
-  pub long : r ≡ Opened.NoRoom → (length out < length head + size) × (out' ≡ out)
-  pub fits : (to : ℕ) → r ≡ Opened.Head to → (to ≤ 204800) × ((length head + size ≤ length out) × Writes head out out' 0 to)
+pub record Opening (head : List ℕ) (size : ℕ) (out out' : List ℕ) (r : Option ℕ) : Type 0 where
+  pub long : r ≡ None → (length out < length head + size) × (out' ≡ out)
+  pub fits : (to : ℕ) → r ≡ Some to → (to ≤ 204800) × ((length head + size ≤ length out) × Writes head out out' 0 to)

@@ -7,15 +7,8 @@ ghost use Rattle.rewrite_opening.specs.Opens.{Opens, Opening};
 
 use bytes_field::Bounds;
 
-// There is no room, and nothing is written; or the head is, up to the place that is told.
-#[derive(Clone, Copy)]
-pub enum Opened {
-    NoRoom,
-    Head(usize),
-}
-
 // Writes the head where there is room for it and for `size` bytes behind it. `fresh` has the types of the `many` fresh numbers;
-// `nothing` has no places: what is put there is measured.
+// `nothing` has no places: what is put there is measured. Returns the place behind the head; else nothing is written.
 pub fn put_opening(
     s: &[u8],
     b: Bounds,
@@ -25,7 +18,7 @@ pub fn put_opening(
     size: usize,
     nothing: &mut [u8],
     out: &mut [u8],
-) -> Opened
+) -> Option<usize>
     requires { Opens s.now facts.now fresh.now b many size }
     ensures { (h : Opens s.now facts.now fresh.now b many size)
         → Opening (head_bytes (widened h.routine h.types)) size out.old out.new result }
@@ -34,7 +27,7 @@ pub fn put_opening(
     let recorded = bytes_index::recorded(facts);
     let head = rewrite_head::put_head(nothing, s, at, recorded, b.next, fresh, many);
     if out.len() < head + size {
-        return Opened::NoRoom;
+        return None;
     }
-    Opened::Head(rewrite_head::put_head(out, s, at, recorded, b.next, fresh, many))
+    Some(rewrite_head::put_head(out, s, at, recorded, b.next, fresh, many))
 }

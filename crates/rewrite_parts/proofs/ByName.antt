@@ -21,10 +21,9 @@ use Rattle.mir.specs.Parts.{given, cons_part, from_struct_fields}
 use Rattle.mir.specs.Lookup.{is_some}
 use Rattle.fold.specs.Family.{Marks}
 use Rattle.rewrite.specs.State.{AggStates}
-use Rattle.rewrite_parts.specs.Rows.{Rep, Room, item_offset, Inits, InitAt, no_init, given_parts}
+use Rattle.rewrite_parts.specs.Rows.{Rep, Room, item_offset, Inits, There, no_init, given_parts}
 use Rattle.bytes_struct.specs.Fields.{Names, no_field}
 use Rattle.rewrite_parts.specs.Filled.{Grown, Filled, NamedRow}
-use Rattle.rewrite_parts.specs.declared.Init.{Init}
 use Rattle.rewrite_parts.proofs.Tables.{rep_old, rep_track}
 use Rattle.rewrite_parts.proofs.Loops.{place_more, grown_none, grown_more, filled_more}
 
@@ -62,29 +61,24 @@ module _ {s : List ℕ} {at n : ℕ} {name : NameId} {here i : ℕ} (o : Seeking
       }
 
   -- the name
-  pub sought_found : (next : ℕ) (fs : List FieldInit) → Inits next s at fs → length fs ≡ n → i < n → at16 s here ≡ name.0 → InitAt next s (given name fs) (record { given = true; place = here + 2 })
-  unfolding given is_some
+  pub sought_found : (next : ℕ) (fs : List FieldInit) → Inits next s at fs → length fs ≡ n → i < n → at16 s here ≡ name.0 → There next s (given name fs) (here + 2)
+  unfolding given
   sought_found next fs v l h z =
       let t = the_next next fs v l h in
       let q = eq-eqb (get_or fs i no_init).name.0 name.0 (t.1 ∙ z) in
       let g : given name fs ≡ some (get_or fs i no_init).value = o.left next fs v l ∙ ap (given name) t.0 ∙ rw q in
-      record {
-        told = rw g;
-        stands = λ x e.
-            let y : x ≡ (get_or fs i no_init).value = (let w : some x ≡ some (get_or fs i no_init).value = sym e ∙ g in cc) in
-            rw (y, o.place) (v.each i (omega arith));
-      }
+      record { value = (get_or fs i no_init).value; is = g; stands = rw o.place (v.each i (omega arith)) }
 
   -- none has it
-  pub sought_none : (next : ℕ) (fs : List FieldInit) → Inits next s at fs → length fs ≡ n → n ≤ i → InitAt next s (given name fs) (record { given = false; place = 0 })
-  unfolding given is_some
+  pub sought_none : (next : ℕ) (fs : List FieldInit) → Inits next s at fs → length fs ≡ n → n ≤ i → given name fs ≡ none
+  unfolding given
   sought_none next fs v l h =
       let m : length fs ≤ i = omega arith in
-      let g : given name fs ≡ none = o.left next fs v l ∙ ap (given name) (drop_of_length-le fs m) in
-      record {
-        told = rw g;
-        stands = λ x e. absurd (let w : none ≡ some x = sym g ∙ e in let z : ◌≡◌ {A = ℕ} 0 1 = cc in omega arith);
-      }
+      o.left next fs v l ∙ ap (given name) (drop_of_length-le fs m)
+
+-- one value
+same_value : {o : Option Value} {x y : Value} → o ≡ some x → o ≡ some y → x ≡ y
+same_value {o} {x} {y} e f = let z : some x ≡ some y = sym e ∙ f in cc
 
 -- a part in front of others: both are there
 data Consed (o : Option Value) (p : Option (List Value)) (ys : List Value) : Type 0 where
@@ -147,17 +141,18 @@ module _ {s : List ℕ} {at n : ℕ} {types : List ℕ} {names m : ℕ} {rows₀
       ap (from_struct_fields fs) d ∙ ap (λ x. cons_part (given x fs) (from_struct_fields fs (drop (i + 1) ts))) q
 
   -- one more
-  pub named_more : {rows' : List ℕ} {f : Init} (name : NameId) → i < m → name.0 ≡ at16 types (names + 4 * i) → ((next : ℕ) (fs : List FieldInit) → Inits next s at fs → length fs ≡ n → InitAt next s (given name fs) f) → f.given ≡ true → rows' ≡ set rows (to + i) (f.place % 65536) → Naming s at n types names m rows₀ to rows' (i + 1)
-  named_more {rows'} {f} name h e found all p =
+  pub named_more : {rows' : List ℕ} (place : ℕ) (name : NameId) → i < m → name.0 ≡ at16 types (names + 4 * i) → ((next : ℕ) (fs : List FieldInit) → Inits next s at fs → length fs ≡ n → There next s (given name fs) place) → rows' ≡ set rows (to + i) (place % 65536) → Naming s at n types names m rows₀ to rows' (i + 1)
+  unfolding is_some
+  named_more {rows'} place name h e found p =
       record {
         under = omega arith;
-        grown = rw p (grown_more (to + i) (f.place % 65536) o.grown (omega arith));
+        grown = rw p (grown_more (to + i) (place % 65536) o.grown (omega arith));
         left = λ next fs ts v l w k short r.
             let u = o.left next fs ts v l w k short r in
             let q = found next fs v l in
             let t = the_field name fs ts w k h e in
             record {
-              told = u.told ∙ ap is_some t ∙ part_given (given name fs) (from_struct_fields fs (drop (i + 1) ts)) (sym q.told ∙ all);
+              told = u.told ∙ ap is_some t ∙ part_given (given name fs) (from_struct_fields fs (drop (i + 1) ts)) (ap is_some q.is);
               rest = λ xs z.
                   let y = u.rest xs z in
                   elim (consed_inv (given name fs) (from_struct_fields fs (drop (i + 1) ts)) (sym t ∙ y.0)) [
@@ -165,21 +160,22 @@ module _ {s : List ℕ} {at n : ℕ} {types : List ℕ} {names m : ℕ} {rows₀
                         let d : get_or xs i Value.Error ≡ x = rw add-zero at (sym (get_or-drop i xs 0 Value.Error)) ∙ ap (λ l. get_or l 0 Value.Error) c in
                         let g : drop (i + 1) xs ≡ zs = sym (drop-drop 1 i xs) ∙ ap (drop 1) c in (
                           b ∙ ap some (sym g),
-                          rw p (filled_more f.place short y.1 (omega (arith, o.grown.size)) (rw d (q.stands x a))),
+                          rw p (filled_more place short y.1 (omega (arith, o.grown.size)) (rw (d, same_value a q.is) q.stands)),
                         )
                   ];
             };
       }
 
   -- one is missing
-  pub named_missing : {f : Init} (name : NameId) → i < m → name.0 ≡ at16 types (names + 4 * i)
-      → ((next : ℕ) (fs : List FieldInit) → Inits next s at fs → length fs ≡ n → InitAt next s (given name fs) f) → f.given ≡ false
+  pub named_missing : (name : NameId) → i < m → name.0 ≡ at16 types (names + 4 * i)
+      → ((next : ℕ) (fs : List FieldInit) → Inits next s at fs → length fs ≡ n → given name fs ≡ none)
       → (next : ℕ) (fs : List FieldInit) (ts : List StructField) → Inits next s at fs → length fs ≡ n → Names types names ts → length ts ≡ m
       → length s < 65536 → to + m ≤ length rows₀ → NamedRow next s rows to m (from_struct_fields fs ts) false
-  named_missing {f} name h e found none_there next fs ts v l w k short r =
+  unfolding is_some
+  named_missing name h e found next fs ts v l w k short r =
       let u = o.left next fs ts v l w k short r in
       let z : false ≡ is_some (from_struct_fields fs ts) =
-      sym (u.told ∙ ap is_some (the_field name fs ts w k h e) ∙ part_missing (given name fs) (from_struct_fields fs (drop (i + 1) ts)) (sym (found next fs v l).told ∙ none_there)) in
+      sym (u.told ∙ ap is_some (the_field name fs ts w k h e) ∙ part_missing (given name fs) (from_struct_fields fs (drop (i + 1) ts)) (ap is_some (found next fs v l))) in
       record { told = z; row = λ xs g. absurd (no_parts (from_struct_fields fs ts) xs z g) }
 
   -- all are given

@@ -1,4 +1,4 @@
--- The loops that clear the marks and write rows.
+-- The loops that write rows.
 use Prim.Native.Nat.{ℕ, zero, suc, ◌+◌, ◌*◌, ◌%◌, ◌≤◌, ◌<◌, zero-le}
 use mathlib.Core.Path.{◌≡◌, refl, ap, ◌∙◌, sym}
 use mathlib.Core.Logic.{⊎_elim}
@@ -7,10 +7,10 @@ use mathlib.Core.List.{List}
 use mathlib.Core.Option.{some}
 use native.Mathlib.Nat.{add-zero, add_assoc, eq-or-lt_of_le, mod-eq_of_lt}
 use native.Mathlib.Omega.{arith}
-use borrow.Author.Tests.{eqb-true, eqb-false, ltb-true, ltb-false}
-use lib.ListN.{length, get_or, set, drop, length-set, length-drop, get_or-eq_default}
+use borrow.Author.Tests.{eqb-true, eqb-false}
+use lib.ListN.{length, get_or, set, drop, length-set, length-drop}
 use lib.Seq.{get_or-set_same, get_or-set_other}
-use lib.Dec.{eqb, ltb}
+use lib.Dec.{eqb}
 use Rattle.bytes_wire.specs.Value.{value_of, value_kinds}
 use Rattle.mir.specs.declared.Value.{Value}
 use Rattle.mir.specs.declared.ValueId.{ValueId}
@@ -25,34 +25,6 @@ use Rattle.rewrite_parts.proofs.Tables.{Held, found_row, rep_track, replaced_set
 -- what holds below i and of i, holds below i + 1
 pub one_more : (P : ℕ → Type 0) (i : ℕ) → ((j : ℕ) → j < i → P j) → P i → (j : ℕ) → j < i + 1 → P j
 one_more P i f p j h = let l : j ≤ i = omega arith in ⊎_elim (λ e. rw e p) (λ q. f j q) (eq-or-lt_of_le l)
-
--- the first i marks are clear
-pub record Cleared (tracked₀ tracked : Marks) (i : ℕ) : Type 0 where
-  pub size : length tracked ≡ length tracked₀
-  pub done : (j : ℕ) → j < i → get_or tracked j false ≡ false
-
--- none yet
-pub clearing : (tracked : Marks) → Cleared tracked tracked 0
-clearing tracked = record { size = refl; done = λ j h. absurd (omega arith) }
-
--- one more
-pub cleared_more : {tracked₀ tracked : Marks} {i : ℕ} → Cleared tracked₀ tracked i → i < length tracked → Cleared tracked₀ (set tracked i false) (i + 1)
-cleared_more {tracked₀} {tracked} {i} c h =
-    record {
-      size = length-set tracked i false ∙ c.size;
-      done =
-          one_more (λ j. get_or (set tracked i false) j false ≡ false) i
-          (λ j l. get_or-set_other tracked i j false false (λ e. omega arith) ∙ c.done j l)
-          (get_or-set_same tracked i false false h);
-    }
-
--- all are
-pub cleared_all : {tracked₀ tracked : Marks} {i : ℕ} → Cleared tracked₀ tracked i → length tracked ≤ i → (v : ℕ) → get_or tracked v false ≡ false
-cleared_all {tracked₀} {tracked} {i} c h v = go (ltb v (length tracked)) refl
-  where
-    go : (b : Bool) → ltb v (length tracked) ≡ b → get_or tracked v false ≡ false
-    go true e = let l : v < length tracked = ltb-true v (length tracked) e in c.done v (omega arith)
-    go false e = get_or-eq_default tracked false {n = v} (ltb-false v (length tracked) e)
 
 -- a table that nothing was written to
 pub grown_none : (rows : List ℕ) (to : ℕ) → Grown rows to rows
@@ -136,29 +108,6 @@ laid_more {s} {before} {n} {at} {rows₀} {to} {rows} {here} {i} {rows'} {there}
       grown = rw e (grown_more (to + i) ((here + before) % 65536) o.grown (omega arith));
       filled = λ next xs v l short r.
           rw e (filled_more (here + before) short (o.filled next xs v l short r) (omega (arith, o.grown.size)) (rw o.place (v.each i (omega arith))));
-    }
-
--- i of n places are copied
-pub record Copying (rows₀ : List ℕ) (from to n : ℕ) (rows : List ℕ) (i : ℕ) : Type 0 where
-  pub under : i ≤ n
-  pub grown : Grown rows₀ to rows
-  pub done : from + n ≤ to → to + n ≤ length rows₀ → (j : ℕ) → j < i → get_or rows (to + j) 0 ≡ get_or rows₀ (from + j) 0
-
--- none yet
-pub copying : (rows : List ℕ) (from to n : ℕ) → Copying rows from to n rows 0
-copying rows from to n = record { under = zero-le; grown = grown_none rows to; done = λ p q j h. absurd (omega arith) }
-
--- one more
-pub copied_more : {rows₀ : List ℕ} {from to n : ℕ} {rows : List ℕ} {i : ℕ} {rows' : List ℕ} {place : ℕ} → Copying rows₀ from to n rows i → i < n → place ≡ get_or rows (from + i) 0 → rows' ≡ set rows (to + i) place → Copying rows₀ from to n rows' (i + 1)
-copied_more {rows₀} {from} {to} {n} {rows} {i} {rows'} {place} o h f e =
-    record {
-      under = omega arith;
-      grown = rw e (grown_more (to + i) place o.grown (omega arith));
-      done = λ p q.
-          rw e
-          (one_more (λ j. get_or (set rows (to + i) place) (to + j) 0 ≡ get_or rows₀ (from + j) 0) i
-          (λ j l. get_or-set_other rows (to + i) (to + j) place 0 (λ z. omega arith) ∙ o.done p q j l)
-          (get_or-set_same rows (to + i) place 0 (omega (arith, o.grown.size)) ∙ f ∙ o.grown.old (from + i) (omega arith)));
     }
 
 -- d has a copy of the row of v, with part k at another place

@@ -1,5 +1,5 @@
 -- What the code does to the tables: it writes rows behind the others, and what it writes are the places of values.
-use Rattle.std.specs.Prelude.{ℕ, ◌+◌, ◌≤◌, ◌<◌, ◌≡◌, List, Bool, length, get_or}
+use Rattle.std.specs.Prelude.{ℕ, ◌+◌, ◌≤◌, ◌<◌, ◌≡◌, List, Bool, length, get_or, Option as Answered}
 use Rattle.std.proofs.Math.Option.{Option, some}
 use Rattle.mir.specs.declared.Value.{Value}
 use Rattle.mir.specs.declared.ValueId.{ValueId}
@@ -10,9 +10,8 @@ use Rattle.mir.specs.Lookup.{is_some}
 use Rattle.fold.specs.Family.{Marks}
 use Rattle.rewrite.specs.State.{AggStates, no_states, insert_state, replaced}
 use Rattle.mir.specs.Most.{most_values}
-use Rattle.rewrite_parts.specs.Rows.{rows_from, most_parts, most_bytes, ValueAt, Rep, Room, Values, Inits, given_parts}
+use Rattle.rewrite_parts.specs.Rows.{rows_from, most_parts, most_bytes, ValueAt, Rep, Room, Values, Inits, given_parts, told, used_after}
 use Rattle.bytes_struct.specs.Fields.{Names}
-use Rattle.rewrite_parts.specs.declared.Named.{Named}
 
 -- nothing moves below `to`
 pub record Grown (rows : List ℕ) (to : ℕ) (rows' : List ℕ) : Type 0 where
@@ -74,7 +73,7 @@ Replaced d v k place tracked rows used tracked' rows' used' =
     → Rep next s tracked' rows' used' (insert_state S d ys)
 
 -- d has the values of n inits in the order of a type's m names, where each is given
-abbrev pub NamesTracked : List ℕ → ValueId → ℕ → ℕ → List ℕ → ℕ → ℕ → Marks → List ℕ → ℕ → Marks → List ℕ → Named → Type 0
+abbrev pub NamesTracked : List ℕ → ValueId → ℕ → ℕ → List ℕ → ℕ → ℕ → Marks → List ℕ → ℕ → Marks → List ℕ → Answered ℕ → Type 0
 NamesTracked s d at n types names m tracked rows used tracked' rows' r =
     (next : ℕ) (S : AggStates) (fs : List FieldInit) (ts : List StructField)
     → Rep next s tracked rows used S
@@ -85,8 +84,8 @@ NamesTracked s d at n types names m tracked rows used tracked' rows' r =
     → Names types names ts
     → length ts ≡ m
     → m ≤ most_parts
-    → (r.given ≡ is_some (from_struct_fields fs ts))
-    × Rep next s tracked' rows' r.used (given_parts S d (from_struct_fields fs ts))
+    → (told r ≡ is_some (from_struct_fields fs ts))
+    × Rep next s tracked' rows' (used_after used r) (given_parts S d (from_struct_fields fs ts))
 
 -- of n values that stand from `at` on, `before` bytes before each, the places stand from `to` on
 abbrev pub PlacesPut : List ℕ → ℕ → ℕ → ℕ → List ℕ → ℕ → List ℕ → Type 0

@@ -1,5 +1,5 @@
 -- How the code keeps the parts of tracked values: the places of values in the input, in rows of a table.
-use Rattle.std.specs.Prelude.{ℕ, ◌+◌, ◌≤◌, ◌<◌, ◌≡◌, List, Bool, true, false, length, get_or, take, drop}
+use Rattle.std.specs.Prelude.{ℕ, ◌+◌, ◌≤◌, ◌<◌, ◌≡◌, List, Bool, true, false, length, get_or, take, drop, Some, None, Option as Answered}
 use Rattle.std.proofs.Math.Option.{Option, none, some}
 use Rattle.bytes_wire.specs.Number.{at16}
 use Rattle.mir.specs.Most.{most_values}
@@ -8,10 +8,8 @@ use Rattle.mir.specs.declared.ValueId.{ValueId}
 use Rattle.mir.specs.Syntax.{FieldInit}
 use Rattle.bytes_operands.specs.Fields.{after, value_step}
 pub use Rattle.bytes_operands.specs.Fields.{ValueAt, stands}
-use Rattle.mir.specs.Lookup.{is_some}
 use Rattle.fold.specs.Family.{Marks}
 use Rattle.rewrite.specs.State.{AggStates, insert_state}
-use Rattle.rewrite_parts.specs.declared.Init.{Init}
 
 -- the first place of a row, behind a number for each value
 abbrev pub rows_from : ℕ
@@ -94,10 +92,25 @@ pub record Inits (next : ℕ) (s : List ℕ) (at : ℕ) (fs : List FieldInit) : 
   pub named : (k : ℕ) → k < length fs → at16 s (item_offset s 2 at k) ≡ (get_or fs k no_init).name.0
   pub each : (k : ℕ) → k < length fs → ValueAt next s (item_offset s 2 at k + 2) (get_or fs k no_init).value
 
--- what is found of a name: whether it is given, and where its value stands
-pub record InitAt (next : ℕ) (s : List ℕ) (o : Option Value) (r : Init) : Type 0 where
-  pub told : r.given ≡ is_some o
-  pub stands : (x : Value) → o ≡ some x → ValueAt next s r.place x
+-- there is a value, and it stands at a place
+pub record There (next : ℕ) (s : List ℕ) (o : Option Value) (place : ℕ) : Type 0 where
+  pub value : Value
+  pub is : o ≡ some value
+  pub stands : ValueAt next s place value
+
+-- what is found of a name: where its value stands, if it is given
+abbrev pub InitAt : ℕ → List ℕ → Option Value → Answered ℕ → Type 0
+InitAt next s o None = o ≡ none
+InitAt next s o (Some place) = There next s o place
+
+-- what a writer of a row answers: how much of the rows is used then, or nothing where it wrote none
+abbrev pub told : Answered ℕ → Bool
+told None = false
+told (Some end) = true
+
+abbrev pub used_after : ℕ → Answered ℕ → ℕ
+used_after used None = used
+used_after used (Some end) = end
 
 -- the states where d is given these parts, if there are any
 unfoldable pub given_parts : AggStates → ValueId → Option (List Value) → AggStates

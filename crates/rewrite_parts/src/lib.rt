@@ -3,7 +3,7 @@
 // the place of each. No row changes: a changed value gets a new one.
 #![tactic(auto)]
 
-ghost use Rattle.std.specs.Prelude.{◌≡◌, List, ℕ, ◌+◌, ◌≤◌, ◌<◌, length, get_or};
+ghost use Rattle.std.specs.Prelude.{◌≡◌, List, ℕ, ◌+◌, ◌≤◌, ◌<◌, length, get_or, IfSome};
 ghost use Rattle.std.proofs.Math.Option.{some};
 ghost use Rattle.mir.specs.declared.Value.{Value};
 ghost use Rattle.mir.specs.Syntax.{FieldInit};
@@ -24,20 +24,6 @@ pub const ROWS: usize = 2432;
 
 // The most parts of a value.
 const MOST_PARTS: u16 = 16;
-
-// Whether a name is given in a struct build, and the place of its value.
-#[derive(Clone, Copy)]
-pub struct Init {
-    pub given: bool,
-    pub place: usize,
-}
-
-// Whether all names of a type are given, and how much of the table is used then.
-#[derive(Clone, Copy)]
-pub struct Named {
-    pub given: bool,
-    pub used: usize,
-}
 
 // Whether a value is tracked.
 pub fn tracked(tracked: &[bool], v: ValueId) -> bool
@@ -73,11 +59,7 @@ pub fn part_place(rows: &[u16], v: ValueId, k: u32) -> usize
 pub fn clear(tracked: &mut [bool])
     ensures { Cleared tracked.old tracked.new }
 {
-    let mut i = 0;
-    while i < tracked.len() {
-        tracked[i] = false;
-        i = i + 1;
-    }
+    tracked.fill(false);
 }
 
 // The dest has the parts of another value: its row.
@@ -96,12 +78,10 @@ fn put_places(s: &[u8], rows: &mut [u16], to: usize, at: usize, n: u8, before: u
     ensures places_put { PlacesPut s.now at n before rows.old to rows.new }
 {
     let mut here = at;
-    let mut i: u8 = 0;
-    while i < n {
+    for i in 0..n {
         let place = here + before as usize;
         table::set_place(rows, to + i as usize, place);
         here = bytes_operands::value_end(s, place);
-        i = i + 1;
     }
 }
 
@@ -131,17 +111,15 @@ pub fn track_values(
     used + 1 + n as usize
 }
 
-// Copies `n` places within the rows.
+// Copies `n` places within the rows, behind where they stand.
 fn copy_row(rows: &mut [u16], from: usize, to: usize, n: u16)
     requires { Addressable to × Addressable from }
     ensures grown { Grown rows.old to rows.new }
     ensures row_copied { RowCopied from to n rows.old rows.new }
 {
-    let mut i: u16 = 0;
-    while i < n {
-        let place = table::number(rows, from + i as usize);
-        table::set_number(rows, to + i as usize, place);
-        i = i + 1;
+    let end = from + n as usize;
+    if end <= to && to + n as usize <= rows.len() {
+        rows.copy_within(from..end, to);
     }
 }
 
@@ -175,29 +153,21 @@ pub fn replace(
     used + 1 + n as usize
 }
 
-// The first init of a name, among the `n` that stand one behind another from `at` on.
-pub fn find_init(s: &[u8], at: usize, n: u8, name: NameId) -> Init
+// The place of the value of a name's first init, among the `n` that stand one behind another from `at` on.
+pub fn find_init(s: &[u8], at: usize, n: u8, name: NameId) -> Option<usize>
     requires { Addressable at }
     ensures { (next : ℕ) (fs : List FieldInit) → Inits next s.now at fs → length fs ≡ n
         → InitAt next s.now (given name fs) result }
 {
     let mut here = at;
-    let mut i: u8 = 0;
-    while i < n {
+    for i in 0..n {
         let place = here + 2;
         if bytes_wire::u16_at(s, here) == name.0 {
-            return Init {
-                given: true,
-                place: place,
-            };
+            return Some(place);
         }
         here = bytes_operands::value_end(s, place);
-        i = i + 1;
     }
-    Init {
-        given: false,
-        place: 0,
-    }
+    None
 }
 
 // Gives the rows, from `to` on, the places of the values of `m` names, which stand four bytes apart from `names` on.
@@ -215,21 +185,18 @@ fn put_named(
     ensures grown { Grown rows.old to rows.new }
     ensures names_put { NamesPut s.now at n types.now names m rows.old to rows.new result }
 {
-    let mut i: u8 = 0;
-    while i < m {
+    for i in 0..m {
         let name = NameId(bytes_wire::u16_at(types, names + 4 * i as usize));
-        let init = find_init(s, at, n, name);
-        if !init.given {
-            return false;
+        match find_init(s, at, n, name) {
+            None => return false,
+            Some(place) => table::set_place(rows, to + i as usize, place),
         }
-        table::set_place(rows, to + i as usize, init.place);
-        i = i + 1;
     }
     true
 }
 
 // The dest has a new row: the values of a struct build's `n` inits in the order of its type's `m` names, where each is
-// given; else nothing is tracked.
+// given; how much of the table is used then. Else nothing is tracked, and as much is used as before.
 pub fn track_named(
     s: &[u8],
     tracked: &mut [bool],
@@ -241,30 +208,20 @@ pub fn track_named(
     types: &[u8],
     names: usize,
     m: u8,
-) -> Named
+) -> Option<usize>
     requires { (used < used_below) × (Addressable at × Addressable names) }
-    ensures used_bound { result.used ≤ used + row_most }
+    ensures used_bound { IfSome result (λ end. end ≤ used + row_most) }
     ensures names_tracked { NamesTracked s.now d at n types.now names m tracked.old rows.old used
         tracked.new rows.new result }
 {
     if MOST_PARTS < m as u16 {
-        return Named {
-            given: false,
-            used: used,
-        };
+        return None;
     }
     table::set_number(rows, used, m as u16);
-    let all = put_named(s, at, n, types, names, m, rows, used + 1);
-    if !all {
-        return Named {
-            given: false,
-            used: used,
-        };
+    if !put_named(s, at, n, types, names, m, rows, used + 1) {
+        return None;
     }
     table::set_flag(tracked, d.0 as usize, true);
     table::set_number(rows, d.0 as usize, used as u16);
-    Named {
-        given: true,
-        used: used + 1 + m as usize,
-    }
+    Some(used + 1 + m as usize)
 }

@@ -13,20 +13,17 @@ use Rattle.bytes_emit.proofs.Sets.{sets_front}
 use Rattle.fold.specs.Family.{Marks}
 use Rattle.rewrite.specs.Run.{Walked, add_counts}
 use Rattle.rewrite_progress.specs.declared.Progress.{Progress}
-use Rattle.rewrite_progress.specs.declared.Put.{Put}
+use Rattle.std.specs.Prelude.{Result, Ok, Err}
+use Rattle.rewrite.specs.declared.Clash.{Clash}
 use Rattle.rewrite_progress.specs.Effect.{Effect, Output, output_of, behind, further, walked_effect, mark_all, type_numbers, Puts, Low, PutLow}
-use Rattle.rewrite_progress.proofs.Laws.{no_went, no_clash}
 use Rattle.rewrite_perform.specs.Performed.{moved_to, block_effect, CountPut}
 
-transfer : {A : Type 0} (P : A → Type 0) (x y : A) → x ≡ y → P x → P y
-transfer P x y e h = rw e at h
-
 -- a writer that went, or clashed
-pub puts_went : (o : Output) (e : Effect) (clash : Bool) (buffer types : List ℕ) (dropped : Marks) (p : Progress) → clash ≡ false → output_of buffer types dropped p ≡ behind o e → Puts o e clash buffer types dropped (Put.Went p)
-puts_went o e clash buffer types dropped p h f = record { clashed = λ z. absurd (no_clash z); went = λ q z. let y : q ≡ p = cc in rw y (h, f) }
+pub puts_went : (o : Output) (e : Effect) (clash : Bool) (buffer types : List ℕ) (dropped : Marks) (p : Progress) → clash ≡ false → output_of buffer types dropped p ≡ behind o e → Puts o e clash buffer types dropped (Ok p)
+puts_went o e clash buffer types dropped p h f = record { clashed = λ x z. absurd (let y : ◌≡◌ {A = ℕ} 0 1 = cc in omega arith); went = λ q z. let y : q ≡ p = cc in rw y (h, f) }
 
-pub puts_clash : (o : Output) (e : Effect) (clash : Bool) (buffer types : List ℕ) (dropped : Marks) → clash ≡ true → Puts o e clash buffer types dropped Put.Clash
-puts_clash o e clash buffer types dropped h = record { clashed = λ z. h; went = λ p z. absurd (no_went z) }
+pub puts_clash : (o : Output) (e : Effect) (clash : Bool) (buffer types : List ℕ) (dropped : Marks) (x : Clash) → clash ≡ true → Puts o e clash buffer types dropped (Err x)
+puts_clash o e clash buffer types dropped x h = record { clashed = λ _ z. h; went = λ p z. absurd (let y : ◌≡◌ {A = ℕ} 0 1 = cc in omega arith) }
 
 -- multiples of 256 do not change the lowest byte
 low_byte : (a b : ℕ) → (a + 256 * b) % 256 ≡ a % 256
@@ -76,10 +73,7 @@ low_reset k q r e l =
       materializations = l.materializations;
     })
 
--- the count of a block whose body clashed, and of one whose body went
-pub count_clash : (p : Progress) (out : List ℕ) (r : Put) → r ≡ Put.Clash → ((k : ℕ) → PutLow k r → PutLow k Put.Clash) × CountPut p out r out Put.Clash
-count_clash p out r e = (λ k l. tt, λ out₀ types₀ types dropped₀ dropped w z h. puts_clash _ _ _ out types dropped (h.clashed e))
-
-pub count_went : (p q v : Progress) (out out' : List ℕ) (r : Put) → r ≡ Put.Went q → out' ≡ sets out p.to (to_bytes 2 (q.lines % 65536)) → v ≡ moved_to q q.to 0 → ((k : ℕ) → PutLow k r → PutLow k (Put.Went v)) × CountPut p out r out' (Put.Went v)
-count_went p q v out out' r e f g =
-    (λ k l. low_reset k q v g (transfer (λ x. PutLow k x) r (Put.Went q) e l), λ out₀ types₀ types dropped₀ dropped w z h. let y = h.went q e in puts_went _ _ _ out' types dropped v y.0 (block_out out₀ out out' types₀ types dropped₀ dropped p q v w z y.1 f g))
+-- the count of a block whose body went
+pub count_went : (p q v : Progress) (out out' : List ℕ) → out' ≡ sets out p.to (to_bytes 2 (q.lines % 65536)) → v ≡ moved_to q q.to 0 → ((k : ℕ) → Low k q → Low k v) × CountPut p out q out' v
+count_went p q v out out' f g =
+    (λ k l. low_reset k q v g l, λ out₀ types₀ types dropped₀ dropped w z h. let y = h.went q refl in puts_went _ _ _ out' types dropped v y.0 (block_out out₀ out out' types₀ types dropped₀ dropped p q v w z y.1 f g))

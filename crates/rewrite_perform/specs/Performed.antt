@@ -14,7 +14,7 @@ use Rattle.rewrite.specs.Step.{Piece}
 use Rattle.rewrite.specs.Run.{Walked, add_counts}
 use Rattle.rewrite_parts.specs.Rows.{most_bytes}
 use Rattle.rewrite_progress.specs.declared.Progress.{Progress}
-use Rattle.rewrite_progress.specs.declared.Put.{Put}
+use Rattle.std.specs.Prelude.{Ok}
 use Rattle.rewrite_progress.specs.Ground.{Ground}
 use Rattle.rewrite_progress.specs.Effect.{Effect, Output, output_of, behind, piece_effect, walked_effect, Puts}
 use Rattle.rewrite_arms.specs.declared.Action.{Action}
@@ -62,9 +62,9 @@ block_effect w =
     }
 
 -- a block whose body begins two bytes behind p gets its count in front
-abbrev pub CountPut : Progress → List ℕ → Put → List ℕ → Put → Type 0
-CountPut p out r out' r' =
+abbrev pub CountPut : Progress → List ℕ → Progress → List ℕ → Progress → Type 0
+CountPut p out q out' q' =
     (out₀ types₀ types : List ℕ) (dropped₀ dropped : Marks) (w : Walked) →
     p.lines ≡ 0 →
-    Puts (output_of out₀ types₀ dropped₀ (moved_to p (p.to + 2) 0)) (walked_effect w) w.clash out types dropped r →
-    Puts (output_of out₀ types₀ dropped₀ p) (block_effect w) w.clash out' types dropped r'
+    Puts (output_of out₀ types₀ dropped₀ (moved_to p (p.to + 2) 0)) (walked_effect w) w.clash out types dropped (Ok q) →
+    Puts (output_of out₀ types₀ dropped₀ p) (block_effect w) w.clash out' types dropped (Ok q')

@@ -3,26 +3,20 @@
 
 ghost use Rattle.std.specs.Prelude.{◌≡◌, ℕ, ◌+◌, ◌≤◌};
 ghost use Rattle.rewrite.specs.Run.{add_counts};
-ghost use Rattle.rewrite_progress.specs.Effect.{output_of, low_enough, Low, PutLow, most_lines};
+ghost use Rattle.rewrite_progress.specs.Effect.{output_of, low_enough, Low, most_lines};
 ghost use Rattle.rewrite_arms.specs.Decided.{counted_as};
 ghost use Rattle.rewrite_perform.specs.Performed.{moved_to, raised_by, PartPut, CountsLow, Performs, CountPut};
 
 use bytes_field::Bounds;
 use rewrite::Counts;
 use rewrite_arms::{Action, Counted};
-use rewrite_progress::{Progress, Put};
+use rewrite_progress::Progress;
 
 // A progress at another place and number of instructions; its fresh numbers and counts stay.
 pub fn moved(p: Progress, to: usize, lines: u32) -> Progress
     ensures { result ≡ moved_to p to lines }
 {
-    let counts = p.counts;
-    Progress {
-        to: to,
-        lines: lines,
-        fresh: p.fresh,
-        counts: counts,
-    }
+    Progress { to, lines, ..p }
 }
 
 // The most bytes of a part that is copied: as many as an input has.
@@ -47,22 +41,24 @@ fn one_more(c: Counts, what: Counted) -> Counts
     requires { CountsLow c }
     ensures { result ≡ add_counts c (counted_as what) }
 {
-    let mut r = c;
     match what {
-        Counted::Build => {
-            r.builds = c.builds + 1;
-        }
-        Counted::Extract => {
-            r.extracts = c.extracts + 1;
-        }
-        Counted::Insert => {
-            r.inserts = c.inserts + 1;
-        }
-        Counted::Assign => {
-            r.assigns = c.assigns + 1;
-        }
+        Counted::Build => Counts {
+            builds: c.builds + 1,
+            ..c
+        },
+        Counted::Extract => Counts {
+            extracts: c.extracts + 1,
+            ..c
+        },
+        Counted::Insert => Counts {
+            inserts: c.inserts + 1,
+            ..c
+        },
+        Counted::Assign => Counts {
+            assigns: c.assigns + 1,
+            ..c
+        },
     }
-    r
 }
 
 // Nothing is put out, and the instruction is counted.
@@ -70,13 +66,9 @@ pub fn left_out(p: Progress, what: Counted) -> Progress
     requires { Low low_enough p }
     ensures { result ≡ raised_by p (counted_as what) }
 {
-    let before = p.counts;
-    let counts = one_more(before, what);
     Progress {
-        to: p.to,
-        lines: p.lines,
-        fresh: p.fresh,
-        counts: counts,
+        counts: one_more(p.counts, what),
+        ..p
     }
 }
 
@@ -131,17 +123,12 @@ pub fn perform(
 // How many numbers two bytes have.
 const NUMBERS: u32 = 65536;
 
-// A block that begins at `p` is written from two bytes behind it on: its count of instructions goes in front.
-pub fn put_count(out: &mut [u8], p: Progress, r: Put) -> Put
+// A block that begins at `p` is written from two bytes behind it up to `q`: its count of instructions goes in front.
+pub fn put_count(out: &mut [u8], p: Progress, q: Progress) -> Progress
     requires { Low low_enough p }
-    ensures by_index { (k : ℕ) → PutLow k r → PutLow k result }
-    ensures count_put { CountPut p out.old r out.new result }
+    ensures by_index { (k : ℕ) → Low k q → Low k result }
+    ensures count_put { CountPut p out.old q out.new result }
 {
-    match r {
-        Put::Clash => Put::Clash,
-        Put::Went(q) => {
-            bytes_emit::put_u16(out, p.to, (q.lines % NUMBERS) as u16);
-            Put::Went(moved(q, q.to, 0))
-        }
-    }
+    bytes_emit::put_u16(out, p.to, (q.lines % NUMBERS) as u16);
+    moved(q, q.to, 0)
 }

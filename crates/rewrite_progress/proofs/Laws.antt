@@ -3,7 +3,6 @@ use Prim.Native.Nat.{ℕ, suc}
 use mathlib.Core.Path.{◌≡◌, refl, ap, ◌∙◌, sym}
 use mathlib.Core.List.{List, [], ◌∷◌, ◌++◌, append_assoc}
 use native.Mathlib.Nat.{add_assoc, add-zero}
-use native.Mathlib.Omega.{arith}
 use lib.ListN.{length, length-append}
 use Rattle.mir.specs.declared.ValueId.{ValueId}
 use Rattle.mir.specs.declared.TypeId.{TypeId}
@@ -13,15 +12,7 @@ use Rattle.fold.specs.Family.{Marks, mark}
 use Rattle.rewrite.specs.Step.{Piece}
 use Rattle.rewrite.specs.Run.{Walked, glue}
 use Rattle.rewrite_progress.specs.declared.Progress.{Progress}
-use Rattle.rewrite_progress.specs.declared.Put.{Put}
 use Rattle.rewrite_progress.specs.Effect.{Effect, Output, mark_all, type_numbers, further, behind, then_effect, no_effect, piece_effect, walked_effect}
-
--- what clashed did not go on, and what went on did not clash
-pub no_went : {p : Progress} → Put.Clash ≡ Put.Went p → ⊥
-no_went {p} e = let z : ◌≡◌ {A = ℕ} 0 1 = cc in omega arith
-
-pub no_clash : {p : Progress} → Put.Went p ≡ Put.Clash → ⊥
-no_clash {p} e = let z : ◌≡◌ {A = ℕ} 0 1 = cc in omega arith
 
 pub each_append : {A : Type 0} (enc : A → List ℕ) (xs ys : List A) → each_bytes enc (xs ++ ys) ≡ each_bytes enc xs ++ each_bytes enc ys
 each_append enc [] ys = refl

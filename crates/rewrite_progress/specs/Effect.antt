@@ -1,5 +1,5 @@
 -- What an instruction, a terminator, a block or a routine adds to the output.
-use Rattle.std.specs.Prelude.{ℕ, ◌+◌, ◌*◌, ◌≤◌, ◌<◌, ◌≡◌, List, [], ◌∷◌, ◌++◌, Bool, true, false, length}
+use Rattle.std.specs.Prelude.{ℕ, ◌+◌, ◌*◌, ◌≤◌, ◌<◌, ◌≡◌, List, [], ◌∷◌, ◌++◌, Bool, true, false, length, Result, Ok, Err}
 use Rattle.std.proofs.lemmas.List.Edits.{sets}
 use Rattle.table.specs.Number.{numbers_below}
 use Rattle.mir.specs.declared.ValueId.{ValueId}
@@ -8,12 +8,12 @@ use Rattle.bytes_field.specs.declared.Bounds.{Bounds}
 use Rattle.bytes_field.specs.Encode.{each_bytes, instruction_bytes, terminator_bytes}
 use Rattle.bytes_block.specs.Encode.{block_bytes}
 use Rattle.fold.specs.Family.{Marks, mark}
+use Rattle.rewrite.specs.declared.Clash.{Clash}
 use Rattle.rewrite.specs.declared.Counts.{Counts}
 use Rattle.rewrite.specs.Rebuild.{Rebuilt}
 use Rattle.rewrite.specs.Step.{Piece, no_counts}
 use Rattle.rewrite.specs.Run.{Walked, Rewritten, add_counts}
 use Rattle.rewrite_progress.specs.declared.Progress.{Progress}
-use Rattle.rewrite_progress.specs.declared.Put.{Put}
 
 pub record Effect : Type 0 where
   pub bytes : List ℕ
@@ -121,10 +121,10 @@ rewritten_effect w =
       counts = w.counts;
     }
 
--- what a writer answers: Clash only where there is one, else the output behind the effect
-pub record Puts (o : Output) (e : Effect) (clash : Bool) (buffer types : List ℕ) (dropped : Marks) (r : Put) : Type 0 where
-  pub clashed : r ≡ Put.Clash → clash ≡ true
-  pub went : (p : Progress) → r ≡ Put.Went p → (clash ≡ false) × (output_of buffer types dropped p ≡ behind o e)
+-- what a writer answers: how far the output is written then; a clash only where there is one, else the output behind the effect
+pub record Puts (o : Output) (e : Effect) (clash : Bool) (buffer types : List ℕ) (dropped : Marks) (r : Result Progress Clash) : Type 0 where
+  pub clashed : (x : Clash) → r ≡ Err x → clash ≡ true
+  pub went : (p : Progress) → r ≡ Ok p → (clash ≡ false) × (output_of buffer types dropped p ≡ behind o e)
 
 -- the numbers of a progress are at most these: one thing put out adds at most 2^20 bytes and 1,024 of anything else
 pub record Low (k : ℕ) (p : Progress) : Type 0 where
@@ -163,9 +163,9 @@ abbrev pub counts_below : ℕ
 counts_below = 1073741824
 
 -- a writer's answer stays low
-abbrev pub PutLow : ℕ → Put → Type 0
-PutLow k Put.Clash = Unit {0}
-PutLow k (Put.Went p) = Low k p
+abbrev pub PutLow : ℕ → Result Progress Clash → Type 0
+PutLow k (Err x) = Unit {0}
+PutLow k (Ok p) = Low k p
 
 -- the fresh numbers begin with the next one, and are enough for the types ts
 abbrev pub fresh_from : Bounds → Progress → ℕ

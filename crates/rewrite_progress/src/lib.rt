@@ -13,19 +13,12 @@ pub const SKIPS: usize = most::SLOTS;
 pub const FLAGS: usize = SKIPS + most::BLOCKS;
 
 // The place behind what is written, the instructions put out in the present block, the fresh numbers taken, the counts.
-#[derive(Clone, Copy)]
+#[derive(Clone, Copy, Default)]
 pub struct Progress {
     pub to: usize,
     pub lines: u32,
     pub fresh: u32,
     pub counts: Counts,
-}
-
-// What a writer answers. Clash: an array rebuild met another count. Went: how far the output is written then.
-#[derive(Clone, Copy)]
-pub enum Put {
-    Clash,
-    Went(Progress),
 }
 
 // What the numbers of a routine stay below, and the settings of the pass.

@@ -24,7 +24,8 @@ use Rattle.rewrite.specs.Step.{Piece, kept, left, one_insert, step, step_kind, s
 use Rattle.rewrite_parts.specs.Rows.{Rep, rows_in, fresh_in}
 use Rattle.rewrite_parts.specs.Here.{Here}
 use Rattle.rewrite_progress.specs.declared.Progress.{Progress}
-use Rattle.rewrite_progress.specs.declared.Put.{Put}
+use Rattle.std.specs.Prelude.{Some, None, Option as Answered, Result, Ok, Err}
+use Rattle.rewrite.specs.declared.Clash.{Clash}
 use Rattle.rewrite_progress.specs.declared.Setup.{Setup}
 use Rattle.rewrite_progress.specs.Effect.{Output, output_of, behind, piece_effect, PutLow}
 use Rattle.rewrite_chains.specs.Chained.{states_after}
@@ -32,9 +33,8 @@ use Rattle.rewrite_arms.specs.declared.Action.{Action}
 use Rattle.rewrite_arms.specs.Decided.{Does}
 use Rattle.rewrite_step.specs.declared.Rewrite.{Rewrite}
 use Rattle.rewrite_step.specs.declared.Reached.{Reached}
-use Rattle.rewrite_step.specs.declared.Stepped.{Stepped}
 use Rattle.rewrite_step.specs.declared.Settled.{Settled}
-use Rattle.rewrite_step.specs.Stepping.{Lent, lent_as, output_in, PutsIn, CallPiece, call_piece, StorePiece, store_piece, Becomes, Settles, with_used, Steps, fresh_from, SettlesAll, PutsPiece, StepsOn, SteppedLow}
+use Rattle.rewrite_step.specs.Stepping.{Lent, lent_as, output_in, PutsIn, CallPiece, call_piece, StorePiece, store_piece, Becomes, Settles, Steps, fresh_from, SettlesAll, PutsPiece, StepsOn, SteppedLow}
 use Rattle.rewrite_perform.specs.Performed.{raised_by, Performs}
 use Rattle.rewrite_perform.proofs.Performing.{left_none}
 use Rattle.rewrite_perform.proofs.Counting.{puts_went}
@@ -103,16 +103,19 @@ unfolding store_kept kept
 store_states τ S n i p x t none = refl
 store_states τ S n i p x t (some xs) = rebuilt_states S i.meta p t _ _
 
--- a step clashed or went
-pub no_clash : {w : Reached} → Stepped.Went w ≡ Stepped.Clash → ⊥
-no_clash {w} e = let z : ◌≡◌ {A = ℕ} 0 1 = cc in omega arith
+-- a writer's answer, with how much of the rows is used, is a step's
+pub data WithUsed (used : ℕ) (r : Result Progress Clash) (t : Result Reached Clash) : Type 0 where
+  clash_too : (x y : Clash) → r ≡ Err x → t ≡ Err y → WithUsed used r t
+  went_too : (p : Progress) → r ≡ Ok p → t ≡ Ok (record { progress = p; used = used }) → WithUsed used r t
 
--- a writer's answer is a step's
-pub steps_put : (next : ℕ) (s : List ℕ) (o : Output) (q : Piece) (l : Lent) (r : Put) (t : Stepped) (used : ℕ) → t ≡ with_used r used → Rep next s l.tracked (rows_in l.work) used q.states → PutsIn o (piece_effect q) q.clash l r → Steps next s o q l t
-steps_put next s o q l Put.Clash t used e h p = rw e (record { clashed = λ z. p.clashed refl; went = λ w z. absurd (no_clash (sym z)) })
-steps_put next s o q l (Put.Went v) t used e h p =
-    let z = p.went v refl in
-    rw e (record { clashed = λ y. absurd (no_clash y); went = λ w y. let x : w ≡ record { progress = v; used = used } = cc in rw x (record { safe = z.0; out = z.1; rep = h }) })
+pub steps_put : (next : ℕ) (s : List ℕ) (o : Output) (q : Piece) (l : Lent) (r : Result Progress Clash) (t : Result Reached Clash) (used : ℕ) → WithUsed used r t → Rep next s l.tracked (rows_in l.work) used q.states → PutsIn o (piece_effect q) q.clash l r → Steps next s o q l t
+steps_put next s o q l r t used (clash_too x y e f) h p = record { clashed = λ _ z. p.clashed x e; went = λ w z. absurd (let u : ◌≡◌ {A = ℕ} 0 1 = cc in omega arith) }
+steps_put next s o q l r t used (went_too v e f) h p =
+    let z = p.went v e in
+    record {
+      clashed = λ x y. absurd (let u : ◌≡◌ {A = ℕ} 0 1 = cc in omega arith);
+      went = λ w y. let x : w ≡ record { progress = v; used = used } = cc in rw x (record { safe = z.0; out = z.1; rep = h });
+    }
 
 -- what becomes of an instruction, by its kind
 module _ (σ : Settings) (τ : Types) (folds : ValueId → Bool) (S : AggStates) (n : ℕ) (i : Instruction) (next : ℕ) (s : List ℕ) (tracked : Marks) (rows : List ℕ) (used : ℕ) where
@@ -191,18 +194,18 @@ module _ (σ : Settings) (τ : Types) (folds : ValueId → Bool) (S : AggStates)
 
 -- what was settled is put out
 module _ (b : Bounds) (s facts : List ℕ) (slot : ℕ) (τ : Types) (S : AggStates) (used : ℕ) (i : Instruction) (q : Piece) (l : Lent) (p : Progress) (rewrite : Rewrite) (h : Here b s facts slot l.tracked (rows_in l.work) used τ q.states i) (becomes : Becomes τ b.next s S (fresh_from b p) i q rewrite) where
-  abbrev Out : Lent → Put → Type 0
+  abbrev Out : Lent → Result Progress Clash → Type 0
   Out l' r = PutsIn (output_in l p) (piece_effect q) q.clash l' r
 
   -- an action
-  pub put_does : (action : Action) (out' : List ℕ) (dropped' : Marks) (r : Progress) → rewrite ≡ Rewrite.Does action → Performs b s facts slot action (λ types. output_of l.out types l.dropped p) (λ types. output_of out' types dropped' r) → Out (lent_as l.tracked dropped' l.work out') (Put.Went r)
+  pub put_does : (action : Action) (out' : List ℕ) (dropped' : Marks) (r : Progress) → rewrite ≡ Rewrite.Does action → Performs b s facts slot action (λ types. output_of l.out types l.dropped p) (λ types. output_of out' types dropped' r) → Out (lent_as l.tracked dropped' l.work out') (Ok r)
   put_does action out' dropped' r e f =
       let d : Does b.next s S i q action = rw e at becomes in
       let w = f τ S i q (fresh_in l.work) h.ground h.line d in
       puts_went _ _ _ out' _ dropped' r w.0 w.1
 
   -- a Store that was forwarded
-  pub put_forwarded : (r : Progress) → rewrite ≡ Rewrite.Forwarded → r ≡ raised_by p one_insert → Out l (Put.Went r)
+  pub put_forwarded : (r : Progress) → rewrite ≡ Rewrite.Forwarded → r ≡ raised_by p one_insert → Out l (Ok r)
   unfolding left
   put_forwarded r e f =
       let d : q ≡ left one_insert [] q.states = rw e at becomes in
@@ -215,7 +218,7 @@ module _ (b : Bounds) (s facts : List ℕ) (slot : ℕ) (τ : Types) (S : AggSta
   same_here e = record { ground = h.ground; rep = (rw e at h).rep; line = h.line }
 
   -- a Call
-  pub put_called : (l' : Lent) (r : Put) → rewrite ≡ Rewrite.Call → ((ds : List ValueId) (f : ℕ) (xs : List Value) (ps rs : List TypeId) → Before → i.kind ≡ Call ds f xs ps rs → q ≡ step_call S i ds f ps rs (rebuild_all τ S (fresh_from b p) (wanted_arguments τ xs ps)) (rebuild_all τ S (fresh_from b p) (wanted_arguments τ xs ps)).fresh → Out l' r) → Out l' r
+  pub put_called : (l' : Lent) (r : Result Progress Clash) → rewrite ≡ Rewrite.Call → ((ds : List ValueId) (f : ℕ) (xs : List Value) (ps rs : List TypeId) → Before → i.kind ≡ Call ds f xs ps rs → q ≡ step_call S i ds f ps rs (rebuild_all τ S (fresh_from b p) (wanted_arguments τ xs ps)) (rebuild_all τ S (fresh_from b p) (wanted_arguments τ xs ps)).fresh → Out l' r) → Out l' r
   put_called l' r e f =
       let d : CallPiece τ S (fresh_from b p) i q = rw e at becomes in
       elim d [
@@ -223,7 +226,7 @@ module _ (b : Bounds) (s facts : List ℕ) (slot : ℕ) (τ : Types) (S : AggSta
       ]
 
   -- a Store
-  pub put_stored : (l' : Lent) (r : Put) → rewrite ≡ Rewrite.Store → ((v : Place) (x : Value) (t : TypeId) → Before → i.kind ≡ Store v x t → q ≡ store_kept τ S (fresh_from b p) i v x t (on_some (aggregate_type τ t) (λ u. state_of S x)) → Out l' r) → Out l' r
+  pub put_stored : (l' : Lent) (r : Result Progress Clash) → rewrite ≡ Rewrite.Store → ((v : Place) (x : Value) (t : TypeId) → Before → i.kind ≡ Store v x t → q ≡ store_kept τ S (fresh_from b p) i v x t (on_some (aggregate_type τ t) (λ u. state_of S x)) → Out l' r) → Out l' r
   put_stored l' r e f =
       let d : StorePiece τ S (fresh_from b p) i q = rw e at becomes in
       elim d [
@@ -231,11 +234,11 @@ module _ (b : Bounds) (s facts : List ℕ) (slot : ℕ) (τ : Types) (S : AggSta
       ]
 
 -- a whole step: the rows are settled, then all is put out
-pub step_turn : (setup : Setup) (s facts : List ℕ) (slot : ℕ) (fold : Bool) (l : Lent) (w : Reached) (tracked dropped : Marks) (rows work out : List ℕ) (d : Settled) (r : Put) (t : Stepped)
+pub step_turn : (setup : Setup) (s facts : List ℕ) (slot : ℕ) (fold : Bool) (l : Lent) (w : Reached) (tracked dropped : Marks) (rows work out : List ℕ) (d : Settled) (r : Result Progress Clash) (t : Result Reached Clash)
     → 2432 ≤ length l.work → length rows ≡ length (rows_in l.work)
     → SettlesAll setup s facts slot fold l.tracked (rows_in l.work) w.used tracked rows d
     → PutsPiece setup.bounds s facts slot d.rewrite (lent_as tracked l.dropped (rows ++ fresh_in l.work) l.out) w.progress (lent_as tracked dropped work out) r
-    → rows_in work ≡ rows_in (rows ++ fresh_in l.work) → t ≡ with_used r d.used
+    → rows_in work ≡ rows_in (rows ++ fresh_in l.work) → WithUsed d.used r t
     → StepsOn setup s facts slot fold l w (lent_as tracked dropped work out) t
 step_turn setup s facts slot fold l w tracked dropped rows work out d r t long same settles puts stays e τ S folds i h room f bd =
     let q = step setup.settings τ folds S (fresh_from setup.bounds w.progress) i in
@@ -246,8 +249,3 @@ step_turn setup s facts slot fold l w tracked dropped rows work out d r t long s
     let rep : Rep setup.bounds.next s tracked (rows_in (rows ++ fresh_in l.work)) d.used q.states = rw front z.rep in
     let p = puts τ S d.used i q (record { ground = h.ground; rep = rep; line = h.line }) z.becomes bd in
     steps_put setup.bounds.next s _ q (lent_as tracked dropped work out) r t d.used e (rw stays rep) (rw back at p)
-
--- a writer's answer, with the use of the rows beside it
-pub low_used : (k used most : ℕ) (r : Put) (q : Stepped) → q ≡ with_used r used → used ≤ most → PutLow k r → SteppedLow k most q
-low_used k used most Put.Clash q e h l = rw e tt
-low_used k used most (Put.Went p) q e h l = rw e (l, h)

@@ -1,5 +1,5 @@
 -- What a step through a block leaves behind, and what is left of the block.
-use Rattle.std.specs.Prelude.{ℕ, ◌≤◌, ◌≡◌, List, [], Bool, true, false}
+use Rattle.std.specs.Prelude.{ℕ, ◌≤◌, ◌≡◌, List, [], Bool, true, false, Result, Ok, Err}
 use Rattle.std.proofs.Math.Option.{some}
 use Rattle.mir.specs.declared.TypeId.{TypeId}
 use Rattle.mir.specs.declared.Value.{Value}
@@ -14,7 +14,7 @@ use Rattle.rewrite.specs.Step.{Piece, step, left, step_call, store_kept, one_ins
 use Rattle.rewrite_parts.specs.Rows.{Rep, Room, rows_in, fresh_in}
 use Rattle.rewrite_parts.specs.Here.{Here}
 use Rattle.rewrite_progress.specs.declared.Progress.{Progress}
-use Rattle.rewrite_progress.specs.declared.Put.{Put}
+use Rattle.rewrite.specs.declared.Clash.{Clash}
 use Rattle.rewrite_progress.specs.declared.Setup.{Setup}
 use Rattle.rewrite_progress.specs.Effect.{Effect, Output, output_of, behind, piece_effect, Puts, Low}
 pub use Rattle.rewrite_progress.specs.Effect.{fresh_from, Enough}
@@ -22,7 +22,6 @@ use Rattle.rewrite_arms.specs.Decided.{Does}
 use Rattle.rewrite_step.specs.declared.Rewrite.{Rewrite}
 use Rattle.rewrite_step.specs.declared.Settled.{Settled}
 use Rattle.rewrite_step.specs.declared.Reached.{Reached}
-use Rattle.rewrite_step.specs.declared.Stepped.{Stepped}
 
 -- the tables that a walk is lent: the marks of the tracked and of the dropped values, the working table, the output
 pub record Lent : Type 0 where
@@ -39,7 +38,7 @@ abbrev pub output_in : Lent → Progress → Output
 output_in l p = output_of l.out (fresh_in l.work) l.dropped p
 
 -- what a writer into them answers
-abbrev pub PutsIn : Output → Effect → Bool → Lent → Put → Type 0
+abbrev pub PutsIn : Output → Effect → Bool → Lent → Result Progress Clash → Type 0
 PutsIn o e clash l r = Puts o e clash l.out (fresh_in l.work) l.dropped r
 
 -- the flag of a build says whether it is folded
@@ -72,15 +71,10 @@ pub record Settles (τ : Types) (next : ℕ) (s : List ℕ) (tracked : Marks) (r
   pub rep : Rep next s tracked rows r.used q.states
   pub becomes : Becomes τ next s S n i q r.rewrite
 
--- a writer's answer, with how much of the rows is used
-abbrev pub with_used : Put → ℕ → Stepped
-with_used Put.Clash used = Stepped.Clash
-with_used (Put.Went p) used = Stepped.Went (record { progress = p; used = used })
-
 -- a step's answer stays low
-abbrev pub SteppedLow : ℕ → ℕ → Stepped → Type 0
-SteppedLow k used Stepped.Clash = Unit {0}
-SteppedLow k used (Stepped.Went w) = Low k w.progress × (w.used ≤ used)
+abbrev pub SteppedLow : ℕ → ℕ → Result Reached Clash → Type 0
+SteppedLow k used (Err x) = Unit {0}
+SteppedLow k used (Ok w) = Low k w.progress × (w.used ≤ used)
 
 -- a piece is put out, and the tables hold its states
 pub record Gone (next : ℕ) (s : List ℕ) (o : Output) (q : Piece) (l : Lent) (w : Reached) : Type 0 where
@@ -89,9 +83,9 @@ pub record Gone (next : ℕ) (s : List ℕ) (o : Output) (q : Piece) (l : Lent) 
   pub rep : Rep next s l.tracked (rows_in l.work) w.used q.states
 
 -- what a step answers
-pub record Steps (next : ℕ) (s : List ℕ) (o : Output) (q : Piece) (l : Lent) (r : Stepped) : Type 0 where
-  pub clashed : r ≡ Stepped.Clash → q.clash ≡ true
-  pub went : (w : Reached) → r ≡ Stepped.Went w → Gone next s o q l w
+pub record Steps (next : ℕ) (s : List ℕ) (o : Output) (q : Piece) (l : Lent) (r : Result Reached Clash) : Type 0 where
+  pub clashed : (x : Clash) → r ≡ Err x → q.clash ≡ true
+  pub went : (w : Reached) → r ≡ Ok w → Gone next s o q l w
 
 -- what is settled of an instruction, whatever its kind
 abbrev pub SettlesAll : Setup → List ℕ → List ℕ → ℕ → Bool → Marks → List ℕ → ℕ → Marks → List ℕ → Settled → Type 0
@@ -103,7 +97,7 @@ SettlesAll setup s facts slot fold tracked rows used tracked' rows' r =
     Settles τ setup.bounds.next s tracked' rows' S n i (step setup.settings τ folds S n i) r
 
 -- what was settled is put out
-abbrev pub PutsPiece : Bounds → List ℕ → List ℕ → ℕ → Rewrite → Lent → Progress → Lent → Put → Type 0
+abbrev pub PutsPiece : Bounds → List ℕ → List ℕ → ℕ → Rewrite → Lent → Progress → Lent → Result Progress Clash → Type 0
 PutsPiece b s facts slot rewrite l p l' r =
     (τ : Types) (S : AggStates) (used : ℕ) (i : Instruction) (q : Piece) →
     Here b s facts slot l.tracked (rows_in l.work) used τ q.states i →
@@ -112,7 +106,7 @@ PutsPiece b s facts slot rewrite l p l' r =
     PutsIn (output_in l p) (piece_effect q) q.clash l' r
 
 -- a whole step: one instruction is settled and put out
-abbrev pub StepsOn : Setup → List ℕ → List ℕ → ℕ → Bool → Lent → Reached → Lent → Stepped → Type 0
+abbrev pub StepsOn : Setup → List ℕ → List ℕ → ℕ → Bool → Lent → Reached → Lent → Result Reached Clash → Type 0
 StepsOn setup s facts slot fold l w l' r =
     (τ : Types) (S : AggStates) (folds : ValueId → Bool) (i : Instruction) →
     Here setup.bounds s facts slot l.tracked (rows_in l.work) w.used τ S i →

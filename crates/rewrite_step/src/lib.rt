@@ -4,13 +4,14 @@
 ghost use Rattle.std.specs.Prelude.{◌≡◌, ℕ, ◌+◌, ◌≤◌, ◌<◌, length};
 ghost use Rattle.rewrite_parts.specs.Rows.{row_most, rows_size, used_below, rows_in};
 ghost use Rattle.rewrite_progress.specs.Effect.{low_enough, Low, PutLow};
-ghost use Rattle.rewrite_step.specs.Stepping.{lent_as, with_used, SteppedLow, SettlesAll, PutsPiece, StepsOn};
+ghost use Rattle.rewrite_step.specs.Stepping.{lent_as, SteppedLow, SettlesAll, PutsPiece, StepsOn};
 
 use bytes_field::Bounds;
 use mir::kind;
+use rewrite::Clash;
 use rewrite_arms::{Action, Counted};
 use rewrite_parts::ROWS;
-use rewrite_progress::{Progress, Put, Setup};
+use rewrite_progress::{Progress, Setup};
 
 // What becomes of an instruction.
 // Does: what is decided of it.
@@ -38,13 +39,6 @@ pub struct Reached {
     pub used: usize,
 }
 
-// What a step answers. Clash: an array rebuild met another count. Went: how far all went.
-#[derive(Clone, Copy)]
-pub enum Stepped {
-    Clash,
-    Went(Reached),
-}
-
 // Settles what becomes of a slot's instruction; `fold` is whether a build is left out.
 fn settle(
     s: &[u8],
@@ -67,33 +61,31 @@ fn settle(
     if kind == kind::CALL {
         return Settled {
             rewrite: Rewrite::Call,
-            used: used,
+            used,
         };
     }
     if kind != kind::STORE {
         let d = rewrite_decide::decide(s, b, settings, facts, slot, fold, tracked, rows, used);
-        let action = d.action;
         return Settled {
-            rewrite: Rewrite::Does(action),
+            rewrite: Rewrite::Does(d.action),
             used: d.used,
         };
     }
     if !settings.tuples {
         return Settled {
             rewrite: Rewrite::Does(Action::Keep),
-            used: used,
+            used,
         };
     }
-    let f = rewrite_chains::forward_store(s, b, facts, slot, tracked, rows, used);
-    if f.forwarded {
-        return Settled {
+    match rewrite_chains::forward_store(s, b, facts, slot, tracked, rows, used) {
+        Some(end) => Settled {
             rewrite: Rewrite::Forwarded,
-            used: f.used,
-        };
-    }
-    Settled {
-        rewrite: Rewrite::Store,
-        used: f.used,
+            used: end,
+        },
+        None => Settled {
+            rewrite: Rewrite::Store,
+            used,
+        },
     }
 }
 
@@ -109,7 +101,7 @@ fn carry_out(
     work: &mut [u16],
     out: &mut [u8],
     p: Progress,
-) -> Put
+) -> Result<Progress, Clash>
     requires { Low low_enough p }
     ensures by_index { (k : ℕ) → Low k p → PutLow (k + 1) result }
     ensures work_unchanged { rows_in work.new ≡ rows_in work.old }
@@ -120,24 +112,11 @@ fn carry_out(
     match rewrite {
         Rewrite::Does(action) => {
             let q = rewrite_perform::perform(action, s, b, facts, slot, out, p, dropped);
-            Put::Went(q)
+            Ok(q)
         }
-        Rewrite::Forwarded => Put::Went(rewrite_perform::left_out(p, Counted::Insert)),
+        Rewrite::Forwarded => Ok(rewrite_perform::left_out(p, Counted::Insert)),
         Rewrite::Call => rewrite_before::put_call(out, p, s, b, facts, slot, tracked, work),
         Rewrite::Store => rewrite_before::put_store(out, p, s, b, facts, slot, tracked, work),
-    }
-}
-
-// A writer's answer, with how much of the rows is used.
-fn with_used(r: Put, used: usize) -> Stepped
-    ensures { result ≡ with_used r used }
-{
-    match r {
-        Put::Clash => Stepped::Clash,
-        Put::Went(p) => Stepped::Went(Reached {
-            progress: p,
-            used: used,
-        }),
     }
 }
 
@@ -153,7 +132,7 @@ pub fn step(
     work: &mut [u16],
     out: &mut [u8],
     w: Reached,
-) -> Stepped
+) -> Result<Reached, Clash>
     requires { Low low_enough w.progress × ((w.used < used_below) × (rows_size ≤ length work.old)) }
     ensures by_index { (k : ℕ) → Low k w.progress → SteppedLow (k + 1) (w.used + row_most) result }
     ensures steps_on { StepsOn setup s.now facts.now slot fold
@@ -172,7 +151,9 @@ pub fn step(
         &mut work[..ROWS],
         w.used,
     );
-    let rewrite = d.rewrite;
-    let r = carry_out(rewrite, s, b, facts, slot, tracked, dropped, work, out, p);
-    with_used(r, d.used)
+    let progress = carry_out(d.rewrite, s, b, facts, slot, tracked, dropped, work, out, p)?;
+    Ok(Reached {
+        progress,
+        used: d.used,
+    })
 }

@@ -16,9 +16,7 @@ use Rattle.mir.specs.declared.Literal.{Literal}
 use Rattle.mir.specs.declared.Value.{Value}
 use Rattle.bytes_field.specs.declared.Bounds.{Bounds}
 use Rattle.mir.specs.MirType.{MirType, Felt, Bool, U32, Tuple, Struct, FixedArray, Pointer, Function, Unit, Error, Unknown}
-use Rattle.bytes_lookup.specs.declared.TypeFound.{TypeFound}
 use Rattle.bytes_sections.specs.Index.{recorded_number, recorded_from}
-use Rattle.bytes_lookup.specs.Found.{as_type}
 use Rattle.mir.specs.Lookup.{is_some, Types, row_of, recorded_type, shape, is_tuple, is_struct, is_array, is_aggregate}
 use Rattle.fold.specs.Tables.{Known}
 use Rattle.rewrite.specs.State.{AggStates, state_of}
@@ -28,7 +26,8 @@ use Rattle.bytes_wire.proofs.Canon.{value_fit, bytes_drop}
 use Rattle.rewrite_parts.specs.Rows.{ValueAt, stands}
 use Rattle.rewrite_progress.specs.Ground.{Ground}
 use Rattle.rewrite_wanted.specs.declared.Asks.{Asks}
-use Rattle.rewrite_wanted.specs.declared.Wants.{Wants}
+use Rattle.rewrite_wanted.specs.declared.Build.{Build}
+use Rattle.std.specs.Prelude.{Some, None, Option as Answered}
 use Rattle.rewrite_wanted.specs.Asked.{asked_at, Told, stays, build}
 
 -- an aggregate has a shape
@@ -79,7 +78,7 @@ from_number n none e = rw e refl
 from_number n (some t) e = let z : n ≡ suc t.0 = omega arith in rw z refl
 
 -- the recorded type of an operand
-pub recorded_told : (τ : Types) (most : ℕ) (s types table recorded : List ℕ) (v : ValueId) (r : TypeFound) → Known most s types table τ → table ≡ recorded → v.0 < length τ.recorded → as_type r ≡ recorded_from (get_or recorded v.0 0) → as_type r ≡ return_type τ (Value.Operand v)
+pub recorded_told : (τ : Types) (most : ℕ) (s types table recorded : List ℕ) (v : ValueId) (r : Option TypeId) → Known most s types table τ → table ≡ recorded → v.0 < length τ.recorded → r ≡ recorded_from (get_or recorded v.0 0) → r ≡ return_type τ (Value.Operand v)
 unfolding return_type recorded_type
 recorded_told τ most s types table recorded v r k e l h =
     let long : v.0 < length table = omega (arith, k.long) in
@@ -116,37 +115,37 @@ module _ (b : Bounds) (s types table : List ℕ) (τ : Types) (g : Ground b s ty
 
 module _ (τ : Types) (S : AggStates) where
   -- a value that is no operand stays
-  pub literal_stays : (l : Literal) (o : Option TypeId) → Told τ S (Value.Literal l) o Wants.Nothing
+  pub literal_stays : (l : Literal) (o : Option TypeId) → Told τ S (Value.Literal l) o None
   unfolding one_value state_of
   literal_stays l none = stays (λ n rest. refl)
   literal_stays l (some t) = stays (λ n rest. refl)
 
-  pub error_stays : (o : Option TypeId) → Told τ S Value.Error o Wants.Nothing
+  pub error_stays : (o : Option TypeId) → Told τ S Value.Error o None
   unfolding one_value state_of
   error_stays none = stays (λ n rest. refl)
   error_stays (some t) = stays (λ n rest. refl)
 
   -- so does one that is not tracked
-  pub untracked_stays : (v : ValueId) (o : Option TypeId) → is_some (S v.0) ≡ false → Told τ S (Value.Operand v) o Wants.Nothing
+  pub untracked_stays : (v : ValueId) (o : Option TypeId) → is_some (S v.0) ≡ false → Told τ S (Value.Operand v) o None
   unfolding one_value state_of is_some
   untracked_stays v o e = go (S v.0) refl e o
     where
-      go : (z : Option (List Value)) → S v.0 ≡ z → is_some z ≡ false → (o : Option TypeId) → Told τ S (Value.Operand v) o Wants.Nothing
+      go : (z : Option (List Value)) → S v.0 ≡ z → is_some z ≡ false → (o : Option TypeId) → Told τ S (Value.Operand v) o None
       go none f h none = stays (λ n rest. refl)
       go none f h (some t) = stays (λ n rest. rw f refl)
       go (some xs) f h o = absurd (let u : ◌≡◌ {A = ℕ} 0 1 = cc in omega arith)
 
   -- and one of which no type is asked
-  pub unasked_stays : (v : ValueId) (o : Option TypeId) → none ≡ o → Told τ S (Value.Operand v) o Wants.Nothing
+  pub unasked_stays : (v : ValueId) (o : Option TypeId) → none ≡ o → Told τ S (Value.Operand v) o None
   unfolding one_value state_of
   unasked_stays v o e = rw (← e) (stays (λ n rest. refl))
 
   -- any other is rebuilt
-  pub tracked_build : (v : ValueId) (u : TypeId) (o : Option TypeId) → is_some (S v.0) ≡ true → some u ≡ o → (o ≡ some u → u.0 < length τ.rows) → Told τ S (Value.Operand v) o (Wants.Build v u)
+  pub tracked_build : (v : ValueId) (u : TypeId) (o : Option TypeId) → is_some (S v.0) ≡ true → some u ≡ o → (o ≡ some u → u.0 < length τ.rows) → Told τ S (Value.Operand v) o (Some (record { value = v; named = u }))
   unfolding is_some
   tracked_build v u o h e l = go (S v.0) refl h
     where
-      go : (z : Option (List Value)) → S v.0 ≡ z → is_some z ≡ true → Told τ S (Value.Operand v) o (Wants.Build v u)
+      go : (z : Option (List Value)) → S v.0 ≡ z → is_some z ≡ true → Told τ S (Value.Operand v) o (Some (record { value = v; named = u }))
       go none f k = absurd (let w : ◌≡◌ {A = ℕ} 0 1 = cc in omega arith)
       go (some xs) f k = build v u xs refl (sym e) f (l (sym e))
 

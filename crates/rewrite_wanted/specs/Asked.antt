@@ -1,5 +1,5 @@
 -- At which types values are asked for, and what is told of one.
-use Rattle.std.specs.Prelude.{ℕ, suc, ◌*◌, ◌<◌, ◌≡◌, List, [], ◌∷◌, cond, length, drop, ltb}
+use Rattle.std.specs.Prelude.{ℕ, suc, ◌*◌, ◌<◌, ◌≡◌, List, [], ◌∷◌, cond, length, drop, ltb, Some, None, Option as Answered}
 use Rattle.std.proofs.Math.Option.{Option, none, some}
 use Rattle.bytes_wire.specs.Number.{at16}
 use Rattle.mir.specs.declared.ValueId.{ValueId}
@@ -7,8 +7,7 @@ use Rattle.mir.specs.declared.TypeId.{TypeId}
 use Rattle.mir.specs.declared.Value.{Value}
 use Rattle.bytes_field.specs.declared.Bounds.{Bounds}
 use Rattle.bytes_index.specs.Table.{recorded_in}
-use Rattle.bytes_lookup.specs.declared.TypeFound.{TypeFound}
-use Rattle.bytes_lookup.specs.Found.{as_type}
+use Rattle.mir.specs.Option.{as_option}
 use Rattle.fold.specs.Family.{Marks}
 use Rattle.mir.specs.Lookup.{Types}
 use Rattle.rewrite.specs.State.{AggStates, state_of}
@@ -16,7 +15,7 @@ use Rattle.rewrite.specs.Rebuild.{Rebuilt, Wanted, keep_value, one_value, aggreg
 use Rattle.rewrite_parts.specs.Rows.{ValueAt, Rep}
 use Rattle.rewrite_progress.specs.Ground.{Ground}
 use Rattle.rewrite_wanted.specs.declared.Asks.{Asks}
-use Rattle.rewrite_wanted.specs.declared.Wants.{Wants}
+use Rattle.rewrite_wanted.specs.declared.Build.{Build}
 
 -- the tables say what is tracked, and which types there are and which are recorded
 pub record Setting (b : Bounds) (s facts : List ℕ) (tracked : Marks) (rows : List ℕ) (τ : Types) (S : AggStates) : Type 0 where
@@ -35,17 +34,17 @@ asked_list τ t a i [] = []
 asked_list τ t a i (x ∷ xs) = record { value = x; at = asked_at τ t a i x } ∷ asked_list τ t a (suc i) xs
 
 -- what is told of the value x where o is asked for: it stays, or it is an operand that is rebuilt
-pub data Told (τ : Types) (S : AggStates) (x : Value) (o : Option TypeId) : Wants → Type 0 where
-  stays : ((n : ℕ) (rest : ℕ → Rebuilt) → one_value τ n x rest o (state_of S x) ≡ keep_value x (rest n)) → Told τ S x o Wants.Nothing
+pub data Told (τ : Types) (S : AggStates) (x : Value) (o : Option TypeId) : Answered Build → Type 0 where
+  stays : ((n : ℕ) (rest : ℕ → Rebuilt) → one_value τ n x rest o (state_of S x) ≡ keep_value x (rest n)) → Told τ S x o None
   build : (v : ValueId) (t : TypeId) (xs : List Value)
       → x ≡ Value.Operand v
       → o ≡ some t
       → S v.0 ≡ some xs
       → t.0 < length τ.rows
-      → Told τ S x o (Wants.Build v t)
+      → Told τ S x o (Some (record { value = v; named = t }))
 
 -- what is told of value i of a list, which stands at place `at` of t
-abbrev pub WantedAt : Bounds → List ℕ → List ℕ → List ℕ → ℕ → Marks → Asks → ℕ → Wants → Type 0
+abbrev pub WantedAt : Bounds → List ℕ → List ℕ → List ℕ → ℕ → Marks → Asks → ℕ → Answered Build → Type 0
 WantedAt b s facts t at tracked asks i r =
     (τ : Types) (S : AggStates) (rows : List ℕ) (x : Value)
     → Setting b s facts tracked rows τ S
@@ -53,9 +52,9 @@ WantedAt b s facts t at tracked asks i r =
     → Told τ S x (asked_at τ t asks i x) r
 
 -- the type asked of value i, the operand v
-abbrev pub TypeAsked : Bounds → List ℕ → List ℕ → List ℕ → Asks → ValueId → ℕ → TypeFound → Type 0
+abbrev pub TypeAsked : Bounds → List ℕ → List ℕ → List ℕ → Asks → ValueId → ℕ → Answered TypeId → Type 0
 TypeAsked b s facts t asks v i r =
     (τ : Types)
     → Ground b s facts (recorded_in facts) τ
     → v.0 < b.next
-    → as_type r ≡ asked_at τ t asks i (Value.Operand v)
+    → as_option r ≡ asked_at τ t asks i (Value.Operand v)

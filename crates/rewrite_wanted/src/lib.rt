@@ -5,7 +5,6 @@
 ghost use Rattle.rewrite_wanted.specs.Asked.{WantedAt, TypeAsked};
 
 use bytes_field::Bounds;
-use bytes_lookup::TypeFound;
 use mir::{TypeId, Value, ValueId, shape};
 
 // How many bytes a type's number has.
@@ -19,11 +18,11 @@ pub enum Asks {
     Recorded,
 }
 
-// What is wanted of a value. Nothing: it stays. Build: the value is rebuilt, and at which type.
+// A value that is rebuilt, and at which type.
 #[derive(Clone, Copy)]
-pub enum Wants {
-    Nothing,
-    Build { value: ValueId, named: TypeId },
+pub struct Build {
+    pub value: ValueId,
+    pub named: TypeId,
 }
 
 // The type asked of value `i`, the operand v.
@@ -35,25 +34,25 @@ fn asked_type(
     asks: Asks,
     v: ValueId,
     i: u8,
-) -> TypeFound
+) -> Option<TypeId>
     ensures { TypeAsked b s.now facts.now t.now asks v i result }
 {
     match asks {
         Asks::Types { first: at, many: n } => {
             if n <= i {
-                return TypeFound::Nothing;
+                return None;
             }
             let u = bytes_wire::u16_at(bytes_field::tail(t, at), TYPE_BYTES * i as usize);
             if fold_shapes::type_shape(s, facts, b.types, TypeId(u)) == shape::OTHER {
-                return TypeFound::Nothing;
+                return None;
             }
-            TypeFound::Type(TypeId(u))
+            Some(TypeId(u))
         }
         Asks::Recorded => bytes_lookup::recorded_type(bytes_index::recorded(facts), v),
     }
 }
 
-// What is wanted of value `i` of a list, which stands at place `at` of t.
+// What is wanted of value `i` of a list, which stands at place `at` of t: its rebuild, or nothing.
 pub fn wanted_at(
     s: &[u8],
     b: Bounds,
@@ -63,20 +62,18 @@ pub fn wanted_at(
     tracked: &[bool],
     asks: Asks,
     i: u8,
-) -> Wants
+) -> Option<Build>
     ensures { WantedAt b s.now facts.now t.now at tracked.now asks i result }
 {
     match bytes_operands::value_at(t, at, b.next) {
-        Value::Literal(_) => Wants::Nothing,
+        Value::Literal(_) => None,
         Value::Operand(v) => {
             if !rewrite_parts::tracked(tracked, v) {
-                return Wants::Nothing;
+                return None;
             }
-            match asked_type(s, b, facts, t, asks, v, i) {
-                TypeFound::Type(u) => Wants::Build { value: v, named: u },
-                TypeFound::Nothing => Wants::Nothing,
-            }
+            let named = asked_type(s, b, facts, t, asks, v, i)?;
+            Some(Build { value: v, named })
         }
-        Value::Error => Wants::Nothing,
+        Value::Error => None,
     }
 }

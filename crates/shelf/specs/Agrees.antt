@@ -8,10 +8,11 @@ use Rattle.mir.specs.declared.ValueId.{ValueId}
 use Rattle.mir.specs.declared.TypeId.{TypeId}
 use Rattle.mir.specs.declared.Value.{Value}
 use Rattle.mir.specs.MirType.{MirType, Felt, Bool, U32, Tuple, Struct, FixedArray, Pointer, Function, Unit, Error, Unknown}
-use Rattle.mir.specs.Syntax.{Projection, Index, Field, Place, InstructionKind, Assign, UnaryOp, BinaryOp, Call, Cast, Load, Store, Debug, Nop, Phi}
+use Rattle.mir.specs.declared.Projection.{Projection}
+use Rattle.mir.specs.declared.Projection.TheVariants.{Index, Field}
+use Rattle.mir.specs.Syntax.{Place, InstructionKind, Assign, UnaryOp, BinaryOp, Call, Cast, Load, Store, Debug, Nop, Phi}
 use Rattle.mir.specs.Syntax.{MakeTuple, ExtractTupleElement, MakeStruct, ExtractStructField, InsertField, InsertTuple, MakeFixedArray, AssertEq, HeapAllocCells}
 use Rattle.mir.specs.Syntax.{Terminator, Jump, If, BranchCmp, Return, Unreachable, Block}
-use Rattle.mir.specs.Syntax as S
 use Rattle.mir.specs.Reads.{counted}
 use Rattle.mir.specs.Lookup.{Types, row_of, recorded_type, value_row, is_tuple, is_struct, is_array, is_aggregate, struct_fields_of, is_some}
 use Rattle.shelf.specs.Lists.{every}
@@ -45,7 +46,7 @@ is_index τ Value.Error = false
 unfoldable pub index_fits : Types → Projection → B.Bool
 index_fits τ (Index x) = is_index τ x
 index_fits τ (Field n) = true
-index_fits τ (S.Tuple k) = true
+index_fits τ (Projection.Tuple k) = true
 
 -- the type that a Pointer points to
 unfoldable pub pointee : Option MirType → Option TypeId
@@ -67,7 +68,7 @@ unfoldable pub pointed : Types → Option TypeId → List Projection → Option 
 pointed τ t [] = none
 pointed τ t (Index x ∷ ps) = place_type τ t ps
 pointed τ t (Field n ∷ ps) = none
-pointed τ t (S.Tuple k ∷ ps) = none
+pointed τ t (Projection.Tuple k ∷ ps) = none
 
 -- "A Load's or Store's base is an aggregate, or a Pointer": the type at the end of its place
 unfoldable pub reached : Types → Place → Option TypeId
@@ -111,10 +112,13 @@ agrees τ (Debug m xs) = every (is_known τ) xs
 agrees τ Nop = true
 agrees τ (Phi d t ss) = same_type (recorded_type τ d) (some t) && every (λ s. fits τ s.value (some t)) ss
 agrees τ (MakeTuple d xs) = is_tuple (value_row τ d) && parts_fit τ (recorded_type τ d) xs
-agrees τ (ExtractTupleElement d x k t) = same_type (recorded_type τ d) (some t) && (is_tuple (operand_row τ x) && same_type (part_type (operand_row τ x) k) (some t))
+agrees τ (ExtractTupleElement d x k t) =
+    same_type (recorded_type τ d) (some t)
+    && (is_tuple (operand_row τ x) && same_type (part_type (operand_row τ x) k) (some t))
 agrees τ (MakeStruct d fs t) =
     same_type (recorded_type τ d) (some t)
-    && (is_struct (row_of τ (some t)) && (eqb (length fs) (length (struct_fields_of (row_of τ (some t)))) && fields_fit τ fs (struct_fields_of (row_of τ (some t)))))
+    && (is_struct (row_of τ (some t))
+    && (eqb (length fs) (length (struct_fields_of (row_of τ (some t)))) && fields_fit τ fs (struct_fields_of (row_of τ (some t)))))
 agrees τ (ExtractStructField d x n t) = same_type (recorded_type τ d) (some t) && same_type (field_type_of (operand_row τ x) n) (some t)
 agrees τ (InsertField d x n y t) = same_type (recorded_type τ d) (some t) && (fits τ x (some t) && fits τ y (field_type_of (row_of τ (some t)) n))
 agrees τ (InsertTuple d x k y t) =

@@ -6,8 +6,9 @@ use Rattle.mir.specs.declared.TypeId.{TypeId}
 use Rattle.mir.specs.declared.Literal.{Literal}
 use Rattle.mir.specs.declared.Value.{Value}
 use Rattle.mir.specs.MirType.{StructField, MirType, Felt, Bool, U32, Tuple, Struct, FixedArray, Pointer, Function, Unit, Error, Unknown}
-use Rattle.mir.specs.Syntax.{Projection, Index, Field, FieldInit}
-use Rattle.mir.specs.Syntax as S
+use Rattle.mir.specs.declared.Projection.{Projection}
+use Rattle.mir.specs.declared.Projection.TheVariants.{Index, Field}
+use Rattle.mir.specs.Syntax.{FieldInit}
 use Rattle.mir.specs.Lookup.{Types, row_of, recorded_type, is_tuple, is_array}
 use Rattle.bytes_struct.specs.FindField.{field_type_of}
 use Rattle.mir.specs.Parts.{given, part_type, part_count, counts}
@@ -58,7 +59,7 @@ parts_fit τ t xs = counts (part_count (row_of τ t)) (length xs) && all_fit τ 
 unfoldable pub step_type : Option MirType → Projection → Option TypeId
 step_type row (Index x) = cond (is_array row) (part_type row 0) none
 step_type row (Field n) = field_type_of row n
-step_type row (S.Tuple k) = cond (is_tuple row) (part_type row k) none
+step_type row (Projection.Tuple k) = cond (is_tuple row) (part_type row k) none
 
 -- the type at the end of a place
 unfoldable pub place_type : Types → Option TypeId → List Projection → Option TypeId

@@ -1,13 +1,12 @@
-// The shelf test: which rewritten routines the claim of equal runs covers; the definitions are in specs/. Here are the numbers
-// that its code names.
+// The shelf test: which rewritten routines the claim of equal runs covers; the definitions are in specs/. Here is what its code
+// tells literals apart by.
 
 #![tactic(auto)]
 
-// Which literals fit a type: none, an Integer, a Boolean, Unit.
-pub const NO_LITERAL: u8 = 0;
-
-pub const INTEGERS: u8 = 1;
-
-pub const BOOLEANS: u8 = 2;
-
-pub const UNITS: u8 = 3;
+// The literals that fit one type: Integers Felt and U32, Booleans Bool, Units Unit.
+#[derive(Clone, Copy, PartialEq, Eq)]
+pub enum Literals {
+    Integers,
+    Booleans,
+    Units,
+}

@@ -10,7 +10,7 @@ use Rattle.bytes_wire.specs.Value.{integer, boolean, unit}
 use Rattle.mir.specs.declared.ValueId.{ValueId}
 use Rattle.mir.specs.declared.NameId.{NameId}
 use Rattle.mir.specs.declared.Value.{Value}
-use Rattle.mir.specs.Syntax.{Projection}
+use Rattle.mir.specs.declared.Projection.{Projection}
 use Rattle.mir.specs.Lookup.{as_const_integer}
 use Rattle.fold.specs.Scalarizable.{defaults}
 use Rattle.shelf_corners.specs.Words.{felt, pair, point, felts, eight, nine, empty, pairs, points, triple, single, pointer}

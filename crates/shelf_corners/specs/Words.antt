@@ -7,7 +7,8 @@ use Rattle.mir.specs.declared.ValueId.{ValueId}
 use Rattle.mir.specs.declared.TypeId.{TypeId}
 use Rattle.mir.specs.declared.Value.{Value}
 use Rattle.mir.specs.MirType.{MirType}
-use Rattle.mir.specs.Syntax.{Projection, Instruction, InstructionKind, Return, Block, plain}
+use Rattle.mir.specs.declared.Projection.{Projection}
+use Rattle.mir.specs.Syntax.{Instruction, InstructionKind, Return, Block, plain}
 use Rattle.mir.specs.Routine.{Routine}
 use Rattle.mir.specs.Lookup.{Types}
 use Rattle.fold.specs.declared.Settings.{Settings}

@@ -1,6 +1,6 @@
 -- What is read at single places.
-use Prim.Native.Nat.{ℕ, ◌+◌, ◌≤◌, ◌<◌}
-use mathlib.Core.Path.{◌≡◌, refl, ap, ◌∙◌, sym}
+use Prim.Native.Nat.{ℕ, ◌≤◌, ◌<◌}
+use mathlib.Core.Path.{◌≡◌, ap, ◌∙◌, sym}
 use mathlib.Core.List.{List}
 use mathlib.Core.Option.{none, some}
 use native.Mathlib.Omega.{arith}
@@ -10,14 +10,14 @@ use Rattle.bytes_wire.specs.WellFormed.{Bytes, FitValue}
 use Rattle.mir.specs.declared.ValueId.{ValueId}
 use Rattle.mir.specs.declared.TypeId.{TypeId}
 use Rattle.mir.specs.declared.Value.{Value}
-use Rattle.mir.specs.declared.Literal.{Literal}
 use Rattle.bytes_wire.proofs.Canon.{value_fit, bytes_drop}
 use Rattle.bytes_field.specs.declared.Bounds.{Bounds}
-use Rattle.bytes_sections.specs.Index.{recorded_number, RecordedAt}
+use Rattle.bytes_sections.specs.Index.{RecordedAt}
+use Rattle.std.specs.Prelude.{Option as Answered}
+use Rattle.shelf_rows.specs.Rows.{Is}
 use Rattle.rewrite_parts.specs.Rows.{ValueAt, stands}
 use Rattle.mir.specs.Lookup.{Types, recorded_type}
 use Rattle.rewrite_progress.specs.Ground.{Ground}
-use Rattle.rewrite.specs.Rebuild.{return_type}
 use Rattle.shelf_field.specs.Fields.{IdAt, TypeAt}
 
 -- a value that stands somewhere fits
@@ -31,34 +31,20 @@ type_moved e u = rw e u
 pub value_moved : {next : ℕ} {t : List ℕ} {p q : ℕ} {x : Value} → p ≡ q → ValueAt next t q x → ValueAt next t p x
 value_moved e u = rw e u
 
--- a type's number
-pub type_below : {types x : ℕ} {t : List ℕ} {at : ℕ} {y : TypeId} → x ≡ at16 t at → TypeAt types t at y → x + 1 ≡ recorded_number (some y)
-type_below e u = ap (λ z. z + 1) (e ∙ sym u.told)
+-- a type
+pub type_below : {types x : ℕ} {t : List ℕ} {at : ℕ} {y : TypeId} → x ≡ at16 t at → TypeAt types t at y → some (record { 0 = x }) ≡ some y
+type_below e u = ap (λ (z : ℕ). some (record { 0 = z })) (e ∙ sym u.told)
 
-pub type_above : {types x : ℕ} {t : List ℕ} {at : ℕ} {y : TypeId} → x ≡ at16 t at → types ≤ x → TypeAt types t at y → ◌≡◌ {A = ℕ} 0 (recorded_number (some y))
+pub type_above : {types x : ℕ} {t : List ℕ} {at : ℕ} {y : TypeId} → x ≡ at16 t at → types ≤ x → TypeAt types t at y → none ≡ some y
 type_above {types} {x} {y} e h u = absurd (let l = u.low in let z : y.0 ≡ x = u.told ∙ sym e in omega (arith, h, l, z))
 
 -- a recorded type
-pub recorded_told : {b : Bounds} {s types recorded : List ℕ} {τ : Types} (v : ValueId) {r : ℕ} → Ground b s types recorded τ → v.0 < b.next → (RecordedAt recorded τ.recorded → length τ.recorded ≤ length recorded → v.0 < length τ.recorded → r ≡ recorded_number (recorded_type τ v)) → r ≡ recorded_number (recorded_type τ v)
-recorded_told {b} {τ} v g h f = let z : v.0 < length τ.recorded = omega (arith, h, g.values) in f g.known.recorded_types g.known.long z
+pub recorded_told : {b : Bounds} {s types recorded : List ℕ} {τ : Types} (v : ValueId) (r : Answered TypeId) → Ground b s types recorded τ → v.0 < b.next → (RecordedAt recorded τ.recorded → length τ.recorded ≤ length recorded → v.0 < length τ.recorded → Is r (recorded_type τ v)) → Is r (recorded_type τ v)
+recorded_told {b} {τ} v r g h f = let z : v.0 < length τ.recorded = omega (arith, h, g.values) in f g.known.recorded_types g.known.long z
 
-pub id_told : {b : Bounds} {s types recorded : List ℕ} {τ : Types} {t : List ℕ} {at : ℕ} {d : ValueId} (x : ℕ) {r : ℕ} → Ground b s types recorded τ → IdAt b.next t at d → x ≡ at16 t at → (RecordedAt recorded τ.recorded → length τ.recorded ≤ length recorded → x < length τ.recorded → r ≡ recorded_number (recorded_type τ (record { 0 = x }))) → r ≡ recorded_number (recorded_type τ d)
+pub id_told : {b : Bounds} {s types recorded : List ℕ} {τ : Types} {t : List ℕ} {at : ℕ} {d : ValueId} (x : ℕ) (r : Answered TypeId) → Ground b s types recorded τ → IdAt b.next t at d → x ≡ at16 t at → (RecordedAt recorded τ.recorded → length τ.recorded ≤ length recorded → x < length τ.recorded → Is r (recorded_type τ (record { 0 = x }))) → Is r (recorded_type τ d)
 unfolding recorded_type
-id_told {b} {τ} {d} x g i e f =
+id_told {b} {τ} {d} x r g i e f =
     let w : x ≡ d.0 = e ∙ sym i.told in
     let z : x < length τ.recorded = omega (arith, w, i.low, g.values) in
-    f g.known.recorded_types g.known.long z ∙ ap (λ k. recorded_number (get_or τ.recorded k none)) w
-
-pub operand_literal : (τ : Types) {x : Value} {l : Literal} → x ≡ Value.Literal l → ◌≡◌ {A = ℕ} 0 (recorded_number (return_type τ x))
-unfolding return_type
-operand_literal τ e = rw e refl
-
-pub operand_error : (τ : Types) {x : Value} → x ≡ Value.Error → ◌≡◌ {A = ℕ} 0 (recorded_number (return_type τ x))
-unfolding return_type
-operand_error τ e = rw e refl
-
-pub operand_told : {b : Bounds} {s types recorded : List ℕ} {τ : Types} {x : Value} {v : ValueId} {r : ℕ} → Ground b s types recorded τ → x ≡ Value.Operand v → FitValue b.next x → (RecordedAt recorded τ.recorded → length τ.recorded ≤ length recorded → v.0 < length τ.recorded → r ≡ recorded_number (recorded_type τ v)) → r ≡ recorded_number (return_type τ x)
-unfolding return_type
-operand_told {b} {v} g e h f =
-    let k : FitValue b.next (Value.Operand v) = rw e at h in
-    rw e (recorded_told v g k.0 f)
+    f g.known.recorded_types g.known.long z ∙ ap (λ k. get_or τ.recorded k none) w

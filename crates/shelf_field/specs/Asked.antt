@@ -1,8 +1,8 @@
 -- What is answered of what stands at a place of an instruction's own fields t.
 use Rattle.std.specs.Prelude.{ℕ, ◌≡◌, List, Bool, eqb}
+use Rattle.std.specs.Prelude.{Option as Answered}
 use Rattle.std.proofs.Math.Option.{Option}
 use Rattle.bytes_wire.specs.Parse.{Parse, ok}
-use Rattle.mir.specs.declared.Recorded.{Recorded}
 use Rattle.mir.specs.declared.TypeId.{TypeId}
 use Rattle.mir.specs.declared.Value.{Value}
 use Rattle.mir.specs.declared.ValueId.{ValueId}
@@ -25,7 +25,7 @@ OfId b s types recorded t at P =
     → P τ d
 
 -- its recorded type is `number`
-abbrev pub IdHas : Bounds → List ℕ → List ℕ → ℕ → Recorded → Bool → Type 0
+abbrev pub IdHas : Bounds → List ℕ → List ℕ → ℕ → Answered TypeId → Bool → Type 0
 IdHas b recorded t at number r =
     (s types : List ℕ) (τ : Types) (d : ValueId) (o : Option TypeId)
     → Ground b s types recorded τ
@@ -42,7 +42,7 @@ OfValueAt b s types recorded t at P =
     → P τ x
 
 -- it fits the type `number`
-abbrev pub ValueFits : Bounds → List ℕ → List ℕ → List ℕ → List ℕ → ℕ → Recorded → Bool → Type 0
+abbrev pub ValueFits : Bounds → List ℕ → List ℕ → List ℕ → List ℕ → ℕ → Answered TypeId → Bool → Type 0
 ValueFits b s types recorded t at number r =
     (τ : Types) (x : Value) (o : Option TypeId)
     → Ground b s types recorded τ
@@ -51,7 +51,7 @@ ValueFits b s types recorded t at number r =
     → r ≡ fits τ x o
 
 -- a type is of shape k
-abbrev pub HasShape : Bounds → List ℕ → List ℕ → Recorded → ℕ → Bool → Type 0
+abbrev pub HasShape : Bounds → List ℕ → List ℕ → Answered TypeId → ℕ → Bool → Type 0
 HasShape b s types number k r =
     (recorded : List ℕ) (τ : Types) (o : Option TypeId)
     → Ground b s types recorded τ

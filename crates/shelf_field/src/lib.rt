@@ -6,8 +6,7 @@ ghost use Rattle.std.proofs.Math.Option.{some};
 ghost use Rattle.bytes_wire.specs.WellFormed.{FitValue};
 ghost use Rattle.mir.specs.declared.TypeId.{TypeId as AnyType};
 ghost use Rattle.mir.specs.declared.Value.{Value as AnyValue};
-ghost use Rattle.mir.specs.Syntax.{Projection};
-ghost use Rattle.bytes_operands.specs.Fields.{as_step};
+ghost use Rattle.mir.specs.declared.Projection.{Projection};
 ghost use Rattle.rewrite_parts.specs.Rows.{ValueAt};
 ghost use Rattle.mir.specs.Lookup.{Types, recorded_type};
 ghost use Rattle.rewrite.specs.Rebuild.{return_type};
@@ -18,8 +17,7 @@ ghost use Rattle.shelf_field.specs.Fields.{TypeAt, StepAt};
 ghost use Rattle.shelf_field.specs.Asked.{OfId, IdHas, OfValueAt, ValueFits, HasShape};
 
 use bytes_field::Bounds;
-use bytes_operands::Step;
-use mir::{Recorded, Value, ValueId};
+use mir::{Projection, TypeId, Value, ValueId};
 
 // Two tests of which both pass.
 pub fn both(a: bool, c: bool) -> bool
@@ -35,27 +33,24 @@ pub fn value_at(t: &[u8], at: usize, next: u16) -> Value
     bytes_operands::value_at(t, at, next)
 }
 
-// The type at a place, as it would be recorded.
-pub fn type_at(t: &[u8], b: Bounds, at: usize) -> Recorded
+// The type at a place; none where no type of the table is named.
+pub fn type_at(t: &[u8], b: Bounds, at: usize) -> Option<TypeId>
     ensures { (y : AnyType) → TypeAt b.types t.now at y → Is result (some y) }
 {
     let x = bytes_wire::u16_at(t, at);
-    if x < b.types {
-        return Recorded(x + 1);
-    }
-    Recorded(0)
+    if x < b.types { Some(TypeId(x)) } else { None }
 }
 
 // The recorded type of the value whose number stands at a place.
-pub fn id_type(b: Bounds, recorded: &[u16], t: &[u8], at: usize) -> Recorded
+pub fn id_type(b: Bounds, recorded: &[u16], t: &[u8], at: usize) -> Option<TypeId>
     ensures { (s types : List ℕ)
         → OfId b s types recorded.now t.now at (λ τ d. Is result (recorded_type τ d)) }
 {
-    shelf_types::recorded_number(recorded, ValueId(bytes_wire::u16_at(t, at)))
+    shelf_types::recorded_type(recorded, ValueId(bytes_wire::u16_at(t, at)))
 }
 
 // The recorded type of the value whose number stands at a place is that type.
-pub fn id_has(b: Bounds, recorded: &[u16], t: &[u8], at: usize, number: Recorded) -> bool
+pub fn id_has(b: Bounds, recorded: &[u16], t: &[u8], at: usize, number: Option<TypeId>) -> bool
     ensures { IdHas b recorded.now t.now at number result }
 {
     shelf_types::same_type(id_type(b, recorded, t, at), number)
@@ -70,23 +65,23 @@ pub fn id_scalar(s: &[u8], b: Bounds, types: &[u16], recorded: &[u16], t: &[u8],
 }
 
 // The recorded type of an operand; none of any other value.
-fn operand_number(recorded: &[u16], x: Value) -> Recorded
+fn value_type(recorded: &[u16], x: Value) -> Option<TypeId>
     ensures { (b : Bounds) (s types : List ℕ) (τ : Types) → Ground b s types recorded.now τ
         → FitValue b.next x → Is result (return_type τ x) }
 {
     match x {
-        Value::Literal(_) => Recorded(0),
-        Value::Operand(v) => shelf_types::recorded_number(recorded, v),
-        Value::Error => Recorded(0),
+        Value::Literal(_) => None,
+        Value::Operand(v) => shelf_types::recorded_type(recorded, v),
+        Value::Error => None,
     }
 }
 
 // The recorded type of the operand at a place; none of any other value.
-pub fn operand_type(b: Bounds, recorded: &[u16], t: &[u8], at: usize) -> Recorded
+pub fn operand_type(b: Bounds, recorded: &[u16], t: &[u8], at: usize) -> Option<TypeId>
     ensures { (s types : List ℕ)
         → OfValueAt b s types recorded.now t.now at (λ τ x. Is result (return_type τ x)) }
 {
-    operand_number(recorded, value_at(t, at, b.next))
+    value_type(recorded, value_at(t, at, b.next))
 }
 
 // The value at a place fits a type.
@@ -97,7 +92,7 @@ pub fn value_fits(
     recorded: &[u16],
     t: &[u8],
     at: usize,
-    number: Recorded,
+    number: Option<TypeId>,
 ) -> bool
     ensures { ValueFits b s.now types.now recorded.now t.now at number result }
 {
@@ -120,15 +115,15 @@ pub fn value_scalar(
 }
 
 // The type is of that shape.
-pub fn has_shape(s: &[u8], b: Bounds, types: &[u16], number: Recorded, k: u8) -> bool
+pub fn has_shape(s: &[u8], b: Bounds, types: &[u16], number: Option<TypeId>, k: u8) -> bool
     ensures { HasShape b s.now types.now number k result }
 {
     shelf_rows::shape_of(s, b, types, number) == k
 }
 
 // The projection at a place.
-pub fn step_at(t: &[u8], at: usize, next: u16) -> Step
-    ensures { (q : Projection) → StepAt next t.now at q → as_step result ≡ some q }
+pub fn step_at(t: &[u8], at: usize, next: u16) -> Option<Projection>
+    ensures { (q : Projection) → StepAt next t.now at q → result ≡ Some q }
 {
     bytes_operands::step_at(t, at, next)
 }

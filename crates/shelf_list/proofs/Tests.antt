@@ -14,9 +14,7 @@ use Rattle.mir.specs.declared.TypeId.{TypeId}
 use Rattle.mir.specs.declared.Value.{Value}
 use Rattle.mir.specs.MirType.{StructField}
 use Rattle.mir.specs.Syntax.{FieldInit}
-use Rattle.bytes_sections.specs.Index.{recorded_number}
 use Rattle.rewrite_parts.specs.Rows.{ValueAt, InitAt}
-use Rattle.rewrite_parts.specs.declared.Init.{Init}
 use Rattle.mir.specs.Lookup.{is_some, Types, row_of, recorded_type}
 use Rattle.mir.specs.Parts.{given, part_type}
 use Rattle.shelf.specs.Fits.{fits, same_type, all_fit, given_fits, fields_fit, arguments_fit}
@@ -58,28 +56,6 @@ pub fields_all : (τ : Types) (fs : List FieldInit) (i : ℕ) (ss : List StructF
 unfolding fields_fit
 fields_all τ fs i [] = refl
 fields_all τ fs i (s ∷ ss) = ap (λ z. given_fits τ (given s.name fs) s.part && z) (fields_all τ fs (suc i) ss)
-
--- none of no type
-pub some_number : (o : Option TypeId) → (recorded_number o ≡ 0 → ⊥) → is_some o ≡ true
-unfolding is_some
-some_number none f = absurd (f refl)
-some_number (some t) f = refl
-
-pub none_number : (o : Option TypeId) → recorded_number o ≡ 0 → is_some o ≡ false
-unfolding is_some
-none_number none e = refl
-none_number (some t) e = absurd (omega (arith, e))
-
--- a field's value
-pub given_some : {next : ℕ} {t : List ℕ} (τ : Types) (o : Option Value) (y : TypeId) {init : Init} {r : B.Bool} → InitAt next t o init → init.given ≡ true → ((x : Value) → ValueAt next t init.place x → r ≡ fits τ x (some y)) → r ≡ given_fits τ o y
-unfolding given_fits is_some
-given_some τ none y w e f = absurd (true≢false (sym e ∙ w.told))
-given_some τ (some x) y w e f = f x (w.stands x refl)
-
-pub given_none : {next : ℕ} {t : List ℕ} (τ : Types) (o : Option Value) (y : TypeId) {init : Init} → InitAt next t o init → init.given ≡ false → false ≡ given_fits τ o y
-unfolding given_fits is_some
-given_none τ none y w e = refl
-given_none τ (some x) y w e = absurd (true≢false (sym w.told ∙ e))
 
 -- the field of a struct type with number k
 pub record FieldHere (τ : Types) (o : Option TypeId) (row : List ℕ) (k : ℕ) (s : StructField) : Type 0 where

@@ -1,7 +1,7 @@
 -- What is answered of lists of an instruction: n things that stand as Q says, against a type, or against a list of types.
 use Rattle.std.specs.Prelude.{ℕ, ◌<◌, ◌≡◌, List, Bool, length, get_or}
+use Rattle.std.specs.Prelude.{Option as Answered}
 use Rattle.std.proofs.Math.Option.{Option, some}
-use Rattle.mir.specs.declared.Recorded.{Recorded}
 use Rattle.mir.specs.declared.TypeId.{TypeId}
 use Rattle.mir.specs.declared.Value.{Value}
 use Rattle.mir.specs.MirType.{StructField}
@@ -9,7 +9,6 @@ use Rattle.mir.specs.Syntax.{FieldInit}
 use Rattle.bytes_field.specs.declared.Bounds.{Bounds}
 use Rattle.rewrite_parts.specs.Rows.{Inits, InitAt}
 use Rattle.bytes_struct.specs.Fields.{Names, no_field}
-use Rattle.rewrite_parts.specs.declared.Init.{Init}
 use Rattle.mir.specs.Lookup.{Types, row_of}
 use Rattle.mir.specs.Parts.{part_type}
 use Rattle.rewrite_progress.specs.Ground.{Ground}
@@ -27,7 +26,7 @@ OfEach {A} b recorded Q n f r =
     → r ≡ f τ xs
 
 -- against the type `number`
-abbrev pub AgainstType : {A : Type 0} → Bounds → List ℕ → List ℕ → List ℕ → (List A → Type 0) → ℕ → Recorded
+abbrev pub AgainstType : {A : Type 0} → Bounds → List ℕ → List ℕ → List ℕ → (List A → Type 0) → ℕ → Answered TypeId
     → (Types → Option TypeId → List A → Bool) → Bool → Type 0
 AgainstType {A} b s types recorded Q n number f r =
     (τ : Types) (o : Option TypeId) (xs : List A)
@@ -50,7 +49,7 @@ AgainstTypes {A} b s types recorded Q n t there f r =
     → r ≡ f τ xs ts
 
 -- the value of a field is given, and fits its type
-abbrev pub GivenFits : Bounds → List ℕ → List ℕ → List ℕ → List ℕ → Init → Recorded → Bool → Type 0
+abbrev pub GivenFits : Bounds → List ℕ → List ℕ → List ℕ → List ℕ → Answered ℕ → Answered TypeId → Bool → Type 0
 GivenFits b s types recorded t init number r =
     (τ : Types) (o : Option Value) (y : TypeId)
     → Ground b s types recorded τ
@@ -59,7 +58,7 @@ GivenFits b s types recorded t init number r =
     → r ≡ given_fits τ o y
 
 -- each of the n fields of the struct type `number`, whose row is `row`, is given a value that fits by n inits
-abbrev pub FieldsFit : Bounds → List ℕ → List ℕ → List ℕ → List ℕ → ℕ → ℕ → Recorded → List ℕ → Bool → Type 0
+abbrev pub FieldsFit : Bounds → List ℕ → List ℕ → List ℕ → List ℕ → ℕ → ℕ → Answered TypeId → List ℕ → Bool → Type 0
 FieldsFit b s types recorded t at n number row r =
     (τ : Types) (o : Option TypeId) (fs : List FieldInit) (ss : List StructField)
     → Ground b s types recorded τ

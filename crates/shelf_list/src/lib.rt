@@ -8,14 +8,13 @@ ghost use Rattle.shelf.specs.Lists.{every};
 ghost use Rattle.shelf.specs.Fits.{fits, all_fit, parts_fit, arguments_fit};
 ghost use Rattle.shelf.specs.Agrees.{dests_fit, is_known};
 ghost use Rattle.shelf_field.specs.Fields.{Inner, Later, Late};
-ghost use Rattle.shelf_field.specs.Asked.{OfValueAt};
+ghost use Rattle.shelf_field.specs.Asked.{OfId, OfValueAt};
 ghost use Rattle.shelf_list.specs.Lists.{ValuesAt, SourcesAt, IdsAt};
 ghost use Rattle.shelf_list.specs.Asked.{OfEach, AgainstType, AgainstTypes, GivenFits, FieldsFit};
 
 use bytes_field::Bounds;
 use bytes_types::layout;
-use mir::{NameId, Recorded};
-use rewrite_parts::Init;
+use mir::{NameId, TypeId};
 
 // How far a source's value stands behind its block, and how far apart numbers of values and types stand.
 const SOURCE_VALUE: usize = 2;
@@ -31,21 +30,19 @@ fn all_fit(
     t: &[u8],
     at: usize,
     n: u8,
-    number: Recorded,
+    number: Option<TypeId>,
 ) -> bool
     requires { Inner at }
     ensures { AgainstType b s.now types.now recorded.now (ValuesAt b.next t.now at) n number
         (λ τ o xs. all_fit τ (part_type (row_of τ o)) xs) result }
 {
     let mut here = at;
-    let mut i: u8 = 0;
-    while i < n {
+    for i in 0..n {
         let part = shelf_rows::part_type(s, b, types, number, i as u32);
         if !shelf_field::value_fits(s, b, types, recorded, t, here, part) {
             return false;
         }
         here = bytes_operands::value_end(t, here);
-        i = i + 1;
     }
     true
 }
@@ -59,7 +56,7 @@ pub fn parts_fit(
     t: &[u8],
     at: usize,
     n: u8,
-    number: Recorded,
+    number: Option<TypeId>,
 ) -> bool
     requires { Inner at }
     ensures { AgainstType b s.now types.now recorded.now (ValuesAt b.next t.now at) n number
@@ -79,20 +76,18 @@ pub fn sources_fit(
     t: &[u8],
     at: usize,
     n: u8,
-    number: Recorded,
+    number: Option<TypeId>,
 ) -> bool
     requires { Inner at }
     ensures { AgainstType b s.now types.now recorded.now (SourcesAt b.next t.now at) n number
         (λ τ o xs. every (λ x. fits τ x.value o) xs) result }
 {
     let mut here = at;
-    let mut i: u8 = 0;
-    while i < n {
+    for i in 0..n {
         if !shelf_field::value_fits(s, b, types, recorded, t, here + SOURCE_VALUE, number) {
             return false;
         }
         here = bytes_operands::value_end(t, here + SOURCE_VALUE);
-        i = i + 1;
     }
     true
 }
@@ -114,15 +109,13 @@ pub fn arguments_fit(
 {
     let mut here = at;
     let mut there = parameters;
-    let mut i: u8 = 0;
-    while i < n {
+    for i in 0..n {
         let number = shelf_field::type_at(t, b, there);
         if !shelf_field::value_fits(s, b, types, recorded, t, here, number) {
             return false;
         }
         here = bytes_operands::value_end(t, here);
         there = there + APART;
-        i = i + 1;
     }
     true
 }
@@ -135,15 +128,13 @@ pub fn dests_fit(b: Bounds, recorded: &[u16], t: &[u8], at: usize, n: u8, return
 {
     let mut here = at;
     let mut there = returns;
-    let mut i: u8 = 0;
-    while i < n {
+    for i in 0..n {
         let number = shelf_field::type_at(t, b, there);
         if !shelf_field::id_has(b, recorded, t, here, number) {
             return false;
         }
         here = here + APART;
         there = there + APART;
-        i = i + 1;
     }
     true
 }
@@ -155,15 +146,15 @@ fn given_fits(
     types: &[u16],
     recorded: &[u16],
     t: &[u8],
-    init: Init,
-    number: Recorded,
+    init: Option<usize>,
+    number: Option<TypeId>,
 ) -> bool
     ensures { GivenFits b s.now types.now recorded.now t.now init number result }
 {
-    if init.given {
-        return shelf_field::value_fits(s, b, types, recorded, t, init.place, number);
+    match init {
+        Some(place) => shelf_field::value_fits(s, b, types, recorded, t, place, number),
+        None => false,
     }
-    false
 }
 
 // Each of the `n` fields of a struct type, the row `row`, is given a value that fits by the `n` inits from `at` on.
@@ -175,14 +166,13 @@ pub fn fields_fit(
     t: &[u8],
     at: usize,
     n: u8,
-    number: Recorded,
+    number: Option<TypeId>,
     row: &[u8],
 ) -> bool
     requires { Inner at }
     ensures { FieldsFit b s.now types.now recorded.now t.now at n number row.now result }
 {
-    let mut i: u8 = 0;
-    while i < n {
+    for i in 0..n {
         let name = NameId(bytes_wire::u16_at(
             row,
             layout::STRUCT_NAMES + layout::STRUCT_APART * i as usize,
@@ -192,7 +182,6 @@ pub fn fields_fit(
         if !given_fits(s, b, types, recorded, t, init, part) {
             return false;
         }
-        i = i + 1;
     }
     true
 }
@@ -210,15 +199,20 @@ pub fn all_known(b: Bounds, recorded: &[u16], t: &[u8], at: usize, n: u8) -> boo
     ensures { OfEach b recorded.now (ValuesAt b.next t.now at) n (λ τ xs. every (is_known τ) xs) result }
 {
     let mut here = at;
-    let mut i: u8 = 0;
-    while i < n {
+    for i in 0..n {
         if !value_known(b, recorded, t, here) {
             return false;
         }
         here = bytes_operands::value_end(t, here);
-        i = i + 1;
     }
     true
+}
+
+// The value whose number stands at a place has a recorded type.
+fn id_typed(b: Bounds, recorded: &[u16], t: &[u8], at: usize) -> bool
+    ensures { (s types : List ℕ) → OfId b s types recorded.now t.now at (λ τ d. result ≡ is_some (recorded_type τ d)) }
+{
+    shelf_field::id_type(b, recorded, t, at).is_some()
 }
 
 // Each of the `n` parameters has a recorded type.
@@ -228,13 +222,11 @@ pub fn all_typed(b: Bounds, recorded: &[u16], t: &[u8], at: usize, n: u8) -> boo
         (λ τ ds. every (λ v. is_some (recorded_type τ v)) ds) result }
 {
     let mut here = at;
-    let mut i: u8 = 0;
-    while i < n {
-        if shelf_field::id_type(b, recorded, t, here).0 == 0 {
+    for i in 0..n {
+        if !id_typed(b, recorded, t, here) {
             return false;
         }
         here = here + APART;
-        i = i + 1;
     }
     true
 }

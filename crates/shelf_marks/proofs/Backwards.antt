@@ -102,13 +102,14 @@ module _ (facts : List ℕ) (k : ℕ) {last slot : ℕ} (el : LastSlot facts k l
       let d = next_of is j no_instruction (omega (arith, el b s ks c.code l, (u b s).from)) in
       record { from = (u b s).from; same = (u b s).left τ ks c l ∙ ap behind_phis d ∙ rw z (sym d) }
 
-  pub fronts_done : last ≤ slot → BehindPhis facts k slot
+  pub fronts_done : last ≤ slot → BehindPhis facts k last
   unfolding behind_phis
   fronts_done g b s τ ks c l =
       let is = (get_or ks k no_block).instructions in
-      let j = slot - get_or (starts_in facts) k 0 in
-      let z : drop j is ≡ [] = none_of is j (omega (arith, el b s ks c.code l, (u b s).from)) in
-      record { from = (u b s).from; same = (u b s).left τ ks c l ∙ ap behind_phis z ∙ sym z }
+      let first = get_or (starts_in facts) k 0 in
+      let z : drop (slot - first) is ≡ [] = none_of is (slot - first) (omega (arith, el b s ks c.code l, (u b s).from)) in
+      let y : drop (last - first) is ≡ [] = none_of is (last - first) (omega (arith, el b s ks c.code l)) in
+      record { from = omega (arith, el b s ks c.code l); same = (u b s).left τ ks c l ∙ ap behind_phis z ∙ sym y }
 
 -- an order that fails further on fails
 ordered_fails : (debug : Bool) (d : ℕ) (xs : List Instruction) → ordered debug (drop d xs) ≡ false → ordered debug xs ≡ false

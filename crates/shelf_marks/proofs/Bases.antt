@@ -20,13 +20,15 @@ use Rattle.mir.specs.Reads.{store_base, is_phi}
 use Rattle.bytes_field.specs.Decode.{mark}
 use Rattle.bytes_field.specs.declared.Bounds.{Bounds}
 use Rattle.bytes_block.specs.Decode.{marks}
-use Rattle.bytes_sections.specs.Index.{recorded_number}
+use Rattle.bytes_sections.specs.Index.{recorded_from}
+use Rattle.bytes_index.proofs.Laws.{from_number}
+use Rattle.mir.specs.Option.{as_option}
+use Rattle.std.specs.Prelude.{Some, None, Option as Answered}
 use Rattle.bytes_index.specs.Table.{recorded_in, starts_in, kind_in, read_in}
 use Rattle.bytes_index.specs.Code.{no_block, InstructionIn, LastSlot}
 use Rattle.mir.specs.Lists.{Each}
 use Rattle.mir.specs.Lookup.{Types, row_of, recorded_type, value_row, shape, is_tuple, is_struct, is_array, is_aggregate}
 use Rattle.mir.specs.Phis.{behind_phis}
-use Rattle.fold_shapes.proofs.Values.{none_recorded, some_recorded}
 use Rattle.rewrite_progress.specs.Ground.{Ground}
 use Rattle.shelf.specs.Lists.{every, among}
 use Rattle.shelf.specs.Reads.{parts_taken, aggregate_base, bases_in, bases, apart}
@@ -104,20 +106,19 @@ module _ (b : Bounds) (s types recorded : List ℕ) (v : ℕ) where
   unfolding value_row recorded_type row_of
   aggregate_past h τ g = no_aggregate ∙ ap (λ q. is_aggregate (row_of τ q)) (sym (get_or-eq_default τ.recorded none (omega (arith, g.values))))
 
-  known_number : {number : ℕ} → number ≡ get_or recorded v 0 → v < b.next → (τ : Types) → Ground b s types recorded τ → number ≡ recorded_number (recorded_type τ (record { 0 = v }))
+  known_type : (r : Answered TypeId) → as_option r ≡ recorded_from (get_or recorded v 0) → v < b.next → (τ : Types) → Ground b s types recorded τ → as_option r ≡ recorded_type τ (record { 0 = v })
   unfolding recorded_type
-  known_number e h τ g = e ∙ g.known.recorded_types v (omega (arith, g.values)) (omega (arith, g.values, g.known.long))
+  known_type r e h τ g = e ∙ from_number _ (g.known.recorded_types v (omega (arith, g.values)) (omega (arith, g.values, g.known.long)))
 
-  pub aggregate_none : {number : ℕ} → number ≡ get_or recorded v 0 → v < b.next → number ≡ 0 → (τ : Types) → Ground b s types recorded τ → false ≡ is_aggregate (value_row τ (record { 0 = v }))
-  unfolding value_row
-  aggregate_none e h k τ g = no_aggregate ∙ none_recorded is_aggregate τ (recorded_type τ (record { 0 = v })) k (known_number e h τ g)
+  pub aggregate_none : none ≡ recorded_from (get_or recorded v 0) → v < b.next → (τ : Types) → Ground b s types recorded τ → false ≡ is_aggregate (value_row τ (record { 0 = v }))
+  unfolding value_row row_of
+  aggregate_none e h τ g = no_aggregate ∙ ap (λ o. is_aggregate (row_of τ o)) (known_type None e h τ g)
 
-  pub aggregate_some : {number : ℕ} → number ≡ get_or recorded v 0 → v < b.next → (number ≡ 0 → ⊥) → {r : ℕ} → ((most : ℕ) (ts : List MirType) → TypesAt most s types ts → length ts ≡ b.types → r ≡ shape (get_elem? ts (number - 1))) → (τ : Types) → Ground b s types recorded τ → not (eqb r 0) ≡ is_aggregate (value_row τ (record { 0 = v }))
-  unfolding value_row
-  aggregate_some {number} e h k {r} f τ g =
-      let o = recorded_type τ (record { 0 = v }) in
-      let z : r ≡ shape (row_of τ o) = f b.list τ.rows g.known.rows g.rows ∙ some_recorded shape τ o k (known_number e h τ g) in
-      ap (λ q. not (eqb q 0)) z ∙ sym (aggregate_shape (row_of τ o))
+  pub aggregate_some : (t : TypeId) → some t ≡ recorded_from (get_or recorded v 0) → v < b.next → {r : ℕ} → ((most : ℕ) (ts : List MirType) → TypesAt most s types ts → length ts ≡ b.types → r ≡ shape (get_elem? ts t.0)) → (τ : Types) → Ground b s types recorded τ → not (eqb r 0) ≡ is_aggregate (value_row τ (record { 0 = v }))
+  unfolding value_row row_of
+  aggregate_some t e h {r} f τ g =
+      let z : r ≡ shape (row_of τ (some t)) = f b.list τ.rows g.known.rows g.rows in
+      ap (λ q. not (eqb q 0)) z ∙ sym (aggregate_shape (row_of τ (some t))) ∙ ap (λ o. is_aggregate (row_of τ o)) (known_type (Some t) e h τ g)
 
 -- what mark_base marks
 module _ (b : Bounds) (s facts : List ℕ) (slot : ℕ) (m : List B.Bool) {kind : ℕ} (ek : kind ≡ kind_in facts slot) where

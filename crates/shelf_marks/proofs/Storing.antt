@@ -12,7 +12,8 @@ use Rattle.bytes_wire.specs.Parse.{ok}
 use Rattle.mir.specs.declared.Literal.{Literal}
 use Rattle.mir.specs.declared.Value.{Value}
 use Rattle.mir.specs.declared.ValueId.{ValueId}
-use Rattle.mir.specs.Syntax.{Projection, Instruction, InstructionKind, Block}
+use Rattle.mir.specs.declared.Projection.{Projection}
+use Rattle.mir.specs.Syntax.{Instruction, InstructionKind, Block}
 use Rattle.mir.specs.Syntax.{Assign, UnaryOp, BinaryOp, Call, Cast, Load, Store, Debug, Nop, Phi}
 use Rattle.mir.specs.Syntax.{MakeTuple, ExtractTupleElement, MakeStruct, ExtractStructField, InsertField, InsertTuple, MakeFixedArray, AssertEq, HeapAllocCells}
 use Rattle.mir.specs.Reads.{reads, store_base, kind_number, is_phi}
@@ -20,9 +21,10 @@ use Rattle.bytes_field.specs.Decode.{instruction_of}
 use Rattle.bytes_field.specs.declared.Bounds.{Bounds}
 use Rattle.bytes_index.specs.Table.{place_in, kind_in, read_in, ReadsIn}
 use Rattle.bytes_index.specs.Code.{InstructionIn}
-use Rattle.bytes_operands.specs.Fields.{as_found, as_step, operand_fields, place_steps}
-use Rattle.bytes_operands.specs.declared.Found.{Found}
-use Rattle.bytes_operands.specs.declared.Step.{Step}
+use Rattle.bytes_operands.specs.Fields.{operand_fields, place_steps}
+use Rattle.mir.specs.Option.{as_option}
+use Rattle.std.specs.Prelude.{Some, None, Option as Answered}
+use Rattle.std.specs.Option.{is_some as has_some}
 use Rattle.mir.specs.Phis.{behind_phis}
 use Rattle.shelf.specs.Lists.{every, among, clear}
 use Rattle.shelf.specs.Reads.{parts_taken, is_deep, shallow}
@@ -143,33 +145,28 @@ module _ (b : Bounds) (s facts : List ℕ) (slot : ℕ) (dropped : List Bool) {k
     pub shallow_kept : not r ≡ true → OfSlot b s facts slot (λ τ. shallow_in dropped) true
     shallow_kept n τ i g a = sym (store_shallow i a ∙ ap (λ q. not (is_deep (place_steps i.kind) && q)) (not-true r n) ∙ ap not (and-false (is_deep (place_steps i.kind))))
 
-    module _ (n : not r ≡ false) {at : ℕ} {t : List ℕ} (p : Step) (ea : at ≡ place_in facts slot) (et : t ≡ drop at s) (ep : (seen : List Bool) (late : Bool) (i : Instruction) (n : ℕ) → instruction_of b seen late t ≡ ok i n → as_step p ≡ get_elem? (place_steps i.kind) 1) where
-      found : (i : Instruction) → InstructionIn b s facts slot i → as_step p ≡ get_elem? (place_steps i.kind) 1
+    module _ (n : not r ≡ false) {at : ℕ} {t : List ℕ} (p : Answered Projection) (ea : at ≡ place_in facts slot) (et : t ≡ drop at s) (ep : (seen : List Bool) (late : Bool) (i : Instruction) (n : ℕ) → instruction_of b seen late t ≡ ok i n → as_option p ≡ get_elem? (place_steps i.kind) 1) where
+      found : (i : Instruction) → InstructionIn b s facts slot i → as_option p ≡ get_elem? (place_steps i.kind) 1
       found i a = ep [] false i _ (ap (λ q. instruction_of b [] false q) (et ∙ ap (λ q. drop q s) ea) ∙ a.read)
 
-      pub shallow_near : p ≡ Step.Nothing → OfSlot b s facts slot (λ τ. shallow_in dropped) true
-      shallow_near z τ i g a = sym (store_shallow i a ∙ ap (λ q. not (q && r)) (deep_none (place_steps i.kind) (sym (ap as_step z) ∙ found i a)))
+      pub shallow_found : (k : Bool) → has_some p ≡ not k → OfSlot b s facts slot (λ τ. shallow_in dropped) k
+      shallow_found k e τ i g a = back k (has_some p) e ∙ sym (store_shallow i a ∙ go p (found i a))
+        where
+          back : (k q : Bool) → q ≡ not k → k ≡ not q
+          back true q e = rw e refl
+          back false q e = rw e refl
 
-      pub shallow_deep : {q : Projection} → as_step p ≡ some q → OfSlot b s facts slot (λ τ. shallow_in dropped) false
-      shallow_deep z τ i g a = sym (store_shallow i a ∙ ap (λ q. not (q && r)) (deep_some (place_steps i.kind) (sym z ∙ found i a)) ∙ n)
+          go : (p : Answered Projection) → as_option p ≡ get_elem? (place_steps i.kind) 1 → not (is_deep (place_steps i.kind) && r) ≡ not (has_some p)
+          go None e = ap (λ q. not (q && r)) (deep_none (place_steps i.kind) e)
+          go (Some q) e = ap (λ q. not (q && r)) (deep_some (place_steps i.kind) e) ∙ n
 
 -- a value that was found
 and_true : (b : Bool) → b ≡ (b && true)
 and_true true = refl
 and_true false = refl
 
-module _ (marks : List Bool) {f : Found} where
-  pub clear_nothing : f ≡ Found.Nothing → true ≡ clear marks (found_reads (as_found f))
-  clear_nothing e = rw e
-
-  pub clear_literal : {x : Value} {l : Literal} → f ≡ Found.Value x → x ≡ Value.Literal l → true ≡ clear marks (found_reads (as_found f))
-  clear_literal {x} {l} e h = let z : f ≡ Found.Value (Value.Literal l) = e ∙ ap (λ y. Found.Value y) h in rw z
-
-  pub clear_error : {x : Value} → f ≡ Found.Value x → x ≡ Value.Error → true ≡ clear marks (found_reads (as_found f))
-  clear_error e h = let z : f ≡ Found.Value Value.Error = e ∙ ap (λ y. Found.Value y) h in rw z
-
-  pub clear_operand : {x : Value} {v : ValueId} {r : Bool} → f ≡ Found.Value x → x ≡ Value.Operand v → r ≡ get_or marks v.0 false → not r ≡ clear marks (found_reads (as_found f))
-  clear_operand {x} {v} {r} e h g = let z : f ≡ Found.Value (Value.Operand v) = e ∙ ap (λ y. Found.Value y) h in rw (z, g) (and_true (not (get_or marks v.0 false)))
+pub clear_operand : (marks : List Bool) (v : ValueId) → not (get_or marks v.0 false) ≡ clear marks (found_reads (some (Value.Operand v)))
+clear_operand marks v = and_true (not (get_or marks v.0 false))
 
 -- the parts that an instruction takes, by its kind's number
 abbrev taken_by : ℕ → InstructionKind → List ValueId
@@ -210,9 +207,9 @@ module _ (b : Bounds) (s facts : List ℕ) (slot : ℕ) (marks : List Bool) {kin
 
   -- a value that is an operand field
   pub parts_operand : (j m : ℕ) → ((i : InstructionKind) → taken_by j i ≡ found_reads (get_elem? (operand_fields i) m)) → kind ≡ j
-      → {at : ℕ} {t : List ℕ} (f : Found) {r : Bool} → at ≡ place_in facts slot → t ≡ drop at s
+      → {at : ℕ} {t : List ℕ} (f : Answered Value) {r : Bool} → at ≡ place_in facts slot → t ≡ drop at s
       → ((seen : List Bool) (late : Bool) (i : Instruction) (n : ℕ) → instruction_of b seen late t ≡ ok i n
-      → as_found f ≡ get_elem? (operand_fields i.kind) m) → r ≡ clear marks (found_reads (as_found f)) → OfSlot b s facts slot (λ τ. parts_clear marks) r
+      → as_option f ≡ get_elem? (operand_fields i.kind) m) → r ≡ clear marks (found_reads (as_option f)) → OfSlot b s facts slot (λ τ. parts_clear marks) r
   parts_operand j m q h x ea et f er τ i g a =
       let z = f [] false i _ (ap (λ q. instruction_of b [] false q) (et ∙ ap (λ q. drop q s) ea) ∙ a.read) in
       er ∙ ap (λ y. clear marks (found_reads y)) z ∙ ap (clear marks) (sym (q i.kind) ∙ parts_by j h i a)

@@ -11,12 +11,10 @@ pub fn reads_clear(facts: &[u16], slot: u16, marks: &[bool]) -> bool
     ensures { (vs : List ValueId) → ReadsIn facts.now slot vs → result ≡ clear marks.now vs }
 {
     let n = bytes_index::read_count(facts, slot);
-    let mut k = 0;
-    while k < n {
+    for k in 0..n {
         if table::flag(marks, bytes_index::read(facts, slot, k).0 as usize) {
             return false;
         }
-        k = k + 1;
     }
     true
 }

@@ -19,7 +19,9 @@ use Rattle.mir.specs.declared.Value.{Value}
 use Rattle.bytes_wire.proofs.Inv.{no_ok, behind, image, later_inv, map_inv, tagged_inv}
 use Rattle.mir.specs.MirType.{MirType, Felt, Bool, U32, Struct, FixedArray, Pointer, Function, Unit, Error, Unknown}
 use Rattle.mir.specs.MirType as T
-use Rattle.mir.specs.Syntax.{Projection, Index, Field, Tuple, Place}
+use Rattle.mir.specs.declared.Projection.{Projection}
+use Rattle.mir.specs.declared.Projection.TheVariants.{Index, Field, Tuple}
+use Rattle.mir.specs.Syntax.{Place}
 use Rattle.bytes_field.specs.Decode.{name_id_of, projection_of}
 use Rattle.bytes_field.specs.Decode as D
 use Rattle.bytes_field.specs.declared.Bounds.{Bounds}
@@ -28,7 +30,9 @@ use Rattle.bytes_operands.specs.Fields.{value_size, projection_end, after}
 use Rattle.bytes_operands.proofs.Places as P
 use Rattle.bytes_operands.proofs.Places.{then, last, list}
 use Rattle.bytes_operands.proofs.EachKind.{projection_size, ends}
-use Rattle.bytes_sections.specs.Index.{recorded_number}
+use Rattle.std.specs.Prelude.{Some, None, Option as Answered}
+use Rattle.std.proofs.lemmas.Option.{none-some}
+use Rattle.shelf_rows.specs.Rows.{Is}
 use Rattle.rewrite_parts.specs.Rows.{ValueAt, stands}
 use Rattle.mir.specs.Lookup.{Types, row_of, recorded_type, value_row, shape, is_tuple, is_struct, is_array, is_aggregate}
 use Rattle.shelf.specs.Fits.{step_type, place_type}
@@ -77,32 +81,32 @@ module _ (next : ℕ) (t u : List ℕ) (at : ℕ) (τ : Types) (q : Projection) 
 
 -- behind a Pointer
 module _ (next : ℕ) (t : List ℕ) (at n : ℕ) (τ : Types) (o : Option TypeId) where
-  pub pointed_none : (ps : List Projection) → length ps ≡ n → n ≡ 0 → ◌≡◌ {A = ℕ} 0 (recorded_number (pointed τ o ps))
+  pub pointed_none : (ps : List Projection) → length ps ≡ n → n ≡ 0 → none ≡ pointed τ o ps
   unfolding pointed
   pointed_none [] h z = refl
   pointed_none (p ∷ ps) h z = absurd (omega (arith, h, z))
 
-  pub pointed_index : {r : ℕ} {x : Value} (ps : List Projection) → StepsIn next t at ps → length ps ≡ n → (n ≡ 0 → ⊥) → ((q : Projection) → StepAt next t at q → some (Index x) ≡ some q) → ((qs : List Projection) → StepsIn next t (projection_end t at) qs → length qs ≡ n - 1 → r ≡ recorded_number (place_type τ o qs)) → r ≡ recorded_number (pointed τ o ps)
+  pub pointed_index : {r : Option TypeId} {x : Value} (ps : List Projection) → StepsIn next t at ps → length ps ≡ n → (n ≡ 0 → ⊥) → ((q : Projection) → StepAt next t at q → Some (Index x) ≡ Some q) → ((qs : List Projection) → StepsIn next t (projection_end t at) qs → length qs ≡ n - 1 → r ≡ place_type τ o qs) → r ≡ pointed τ o ps
   unfolding pointed
   pointed_index [] l h z f g = absurd (z (sym h))
   pointed_index {r} {x} (q ∷ ps) (w & l) h z f g =
-      let j : q ≡ Index x = (let v : some (Index x) ≡ some q = f q w in cc) in
+      let j : q ≡ Index x = (let v : Some (Index x) ≡ Some q = f q w in cc) in
       let k : length ps ≡ n - 1 = omega (arith, h) in
       rw j (g ps l k)
 
-  pub pointed_field : {m : NameId} (ps : List Projection) → StepsIn next t at ps → length ps ≡ n → (n ≡ 0 → ⊥) → ((q : Projection) → StepAt next t at q → some (Field m) ≡ some q) → ◌≡◌ {A = ℕ} 0 (recorded_number (pointed τ o ps))
+  pub pointed_field : {m : NameId} (ps : List Projection) → StepsIn next t at ps → length ps ≡ n → (n ≡ 0 → ⊥) → ((q : Projection) → StepAt next t at q → Some (Field m) ≡ Some q) → none ≡ pointed τ o ps
   unfolding pointed
   pointed_field [] l h z f = absurd (z (sym h))
-  pointed_field {m} (q ∷ ps) (w & l) h z f = let j : q ≡ Field m = (let v : some (Field m) ≡ some q = f q w in cc) in rw j refl
+  pointed_field {m} (q ∷ ps) (w & l) h z f = let j : q ≡ Field m = (let v : Some (Field m) ≡ Some q = f q w in cc) in rw j refl
 
-  pub pointed_tuple : {m : ℕ} (ps : List Projection) → StepsIn next t at ps → length ps ≡ n → (n ≡ 0 → ⊥) → ((q : Projection) → StepAt next t at q → some (Tuple m) ≡ some q) → ◌≡◌ {A = ℕ} 0 (recorded_number (pointed τ o ps))
+  pub pointed_tuple : {m : ℕ} (ps : List Projection) → StepsIn next t at ps → length ps ≡ n → (n ≡ 0 → ⊥) → ((q : Projection) → StepAt next t at q → Some (Tuple m) ≡ Some q) → none ≡ pointed τ o ps
   unfolding pointed
   pointed_tuple [] l h z f = absurd (z (sym h))
-  pointed_tuple {m} (q ∷ ps) (w & l) h z f = let j : q ≡ Tuple m = (let v : some (Tuple m) ≡ some q = f q w in cc) in rw j refl
+  pointed_tuple {m} (q ∷ ps) (w & l) h z f = let j : q ≡ Tuple m = (let v : Some (Tuple m) ≡ Some q = f q w in cc) in rw j refl
 
-  pub pointed_nothing : (ps : List Projection) → StepsIn next t at ps → length ps ≡ n → (n ≡ 0 → ⊥) → ((q : Projection) → StepAt next t at q → none ≡ some q) → ◌≡◌ {A = ℕ} 0 (recorded_number (pointed τ o ps))
+  pub pointed_nothing : (ps : List Projection) → StepsIn next t at ps → length ps ≡ n → (n ≡ 0 → ⊥) → ((q : Projection) → StepAt next t at q → None ≡ Some q) → none ≡ pointed τ o ps
   pointed_nothing [] l h z f = absurd (z (sym h))
-  pointed_nothing (q ∷ ps) (w & l) h z f = absurd (let v : none ≡ some q = f q w in let y : ◌≡◌ {A = ℕ} 0 1 = cc in omega (arith, y))
+  pointed_nothing (q ∷ ps) (w & l) h z f = absurd (none-some q (f q w))
 
 -- a base that is no aggregate, and one that is
 aggregate : (row : Option MirType) → (shape row ≡ 0 → ⊥) → is_aggregate row ≡ true
@@ -124,33 +128,33 @@ no_aggregate : (row : Option MirType) → shape row ≡ 0 → is_aggregate row �
 unfolding is_aggregate is_tuple is_struct is_array
 no_aggregate row e = ap (λ k. eqb k 1 || (eqb k 2 || eqb k 3)) e
 
-pub reached_pointer : (τ : Types) (p : Place) {r k : ℕ} → k ≡ shape (row_of τ (recorded_type τ p.base)) → k ≡ 0 → r ≡ recorded_number (pointed τ (pointee (row_of τ (recorded_type τ p.base))) p.projections) → r ≡ recorded_number (reached τ p)
+pub reached_pointer : (τ : Types) (p : Place) {r : Option TypeId} {k : ℕ} → k ≡ shape (row_of τ (recorded_type τ p.base)) → k ≡ 0 → r ≡ pointed τ (pointee (row_of τ (recorded_type τ p.base))) p.projections → r ≡ reached τ p
 unfolding reached value_row
 reached_pointer τ p e z f =
     let row = row_of τ (recorded_type τ p.base) in
-    f ∙ ap (λ c. recorded_number (cond c (place_type τ (recorded_type τ p.base) p.projections) (pointed τ (pointee row) p.projections))) (sym (no_aggregate row (sym e ∙ z)))
+    f ∙ ap (λ c. cond c (place_type τ (recorded_type τ p.base) p.projections) (pointed τ (pointee row) p.projections)) (sym (no_aggregate row (sym e ∙ z)))
 
-pub reached_aggregate : (τ : Types) (p : Place) {r k : ℕ} → k ≡ shape (row_of τ (recorded_type τ p.base)) → (k ≡ 0 → ⊥) → r ≡ recorded_number (place_type τ (recorded_type τ p.base) p.projections) → r ≡ recorded_number (reached τ p)
+pub reached_aggregate : (τ : Types) (p : Place) {r : Option TypeId} {k : ℕ} → k ≡ shape (row_of τ (recorded_type τ p.base)) → (k ≡ 0 → ⊥) → r ≡ place_type τ (recorded_type τ p.base) p.projections → r ≡ reached τ p
 unfolding reached value_row
 reached_aggregate τ p e z f =
     let row = row_of τ (recorded_type τ p.base) in
-    f ∙ ap (λ c. recorded_number (cond c (place_type τ (recorded_type τ p.base) p.projections) (pointed τ (pointee row) p.projections))) (sym (aggregate row (λ w. z (e ∙ w))))
+    f ∙ ap (λ c. cond c (place_type τ (recorded_type τ p.base) p.projections) (pointed τ (pointee row) p.projections)) (sym (aggregate row (λ w. z (e ∙ w))))
 
 -- a walk along projections: i of n are behind
-pub data Walking (τ : Types) (next : ℕ) (t : List ℕ) (whole : Option TypeId) (n here there i : ℕ) : Type 0 where
-  walking : (ps : List Projection) (o : Option TypeId) → StepsIn next t here ps → length ps + i ≡ n → there ≡ recorded_number o → whole ≡ place_type τ o ps → Walking τ next t whole n here there i
+pub data Walking (τ : Types) (next : ℕ) (t : List ℕ) (whole : Option TypeId) (n here : ℕ) (there : Answered TypeId) (i : ℕ) : Type 0 where
+  walking : (ps : List Projection) (o : Option TypeId) → StepsIn next t here ps → length ps + i ≡ n → Is there o → whole ≡ place_type τ o ps → Walking τ next t whole n here there i
 
-pub walking_next : {τ : Types} {next : ℕ} {t : List ℕ} {whole : Option TypeId} {n here there i : ℕ} {far to : ℕ} → Walking τ next t whole n here there i → i < n → ((o : Option TypeId) (q : Projection) → there ≡ recorded_number o → StepAt next t here q → to ≡ recorded_number (step_type (row_of τ o) q)) → far ≡ projection_end t here → Walking τ next t whole n far to (i + 1)
+pub walking_next : {τ : Types} {next : ℕ} {t : List ℕ} {whole : Option TypeId} {n here i : ℕ} {there : Answered TypeId} {far : ℕ} {to : Answered TypeId} → Walking τ next t whole n here there i → i < n → ((o : Option TypeId) (q : Projection) → Is there o → StepAt next t here q → Is to (step_type (row_of τ o) q)) → far ≡ projection_end t here → Walking τ next t whole n far to (i + 1)
 unfolding place_type
 walking_next (walking [] o l m r e) h f w = absurd (omega (arith, m))
-walking_next {τ} {next} {t} {n} {i} {far} (walking (p ∷ ps) o (q & l) m r e) h f w =
+walking_next {τ} {next} {t} {n} {i} {far = far} (walking (p ∷ ps) o (q & l) m r e) h f w =
     let k : length ps + (i + 1) ≡ n = omega (arith, m) in
     let l' : StepsIn next t far ps = rw w l in
     walking ps (step_type (row_of τ o) p) l' k (f o p r q) e
 
-pub walking_done : {τ : Types} {next : ℕ} {t : List ℕ} {whole : Option TypeId} {n here there i : ℕ} → Walking τ next t whole n here there i → n ≤ i → there ≡ recorded_number whole
+pub walking_done : {τ : Types} {next : ℕ} {t : List ℕ} {whole : Option TypeId} {n here i : ℕ} {there : Answered TypeId} → Walking τ next t whole n here there i → n ≤ i → Is there whole
 unfolding place_type
-walking_done (walking [] o l m r e) h = r ∙ ap recorded_number (sym e)
+walking_done (walking [] o l m r e) h = r ∙ sym e
 walking_done (walking (p ∷ ps) o l m r e) h = absurd (omega (arith, m))
 
 -- a place, wherever it stands

@@ -1,9 +1,10 @@
 -- A place of a Load or a Store, by where its fields stand, and what is answered of it.
 use Rattle.std.specs.Prelude.{ℕ, ◌+◌, ◌≡◌, List, Bool, length, get_or}
+use Rattle.std.specs.Prelude.{Option as Answered}
 use Rattle.std.proofs.Math.Option.{Option, some}
-use Rattle.mir.specs.declared.Recorded.{Recorded}
 use Rattle.mir.specs.declared.TypeId.{TypeId}
-use Rattle.mir.specs.Syntax.{Projection, Place}
+use Rattle.mir.specs.declared.Projection.{Projection}
+use Rattle.mir.specs.Syntax.{Place}
 use Rattle.bytes_field.specs.declared.Bounds.{Bounds}
 use Rattle.bytes_operands.specs.Fields.{projection_end}
 use Rattle.mir.specs.Lookup.{Types}
@@ -23,7 +24,8 @@ pub record PlaceAt (next : ℕ) (t : List ℕ) (at : ℕ) (p : Place) : Type 0 w
   pub steps : StepsIn next t (at + 3) p.projections
 
 -- the type that n projections lead to from the type `number`
-abbrev pub LeadsTo : Bounds → List ℕ → List ℕ → List ℕ → ℕ → ℕ → Recorded → (Types → Option TypeId → List Projection → Option TypeId) → Recorded → Type 0
+abbrev pub LeadsTo : Bounds → List ℕ → List ℕ → List ℕ → ℕ → ℕ → Answered TypeId
+    → (Types → Option TypeId → List Projection → Option TypeId) → Answered TypeId → Type 0
 LeadsTo b s types t at n number f r =
     (recorded : List ℕ) (τ : Types) (o : Option TypeId) (ps : List Projection)
     → Ground b s types recorded τ
@@ -50,7 +52,7 @@ IndexesFit b s types recorded t at n r =
     → r ≡ every (index_fits τ) ps
 
 -- the type at the end of a place
-abbrev pub Reaches : Bounds → List ℕ → List ℕ → List ℕ → List ℕ → ℕ → Recorded → Type 0
+abbrev pub Reaches : Bounds → List ℕ → List ℕ → List ℕ → List ℕ → ℕ → Answered TypeId → Type 0
 Reaches b s types recorded t at r =
     (τ : Types) (p : Place)
     → Ground b s types recorded τ
@@ -58,7 +60,7 @@ Reaches b s types recorded t at r =
     → Is r (reached τ p)
 
 -- a place leads to the type `number`
-abbrev pub PlaceFits : Bounds → List ℕ → List ℕ → List ℕ → List ℕ → ℕ → Recorded → Bool → Type 0
+abbrev pub PlaceFits : Bounds → List ℕ → List ℕ → List ℕ → List ℕ → ℕ → Answered TypeId → Bool → Type 0
 PlaceFits b s types recorded t at number r =
     (τ : Types) (p : Place) (y : TypeId)
     → Ground b s types recorded τ

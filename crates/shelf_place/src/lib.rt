@@ -7,8 +7,7 @@ ghost use Rattle.shelf_field.specs.Fields.{Front, Near, Inner};
 ghost use Rattle.shelf_place.specs.Places.{LeadsTo, IndexFits, IndexesFit, Reaches, PlaceFits};
 
 use bytes_field::Bounds;
-use bytes_operands::Step;
-use mir::{Recorded, shape};
+use mir::{Projection, TypeId, shape};
 
 // Behind the base of a place stands the count of its projections, and behind that they.
 const COUNT: usize = 2;
@@ -23,18 +22,16 @@ fn end_type(
     t: &[u8],
     at: usize,
     n: u8,
-    number: Recorded,
-) -> Recorded
+    number: Option<TypeId>,
+) -> Option<TypeId>
     requires { Inner at }
     ensures { LeadsTo b s.now types.now t.now at n number place_type result }
 {
     let mut here = at;
     let mut there = number;
-    let mut i: u8 = 0;
-    while i < n {
+    for i in 0..n {
         there = shelf_types::step_type(s, b, types, there, shelf_field::step_at(t, here, b.next));
         here = bytes_operands::projection_end(t, here);
-        i = i + 1;
     }
     there
 }
@@ -64,13 +61,11 @@ fn indexes_fit(
     ensures { IndexesFit b s.now types.now recorded.now t.now at n result }
 {
     let mut here = at;
-    let mut i: u8 = 0;
-    while i < n {
+    for i in 0..n {
         if !index_fits(s, b, types, recorded, t, here) {
             return false;
         }
         here = bytes_operands::projection_end(t, here);
-        i = i + 1;
     }
     true
 }
@@ -83,16 +78,17 @@ fn pointed_type(
     t: &[u8],
     at: usize,
     n: u8,
-    number: Recorded,
-) -> Recorded
+    number: Option<TypeId>,
+) -> Option<TypeId>
     requires { Near at }
     ensures { LeadsTo b s.now types.now t.now at n number pointed result }
 {
     if n == 0 {
-        return Recorded(0);
+        return None;
     }
-    match shelf_field::step_at(t, at, b.next) {
-        Step::Index(_) => end_type(
+    let step = shelf_field::step_at(t, at, b.next)?;
+    match step {
+        Projection::Index(_) => end_type(
             s,
             b,
             types,
@@ -101,9 +97,8 @@ fn pointed_type(
             n - 1,
             number,
         ),
-        Step::Field(_) => Recorded(0),
-        Step::Tuple(_) => Recorded(0),
-        Step::Nothing => Recorded(0),
+        Projection::Field(_) => None,
+        Projection::Tuple(_) => None,
     }
 }
 
@@ -115,7 +110,7 @@ fn reached_type(
     recorded: &[u16],
     t: &[u8],
     at: usize,
-) -> Recorded
+) -> Option<TypeId>
     requires { Front at }
     ensures { Reaches b s.now types.now recorded.now t.now at result }
 {
@@ -136,7 +131,7 @@ pub fn place_fits(
     recorded: &[u16],
     t: &[u8],
     at: usize,
-    number: Recorded,
+    number: Option<TypeId>,
 ) -> bool
     requires { Front at }
     ensures { PlaceFits b s.now types.now recorded.now t.now at number result }

@@ -124,14 +124,12 @@ fn end_agrees(s: &[u8], b: Bounds, facts: &[u16], slot: u16) -> bool
 fn block_agrees(s: &[u8], b: Bounds, facts: &[u16], k: BlockId) -> bool
     ensures { OfBlock b s.now facts.now k.0 (block_agrees with_debug) result }
 {
-    let block = k.0;
     let last = bytes_index::last_slot(facts, k);
-    let mut slot = bytes_index::first_slot(facts, k);
-    while slot < last {
+    let first = bytes_index::first_slot(facts, k);
+    for slot in first..last {
         if !one_agrees(s, b, facts, slot) {
             return false;
         }
-        slot = slot + 1;
     }
     end_agrees(s, b, facts, last)
 }
@@ -140,12 +138,10 @@ fn block_agrees(s: &[u8], b: Bounds, facts: &[u16], k: BlockId) -> bool
 fn blocks_agree(s: &[u8], b: Bounds, facts: &[u16]) -> bool
     ensures { OfRoutine b s.now facts.now (λ τ ks. every (block_agrees with_debug τ) ks) result }
 {
-    let mut k: u16 = 0;
-    while k < b.blocks {
+    for k in 0..b.blocks {
         if !block_agrees(s, b, facts, BlockId(k)) {
             return false;
         }
-        k = k + 1;
     }
     true
 }

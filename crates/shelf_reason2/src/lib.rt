@@ -42,11 +42,9 @@ fn mark_dests(t: &[u8], kind: u16, marks: &mut [bool])
     let u = bytes_field::tail(t, bytes_operands::fields_place(t));
     let n = dest_count(u, kind);
     let mut at = dest_first(kind);
-    let mut j: u8 = 0;
-    while j < n {
+    for j in 0..n {
         table::set_flag(marks, bytes_wire::u16_at(u, at) as usize, true);
         at = at + 2;
-        j = j + 1;
     }
 }
 
@@ -54,28 +52,23 @@ fn mark_dests(t: &[u8], kind: u16, marks: &mut [bool])
 fn behind_phis(facts: &[u16], k: BlockId) -> u16
     ensures { BehindPhis facts.now k.0 result }
 {
-    let block = k.0;
     let last = bytes_index::last_slot(facts, k);
-    let mut slot = bytes_index::first_slot(facts, k);
-    while slot < last {
+    for slot in bytes_index::first_slot(facts, k)..last {
         if bytes_index::kind(facts, slot) != kind::PHI {
             return slot;
         }
-        slot = slot + 1;
     }
-    slot
+    last
 }
 
 // Whether no instruction of block `k`, phis aside, reads a value that it or a later one defines: from the last to the first.
 fn block_ordered(s: &[u8], facts: &[u16], k: BlockId) -> bool
     ensures { (b : AnyBounds) → OfBlock b s.now facts.now k.0 (λ τ x. ordered_behind x.instructions) result }
 {
-    let block = k.0;
-    let front = behind_phis(facts, BlockId(block));
-    let mut slot = bytes_index::last_slot(facts, BlockId(block));
+    let front = behind_phis(facts, k);
+    let last = bytes_index::last_slot(facts, k);
     let mut marks: [bool; most::VALUES] = [false; most::VALUES];
-    while front < slot {
-        slot = slot - 1;
+    for slot in (front..last).rev() {
         let kind = bytes_index::kind(facts, slot);
         let t = bytes_field::tail(s, bytes_index::place(facts, slot));
         mark_dests(t, kind, &mut marks);
@@ -90,12 +83,10 @@ fn block_ordered(s: &[u8], facts: &[u16], k: BlockId) -> bool
 pub fn in_order(s: &[u8], b: Bounds, facts: &[u16]) -> bool
     ensures { OfRoutine b s.now facts.now (λ τ. all_ordered) result }
 {
-    let mut k: u16 = 0;
-    while k < b.blocks {
+    for k in 0..b.blocks {
         if !block_ordered(s, facts, BlockId(k)) {
             return false;
         }
-        k = k + 1;
     }
     true
 }

@@ -11,9 +11,8 @@ ghost use Rattle.shelf.specs.Reads.{aggregate_base, bases_in, bases};
 ghost use Rattle.shelf_marks.specs.Tests.{OfSlot, OfBlock, OfRoutine, parts_clear, each_kind, all_apart};
 
 use bytes_field::Bounds;
-use mir::{BlockId, TypeId, ValueId, kind, most, shape};
+use mir::{BlockId, ValueId, kind, most, shape};
 
-// The most values of a routine.
 // Which of a Store's reads is its base.
 const BASE: u16 = 0;
 
@@ -25,12 +24,10 @@ fn is_aggregate(s: &[u8], b: Bounds, facts: &[u16], v: ValueId) -> bool
     if b.next <= v.0 {
         return false;
     }
-    let number = table::number(bytes_index::recorded(facts), v.0 as usize);
-    if number == 0 {
-        return false;
+    match bytes_lookup::recorded_type(bytes_index::recorded(facts), v) {
+        Some(t) => fold_shapes::type_shape(s, facts, b.types, t) != shape::OTHER,
+        None => false,
     }
-    let row = number - 1;
-    fold_shapes::type_shape(s, facts, b.types, TypeId(row)) != shape::OTHER
 }
 
 // Marks the base of the instruction in a slot where that is a Store and the base an aggregate.
@@ -53,12 +50,10 @@ fn mark_block(s: &[u8], b: Bounds, facts: &[u16], k: BlockId, marks: &mut [bool]
     ensures { OfBlock b s.now facts.now k.0
         (λ τ x. marks_of marks.old (bases_in τ x.instructions)) marks.new }
 {
-    let block = k.0;
     let last = bytes_index::last_slot(facts, k);
-    let mut slot = bytes_index::first_slot(facts, k);
-    while slot < last {
+    let first = bytes_index::first_slot(facts, k);
+    for slot in first..last {
         mark_base(s, b, facts, slot, marks);
-        slot = slot + 1;
     }
 }
 
@@ -66,10 +61,8 @@ fn mark_block(s: &[u8], b: Bounds, facts: &[u16], k: BlockId, marks: &mut [bool]
 fn mark_bases(s: &[u8], b: Bounds, facts: &[u16], marks: &mut [bool])
     ensures { OfRoutine b s.now facts.now (λ τ ks. marks_of marks.old (bases τ ks)) marks.new }
 {
-    let mut k: u16 = 0;
-    while k < b.blocks {
+    for k in 0..b.blocks {
         mark_block(s, b, facts, BlockId(k), marks);
-        k = k + 1;
     }
 }
 
@@ -77,14 +70,12 @@ fn mark_bases(s: &[u8], b: Bounds, facts: &[u16], marks: &mut [bool])
 fn parts_block(s: &[u8], b: Bounds, facts: &[u16], k: BlockId, marks: &[bool]) -> bool
     ensures { OfBlock b s.now facts.now k.0 (λ τ x. each_kind (parts_clear marks.now) x.instructions) result }
 {
-    let block = k.0;
     let last = bytes_index::last_slot(facts, k);
-    let mut slot = bytes_index::first_slot(facts, k);
-    while slot < last {
+    let first = bytes_index::first_slot(facts, k);
+    for slot in first..last {
         if !shelf_taken::parts_clear(s, b, facts, slot, marks) {
             return false;
         }
-        slot = slot + 1;
     }
     true
 }
@@ -95,12 +86,10 @@ pub fn kept_apart(s: &[u8], b: Bounds, facts: &[u16]) -> bool
 {
     let mut marks: [bool; most::VALUES] = [false; most::VALUES];
     mark_bases(s, b, facts, &mut marks);
-    let mut k: u16 = 0;
-    while k < b.blocks {
+    for k in 0..b.blocks {
         if !parts_block(s, b, facts, BlockId(k), &marks) {
             return false;
         }
-        k = k + 1;
     }
     true
 }

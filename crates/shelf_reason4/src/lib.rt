@@ -7,7 +7,6 @@ ghost use Rattle.shelf.specs.Lists.{among};
 ghost use Rattle.shelf_marks.specs.Tests.{OfSlot, OfBlock, OfRoutine, shallow_in, each_kind, all_shallow};
 
 use bytes_field::Bounds;
-use bytes_operands::Step;
 use mir::{BlockId, kind};
 
 // Which of a Store's reads is its base, and which projection only a deep Store has.
@@ -27,26 +26,19 @@ fn is_shallow(s: &[u8], b: Bounds, facts: &[u16], slot: u16, dropped: &[bool]) -
         return true;
     }
     let t = bytes_field::tail(s, bytes_index::place(facts, slot));
-    match bytes_operands::projection(t, b, DEEPER) {
-        Step::Index(_) => false,
-        Step::Field(_) => false,
-        Step::Tuple(_) => false,
-        Step::Nothing => true,
-    }
+    bytes_operands::projection(t, b, DEEPER).is_none()
 }
 
 // Whether block `k` has no deep Store on a dropped base.
 fn shallow_block(s: &[u8], b: Bounds, facts: &[u16], k: BlockId, dropped: &[bool]) -> bool
     ensures { OfBlock b s.now facts.now k.0 (λ τ x. each_kind (shallow_in dropped.now) x.instructions) result }
 {
-    let block = k.0;
     let last = bytes_index::last_slot(facts, k);
-    let mut slot = bytes_index::first_slot(facts, k);
-    while slot < last {
+    let first = bytes_index::first_slot(facts, k);
+    for slot in first..last {
         if !is_shallow(s, b, facts, slot, dropped) {
             return false;
         }
-        slot = slot + 1;
     }
     true
 }
@@ -56,12 +48,10 @@ pub fn no_deep_store(s: &[u8], b: Bounds, facts: &[u16], dropped: &[bool]) -> bo
     ensures { (ds : List AnyId) → ((v : ℕ) → get_or dropped.now v false ≡ among v ds)
         → OfRoutine b s.now facts.now (λ τ. all_shallow ds) result }
 {
-    let mut k: u16 = 0;
-    while k < b.blocks {
+    for k in 0..b.blocks {
         if !shallow_block(s, b, facts, BlockId(k), dropped) {
             return false;
         }
-        k = k + 1;
     }
     true
 }

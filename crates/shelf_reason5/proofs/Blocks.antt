@@ -8,7 +8,9 @@ use lib.ListN.{length, get_or, drop, length-append, length-map}
 use lib.Seq.{drop-drop, drop_at}
 use Rattle.mir.specs.declared.Value.{Value}
 use Rattle.mir.specs.declared.ValueId.{ValueId}
-use Rattle.mir.specs.Syntax.{Projection, Index, Field, Tuple, Instruction, InstructionKind, Terminator, Block}
+use Rattle.mir.specs.declared.Projection.{Projection}
+use Rattle.mir.specs.declared.Projection.TheVariants.{Index, Field, Tuple}
+use Rattle.mir.specs.Syntax.{Instruction, InstructionKind, Terminator, Block}
 use Rattle.mir.specs.Syntax.{Assign, UnaryOp, BinaryOp, Call, Cast, Load, Store, Debug, Nop, Phi}
 use Rattle.mir.specs.Syntax.{MakeTuple, ExtractTupleElement, MakeStruct, ExtractStructField, InsertField, InsertTuple, MakeFixedArray, AssertEq, HeapAllocCells}
 use Rattle.mir.specs.Syntax.{Jump, If, BranchCmp, Return, Unreachable}
@@ -28,7 +30,7 @@ use Rattle.shelf.specs.Lists.{every, among}
 use Rattle.shelf.specs.Reads.{clean, clean_terminator, with_debug}
 use Rattle.shelf.specs.Reason.{reads_no_dropped}
 use Rattle.shelf_reason5.specs.Unread.{marked, clean_block, walked, Alone, Legible, Written}
-use Rattle.shelf_reason5.specs.declared.Walked.{Walked}
+use Rattle.std.specs.Prelude.{Option, Some, None}
 use Rattle.shelf_reason5.proofs.Walk.{end_told, reads_told}
 
 -- how many values an instruction or a terminator reads at most
@@ -116,8 +118,8 @@ pub over_start : (b : Bounds) (s : List ℕ) (at : ℕ) (ms : List Bool) (many :
 over_start b s at ms many = record { under = zero-le; left = λ ks rest e l h. some_rest ks (record { count = omega arith; sound = h; tail = rest; bytes = e; same = refl }) }
 
 -- the next block
-module _ (b : Bounds) (s : List ℕ) (at : ℕ) (ms : List Bool) (many k here : ℕ) (u : Over b s at ms many k here) (h : k < many) (r : Walked) (says : (x : Block) (rest : List ℕ) → drop here s ≡ block_bytes x ++ rest → Legible b x → r ≡ walked (clean_block ms x) (here + length (block_bytes x))) where
-  one_less : (end : ℕ) → r ≡ Walked.Behind end → {ks : List Block} (left : List Block) → Rest b s ms many k here ks left → SomeRest b s ms many (k + 1) end ks
+module _ (b : Bounds) (s : List ℕ) (at : ℕ) (ms : List Bool) (many k here : ℕ) (u : Over b s at ms many k here) (h : k < many) (r : Option ℕ) (says : (x : Block) (rest : List ℕ) → drop here s ≡ block_bytes x ++ rest → Legible b x → r ≡ walked (clean_block ms x) (here + length (block_bytes x))) where
+  one_less : (end : ℕ) → r ≡ Some end → {ks : List Block} (left : List Block) → Rest b s ms many k here ks left → SomeRest b s ms many (k + 1) end ks
   one_less end z [] l = absurd (omega (arith, l.count))
   one_less end z (x ∷ xs) l =
       let a = block_bytes x in
@@ -132,7 +134,7 @@ module _ (b : Bounds) (s : List ℕ) (at : ℕ) (ms : List Bool) (many k here : 
         same = l.same ∙ ap (λ q. q && every (clean_block ms) xs) p.0;
       })
 
-  pub over_again : (end : ℕ) → r ≡ Walked.Behind end → Over b s at ms many (k + 1) end
+  pub over_again : (end : ℕ) → r ≡ Some end → Over b s at ms many (k + 1) end
   over_again end z =
       record {
         under = omega arith;
@@ -142,7 +144,7 @@ module _ (b : Bounds) (s : List ℕ) (at : ℕ) (ms : List Bool) (many k here : 
             ];
       }
 
-  block_reads : r ≡ Walked.Reads → {ks : List Block} (left : List Block) → Rest b s ms many k here ks left → every (clean_block ms) ks ≡ false
+  block_reads : r ≡ None → {ks : List Block} (left : List Block) → Rest b s ms many k here ks left → every (clean_block ms) ks ≡ false
   block_reads z [] l = absurd (omega (arith, l.count))
   block_reads z (x ∷ xs) l =
       let a = block_bytes x in
@@ -151,7 +153,7 @@ module _ (b : Bounds) (s : List ℕ) (at : ℕ) (ms : List Bool) (many k here : 
       let p = reads_told (clean_block ms x) (here + length a) (sym z ∙ says x t y l.sound.0) in
       l.same ∙ ap (λ q. q && every (clean_block ms) xs) p
 
-  pub over_reads : r ≡ Walked.Reads → (ks : List Block) (rest : List ℕ) → drop at s ≡ each_bytes block_bytes ks ++ rest → length ks ≡ many → Each (Legible b) ks → false ≡ every (clean_block ms) ks
+  pub over_reads : r ≡ None → (ks : List Block) (rest : List ℕ) → drop at s ≡ each_bytes block_bytes ks ++ rest → length ks ≡ many → Each (Legible b) ks → false ≡ every (clean_block ms) ks
   over_reads z ks rest e l f =
       elim (u.left ks rest e l f) [
         | some_rest left y ↦ sym (block_reads z left y)

@@ -20,11 +20,12 @@ use Rattle.bytes_field.specs.Decode.{mark, instruction_of, terminator_of}
 use Rattle.bytes_field.specs.Walk.{Walk, walk_of, uses, defines, fold, passes, leaves, as_scan, bytes_of}
 use Rattle.bytes_field.specs.declared.Bounds.{Bounds}
 use Rattle.bytes_field.specs.declared.Scan.{Scan}
+use Rattle.bytes_wire.specs.declared.Refusal.{Refusal}
 use Rattle.bytes_block.specs.Decode.{marks}
 use Rattle.bytes_block.proofs.Sizes.{size_instruction, size_terminator}
 use Rattle.shelf.specs.Reads.{clean_terminator}
 use Rattle.shelf_reason5.specs.Unread.{Buffered, marked, walked, Judges}
-use Rattle.shelf_reason5.specs.declared.Walked.{Walked}
+use Rattle.std.specs.Prelude.{Option, Some, None, Result, Ok, Err}
 use Rattle.shelf.specs.Lists.{clear}
 
 abbrev no_value : ValueId
@@ -98,35 +99,35 @@ defined seen u n late [] = refl
 defined seen u n late (d ∷ ds) = defined (mark seen d) u n late ds
 
 -- what is answered of a scan, by what it was
-module _ (v : List ℕ) (ms : List Bool) (r : Scan) where
-  pub refused_told : {c : Cause} {o : ℕ} → r ≡ Scan.Refused c o → Judges r v ms Walked.Reads
+module _ (v : List ℕ) (ms : List Bool) (r : Result Scan Refusal) where
+  pub refused_told : {e : Refusal} → r ≡ Err e → Judges r v ms None
   refused_told e = rw e refl
 
-  module _ {end n : ℕ} {late : Bool} (e : r ≡ Scan.Used end n late) {c : Bool} (says : (vs : List ValueId) → Buffered v n vs → c ≡ clear ms vs) where
-    pub clean_told : c ≡ true → Judges r v ms (Walked.Behind end)
+  module _ {x : Scan} (e : r ≡ Ok x) {c : Bool} (says : (vs : List ValueId) → Buffered v x.reads vs → c ≡ clear ms vs) where
+    pub clean_told : c ≡ true → Judges r v ms (Some x.size)
     clean_told z = rw e (λ vs b. rw (← says vs b, z) refl)
 
-    pub dropped_told : c ≡ false → Judges r v ms Walked.Reads
+    pub dropped_told : c ≡ false → Judges r v ms None
     dropped_told z = rw e (λ vs b. rw (← says vs b, z) refl)
 
 -- a scan that leaves w behind what it reads, and what stands behind it
 module _ {X : Type 0} (w : X → Walk) (d : Parse X) (v : List ℕ) (seen : List Bool) where
-  scan_size : (r : Scan) → as_scan r seen v ≡ map_parse w d → bytes_of r ≡ size d
-  scan_size (Scan.Used k n late) e = ap (λ q. size q) e ∙ size_map w d
-  scan_size (Scan.Refused c o) e = ap (λ q. size q) e ∙ size_map w d
+  scan_size : (r : Result Scan Refusal) → as_scan r seen v ≡ map_parse w d → bytes_of r ≡ size d
+  scan_size (Ok x) e = ap (λ q. size q) e ∙ size_map w d
+  scan_size (Err y) e = ap (λ q. size q) e ∙ size_map w d
 
   -- further on: the reads of what it reads stand in the buffer
   scan_judged : (reads_of : X → List ValueId) (at : ℕ) (ms : List Bool) → ((x : X) (m : ℕ) (late : Bool) → length (reads_of x) ≤ 32 → walk_of seen v m late ≡ w x → Buffered v m (reads_of x))
-      → (r : Scan) → as_scan r seen v ≡ later at (map_parse w d) → (a : Walked) → Judges r v ms a → (x : X) (n : ℕ) → d ≡ ok x n → length (reads_of x) ≤ 32 → a ≡ walked (clear ms (reads_of x)) (at + n)
-  scan_judged reads_of at ms fill (Scan.Refused c o) e a j x n t k = absurd (no_ok (e ∙ ap (λ q. later at (map_parse w q)) t))
-  scan_judged reads_of at ms fill (Scan.Used end m late) e a j x n t k =
-      let z : ok (walk_of seen v m late) end ≡ ok (w x) (at + n) = e ∙ ap (λ q. later at (map_parse w q)) t in
-      let y : walk_of seen v m late ≡ w x = cc in
-      let g : end ≡ at + n = ap (λ q. size q) z in
-      rw g at (j (reads_of x) (fill x m late k y))
+      → (r : Result Scan Refusal) → as_scan r seen v ≡ later at (map_parse w d) → (a : Option ℕ) → Judges r v ms a → (x : X) (n : ℕ) → d ≡ ok x n → length (reads_of x) ≤ 32 → a ≡ walked (clear ms (reads_of x)) (at + n)
+  scan_judged reads_of at ms fill (Err y) e a j x n t k = absurd (no_ok (e ∙ ap (λ q. later at (map_parse w q)) t))
+  scan_judged reads_of at ms fill (Ok p) e a j x n t k =
+      let z : ok (walk_of seen v p.reads p.late) p.size ≡ ok (w x) (at + n) = e ∙ ap (λ q. later at (map_parse w q)) t in
+      let y : walk_of seen v p.reads p.late ≡ w x = cc in
+      let g : p.size ≡ at + n = ap (λ q. size q) z in
+      rw g at (j (reads_of x) (fill x p.reads p.late k y))
 
 -- of an instruction, and of a terminator
-module _ (b : Bounds) (s t : List ℕ) (at : ℕ) (ms : List Bool) (u v : List ℕ) (seen : List Bool) (r q : Scan) (h : t ≡ drop at s) (lu : length u ≡ 32) (f : as_scan q seen v ≡ later at (as_scan r seen v)) (a : Walked) (j : Judges q v ms a) where
+module _ (b : Bounds) (s t : List ℕ) (at : ℕ) (ms : List Bool) (u v : List ℕ) (seen : List Bool) (r q : Result Scan Refusal) (h : t ≡ drop at s) (lu : length u ≡ 32) (f : as_scan q seen v ≡ later at (as_scan r seen v)) (a : Option ℕ) (j : Judges q v ms a) where
   module _ (e : as_scan r seen v ≡ map_parse (passes (walk_of [] u 0 false)) (instruction_of b [] false t)) where
     next_buffered : (i : Instruction) (m : ℕ) (late : Bool) → length (reads i.kind) ≤ 32 → walk_of seen v m late ≡ passes (walk_of [] u 0 false) i → Buffered v m (reads i.kind)
     next_buffered i m late k y =
@@ -150,7 +151,7 @@ module _ (b : Bounds) (s t : List ℕ) (at : ℕ) (ms : List Bool) (u v : List �
     last_told x n g = scan_judged (leaves (walk_of [] u 0 false)) (terminator_of b t) v seen terminator_reads at ms last_buffered q (f ∙ ap (later at) e) a j x n (ap (λ q. terminator_of b q) h ∙ g)
 
 -- their places do not wrap
-module _ (b : Bounds) (s t : List ℕ) (at : ℕ) (u v : List ℕ) (seen : List Bool) (r : Scan) (h : t ≡ drop at s) where
+module _ (b : Bounds) (s t : List ℕ) (at : ℕ) (u v : List ℕ) (seen : List Bool) (r : Result Scan Refusal) (h : t ≡ drop at s) where
   pub next_within : as_scan r seen v ≡ map_parse (passes (walk_of [] u 0 false)) (instruction_of b [] false t) → bytes_of r ≤ length s - at
   next_within e = omega (arith, scan_size (passes (walk_of [] u 0 false)) (instruction_of b [] false t) v seen r e, size_instruction b [] false t, ap (λ q. length q) h, length-drop at s)
 

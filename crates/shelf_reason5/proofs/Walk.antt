@@ -20,7 +20,8 @@ use Rattle.mir.specs.Lists.{Each}
 use Rattle.bytes_block.specs.Encode.{block_bytes}
 use Rattle.shelf.specs.Reads.{clean, clean_terminator, with_debug}
 use Rattle.shelf_reason5.specs.Unread.{marked, clean_block, walked, Alone, Legible}
-use Rattle.shelf_reason5.specs.declared.Walked.{Walked}
+use Rattle.std.specs.Prelude.{Option, Some, None}
+use Rattle.std.proofs.lemmas.Option.{none-some, same_Some}
 use Rattle.shelf.specs.Lists.{clear}
 
 -- the instructions `is` of a block are left, and stand at `here`
@@ -77,26 +78,20 @@ walk_start b s at ms {count} e =
     }
 
 -- there is no room for a block
-pub no_room : (b : Bounds) (s : List ℕ) (at : ℕ) (ms : List Bool) → length s < at + 2 → (x : Block) (rest : List ℕ) → drop at s ≡ block_bytes x ++ rest → Legible b x → Walked.Reads ≡ walked (clean_block ms x) (at + length (block_bytes x))
+pub no_room : (b : Bounds) (s : List ℕ) (at : ℕ) (ms : List Bool) → length s < at + 2 → (x : Block) (rest : List ℕ) → drop at s ≡ block_bytes x ++ rest → Legible b x → None ≡ walked (clean_block ms x) (at + length (block_bytes x))
 no_room b s at ms h x rest e g = absurd (omega (arith, ap (λ t. length t) e, length-append (block_bytes x) rest, block_length x, length-drop at s))
 
 -- what an answer says
-behind_inj : {a e : ℕ} → Walked.Behind a ≡ Walked.Behind e → a ≡ e
-behind_inj e = cc
+pub end_told : (c : Bool) (e end : ℕ) → Some end ≡ walked c e → (c ≡ true) × (end ≡ e)
+end_told true e end h = (refl, same_Some _ _ h)
+end_told false e end h = absurd (none-some _ (sym h))
 
-no_behind : {e : ℕ} → Walked.Behind e ≡ Walked.Reads → ⊥
-no_behind e = let z : ◌≡◌ {A = ℕ} 0 1 = cc in omega arith
-
-pub end_told : (c : Bool) (e end : ℕ) → Walked.Behind end ≡ walked c e → (c ≡ true) × (end ≡ e)
-end_told true e end h = (refl, behind_inj h)
-end_told false e end h = absurd (no_behind h)
-
-pub reads_told : (c : Bool) (e : ℕ) → Walked.Reads ≡ walked c e → c ≡ false
-reads_told true e h = absurd (no_behind (sym h))
+pub reads_told : (c : Bool) (e : ℕ) → None ≡ walked c e → c ≡ false
+reads_told true e h = absurd (none-some _ h)
 reads_told false e h = refl
 
 -- the next instruction
-module _ (b : Bounds) (s : List ℕ) (at : ℕ) (ms : List Bool) (count k here : ℕ) (u : Walking b s at ms count k here) (h : k < count) (r : Walked) (says : (i : Instruction) (n : ℕ) → instruction_of b [] false (drop here s) ≡ ok i n → length (reads i.kind) ≤ 32 → r ≡ walked (clear ms (reads i.kind)) (here + n)) where
+module _ (b : Bounds) (s : List ℕ) (at : ℕ) (ms : List Bool) (count k here : ℕ) (u : Walking b s at ms count k here) (h : k < count) (r : Option ℕ) (says : (i : Instruction) (n : ℕ) → instruction_of b [] false (drop here s) ≡ ok i n → length (reads i.kind) ≤ 32 → r ≡ walked (clear ms (reads i.kind)) (here + n)) where
   split_left : (i : Instruction) (is : List Instruction) {x : Block} {rest : List ℕ} → Left b s at ms count k here x rest (i ∷ is) → drop here s ≡ instruction_bytes i ++ (each_bytes instruction_bytes is ++ (terminator_bytes x.terminator ++ rest))
   split_left i is {x} {rest} l = l.bytes ∙ append_assoc (instruction_bytes i) (each_bytes instruction_bytes is) (terminator_bytes x.terminator ++ rest)
 
@@ -104,21 +99,21 @@ module _ (b : Bounds) (s : List ℕ) (at : ℕ) (ms : List Bool) (count k here :
   says_left i is l = says i (length (instruction_bytes i)) (ap (λ q. instruction_of b [] false q) (split_left i is l) ∙ l.sound.0.read _) l.sound.0.few
 
   -- reads a marked value
-  reads_left : {x : Block} {rest : List ℕ} (is : List Instruction) → Left b s at ms count k here x rest is → r ≡ Walked.Reads → clean_block ms x ≡ false
+  reads_left : {x : Block} {rest : List ℕ} (is : List Instruction) → Left b s at ms count k here x rest is → r ≡ None → clean_block ms x ≡ false
   unfolding clean
   reads_left [] l z = absurd (omega (arith, l.many))
   reads_left {x} (i ∷ is) l z =
       let w = reads_told (clear ms (reads i.kind)) _ (sym z ∙ says_left i is l) in
       l.same ∙ ap (λ q. (q && clean with_debug (marked ms) is) && clean_terminator (marked ms) x.terminator) w
 
-  pub walk_reads : r ≡ Walked.Reads → (x : Block) (rest : List ℕ) → drop at s ≡ block_bytes x ++ rest → Legible b x → Walked.Reads ≡ walked (clean_block ms x) (at + length (block_bytes x))
+  pub walk_reads : r ≡ None → (x : Block) (rest : List ℕ) → drop at s ≡ block_bytes x ++ rest → Legible b x → None ≡ walked (clean_block ms x) (at + length (block_bytes x))
   walk_reads z x rest e f =
       elim (u.left x rest e f) [
         | some_left is l ↦ rw (reads_left is l z)
       ]
 
   -- reads none: it is left behind
-  one_less : {x : Block} {rest : List ℕ} (is : List Instruction) → Left b s at ms count k here x rest is → (end : ℕ) → r ≡ Walked.Behind end → SomeLeft b s at ms count (k + 1) end x rest
+  one_less : {x : Block} {rest : List ℕ} (is : List Instruction) → Left b s at ms count k here x rest is → (end : ℕ) → r ≡ Some end → SomeLeft b s at ms count (k + 1) end x rest
   unfolding clean
   one_less [] l end z = absurd (omega (arith, l.many))
   one_less {x} {rest} (i ∷ is) l end z =
@@ -132,7 +127,7 @@ module _ (b : Bounds) (s : List ℕ) (at : ℕ) (ms : List Bool) (count k here :
         same = l.same ∙ ap (λ q. (q && clean with_debug (marked ms) is) && clean_terminator (marked ms) x.terminator) w.0;
       })
 
-  pub walk_again : (end : ℕ) → r ≡ Walked.Behind end → Walking b s at ms count (k + 1) end
+  pub walk_again : (end : ℕ) → r ≡ Some end → Walking b s at ms count (k + 1) end
   walk_again end z =
       record {
         under = omega arith;
@@ -143,7 +138,7 @@ module _ (b : Bounds) (s : List ℕ) (at : ℕ) (ms : List Bool) (count k here :
       }
 
 -- the terminator
-module _ (b : Bounds) (s : List ℕ) (at : ℕ) (ms : List Bool) (count k here : ℕ) (u : Walking b s at ms count k here) (h : count ≤ k) (r : Walked) (says : (x : Terminator) (n : ℕ) → terminator_of b (drop here s) ≡ ok x n → length (terminator_reads x) ≤ 32 → r ≡ walked (clean_terminator (marked ms) x) (here + n)) where
+module _ (b : Bounds) (s : List ℕ) (at : ℕ) (ms : List Bool) (count k here : ℕ) (u : Walking b s at ms count k here) (h : count ≤ k) (r : Option ℕ) (says : (x : Terminator) (n : ℕ) → terminator_of b (drop here s) ≡ ok x n → length (terminator_reads x) ≤ 32 → r ≡ walked (clean_terminator (marked ms) x) (here + n)) where
   none_left : {x : Block} {rest : List ℕ} (is : List Instruction) → Left b s at ms count k here x rest is → Legible b x → r ≡ walked (clean_block ms x) (at + length (block_bytes x))
   unfolding clean
   none_left {x} {rest} [] l f =

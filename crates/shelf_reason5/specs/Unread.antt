@@ -1,5 +1,5 @@
 -- Blocks that are walked one behind another in their bytes, and what they read of marked values.
-use Rattle.std.specs.Prelude.{ℕ, ◌+◌, ◌≤◌, ◌<◌, ◌≡◌, List, [], ◌++◌, Bool, false, cond, ◌&&◌, length, get_or, drop}
+use Rattle.std.specs.Prelude.{ℕ, ◌+◌, ◌≤◌, ◌<◌, ◌≡◌, List, [], ◌++◌, Bool, false, cond, ◌&&◌, length, get_or, drop, Option, Some, None, Result, Ok, Err}
 use Rattle.bytes_wire.specs.Parse.{ok}
 use Rattle.mir.specs.declared.ValueId.{ValueId}
 use Rattle.mir.specs.Syntax.{Instruction, Block}
@@ -8,6 +8,7 @@ use Rattle.mir.specs.Reads.{reads, terminator_reads}
 use Rattle.bytes_field.specs.Encode.{each_bytes, instruction_bytes, terminator_bytes}
 use Rattle.bytes_field.specs.declared.Bounds.{Bounds}
 use Rattle.bytes_field.specs.declared.Scan.{Scan}
+use Rattle.bytes_wire.specs.declared.Refusal.{Refusal}
 use Rattle.mir.specs.Lists.{Each}
 use Rattle.bytes_laws.specs.WellFormed.{Wide}
 use Rattle.bytes_block.specs.Encode.{block_bytes}
@@ -15,7 +16,6 @@ use Rattle.bytes_block.specs.declared.Mosts.{Mosts}
 use Rattle.bytes_laws_whole.specs.WellFormed.{FitBlocks}
 use Rattle.shelf.specs.Lists.{clear}
 use Rattle.shelf.specs.Reads.{clean, clean_terminator, with_debug}
-use Rattle.shelf_reason5.specs.declared.Walked.{Walked}
 
 -- the reads that stand in a buffer
 pub record Buffered (buffer : List ℕ) (n : ℕ) (vs : List ValueId) : Type 0 where
@@ -31,13 +31,13 @@ abbrev pub clean_block : List Bool → Block → Bool
 clean_block ms k = clean with_debug (marked ms) k.instructions && clean_terminator (marked ms) k.terminator
 
 -- what a walk answers: the place behind, or that a marked value is read
-abbrev pub walked : Bool → ℕ → Walked
-walked c end = cond c (Walked.Behind end) Walked.Reads
+abbrev pub walked : Bool → ℕ → Option ℕ
+walked c end = cond c (Some end) None
 
 -- what a scan leaves whose reads stand in a buffer: of one that was refused nothing goes on
-abbrev pub Judges : Scan → List ℕ → List Bool → Walked → Type 0
-Judges (Scan.Refused c o) buffer ms r = r ≡ Walked.Reads
-Judges (Scan.Used end n late) buffer ms r = (vs : List ValueId) → Buffered buffer n vs → r ≡ walked (clear ms vs) end
+abbrev pub Judges : Result Scan Refusal → List ℕ → List Bool → Option ℕ → Type 0
+Judges (Err e) buffer ms r = r ≡ None
+Judges (Ok x) buffer ms r = (vs : List ValueId) → Buffered buffer x.reads vs → r ≡ walked (clear ms vs) x.size
 
 -- an instruction's bytes are read as it, whatever was defined before and whatever follows; its reads are few
 pub record Alone (b : Bounds) (i : Instruction) : Type 0 where

@@ -14,48 +14,41 @@ ghost use Rattle.shelf.specs.Reason.{reads_no_dropped};
 ghost use Rattle.shelf_reason5.specs.Unread.{Buffered, marked, clean_block, walked, Judges, Legible, Written};
 
 use bytes_field::{Bounds, Scan};
+use bytes_wire::Refusal;
 
 // The most values that an instruction or a terminator reads.
 const READS: usize = 32;
-
-// The place behind what was walked, or that it reads a dropped value.
-#[derive(Clone, Copy)]
-pub enum Walked {
-    Behind(usize),
-    Reads,
-}
 
 // None of the first `n` values of a buffer is dropped.
 fn clean_buffer(buffer: &[u16], n: usize, dropped: &[bool]) -> bool
     ensures { (vs : List ValueId) → Buffered buffer.now n vs → result ≡ clear dropped.now vs }
 {
-    let mut k = 0;
-    while k < n {
+    for k in 0..n {
         if table::flag(dropped, table::number(buffer, k) as usize) {
             return false;
         }
-        k = k + 1;
     }
     true
 }
 
-// The place behind what was scanned, where none of its reads, which stand in `buffer`, is dropped.
-fn judge(scan: Scan, buffer: &[u16], dropped: &[bool]) -> Walked
+// The place behind what was scanned; none where one of its reads, which stand in `buffer`, is dropped.
+fn judge(scan: Result<Scan, Refusal>, buffer: &[u16], dropped: &[bool]) -> Option<usize>
     ensures { Judges scan buffer.now dropped.now result }
 {
     match scan {
-        Scan::Refused(_, _) => Walked::Reads,
-        Scan::Used(end, n, _) => {
-            if clean_buffer(buffer, n, dropped) {
-                return Walked::Behind(end);
+        Ok(x) => {
+            if clean_buffer(buffer, x.reads, dropped) {
+                Some(x.size)
+            } else {
+                None
             }
-            Walked::Reads
         }
+        Err(_) => None,
     }
 }
 
-// Walks the instruction that stands at `at`.
-fn walk_instruction(s: &[u8], at: usize, b: Bounds, dropped: &[bool]) -> Walked
+// Walks the instruction that stands at `at`: the place behind it, or none where it reads a dropped value.
+fn walk_instruction(s: &[u8], at: usize, b: Bounds, dropped: &[bool]) -> Option<usize>
     ensures { (i : Instruction) (n : ℕ) → instruction_of b [] false (drop at s.now) ≡ ok i n → length (reads i.kind) ≤ 32
         → result ≡ walked (clear dropped.now (reads i.kind)) (at + n) }
 {
@@ -67,7 +60,7 @@ fn walk_instruction(s: &[u8], at: usize, b: Bounds, dropped: &[bool]) -> Walked
 }
 
 // Walks the terminator that stands at `at`.
-fn walk_terminator(s: &[u8], at: usize, b: Bounds, dropped: &[bool]) -> Walked
+fn walk_terminator(s: &[u8], at: usize, b: Bounds, dropped: &[bool]) -> Option<usize>
     ensures { (x : Terminator) (n : ℕ) → terminator_of b (drop at s.now) ≡ ok x n → length (terminator_reads x) ≤ 32
         → result ≡ walked (clean_terminator (marked dropped.now) x) (at + n) }
 {
@@ -79,25 +72,20 @@ fn walk_terminator(s: &[u8], at: usize, b: Bounds, dropped: &[bool]) -> Walked
 }
 
 // Walks the block that begins at `at`: its count, its instructions, its terminator.
-fn walk_block(s: &[u8], at: usize, b: Bounds, dropped: &[bool]) -> Walked
+fn walk_block(s: &[u8], at: usize, b: Bounds, dropped: &[bool]) -> Option<usize>
     ensures { (x : Block) (rest : List ℕ) → drop at s.now ≡ block_bytes x ++ rest → Legible b x
         → result ≡ walked (clean_block dropped.now x) (at + length (block_bytes x)) }
 {
     if s.len() < 2 {
-        return Walked::Reads;
+        return None;
     }
     if s.len() - 2 < at {
-        return Walked::Reads;
+        return None;
     }
     let count = bytes_wire::u16_at(s, at);
     let mut here = at + 2;
-    let mut k: u16 = 0;
-    while k < count {
-        here = match walk_instruction(s, here, b, dropped) {
-            Walked::Behind(end) => end,
-            Walked::Reads => return Walked::Reads,
-        };
-        k = k + 1;
+    for k in 0..count {
+        here = walk_instruction(s, here, b, dropped)?;
     }
     walk_terminator(s, here, b, dropped)
 }
@@ -108,13 +96,11 @@ pub fn reads_no_dropped(out: &[u8], at: usize, b: Bounds, many: u16, dropped: &[
         → ((v : ℕ) → get_or dropped.now v false ≡ among v ds) → result ≡ reads_no_dropped with_debug ds ks }
 {
     let mut here = at;
-    let mut k: u16 = 0;
-    while k < many {
+    for k in 0..many {
         here = match walk_block(out, here, b, dropped) {
-            Walked::Behind(end) => end,
-            Walked::Reads => return false,
+            Some(end) => end,
+            None => return false,
         };
-        k = k + 1;
     }
     true
 }

@@ -1,17 +1,16 @@
 -- A type's row says which literals fit it, the types of its parts, how many it has, and what it points to.
-use Prim.Native.Nat.{ℕ, zero, suc, ◌+◌, ◌-◌, ◌*◌, ◌≤◌, ◌<◌}
+use Prim.Native.Nat.{ℕ, zero, suc, ◌+◌, ◌*◌, ◌≤◌, ◌<◌}
 use mathlib.Core.Path.{◌≡◌, refl, ap, ◌∙◌, sym}
 use mathlib.Core.List.{List, [], ◌∷◌}
 use mathlib.Core.Bool.{true, false, cond}
 use mathlib.Core.Bool as B
 use mathlib.Core.Option.{Option, none, some}
 use native.Mathlib.Omega.{arith}
-use borrow.Author.Tests.{ltb-true, ltb-false, lt-ltb}
+use borrow.Author.Tests.{ltb-true, ltb-false}
 use lib.ListN.{length, get_or, get_elem?, drop}
-use lib.Seq.{drop-length}
 use lib.Dec.{ltb}
 use Rattle.bytes_wire.specs.Parse.{ok, and_then, map_parse}
-use Rattle.bytes_wire.specs.Number.{u32_of, at16, at32}
+use Rattle.bytes_wire.specs.Number.{u32_of, at32}
 use Rattle.mir.specs.declared.TypeId.{TypeId}
 use Rattle.bytes_wire.proofs.Laws.{from_32}
 use Rattle.bytes_wire.proofs.Inv.{no_ok, behind, later_inv, number_inv, tagged_inv}
@@ -19,7 +18,6 @@ use Rattle.bytes_field.specs.Decode.{type_id_of, list_of}
 use Rattle.mir.specs.MirType.{MirType}
 use Rattle.bytes_types.specs.Decode.{struct_of, type_kinds, type_of}
 use Rattle.bytes_types.specs.Index.{TypesAt}
-use Rattle.bytes_sections.specs.Index.{recorded_number}
 use Rattle.bytes_operands.specs.Fields.{after}
 use Rattle.bytes_operands.proofs.Places.{Stand, Field, then, last, made, because, Listed, empty, ◌&◌, apart, list}
 use Rattle.bytes_struct.proofs.Placed.{TypeBelow, type_field, StructAt, struct_at, struct_stands}
@@ -28,37 +26,37 @@ use Rattle.mir.specs.Parts.{field_type, part_type, part_count, counts}
 use Rattle.shelf.specs.Fits.{scalar_kind}
 use Rattle.shelf.specs.Agrees.{pointee}
 use Rattle.table.proofs.Elements.{some_at, none_at}
-use Rattle.shelf_rows.specs.Rows.{kind_at, numbered, row_scalar, row_part, row_counts, row_pointee, Tells}
+use Rattle.shelf_rows.specs.Rows.{kind_at, type_in, Tells}
 
-module _ (own : ℕ) (small : own ≤ 65535) (t : List ℕ) where
+module _ (own : ℕ) (t : List ℕ) where
   -- the part's number stands at a place
   Part : ℕ → TypeId → Type 0
-  Part p a = numbered (at16 t p) ≡ recorded_number (some a)
+  Part p a = type_in t p ≡ a
 
   -- so it does where a type below its own stands
   part_number : {p : ℕ} {a : TypeId} → TypeBelow own t p a → Part p a
   unfolding Part
-  part_number {p} {a} e = let l : a.0 < 65535 = omega (arith, e.under, small) in rw (e.number, lt-ltb a.0 65535 l)
+  part_number {p} {a} e = ap (λ (x : ℕ). record { 0 = x }) e.number
 
   -- and where a part is read
   part_read : {p : ℕ} → Field t p (type_id_of own) (Part p) (p + 2)
   part_read = record { each = λ a n e. let h = (type_field own t).each a n e in (part_number h.0, h.1) }
 
   -- thing k of those that stand one behind another
-  number_at : {A : Type 0} {Q : ℕ → A → Type 0} {end : ℕ → ℕ} {p : ℕ} {xs : List A} (f : Option A → Option TypeId) (off : ℕ) → ((q : ℕ) (x : A) → Q q x → numbered (at16 t (q + off)) ≡ recorded_number (f (some x))) → Listed Q end p xs → (k : ℕ) → k < length xs → numbered (at16 t (after end k p + off)) ≡ recorded_number (f (get_elem? xs k))
+  number_at : {A : Type 0} {Q : ℕ → A → Type 0} {end : ℕ → ℕ} {p : ℕ} {xs : List A} (f : Option A → Option TypeId) (off : ℕ) → ((q : ℕ) (x : A) → Q q x → some (type_in t (q + off)) ≡ f (some x)) → Listed Q end p xs → (k : ℕ) → k < length xs → some (type_in t (after end k p + off)) ≡ f (get_elem? xs k)
   unfolding after
   number_at f off g empty k h = absurd (omega arith)
   number_at f off g (q & qs) zero h = g _ _ q
   number_at f off g (q & qs) (suc k) h = number_at f off g qs k (omega arith)
 
   -- thing k of n
-  number_of : {A : Type 0} {Q : ℕ → A → Type 0} {p : ℕ} {xs : List A} (w : ℕ) (f : Option A → Option TypeId) (off n at k : ℕ) → f none ≡ none → ((q : ℕ) (x : A) → Q q x → numbered (at16 t (q + off)) ≡ recorded_number (f (some x))) → Listed Q (λ q. q + w) p xs → length xs ≡ n → p + w * k + off ≡ at → cond (ltb k n) (numbered (at16 t at)) 0 ≡ recorded_number (f (get_elem? xs k))
+  number_of : {A : Type 0} {Q : ℕ → A → Type 0} {p : ℕ} {xs : List A} (w : ℕ) (f : Option A → Option TypeId) (off n at k : ℕ) → f none ≡ none → ((q : ℕ) (x : A) → Q q x → some (type_in t (q + off)) ≡ f (some x)) → Listed Q (λ q. q + w) p xs → length xs ≡ n → p + w * k + off ≡ at → cond (ltb k n) (some (type_in t at)) none ≡ f (get_elem? xs k)
   number_of {p} {xs} w f off n at k z g l m e = go (ltb k n) refl
     where
-      go : (b : B.Bool) → ltb k n ≡ b → cond b (numbered (at16 t at)) 0 ≡ recorded_number (f (get_elem? xs k))
+      go : (b : B.Bool) → ltb k n ≡ b → cond b (some (type_in t at)) none ≡ f (get_elem? xs k)
       go true h =
           let y : after (λ q. q + w) k p + off ≡ at = ap (λ i. i + off) (apart w k p) ∙ e in
-          ap (λ i. numbered (at16 t i)) (sym y) ∙ number_at f off g l k (omega (arith, ltb-true k n h))
+          ap (λ i. some (type_in t i)) (sym y) ∙ number_at f off g l k (omega (arith, ltb-true k n h))
       go false h = sym (rw (none_at xs k (omega (arith, ltb-false k n h)), z))
 
   -- a Tuple
@@ -68,7 +66,7 @@ module _ (own : ℕ) (small : own ≤ 65535) (t : List ℕ) where
       last _ (list {Q = Part} (λ q. part_read) most 1) (λ ts r.
       record {
         scalar = rw d;
-        part = λ k. rw d (number_of 2 (λ o. o) 0 (get_or t 1 0) (2 + 2 * k) k refl (λ q x h. let z : q + 0 ≡ q = omega arith in rw z h) r.0 r.1 (omega arith));
+        part = λ k. rw d (number_of 2 (λ o. o) 0 (get_or t 1 0) (2 + 2 * k) k refl (λ q x h. let z : q + 0 ≡ q = omega arith in rw z (ap (λ x. some x) h)) r.0 r.1 (omega arith));
         parts = λ n. rw (d, r.1);
         points = rw d;
       })
@@ -82,7 +80,7 @@ module _ (own : ℕ) (small : own ≤ 65535) (t : List ℕ) where
       go (struct_at n fs l c) =
           record {
             scalar = rw d;
-            part = λ k. rw d (number_of 4 field_type 2 (get_or t 3 0) (6 + 4 * k) k refl (λ q x h. part_number h.typed) l c (omega arith));
+            part = λ k. rw d (number_of 4 field_type 2 (get_or t 3 0) (6 + 4 * k) k refl (λ q x h. ap (λ x. some x) (part_number h.typed)) l c (omega arith));
             parts = λ j. rw (d, c);
             points = rw d;
           }
@@ -97,12 +95,12 @@ module _ (own : ℕ) (small : own ≤ 65535) (t : List ℕ) where
   array_tells d =
       then part_read (λ a v.
       last _ size_field (λ size r.
-      record { scalar = rw d; part = λ k. rw d v; parts = λ n. rw (d, r); points = rw d }))
+      record { scalar = rw d; part = λ k. rw d (ap (λ x. some x) v); parts = λ n. rw (d, r); points = rw d }))
 
   -- a Pointer
   pointer_tells : kind_at t ≡ 6 → Stand t 1 (λ s. map_parse MirType.Pointer (type_id_of own s)) (λ y e. Tells (some y) t)
   unfolding scalar_kind part_type part_count counts pointee Part
-  pointer_tells d = last _ part_read (λ a v. record { scalar = rw d; part = λ k. rw d; parts = λ n. rw d; points = rw d v })
+  pointer_tells d = last _ part_read (λ a v. record { scalar = rw d; part = λ k. rw d; parts = λ n. rw d; points = rw d (ap (λ x. some x) v) })
 
   -- a Function
   function_tells : (most : ℕ) → kind_at t ≡ 7 → Stand t 1 (λ s. and_then s (list_of most (type_id_of own) s) (λ ps s. map_parse (λ r. MirType.Function ps r) (type_id_of own s))) (λ y e. Tells (some y) t)
@@ -112,74 +110,46 @@ module _ (own : ℕ) (small : own ≤ 65535) (t : List ℕ) where
       made (type_id_of own) (λ r. MirType.Function ps r) (λ r e. record { scalar = rw d; part = λ k. rw d; parts = λ n. rw d; points = rw d }))
 
 -- any type
-pub type_tells : (most own : ℕ) (t : List ℕ) {ty : MirType} {n : ℕ} → own ≤ 65535 → type_of most own t ≡ ok ty n → Tells (some ty) t
+pub type_tells : (most own : ℕ) (t : List ℕ) {ty : MirType} {n : ℕ} → type_of most own t ≡ ok ty n → Tells (some ty) t
 unfolding type_of scalar_kind part_type part_count counts pointee
-type_tells most own [] l e = absurd (no_ok e)
-type_tells most own (zero ∷ t) {ty} l e = let f = (tagged_inv (type_kinds most own) (0 ∷ t) e).1 in let p : ty ≡ MirType.Felt = cc in rw p record { scalar = refl; part = λ k. refl; parts = λ n. refl; points = refl }
-type_tells most own (suc zero ∷ t) {ty} l e = let f = (tagged_inv (type_kinds most own) (1 ∷ t) e).1 in let p : ty ≡ MirType.Bool = cc in rw p record { scalar = refl; part = λ k. refl; parts = λ n. refl; points = refl }
-type_tells most own (suc (suc zero) ∷ t) {ty} l e = let f = (tagged_inv (type_kinds most own) (2 ∷ t) e).1 in let p : ty ≡ MirType.U32 = cc in rw p record { scalar = refl; part = λ k. refl; parts = λ n. refl; points = refl }
-type_tells most own (suc (suc (suc zero)) ∷ t) {ty} l e =
-    elim (later_inv 1 (map_parse MirType.Tuple (list_of most (type_id_of own) t)) (tagged_inv (type_kinds most own) (3 ∷ t) e).1) [ behind k p q ↦ (tuple_tells own l (3 ∷ t) most refl).each ty k p ]
-type_tells most own (suc (suc (suc (suc zero))) ∷ t) {ty} l e =
-    elim (later_inv 1 (struct_of most own t) (tagged_inv (type_kinds most own) (4 ∷ t) e).1) [ behind k p q ↦ (struct_tells own l (4 ∷ t) most refl).each ty k p ]
-type_tells most own (suc (suc (suc (suc (suc zero)))) ∷ t) {ty} l e =
-    elim (later_inv 1 (and_then t (type_id_of own t) (λ p s. map_parse (λ size. MirType.FixedArray p size) (u32_of s))) (tagged_inv (type_kinds most own) (5 ∷ t) e).1) [ behind k p q ↦ (array_tells own l (5 ∷ t) refl).each ty k p ]
-type_tells most own (suc (suc (suc (suc (suc (suc zero))))) ∷ t) {ty} l e =
-    elim (later_inv 1 (map_parse MirType.Pointer (type_id_of own t)) (tagged_inv (type_kinds most own) (6 ∷ t) e).1) [ behind k p q ↦ (pointer_tells own l (6 ∷ t) refl).each ty k p ]
-type_tells most own (suc (suc (suc (suc (suc (suc (suc zero)))))) ∷ t) {ty} l e =
-    elim (later_inv 1 (and_then t (list_of most (type_id_of own) t) (λ ps s. map_parse (λ r. MirType.Function ps r) (type_id_of own s))) (tagged_inv (type_kinds most own) (7 ∷ t) e).1) [ behind k p q ↦ (function_tells own l (7 ∷ t) most refl).each ty k p ]
-type_tells most own (suc (suc (suc (suc (suc (suc (suc (suc zero))))))) ∷ t) {ty} l e = let f = (tagged_inv (type_kinds most own) (8 ∷ t) e).1 in let p : ty ≡ MirType.Unit = cc in rw p record { scalar = refl; part = λ k. refl; parts = λ n. refl; points = refl }
-type_tells most own (suc (suc (suc (suc (suc (suc (suc (suc (suc zero)))))))) ∷ t) {ty} l e = let f = (tagged_inv (type_kinds most own) (9 ∷ t) e).1 in let p : ty ≡ MirType.Error = cc in rw p record { scalar = refl; part = λ k. refl; parts = λ n. refl; points = refl }
-type_tells most own (suc (suc (suc (suc (suc (suc (suc (suc (suc (suc zero))))))))) ∷ t) {ty} l e = let f = (tagged_inv (type_kinds most own) (10 ∷ t) e).1 in let p : ty ≡ MirType.Unknown = cc in rw p record { scalar = refl; part = λ k. refl; parts = λ n. refl; points = refl }
-type_tells most own (suc (suc (suc (suc (suc (suc (suc (suc (suc (suc (suc a)))))))))) ∷ t) l e =
+type_tells most own [] e = absurd (no_ok e)
+type_tells most own (zero ∷ t) {ty} e = let f = (tagged_inv (type_kinds most own) (0 ∷ t) e).1 in let p : ty ≡ MirType.Felt = cc in rw p record { scalar = refl; part = λ k. refl; parts = λ n. refl; points = refl }
+type_tells most own (suc zero ∷ t) {ty} e = let f = (tagged_inv (type_kinds most own) (1 ∷ t) e).1 in let p : ty ≡ MirType.Bool = cc in rw p record { scalar = refl; part = λ k. refl; parts = λ n. refl; points = refl }
+type_tells most own (suc (suc zero) ∷ t) {ty} e = let f = (tagged_inv (type_kinds most own) (2 ∷ t) e).1 in let p : ty ≡ MirType.U32 = cc in rw p record { scalar = refl; part = λ k. refl; parts = λ n. refl; points = refl }
+type_tells most own (suc (suc (suc zero)) ∷ t) {ty} e =
+    elim (later_inv 1 (map_parse MirType.Tuple (list_of most (type_id_of own) t)) (tagged_inv (type_kinds most own) (3 ∷ t) e).1) [ behind k p q ↦ (tuple_tells own (3 ∷ t) most refl).each ty k p ]
+type_tells most own (suc (suc (suc (suc zero))) ∷ t) {ty} e =
+    elim (later_inv 1 (struct_of most own t) (tagged_inv (type_kinds most own) (4 ∷ t) e).1) [ behind k p q ↦ (struct_tells own (4 ∷ t) most refl).each ty k p ]
+type_tells most own (suc (suc (suc (suc (suc zero)))) ∷ t) {ty} e =
+    elim (later_inv 1 (and_then t (type_id_of own t) (λ p s. map_parse (λ size. MirType.FixedArray p size) (u32_of s))) (tagged_inv (type_kinds most own) (5 ∷ t) e).1) [ behind k p q ↦ (array_tells own (5 ∷ t) refl).each ty k p ]
+type_tells most own (suc (suc (suc (suc (suc (suc zero))))) ∷ t) {ty} e =
+    elim (later_inv 1 (map_parse MirType.Pointer (type_id_of own t)) (tagged_inv (type_kinds most own) (6 ∷ t) e).1) [ behind k p q ↦ (pointer_tells own (6 ∷ t) refl).each ty k p ]
+type_tells most own (suc (suc (suc (suc (suc (suc (suc zero)))))) ∷ t) {ty} e =
+    elim (later_inv 1 (and_then t (list_of most (type_id_of own) t) (λ ps s. map_parse (λ r. MirType.Function ps r) (type_id_of own s))) (tagged_inv (type_kinds most own) (7 ∷ t) e).1) [ behind k p q ↦ (function_tells own (7 ∷ t) most refl).each ty k p ]
+type_tells most own (suc (suc (suc (suc (suc (suc (suc (suc zero))))))) ∷ t) {ty} e = let f = (tagged_inv (type_kinds most own) (8 ∷ t) e).1 in let p : ty ≡ MirType.Unit = cc in rw p record { scalar = refl; part = λ k. refl; parts = λ n. refl; points = refl }
+type_tells most own (suc (suc (suc (suc (suc (suc (suc (suc (suc zero)))))))) ∷ t) {ty} e = let f = (tagged_inv (type_kinds most own) (9 ∷ t) e).1 in let p : ty ≡ MirType.Error = cc in rw p record { scalar = refl; part = λ k. refl; parts = λ n. refl; points = refl }
+type_tells most own (suc (suc (suc (suc (suc (suc (suc (suc (suc (suc zero))))))))) ∷ t) {ty} e = let f = (tagged_inv (type_kinds most own) (10 ∷ t) e).1 in let p : ty ≡ MirType.Unknown = cc in rw p record { scalar = refl; part = λ k. refl; parts = λ n. refl; points = refl }
+type_tells most own (suc (suc (suc (suc (suc (suc (suc (suc (suc (suc (suc a)))))))))) ∷ t) e =
     absurd (no_ok (tagged_inv (type_kinds most own) (suc (suc (suc (suc (suc (suc (suc (suc (suc (suc (suc a)))))))))) ∷ t) e).1)
 
 -- no row says nothing
-pub none_tells : (s : List ℕ) → Tells none (drop (length s) s)
+pub none_tells : Tells none []
 unfolding scalar_kind part_type part_count counts pointee
-none_tells s = rw (drop-length s) record { scalar = refl; part = λ k. refl; parts = λ n. refl; points = refl }
+none_tells = record { scalar = refl; part = λ k. refl; parts = λ n. refl; points = refl }
 
-module _ (most many : ℕ) (s types : List ℕ) (τ : Types) (o : Option TypeId) {number : ℕ} where
-  -- the number of no type
-  pub no_row : {at : ℕ} → number ≡ 0 → number ≡ recorded_number o → at ≡ length s → Tells (row_of τ o) (drop at s)
+module _ (many : ℕ) (τ : Types) where
+  -- no type, and one past the table
+  pub no_row : (o : Option TypeId) → none ≡ o → Tells (row_of τ o) []
   unfolding row_of
-  no_row e h z = rw z (go o h)
-    where
-      go : (q : Option TypeId) → number ≡ recorded_number q → Tells (row_of τ q) (drop (length s) s)
-      go none f = none_tells s
-      go (some t) f = absurd (omega arith)
+  no_row o h = rw (sym h) none_tells
 
-  -- a number past the table
-  pub past_row : {at : ℕ} → many < number → length τ.rows ≡ many → number ≡ recorded_number o → at ≡ length s → Tells (row_of τ o) (drop at s)
+  pub past_row : (t : TypeId) (o : Option TypeId) → many ≤ t.0 → length τ.rows ≡ many → some t ≡ o → Tells (row_of τ o) []
   unfolding row_of
-  past_row e l h z = rw z (go o h)
-    where
-      go : (q : Option TypeId) → number ≡ recorded_number q → Tells (row_of τ q) (drop (length s) s)
-      go none f = none_tells s
-      go (some t) f = rw (none_at τ.rows t.0 (omega arith)) (none_tells s)
+  past_row t o e l h = rw (sym h, none_at τ.rows t.0 (omega arith)) none_tells
 
   -- a type of the table
-  pub the_row : {at : ℕ} → (number ≡ 0 → ⊥) → number ≤ many → many ≤ 65535 → at ≡ get_or types (number - 1) 0 → TypesAt most s types τ.rows → length τ.rows ≡ many → number ≡ recorded_number o → Tells (row_of τ o) (drop at s)
+  pub the_row : (most : ℕ) {s types row : List ℕ} {at : ℕ} (t : TypeId) (o : Option TypeId) → t.0 < many → row ≡ drop at s → at ≡ get_or types t.0 0 → TypesAt most s types τ.rows → length τ.rows ≡ many → some t ≡ o → Tells (row_of τ o) row
   unfolding row_of
-  the_row e m w z a l h = rw z (go o h)
-    where
-      go : (q : Option TypeId) → number ≡ recorded_number q → Tells (row_of τ q) (drop (get_or types (number - 1) 0) s)
-      go none f = absurd (e f)
-      go (some t) f =
-          let p : t.0 < length τ.rows = omega arith in
-          let y : number - 1 ≡ t.0 = omega arith in
-          rw (y, some_at τ.rows t.0 MirType.Unit p) (type_tells most t.0 (drop (get_or types t.0 0) s) (omega arith) (a.each t.0 p))
-
-module _ (s : List ℕ) (at : ℕ) (o : Option MirType) {u : List ℕ} (e : u ≡ drop at s) (h : Tells o (drop at s)) where
-  -- the code's ways from the row to what it says
-  pub told_scalar : {r : ℕ} → r ≡ row_scalar u → r ≡ scalar_kind o
-  told_scalar f = f ∙ rw e h.scalar
-
-  pub told_part : (k : ℕ) {r : ℕ} → r ≡ row_part u k → r ≡ recorded_number (part_type o k)
-  told_part k f = f ∙ rw e (h.part k)
-
-  pub told_parts : (n : ℕ) {r : B.Bool} → r ≡ row_counts u n → r ≡ counts (part_count o) n
-  told_parts n f = f ∙ rw e (h.parts n)
-
-  pub told_pointee : {r : ℕ} → r ≡ row_pointee u → r ≡ recorded_number (pointee o)
-  told_pointee f = f ∙ rw e h.points
+  the_row most {s} {types} t o m e f a l h =
+      let p : t.0 < length τ.rows = omega arith in
+      rw (sym h, e, f, some_at τ.rows t.0 MirType.Unit p) (type_tells most t.0 (drop (get_or types t.0 0) s) (a.each t.0 p))

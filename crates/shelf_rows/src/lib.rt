@@ -2,102 +2,90 @@
 #![tactic(auto)]
 
 ghost use Rattle.std.specs.Prelude.{◌≡◌};
-ghost use Rattle.mir.specs.Lookup.{shape};
+ghost use Rattle.mir.specs.Lookup.{shape, row_of};
+ghost use Rattle.mir.specs.Option.{as_option};
 ghost use Rattle.mir.specs.Parts.{part_type, part_count, counts};
 ghost use Rattle.shelf.specs.Fits.{scalar_kind};
 ghost use Rattle.shelf.specs.Agrees.{pointee as pointee_of};
-ghost use Rattle.shelf_rows.specs.Rows.{kind_at, numbered, row_scalar, tuple_part, struct_part, row_part, row_counts, row_pointee};
-ghost use Rattle.shelf_rows.specs.Rows.{OfRow, TypeInRow, RowAt};
+ghost use Rattle.shelf_rows.specs.Rows.{kind_at, type_in, row_scalar, tuple_part, struct_part, row_part, row_counts, row_pointee};
+ghost use Rattle.shelf_rows.specs.Rows.{literals_number, Typed, Tells, OfRow, TypeInRow};
 
 use bytes_field::Bounds;
 use bytes_types::layout;
-use mir::{Recorded, TypeId, shape, type_kind};
-use shelf::{BOOLEANS, INTEGERS, NO_LITERAL, UNITS};
+use mir::{TypeId, shape, type_kind};
+use shelf::Literals;
 
-// What stands for the kind of a row where there is none: one past the last kind.
+// What stands for the kind of a row where there is none: one past the last kind. (A byte, since each match on it ends in `_` anyway.)
 const NO_ROW: u8 = 11;
 
-// Where the row of a type begins; the end of the bytes where there is no such type.
-fn row_place(s: &[u8], b: Bounds, types: &[u16], number: Recorded) -> usize
-    ensures { RowAt b s.now types.now number result }
+// The row of a type, from its kind on; empty where there is no such type.
+fn row<'a>(s: &'a [u8], b: Bounds, types: &[u16], number: Option<TypeId>) -> &'a [u8]
+    ensures { Typed b s.now types.now number (λ τ o. Tells (row_of τ o) result.now) }
 {
-    if number.0 == 0 {
-        return s.len();
+    match number {
+        Some(t) if t.0 < b.types => bytes_field::tail(s, bytes_lookup::type_place(types, t)),
+        _ => &[],
     }
-    if b.types < number.0 {
-        return s.len();
-    }
-    bytes_lookup::type_place(types, TypeId(number.0 - 1))
 }
 
 // The kind of a row.
 fn kind_at(t: &[u8]) -> u8
     ensures { result ≡ kind_at t.now }
 {
-    if 0 < t.len() { t[0] } else { NO_ROW }
+    t.first().copied().unwrap_or(NO_ROW)
 }
 
-// A type's number as the table of recorded types has it.
-pub fn numbered(t: TypeId) -> Recorded
-    ensures { result.0 ≡ numbered t.0 }
+// The type whose number stands at a place.
+fn type_in(t: &[u8], at: usize) -> TypeId
+    ensures { result ≡ type_in t.now at }
 {
-    if t.0 < 65535 {
-        Recorded(t.0 + 1)
-    } else {
-        Recorded(0)
-    }
+    TypeId(bytes_wire::u16_at(t, at))
 }
 
 // Which literals fit the type of a row.
-fn row_scalar(t: &[u8]) -> u8
-    ensures { result ≡ row_scalar t.now }
+fn row_scalar(t: &[u8]) -> Option<Literals>
+    ensures { literals_number result ≡ row_scalar t.now }
 {
-    let kind = kind_at(t);
-    match kind {
-        type_kind::FELT => INTEGERS,
-        type_kind::BOOL => BOOLEANS,
-        type_kind::U32 => INTEGERS,
-        type_kind::UNIT => UNITS,
-        _ => NO_LITERAL,
+    match kind_at(t) {
+        type_kind::FELT => Some(Literals::Integers),
+        type_kind::BOOL => Some(Literals::Booleans),
+        type_kind::U32 => Some(Literals::Integers),
+        type_kind::UNIT => Some(Literals::Units),
+        _ => None,
     }
 }
 
 // The type of part `k` in a Tuple's row.
-fn tuple_part(t: &[u8], k: u32) -> Recorded
-    ensures { result.0 ≡ tuple_part t.now k }
+fn tuple_part(t: &[u8], k: u32) -> Option<TypeId>
+    ensures { as_option result ≡ tuple_part t.now k }
 {
     if k < bytes_wire::byte_at(t, layout::TUPLE_COUNT) as u32 {
-        return numbered(TypeId(bytes_wire::u16_at(
-            t,
-            layout::TUPLE_PARTS + layout::TUPLE_APART * k as usize,
-        )));
+        Some(type_in(t, layout::TUPLE_PARTS + layout::TUPLE_APART * k as usize))
+    } else {
+        None
     }
-    Recorded(0)
 }
 
 // The type of field `k` in a Struct's row.
-fn struct_part(t: &[u8], k: u32) -> Recorded
-    ensures { result.0 ≡ struct_part t.now k }
+fn struct_part(t: &[u8], k: u32) -> Option<TypeId>
+    ensures { as_option result ≡ struct_part t.now k }
 {
     if k < bytes_wire::byte_at(t, layout::STRUCT_COUNT) as u32 {
-        return numbered(TypeId(bytes_wire::u16_at(
-            t,
-            layout::STRUCT_TYPES + layout::STRUCT_APART * k as usize,
-        )));
+        Some(type_in(t, layout::STRUCT_TYPES + layout::STRUCT_APART * k as usize))
+    } else {
+        None
     }
-    Recorded(0)
 }
 
 // The type of part `k` of the type of a row; none where it has no such part.
-fn row_part(t: &[u8], k: u32) -> Recorded
-    ensures { result.0 ≡ row_part t.now k }
+fn row_part(t: &[u8], k: u32) -> Option<TypeId>
+    ensures { as_option result ≡ row_part t.now k }
 {
-    let kind = kind_at(t);
-    match kind {
+    match kind_at(t) {
         type_kind::TUPLE => tuple_part(t, k),
         type_kind::STRUCT => struct_part(t, k),
-        type_kind::FIXED_ARRAY => numbered(TypeId(bytes_wire::u16_at(t, layout::ARRAY_ELEMENT))),
-        _ => Recorded(0),
+        type_kind::FIXED_ARRAY => Some(type_in(t, layout::ARRAY_ELEMENT)),
+        _ => None,
     }
 }
 
@@ -105,8 +93,7 @@ fn row_part(t: &[u8], k: u32) -> Recorded
 fn row_counts(t: &[u8], n: u32) -> bool
     ensures { result ≡ row_counts t.now n }
 {
-    let kind = kind_at(t);
-    match kind {
+    match kind_at(t) {
         type_kind::TUPLE => bytes_wire::byte_at(t, layout::TUPLE_COUNT) as u32 == n,
         type_kind::STRUCT => bytes_wire::byte_at(t, layout::STRUCT_COUNT) as u32 == n,
         type_kind::FIXED_ARRAY => bytes_wire::u32_at(t, layout::ARRAY_SIZE) == n,
@@ -115,50 +102,56 @@ fn row_counts(t: &[u8], n: u32) -> bool
 }
 
 // The type that the type of a row points to, where it is a Pointer.
-fn row_pointee(t: &[u8]) -> Recorded
-    ensures { result.0 ≡ row_pointee t.now }
+fn row_pointee(t: &[u8]) -> Option<TypeId>
+    ensures { as_option result ≡ row_pointee t.now }
 {
     if kind_at(t) == type_kind::POINTER {
-        return numbered(TypeId(bytes_wire::u16_at(t, layout::POINTED)));
+        Some(type_in(t, layout::POINTED))
+    } else {
+        None
     }
-    Recorded(0)
 }
 
-// Which literals fit a type: INTEGERS, BOOLEANS, UNITS, NO_LITERAL.
-pub fn scalar_kind(s: &[u8], b: Bounds, types: &[u16], number: Recorded) -> u8
-    ensures { OfRow b s.now types.now number scalar_kind result }
+// Which literals fit a type.
+pub fn scalar_kind(s: &[u8], b: Bounds, types: &[u16], number: Option<TypeId>) -> Option<Literals>
+    ensures { Typed b s.now types.now number (λ τ o. literals_number result ≡ scalar_kind (row_of τ o)) }
 {
-    row_scalar(bytes_field::tail(s, row_place(s, b, types, number)))
+    row_scalar(row(s, b, types, number))
 }
 
 // The shape of a type.
-pub fn shape_of(s: &[u8], b: Bounds, types: &[u16], number: Recorded) -> u8
+pub fn shape_of(s: &[u8], b: Bounds, types: &[u16], number: Option<TypeId>) -> u8
     ensures { OfRow b s.now types.now number shape result }
 {
-    if number.0 == 0 {
-        return shape::OTHER;
+    match number {
+        Some(t) => fold_shapes::type_shape(s, types, b.types, t),
+        None => shape::OTHER,
     }
-    let row = number.0 - 1;
-    fold_shapes::type_shape(s, types, b.types, TypeId(row))
 }
 
 // The type of part `k`.
-pub fn part_type(s: &[u8], b: Bounds, types: &[u16], number: Recorded, k: u32) -> Recorded
+pub fn part_type(
+    s: &[u8],
+    b: Bounds,
+    types: &[u16],
+    number: Option<TypeId>,
+    k: u32,
+) -> Option<TypeId>
     ensures { TypeInRow b s.now types.now number (λ row. part_type row k) result }
 {
-    row_part(bytes_field::tail(s, row_place(s, b, types, number)), k)
+    row_part(row(s, b, types, number), k)
 }
 
 // The type has parts, and `n` of them.
-pub fn has_parts(s: &[u8], b: Bounds, types: &[u16], number: Recorded, n: u32) -> bool
+pub fn has_parts(s: &[u8], b: Bounds, types: &[u16], number: Option<TypeId>, n: u32) -> bool
     ensures { OfRow b s.now types.now number (λ row. counts (part_count row) n) result }
 {
-    row_counts(bytes_field::tail(s, row_place(s, b, types, number)), n)
+    row_counts(row(s, b, types, number), n)
 }
 
 // The type that a Pointer points to.
-pub fn pointee(s: &[u8], b: Bounds, types: &[u16], number: Recorded) -> Recorded
+pub fn pointee(s: &[u8], b: Bounds, types: &[u16], number: Option<TypeId>) -> Option<TypeId>
     ensures { TypeInRow b s.now types.now number pointee_of result }
 {
-    row_pointee(bytes_field::tail(s, row_place(s, b, types, number)))
+    row_pointee(row(s, b, types, number))
 }

@@ -2,12 +2,11 @@
 #![tactic(auto)]
 
 ghost use Rattle.std.specs.Prelude.{◌≡◌};
-ghost use Rattle.bytes_operands.specs.Fields.{as_found};
+ghost use Rattle.mir.specs.Option.{as_option};
 ghost use Rattle.shelf.specs.Lists.{clear};
 ghost use Rattle.shelf_marks.specs.Tests.{OfSlot, found_reads, parts_clear};
 
 use bytes_field::Bounds;
-use bytes_operands::Found;
 use mir::{Value, kind};
 
 // Which operand of a Store is its value, and of an insert the new one.
@@ -16,16 +15,14 @@ const STORED: u8 = 0;
 const INSERTED: u8 = 1;
 
 // Whether a value that was found is no marked operand.
-fn value_clear(f: Found, marks: &[bool]) -> bool
-    ensures { result ≡ clear marks.now (found_reads (as_found f)) }
+fn value_clear(f: Option<Value>, marks: &[bool]) -> bool
+    ensures { result ≡ clear marks.now (found_reads (as_option f)) }
 {
     match f {
-        Found::Nothing => true,
-        Found::Value(x) => match x {
-            Value::Literal(_) => true,
-            Value::Operand(v) => !table::flag(marks, v.0 as usize),
-            Value::Error => true,
-        },
+        Some(Value::Operand(v)) => !table::flag(marks, v.0 as usize),
+        Some(Value::Literal(_)) => true,
+        Some(Value::Error) => true,
+        None => true,
     }
 }
 

@@ -12,28 +12,21 @@ ghost use Rattle.shelf_test.specs.Shelved.{Input, input_reason, Shelved};
 use bytes_field::Bounds;
 
 // What the shelf test says: document 01's reasons 0 to 5, in their order.
-#[derive(Clone, Copy)]
+#[derive(Clone, Copy, PartialEq, Eq)]
 pub enum ShelfReason {
-    Passed,
-    TypesDisagree,
-    ReadsEarly,
-    BaseAsPart,
-    DeepStore,
-    ReadsDropped,
+    Passed = 0,
+    TypesDisagree = 1,
+    ReadsEarly = 2,
+    BaseAsPart = 3,
+    DeepStore = 4,
+    ReadsDropped = 5,
 }
 
 // The number document 01 gives the reason.
 pub fn reason_number(k: ShelfReason) -> u8
     ensures { result ≡ number_of_reason k }
 {
-    match k {
-        ShelfReason::Passed => 0,
-        ShelfReason::TypesDisagree => 1,
-        ShelfReason::ReadsEarly => 2,
-        ShelfReason::BaseAsPart => 3,
-        ShelfReason::DeepStore => 4,
-        ShelfReason::ReadsDropped => 5,
-    }
+    k as u8
 }
 
 // The lowest of the reasons 1, 2 and 3, which are reasons of the input alone; else passed.
@@ -67,7 +60,7 @@ pub fn reason(
         → number_of_reason result ≡ shelf_reason with_debug x w }
 {
     let first = input_reason(s, b, facts);
-    if reason_number(first) != 0 {
+    if first != ShelfReason::Passed {
         return first;
     }
     if !table::any(dropped) {
@@ -76,13 +69,7 @@ pub fn reason(
     if !shelf_reason4::no_deep_store(s, b, facts, dropped) {
         return ShelfReason::DeepStore;
     }
-    let wider = Bounds {
-        types: b.types,
-        next: next,
-        blocks: b.blocks,
-        list: b.list,
-        projections: b.projections,
-    };
+    let wider = Bounds { next, ..b };
     if !shelf_reason5::reads_no_dropped(out, at, wider, b.blocks, dropped) {
         return ShelfReason::ReadsDropped;
     }

@@ -1,23 +1,21 @@
 -- What is answered of values and of their recorded types.
 use Rattle.std.specs.Prelude.{ℕ, ◌≤◌, ◌<◌, ◌≡◌, List, cond, length, eqb}
 use Rattle.std.proofs.Math.Bool as B
-use Rattle.std.proofs.Math.Option.{Option, none, some}
+use Rattle.std.proofs.Math.Option.{Option, none}
+use Rattle.std.specs.Prelude.{Some, Option as Answered}
 use Rattle.bytes_wire.specs.WellFormed.{FitValue}
-use Rattle.mir.specs.declared.Recorded.{Recorded}
 use Rattle.mir.specs.declared.TypeId.{TypeId}
 use Rattle.mir.specs.declared.Value.{Value}
 use Rattle.mir.specs.declared.ValueId.{ValueId}
 use Rattle.mir.specs.MirType.{MirType}
-use Rattle.mir.specs.Syntax.{Projection}
+use Rattle.mir.specs.declared.Projection.{Projection}
 use Rattle.bytes_field.specs.declared.Bounds.{Bounds}
 use Rattle.bytes_types.specs.Index.{TypesAt}
 use Rattle.bytes_sections.specs.Index.{RecordedAt}
-use Rattle.bytes_operands.specs.Fields.{as_step}
-use Rattle.bytes_operands.specs.declared.Step.{Step}
-use Rattle.mir.specs.Lookup.{Types, row_of, recorded_type, shape}
+use Rattle.mir.specs.Lookup.{Types, row_of, recorded_type, value_row, shape}
 use Rattle.mir.specs.Parts.{part_type}
 use Rattle.rewrite_progress.specs.Ground.{Ground}
-use Rattle.shelf.specs.Fits.{fits, same_type, step_type}
+use Rattle.shelf.specs.Fits.{literal_kind, scalar_kind, fits, same_type, step_type}
 use Rattle.shelf_rows.specs.Rows.{Is}
 
 -- the type of part k of a type of that shape
@@ -25,13 +23,13 @@ abbrev pub shaped_part : Option MirType → ℕ → ℕ → Option TypeId
 shaped_part row kind k = cond (eqb (shape row) kind) (part_type row k) none
 
 -- the type behind one step of a place
-abbrev pub StepTo : Bounds → List ℕ → List ℕ → Recorded → Step → Recorded → Type 0
+abbrev pub StepTo : Bounds → List ℕ → List ℕ → Answered TypeId → Answered Projection → Answered TypeId → Type 0
 StepTo b s types number p r =
     (τ : Types) (o : Option TypeId) (q : Projection)
     → TypesAt b.list s types τ.rows
     → length τ.rows ≡ b.types
     → Is number o
-    → as_step p ≡ some q
+    → p ≡ Some q
     → Is r (step_type (row_of τ o) q)
 
 -- what holds where the table of recorded types stands at `recorded`
@@ -43,15 +41,15 @@ Noted recorded P =
     → P τ
 
 -- the recorded type of a value
-abbrev pub TypeOfValue : List ℕ → ValueId → Recorded → Type 0
+abbrev pub TypeOfValue : List ℕ → ValueId → Answered TypeId → Type 0
 TypeOfValue recorded v r = Noted recorded (λ τ. v.0 < length τ.recorded → Is r (recorded_type τ v))
 
 -- two recorded types are the same
-abbrev pub Same : Recorded → Recorded → B.Bool → Type 0
+abbrev pub Same : Answered TypeId → Answered TypeId → B.Bool → Type 0
 Same a c r = (o q : Option TypeId) → Is a o → Is c q → r ≡ same_type o q
 
 -- a value of the routine fits a type
-abbrev pub Fits : Bounds → List ℕ → List ℕ → List ℕ → Value → Recorded → B.Bool → Type 0
+abbrev pub Fits : Bounds → List ℕ → List ℕ → List ℕ → Value → Answered TypeId → B.Bool → Type 0
 Fits b s types recorded x number r =
     (τ : Types) (o : Option TypeId)
     → Ground b s types recorded τ
@@ -59,9 +57,18 @@ Fits b s types recorded x number r =
     → FitValue b.next x
     → r ≡ fits τ x o
 
--- what is answered of one value of the routine, and of two
+-- the literals that fit the type of a value, by the numbers of `scalar_kind`
+abbrev pub value_kind : Types → Value → ℕ
+value_kind τ (Value.Literal l) = literal_kind l
+value_kind τ (Value.Operand v) = scalar_kind (value_row τ v)
+value_kind τ Value.Error = 0
+
+-- what holds for one value of the routine, what is answered of one, and of two
+abbrev pub Grounded : Bounds → List ℕ → List ℕ → List ℕ → Value → (Types → Type 0) → Type 0
+Grounded b s types recorded x P = (τ : Types) → Ground b s types recorded τ → FitValue b.next x → P τ
+
 abbrev pub OfValue : Bounds → List ℕ → List ℕ → List ℕ → Value → (Types → Value → B.Bool) → B.Bool → Type 0
-OfValue b s types recorded x f r = (τ : Types) → Ground b s types recorded τ → FitValue b.next x → r ≡ f τ x
+OfValue b s types recorded x f r = Grounded b s types recorded x (λ τ. r ≡ f τ x)
 
 abbrev pub OfValues : Bounds → List ℕ → List ℕ → List ℕ → Value → Value → (Types → Value → Value → B.Bool) → B.Bool → Type 0
 OfValues b s types recorded x y f r =

@@ -3,80 +3,102 @@
 
 ghost use Rattle.std.specs.Prelude.{◌≡◌, length};
 ghost use Rattle.bytes_wire.specs.WellFormed.{FitValue};
-ghost use Rattle.mir.specs.declared.Value.{Value as AnyValue};
 ghost use Rattle.shelf.specs.Fits.{literal_kind};
 ghost use Rattle.bytes_struct.specs.FindField.{field_type_of};
 ghost use Rattle.shelf.specs.Agrees.{is_scalar_type, is_scalar, is_index, is_condition, is_known, equal_types};
-ghost use Rattle.shelf_rows.specs.Rows.{OfType, TypeInRow};
-ghost use Rattle.shelf_types.specs.Types.{shaped_part, StepTo, Noted, TypeOfValue, Same, Fits, OfValue, OfValues};
+ghost use Rattle.shelf_rows.specs.Rows.{OfType, TypeInRow, literals_number};
+ghost use Rattle.shelf_types.specs.Types.{shaped_part, StepTo, Noted, TypeOfValue, Same, Fits, Grounded, value_kind, OfValue, OfValues};
 
 use bytes_field::Bounds;
-use bytes_operands::Step;
-use bytes_struct::FieldLookup;
-use mir::{Literal, NameId, Recorded, TypeId, Value, ValueId, shape};
-use shelf::{BOOLEANS, INTEGERS, UNITS};
+use mir::{Literal, NameId, Projection, TypeId, Value, ValueId, shape};
+use shelf::Literals;
 
 // The recorded type of a value.
-pub fn recorded_number(recorded: &[u16], v: ValueId) -> Recorded
+pub fn recorded_type(recorded: &[u16], v: ValueId) -> Option<TypeId>
     ensures { TypeOfValue recorded.now v result }
 {
-    Recorded(table::number(recorded, v.0 as usize))
+    bytes_lookup::recorded_type(recorded, v)
 }
 
 // Both are types, and the same one.
-pub fn same_type(a: Recorded, c: Recorded) -> bool
+pub fn same_type(a: Option<TypeId>, c: Option<TypeId>) -> bool
     ensures { Same a c result }
 {
-    if a.0 == 0 {
-        return false;
+    match (a, c) {
+        (Some(t), Some(u)) => t.0 == u.0,
+        (Some(_), None) => false,
+        (None, _) => false,
     }
-    a.0 == c.0
 }
 
 // The type of a struct's field, by its name.
-pub fn field_type(s: &[u8], b: Bounds, types: &[u16], number: Recorded, name: NameId) -> Recorded
+pub fn field_type(
+    s: &[u8],
+    b: Bounds,
+    types: &[u16],
+    number: Option<TypeId>,
+    name: NameId,
+) -> Option<TypeId>
     ensures { TypeInRow b s.now types.now number (λ row. field_type_of row name) result }
 {
-    if number.0 == 0 {
-        return Recorded(0);
-    }
-    let own = number.0 - 1;
-    match bytes_struct::find_field(s, types, b.types, TypeId(own), name) {
-        FieldLookup::Found { part, .. } => shelf_rows::numbered(part),
-        FieldLookup::Absent => Recorded(0),
-    }
+    bytes_struct::find_field(s, types, b.types, number?, name).map(|f| f.part)
 }
 
 // The type of part `k` of a type of that shape.
-fn shaped_part(s: &[u8], b: Bounds, types: &[u16], number: Recorded, shape: u8, k: u32) -> Recorded
+fn shaped_part(
+    s: &[u8],
+    b: Bounds,
+    types: &[u16],
+    number: Option<TypeId>,
+    shape: u8,
+    k: u32,
+) -> Option<TypeId>
     ensures { TypeInRow b s.now types.now number (λ row. shaped_part row shape k) result }
 {
     if shelf_rows::shape_of(s, b, types, number) == shape {
-        return shelf_rows::part_type(s, b, types, number, k);
+        shelf_rows::part_type(s, b, types, number, k)
+    } else {
+        None
     }
-    Recorded(0)
 }
 
 // The type behind one step of a place.
-pub fn step_type(s: &[u8], b: Bounds, types: &[u16], number: Recorded, p: Step) -> Recorded
+pub fn step_type(
+    s: &[u8],
+    b: Bounds,
+    types: &[u16],
+    number: Option<TypeId>,
+    p: Option<Projection>,
+) -> Option<TypeId>
     ensures { StepTo b s.now types.now number p result }
 {
-    match p {
-        Step::Index(_) => shaped_part(s, b, types, number, shape::FIXED_ARRAY, 0),
-        Step::Field(name) => field_type(s, b, types, number, name),
-        Step::Tuple(k) => shaped_part(s, b, types, number, shape::TUPLE, k),
-        Step::Nothing => Recorded(0),
+    match p? {
+        Projection::Index(_) => shaped_part(s, b, types, number, shape::FIXED_ARRAY, 0),
+        Projection::Field(name) => field_type(s, b, types, number, name),
+        Projection::Tuple(k) => shaped_part(s, b, types, number, shape::TUPLE, k),
     }
 }
 
-// Which types a literal fits: INTEGERS Felt and U32, BOOLEANS Bool, UNITS Unit.
-fn literal_kind(l: Literal) -> u8
-    ensures { result ≡ literal_kind l }
+// Which literals a literal is one of.
+#[tactic(auto, unfolding(shelf::specs::Fits::literal_kind))]
+fn literal_kind(l: Literal) -> Literals
+    ensures { literals_number (Some result) ≡ literal_kind l }
 {
     match l {
-        Literal::Integer(_) => INTEGERS,
-        Literal::Boolean(_) => BOOLEANS,
-        Literal::Unit => UNITS,
+        Literal::Integer(_) => Literals::Integers,
+        Literal::Boolean(_) => Literals::Booleans,
+        Literal::Unit => Literals::Units,
+    }
+}
+
+// The literals that fit the type of a value.
+fn literals_of(s: &[u8], b: Bounds, types: &[u16], recorded: &[u16], x: Value) -> Option<Literals>
+    ensures { Grounded b s.now types.now recorded.now x (λ τ. literals_number result ≡ value_kind τ x) }
+{
+    match x {
+        Value::Literal(l) => Some(literal_kind(l)),
+        Value::Operand(v) => shelf_rows::scalar_kind(s, b, types, recorded_type(recorded, v)),
+        Value::Error => None,
     }
 }
 
@@ -87,25 +109,25 @@ pub fn fits(
     types: &[u16],
     recorded: &[u16],
     x: Value,
-    number: Recorded,
+    number: Option<TypeId>,
 ) -> bool
     ensures { Fits b s.now types.now recorded.now x number result }
 {
     match x {
-        Value::Literal(l) => literal_kind(l) == shelf_rows::scalar_kind(s, b, types, number),
-        Value::Operand(v) => same_type(recorded_number(recorded, v), number),
+        Value::Literal(l) => Some(literal_kind(l)) == shelf_rows::scalar_kind(s, b, types, number),
+        Value::Operand(v) => same_type(recorded_type(recorded, v), number),
         Value::Error => false,
     }
 }
 
 // A type, and no aggregate.
-pub fn is_scalar_type(s: &[u8], b: Bounds, types: &[u16], number: Recorded) -> bool
+pub fn is_scalar_type(s: &[u8], b: Bounds, types: &[u16], number: Option<TypeId>) -> bool
     ensures { OfType b s.now types.now number is_scalar_type result }
 {
-    if number.0 == 0 {
-        return false;
+    match number {
+        Some(_) => shelf_rows::shape_of(s, b, types, number) == shape::OTHER,
+        None => false,
     }
-    shelf_rows::shape_of(s, b, types, number) == shape::OTHER
 }
 
 // A literal, or an operand recorded as no aggregate.
@@ -114,7 +136,7 @@ pub fn is_scalar(s: &[u8], b: Bounds, types: &[u16], recorded: &[u16], x: Value)
 {
     match x {
         Value::Literal(_) => true,
-        Value::Operand(v) => is_scalar_type(s, b, types, recorded_number(recorded, v)),
+        Value::Operand(v) => is_scalar_type(s, b, types, recorded_type(recorded, v)),
         Value::Error => false,
     }
 }
@@ -123,26 +145,14 @@ pub fn is_scalar(s: &[u8], b: Bounds, types: &[u16], recorded: &[u16], x: Value)
 pub fn is_index(s: &[u8], b: Bounds, types: &[u16], recorded: &[u16], x: Value) -> bool
     ensures { OfValue b s.now types.now recorded.now x is_index result }
 {
-    match x {
-        Value::Literal(l) => literal_kind(l) == INTEGERS,
-        Value::Operand(v) => {
-            shelf_rows::scalar_kind(s, b, types, recorded_number(recorded, v)) == INTEGERS
-        }
-        Value::Error => false,
-    }
+    literals_of(s, b, types, recorded, x) == Some(Literals::Integers)
 }
 
 // A Boolean, or an operand recorded as Bool.
 pub fn is_condition(s: &[u8], b: Bounds, types: &[u16], recorded: &[u16], x: Value) -> bool
     ensures { OfValue b s.now types.now recorded.now x is_condition result }
 {
-    match x {
-        Value::Literal(l) => literal_kind(l) == BOOLEANS,
-        Value::Operand(v) => {
-            shelf_rows::scalar_kind(s, b, types, recorded_number(recorded, v)) == BOOLEANS
-        }
-        Value::Error => false,
-    }
+    literals_of(s, b, types, recorded, x) == Some(Literals::Booleans)
 }
 
 // A literal, or an operand with a recorded type.
@@ -151,33 +161,7 @@ pub fn is_known(recorded: &[u16], x: Value) -> bool
 {
     match x {
         Value::Literal(_) => true,
-        Value::Operand(v) => 0 < recorded_number(recorded, v).0,
-        Value::Error => false,
-    }
-}
-
-// A literal and another value are of equal types.
-fn literal_fits(s: &[u8], b: Bounds, types: &[u16], recorded: &[u16], l: Literal, y: Value) -> bool
-    ensures { OfValues b s.now types.now recorded.now (AnyValue.Literal l) y equal_types result }
-{
-    match y {
-        Value::Literal(m) => literal_kind(l) == literal_kind(m),
-        Value::Operand(w) => {
-            literal_kind(l) == shelf_rows::scalar_kind(s, b, types, recorded_number(recorded, w))
-        }
-        Value::Error => false,
-    }
-}
-
-// An operand and another value are of equal types.
-fn operand_fits(s: &[u8], b: Bounds, types: &[u16], recorded: &[u16], v: ValueId, y: Value) -> bool
-    ensures { OfValues b s.now types.now recorded.now (AnyValue.Operand v) y equal_types result }
-{
-    match y {
-        Value::Literal(m) => {
-            literal_kind(m) == shelf_rows::scalar_kind(s, b, types, recorded_number(recorded, v))
-        }
-        Value::Operand(w) => same_type(recorded_number(recorded, v), recorded_number(recorded, w)),
+        Value::Operand(v) => recorded_type(recorded, v).is_some(),
         Value::Error => false,
     }
 }
@@ -186,9 +170,19 @@ fn operand_fits(s: &[u8], b: Bounds, types: &[u16], recorded: &[u16], v: ValueId
 pub fn equal_types(s: &[u8], b: Bounds, types: &[u16], recorded: &[u16], x: Value, y: Value) -> bool
     ensures { OfValues b s.now types.now recorded.now x y equal_types result }
 {
-    match x {
-        Value::Literal(l) => literal_fits(s, b, types, recorded, l, y),
-        Value::Operand(v) => operand_fits(s, b, types, recorded, v, y),
-        Value::Error => false,
+    match (x, y) {
+        (Value::Literal(l), Value::Literal(m)) => literal_kind(l) == literal_kind(m),
+        (Value::Literal(_), Value::Operand(w)) => {
+            fits(s, b, types, recorded, x, recorded_type(recorded, w))
+        }
+        (Value::Operand(v), Value::Literal(_)) => {
+            fits(s, b, types, recorded, y, recorded_type(recorded, v))
+        }
+        (Value::Operand(v), Value::Operand(w)) => {
+            same_type(recorded_type(recorded, v), recorded_type(recorded, w))
+        }
+        (Value::Literal(_), Value::Error) => false,
+        (Value::Operand(_), Value::Error) => false,
+        (Value::Error, _) => false,
     }
 }

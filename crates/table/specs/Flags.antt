@@ -1,7 +1,7 @@
 -- Tables of flags.
-use Rattle.std.specs.Prelude.{List, [], ◌∷◌, Bool, false, ◌||◌}
+use Rattle.std.specs.Prelude.{List, Bool}
+use Rattle.std.specs.List.{list_any}
 
 -- whether a flag stands
 unfoldable pub any_stands : List Bool → Bool
-any_stands [] = false
-any_stands (f ∷ fs) = f || any_stands fs
+any_stands fs = list_any (λ f. f) fs

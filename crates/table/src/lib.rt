@@ -6,11 +6,29 @@ ghost use Rattle.std.specs.Prelude.{◌≡◌, false, ◌%◌, get_or, set};
 ghost use Rattle.table.specs.Flags.{any_stands};
 ghost use Rattle.table.specs.Number.{numbers_below};
 
+// The element at a place; past the end `past`.
+#[inline]
+pub fn at<T: Copy>(l: &[T], i: usize, past: T) -> T
+    ensures { result ≡ get_or l.now i past }
+{
+    if i < l.len() { l[i] } else { past }
+}
+
+// Stores an element.
+#[inline]
+pub fn put<T: Copy>(l: &mut [T], i: usize, x: T)
+    ensures { l.new ≡ set l.old i x }
+{
+    if i < l.len() {
+        l[i] = x;
+    }
+}
+
 // The number at a place.
 pub fn number(l: &[u16], i: usize) -> u16
     ensures { result ≡ get_or l.now i 0 }
 {
-    if i < l.len() { l[i] } else { 0 }
+    at(l, i, 0)
 }
 
 // The place that stands in slot `i`.
@@ -24,16 +42,14 @@ pub fn place(l: &[u16], i: usize) -> usize
 pub fn flag(l: &[bool], i: usize) -> bool
     ensures { result ≡ get_or l.now i false }
 {
-    if i < l.len() { l[i] } else { false }
+    at(l, i, false)
 }
 
 // Stores a number.
 pub fn set_number(l: &mut [u16], i: usize, n: u16)
     ensures { l.new ≡ set l.old i n }
 {
-    if i < l.len() {
-        l[i] = n;
-    }
+    put(l, i, n)
 }
 
 // Stores a place: its lowest 16 bits, which are all of it where the bytes are short.
@@ -47,30 +63,20 @@ pub fn set_place(l: &mut [u16], i: usize, place: usize)
 pub fn set_flag(l: &mut [bool], i: usize, on: bool)
     ensures { l.new ≡ set l.old i on }
 {
-    if i < l.len() {
-        l[i] = on;
-    }
+    put(l, i, on)
 }
 
 // Stores a byte.
 pub fn set_byte(l: &mut [u8], i: usize, b: u8)
     ensures { l.new ≡ set l.old i b }
 {
-    if i < l.len() {
-        l[i] = b;
-    }
+    put(l, i, b)
 }
 
 // Whether a flag stands.
+#[tactic(auto, unfolding(crate::specs::Flags::any_stands))]
 pub fn any(l: &[bool]) -> bool
     ensures { result ≡ any_stands l.now }
 {
-    let mut i = 0;
-    while i < l.len() {
-        if l[i] {
-            return true;
-        }
-        i = i + 1;
-    }
-    false
+    l.iter().any(|f| *f)
 }

@@ -55,11 +55,9 @@ pub fn put_hexadecimal(text: &mut [u8], to: usize, bytes: &[u8]) -> usize
     ensures { Written (hexadecimal bytes.now) to text.old text.new result }
 {
     let mut at = to;
-    let mut i = 0;
-    while i < bytes.len() {
-        put_byte(text, at, bytes[i]);
+    for b in bytes {
+        put_byte(text, at, *b);
         at = at + 2;
-        i = i + 1;
     }
     at
 }

@@ -26,7 +26,10 @@ lowered_lines numbers bytes = numbers_line numbers ++ (hexadecimal bytes ++ lett
 
 -- the ten numbers of an answer and the output: refusal number and offset; result, five counts, shelf reason; how much of the output is meant
 unfoldable pub answer_lines : List ℕ → List ℕ → List ℕ
-answer_lines ns out = cond (eqb (get_or ns 0 0) 0) (lowered_lines (take 7 (drop 2 ns)) (take (get_or ns 9 0) out)) (refused_line (get_or ns 0 0) (get_or ns 1 0))
+answer_lines ns out =
+    cond (eqb (get_or ns 0 0) 0)
+    (lowered_lines (take 7 (drop 2 ns)) (take (get_or ns 9 0) out))
+    (refused_line (get_or ns 0 0) (get_or ns 1 0))
 
 -- what was replayed
 unfoldable pub replayed_line : ℕ → ℕ → List ℕ

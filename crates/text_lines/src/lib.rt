@@ -1,7 +1,7 @@
 // The lines that the programs print, put together from numbers and bytes. Each stands at the head of the text.
 #![tactic(auto)]
 
-ghost use Rattle.std.specs.Prelude.{◌≡◌, ◌+◌, ◌*◌, ◌<◌, ◌≤◌, min, length};
+ghost use Rattle.std.specs.Prelude.{◌≡◌, ◌+◌, ◌*◌, ◌<◌, ◌≤◌, length};
 ghost use Rattle.text.specs.Written.{Written};
 ghost use Rattle.text_lines.specs.Lines.{refused_line, checked_line, behind, numbers_line, lowered_lines, answer_lines, replayed_line};
 ghost use Rattle.bytes_emit.specs.Written.{value_room};
@@ -63,20 +63,11 @@ pub fn numbers_line(text: &mut [u8], numbers: &[u64]) -> usize
     ensures upper_bound { result ≤ number_width * length numbers.now }
 {
     let mut at = 0;
-    let mut i = 0;
-    while i < numbers.len() {
-        let end = text::put_decimal(text, at, numbers[i]);
-        i = i + 1;
-        at = put_behind(text, end, numbers.len() - i);
+    for (i, x) in numbers.iter().enumerate() {
+        let end = text::put_decimal(text, at, *x);
+        at = put_behind(text, end, numbers.len() - (i + 1));
     }
     at
-}
-
-// The lesser of two numbers.
-fn least(a: usize, b: usize) -> usize
-    ensures { result ≡ min a b }
-{
-    if a < b { a } else { b }
 }
 
 // A line of numbers, and a line of bytes in hexadecimal.
@@ -99,7 +90,7 @@ pub fn answer_lines(text: &mut [u8], numbers: &[u64], output: &[u8]) -> usize
     if numbers[NUMBER] != 0 {
         return refused_line(text, numbers[NUMBER], numbers[OFFSET]);
     }
-    let size = least(numbers[SIZE] as usize, output.len());
+    let size = (numbers[SIZE] as usize).min(output.len());
     lowered_lines(text, &numbers[RESULT..SIZE], &output[..size])
 }
 

@@ -1,24 +1,41 @@
-use Rattle.std.proofs.Common.{◌∙◌, sym, ap}
-use Rattle.bytes_block.proofs.Start.{peeked, head_below}
+use Rattle.std.proofs.Common.{refl, sym, rules, ◌≡◌, Err}
+use Rattle.bytes_wire.proofs.Inv.{no_ok}
+use Rattle.mir.specs.Kind.{number_of_kind}
+use Rattle.bytes_block.proofs.Start.{peeked}
 use Rattle.bytes_block.proofs.Laws.{instruction_walked, instruction_refused}
 use Rattle.bytes_field.specs.Walk.{walk_of}
-use Rattle.bytes_block.specs.Decode.{as_head}
 use Rattle.bytes_block.proofs.read_instruction.Goals as goal
 
-pub row_of_kind-row-requires : goal.row_of_kind-row-requires
-row_of_kind-row-requires c = head_below c.args.late c.args.s.now (sym c.read_head.ensures ∙ ap as_head c.in-Kind.is)
-
-pub returns-in-Refused : goal.returns-in-Refused
-returns-in-Refused c =
+pub returns-in_err-head : goal.returns-in_err-head
+returns-in_err-head c =
     let a = c.args in
-    instruction_refused a.b (walk_of a.seen.now a.buffer.now a.n a.late) a.s.now (sym c.read_head.ensures ∙ ap as_head c.in-Refused.is)
+    let z : c.from_residual.result ≡ Err c.in_err-head.field-0.0 = search rules in
+    rw z (instruction_refused a.b (walk_of a.seen.now a.buffer.now a.n a.late) a.s.now (sym (c.in_err-head.ensures)))
 
-pub returns-in-Kind : goal.returns-in-Kind
-returns-in-Kind c =
+pub returns-in_err-p : goal.returns-in_err-p
+returns-in_err-p c =
     let a = c.args in
-    let g = c.in-Kind in
-    let l = c.then_row-q.new in
-    instruction_walked a.b (walk_of a.seen.now a.buffer.now a.n a.late) a.s.now g.bits g.kind c.peek.result _
-    (sym c.read_head.ensures ∙ ap as_head g.is) (c.then_meta-p.ensures a.seen.now a.buffer.now)
-    (peeked a.s.now c.peek.result c.then_meta-p.result a.seen.now a.buffer.now c.peek.ensures) c.row_of_kind-row.ensures
-    c.then_row-q.ensures (c.after_kind.ensures l.seen l.buffer)
+    let h = c.in_ok-head.head in
+    let z : c.from_residual-in_err-p.result ≡ Err c.in_err-p.field-0.0 = search rules in
+    rw z (instruction_walked a.b (walk_of a.seen.now a.buffer.now a.n a.late) a.s.now h.bits (number_of_kind h.kind) 0 _ (sym (c.in_ok-head.ensures)) (c.in_err-p.ensures a.seen.now a.buffer.now)
+    (λ v at e. absurd (no_ok e)) refl refl refl)
+
+pub returns-in_err-q : goal.returns-in_err-q
+returns-in_err-q c =
+    let a = c.args in
+    let h = c.in_ok-head.head in
+    let p = c.in_ok-p.p in
+    let l = c.then_row.new in
+    let z : c.from_residual-in_err-q.result ≡ Err c.in_err-q.field-0.0 = search rules in
+    rw z (instruction_walked a.b (walk_of a.seen.now a.buffer.now a.n a.late) a.s.now h.bits (number_of_kind h.kind) c.byte_at-many.result _ (sym (c.in_ok-head.ensures)) (c.in_ok-p.ensures a.seen.now a.buffer.now)
+    (peeked a.s.now c.byte_at-many.result (walk_of a.seen.now a.buffer.now p.reads p.late) p.size c.byte_at-many.ensures) c.row_of_kind-row.ensures c.in_err-q.ensures refl)
+
+pub returns : goal.returns
+returns c =
+    let a = c.args in
+    let h = c.in_ok-head.head in
+    let p = c.in_ok-p.p in
+    let l = c.then_row.new in
+    instruction_walked a.b (walk_of a.seen.now a.buffer.now a.n a.late) a.s.now h.bits (number_of_kind h.kind) c.byte_at-many.result _ (sym (c.in_ok-head.ensures)) (c.in_ok-p.ensures a.seen.now a.buffer.now)
+    (peeked a.s.now c.byte_at-many.result (walk_of a.seen.now a.buffer.now p.reads p.late) p.size c.byte_at-many.ensures)
+    c.row_of_kind-row.ensures c.in_ok-q.ensures (c.after_kind.ensures l.seen l.buffer)

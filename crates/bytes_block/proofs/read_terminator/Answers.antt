@@ -1,19 +1,27 @@
+use Rattle.std.proofs.Common.{◌∙◌, ◌≡◌, ◌<◌, ap, get_or, arith}
+use Rattle.mir.specs.TerminatorKind.{number_of_terminator_kind}
+use Rattle.mir.proofs.Numbered.{terminator_kind_below}
 use Rattle.bytes_block.proofs.Blocks.{no_terminator, terminator_past, terminator_walked}
-use Rattle.bytes_field.specs.Walk.{walk_of}
+use Rattle.bytes_field.specs.Walk.{walk_of, terminator_rows}
 use Rattle.bytes_block.proofs.read_terminator.Goals as goal
 
 pub returns-then-s-lt1 : goal.returns-then-s-lt1
 returns-then-s-lt1 c =
     let a = c.args in
-    no_terminator a.b (walk_of a.seen.now a.buffer.now a.n a.late) a.s.now c.if-s-lt1.true
+    rw c.at.ensures (no_terminator a.b (walk_of a.seen.now a.buffer.now a.n a.late) a.s.now c.if-s-lt1.true)
 
-pub returns-then-kind-ge-TERMINATORS : goal.returns-then-kind-ge-TERMINATORS
-returns-then-kind-ge-TERMINATORS c =
+pub returns-in_default : goal.returns-in_default
+returns-in_default c =
     let a = c.args in
-    terminator_past a.b (walk_of a.seen.now a.buffer.now a.n a.late) a.s.now c.if-s-lt1.false c.if-kind-ge-TERMINATORS.true
+    rw c.at-in_default.ensures
+    (terminator_past a.b (walk_of a.seen.now a.buffer.now a.n a.late) a.s.now c.if-s-lt1.false
+    (omega (arith, c.in_default.ensures)))
 
 pub returns : goal.returns
 returns c =
     let a = c.args in
-    terminator_walked a.b (walk_of a.seen.now a.buffer.now a.n a.late) a.s.now c.if-s-lt1.false c.if-kind-ge-TERMINATORS.false
-    c.row_of_end.ensures c.then_row.ensures
+    let k = c.in-Ok.kind in
+    let e : number_of_terminator_kind k ≡ get_or a.s.now 0 0 = c.in-Ok.ensures in
+    let h : get_or a.s.now 0 0 < 5 = omega (arith, terminator_kind_below k) in
+    terminator_walked a.b (walk_of a.seen.now a.buffer.now a.n a.late) a.s.now c.if-s-lt1.false h
+    (c.row_of_end.ensures ∙ ap (λ n. get_or terminator_rows n 0) e) c.then_row.ensures

@@ -11,7 +11,7 @@ use Rattle.bytes_field.proofs.Laws.{bytes_within}
 use Rattle.bytes_field.proofs.Atom.{no_kind, index_kind, name_kind, tuple_kind_lem, bad_kind}
 
 pub returns-then-s-lt1 : goal.returns-then-s-lt1
-returns-then-s-lt1 c = λ seen. let a = c.args in no_kind a.next (walk_of seen a.buffer.now a.n a.late) a.s.now c.if-s-lt1.true
+returns-then-s-lt1 c = λ seen. let a = c.args in rw c.at.ensures (no_kind a.next (walk_of seen a.buffer.now a.n a.late) a.s.now c.if-s-lt1.true)
 
 pub further-requires : goal.further-requires
 further-requires c = let a = c.args in
@@ -57,5 +57,4 @@ returns-in-2 c = λ seen. let a = c.args in
     (c.read_number-in-2.ensures seen a.buffer.now ∙ ap (λ t. map_parse (λ x. walk_of seen a.buffer.now a.n a.late) (number_of 4 t)) c.tail-t.ensures))
 
 pub returns-in_default : goal.returns-in_default
-returns-in_default c = λ seen. let a = c.args in
-    bad_kind a.next (walk_of seen a.buffer.now a.n a.late) a.s.now c.if-s-lt1.false (omega arith) (omega arith) (omega arith)
+returns-in_default c = λ seen. let a = c.args in rw c.at-in_default.ensures (bad_kind a.next (walk_of seen a.buffer.now a.n a.late) a.s.now c.if-s-lt1.false (omega arith) (omega arith) (omega arith))

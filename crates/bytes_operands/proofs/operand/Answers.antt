@@ -1,6 +1,7 @@
 use Rattle.std.proofs.Common.{arith, refl, ap, ◌∙◌}
 use Rattle.bytes_operands.proofs.Instruction.{no_operand, operand_at}
 use Rattle.std.proofs.Common.{drop}
+use Rattle.mir.specs.Option.{as_option}
 use Rattle.bytes_operands.specs.Fields.{fields_place}
 use Rattle.bytes_operands.proofs.operand.Goals as goal
 
@@ -16,4 +17,4 @@ returns c = λ seen late i n e.
     operand_at a.b seen late a.s.now i n e c.tail-t.result.now c.byte_at-kind.result a.k
     (c.tail-t.ensures ∙ ap (λ p. drop p a.s.now) c.fields_place.ensures) c.byte_at-kind.ensures c.values_end.result
     (omega (arith, ap (λ o. o.0) c.operands_of-o.ensures, c.if-o-k.false))
-    (simp (c.values_end.ensures.0, c.operand_first.ensures.0, c.operands_of-o.ensures)) c.found_at.ensures
+    (simp (c.values_end.ensures.0, c.operand_first.ensures.0, c.operands_of-o.ensures)) (λ x m e. ap as_option (c.found_at.ensures x m e))

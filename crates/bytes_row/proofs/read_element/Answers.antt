@@ -1,6 +1,8 @@
-use Rattle.std.proofs.Common.{arith, ◌∙◌}
-use Rattle.bytes_wire.proofs.Laws.{and_nothing}
-use Rattle.bytes_field.specs.Walk.{walk_of, atom_walk, simple_walk}
+use Rattle.std.proofs.Common.{arith, ◌∙◌, ap, refl, rules}
+use Rattle.bytes_wire.specs.Parse.{and_then, map_parse}
+use Rattle.bytes_wire.specs.Value.{value_of}
+use Rattle.bytes_wire.proofs.Laws.{and_nothing, passed_as}
+use Rattle.bytes_field.specs.Walk.{walk_of, atom_walk, simple_walk, scanned, uses_value}
 use Rattle.bytes_field.proofs.Atom.{projections}
 use Rattle.bytes_row.proofs.read_element.Goals as goal
 
@@ -16,13 +18,37 @@ pub returns-in-2 : goal.returns-in-2
 unfolding atom_walk simple_walk
 returns-in-2 c = simp (c.read_defined.ensures c.args.buffer.now, c.in-2.is, and_nothing)
 
-pub returns-in-3 : goal.returns-in-3
+pub returns-in_err-read_number-in-3 : goal.returns-in_err-read_number-in-3
 unfolding atom_walk simple_walk
-returns-in-3 c = let a = c.args in simp (c.then_value.ensures a.seen.now, c.read_number.ensures a.seen.now a.buffer.now, c.in-3.is)
+returns-in_err-read_number-in-3 c =
+    let a = c.args in
+    let f = scanned a.seen.now a.buffer.now in
+    passed_as f f (λ d. and_then a.s.now d (λ v t. atom_walk a.b 2 v t)) (λ k o. refl) (search rules) (c.read_number.ensures a.seen.now a.buffer.now)
+    ∙ simp c.in-3.is
 
-pub returns-in-4 : goal.returns-in-4
+pub returns-in_ok-read_number-in-3 : goal.returns-in_ok-read_number-in-3
 unfolding atom_walk simple_walk
-returns-in-4 c = let a = c.args in simp (c.then_value-in-4.ensures a.seen.now, c.read_below-in-4.ensures a.seen.now a.buffer.now, c.in-4.is)
+returns-in_ok-read_number-in-3 c =
+    let a = c.args in
+    c.then_value.ensures a.seen.now
+    ∙ ap (λ d. and_then a.s.now d (λ w t. map_parse (uses_value w) (value_of a.b.next t))) (c.in_ok-read_number-in-3.ensures a.seen.now a.buffer.now)
+    ∙ simp c.in-3.is
+
+pub returns-in_err-read_below-in-4 : goal.returns-in_err-read_below-in-4
+unfolding atom_walk simple_walk
+returns-in_err-read_below-in-4 c =
+    let a = c.args in
+    let f = scanned a.seen.now a.buffer.now in
+    passed_as f f (λ d. and_then a.s.now d (λ v t. atom_walk a.b 2 v t)) (λ k o. refl) (search rules) (c.read_below-in-4.ensures a.seen.now a.buffer.now)
+    ∙ simp c.in-4.is
+
+pub returns-in_ok-read_below-in-4 : goal.returns-in_ok-read_below-in-4
+unfolding atom_walk simple_walk
+returns-in_ok-read_below-in-4 c =
+    let a = c.args in
+    c.then_value-in-4.ensures a.seen.now
+    ∙ ap (λ d. and_then a.s.now d (λ w t. map_parse (uses_value w) (value_of a.b.next t))) (c.in_ok-read_below-in-4.ensures a.seen.now a.buffer.now)
+    ∙ simp c.in-4.is
 
 pub returns-in-5 : goal.returns-in-5
 unfolding atom_walk simple_walk

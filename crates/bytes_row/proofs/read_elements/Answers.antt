@@ -1,61 +1,45 @@
-use Rattle.std.proofs.Common.{arith, ◌∙◌, sym, rules}
+use Rattle.std.proofs.Common.{arith, ◌∙◌, ◌≡◌, sym, rules, Err, List, ℕ}
 use Rattle.bytes_wire.proofs.Laws.{later_zero}
 use Rattle.bytes_field.proofs.Sizes.{size_pair}
-use Rattle.bytes_field.proofs.Laws.{again, done, passed, within}
+use Rattle.bytes_field.proofs.Laws.{again, done, stepped, reaches, bytes_within}
 use Rattle.bytes_field.specs.Walk.{walk_of, pair_walk, times, first_of, second_of}
 use Rattle.bytes_row.proofs.read_elements.Goals as goal
 
-pub overflow_add-result : goal.overflow_add-result
-overflow_add-result c =
+pub further-requires : goal.further-requires
+further-requires c =
     let a = c.args in
     let o = c.loop-i in
-    let l = c.read_element.new in
-    let w = walk_of o.seen o.buffer o.n o.late in
+    let l = c.read_element-r.new in
+    let w = walk_of o.seen o.buffer o.w.reads o.w.late in
     omega (
       arith,
-      within a.s.now o.at (λ t. pair_walk a.b (first_of a.k) (second_of a.k) w t) l.seen l.buffer
-          (λ t. size_pair a.b (first_of a.k) (second_of a.k) w t) c.tail.ensures c.read_element.ensures c.in-Refused.is,
-      o.invariant.2,
+      bytes_within a.s.now o.w.size c.read_element-r.result l.seen l.buffer (λ t. pair_walk a.b (first_of a.k) (second_of a.k) w t)
+          c.tail-t.ensures c.read_element-r.ensures (λ t. size_pair a.b (first_of a.k) (second_of a.k) w t),
     )
 
-pub returns-in-Refused : goal.returns-in-Refused
-returns-in-Refused c =
+pub returns-in_err-w : goal.returns-in_err-w
+returns-in_err-w c =
     let a = c.args in
     let o = c.loop-i in
-    let l = c.read_element.new in
-    sym (again _ _ _ _ _ _ o.invariant.3 _ c.loop-i-test.true (passed a.s.now o.at (λ t. pair_walk a.b (first_of a.k) (second_of a.k)
-    (walk_of o.seen o.buffer o.n o.late) t) l.seen l.buffer c.tail.ensures c.read_element.ensures c.in-Refused.is)).left
-    ∙ later_zero (times (pair_walk a.b (first_of a.k) (second_of a.k)) a.count (walk_of a.seen.now a.buffer.now a.p a.before) a.s.now)
-
-pub overflow_add-at : goal.overflow_add-at
-overflow_add-at c =
-    let a = c.args in
-    let o = c.loop-i in
-    let l = c.read_element.new in
-    let w = walk_of o.seen o.buffer o.n o.late in
-    omega (
-      arith,
-      within a.s.now o.at (λ t. pair_walk a.b (first_of a.k) (second_of a.k) w t) l.seen l.buffer
-          (λ t. size_pair a.b (first_of a.k) (second_of a.k) w t) c.tail.ensures c.read_element.ensures c.in-Used.is,
-      o.invariant.2,
-    )
+    let l = c.read_element-r.new in
+    let z : c.from_residual.result ≡ Err c.in_err-w.field-0.0 = search rules in
+    rw z (sym (again _ _ _ _ _ _ o.invariant.3 _ c.loop-i-test.true (stepped a.s.now o.w.size (λ t. pair_walk a.b (first_of a.k) (second_of a.k)
+    (walk_of o.seen o.buffer o.w.reads o.w.late) t) l.seen l.buffer c.read_element-r.result c.tail-t.ensures c.read_element-r.ensures
+    (c.in_err-w.ensures l.seen l.buffer))).left
+    ∙ later_zero (times (pair_walk a.b (first_of a.k) (second_of a.k)) a.count (walk_of a.seen.now a.buffer.now a.p a.before) a.s.now))
 
 pub loop-i-preserved : goal.loop-i-preserved
 loop-i-preserved c =
     let a = c.args in
     let o = c.loop-i in
-    let l = c.read_element.new in
-    let w = walk_of o.seen o.buffer o.n o.late in (
+    let l = c.read_element-r.new in
+    let f = λ (t : List ℕ). pair_walk a.b (first_of a.k) (second_of a.k) (walk_of o.seen o.buffer o.w.reads o.w.late) t in
+    let e = stepped a.s.now o.w.size f l.seen l.buffer c.read_element-r.result c.tail-t.ensures c.read_element-r.ensures
+    (c.in_ok-w.ensures l.seen l.buffer) in (
       search rules,
       search rules,
-      omega (
-        arith,
-        within a.s.now o.at (λ t. pair_walk a.b (first_of a.k) (second_of a.k) w t) l.seen l.buffer
-            (λ t. size_pair a.b (first_of a.k) (second_of a.k) w t) c.tail.ensures c.read_element.ensures c.in-Used.is,
-        o.invariant.2,
-      ),
-      again _ _ _ _ _ _ o.invariant.3 _ c.loop-i-test.true (passed a.s.now o.at (λ t. pair_walk a.b (first_of a.k) (second_of a.k) w t)
-          l.seen l.buffer c.tail.ensures c.read_element.ensures c.in-Used.is),
+      reaches a.s.now o.w.size f (λ t. size_pair a.b (first_of a.k) (second_of a.k) _ t) o.invariant.2 e,
+      again _ _ _ _ _ _ o.invariant.3 _ c.loop-i-test.true e,
     )
 
 pub returns : goal.returns

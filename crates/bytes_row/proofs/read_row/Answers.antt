@@ -1,6 +1,6 @@
-use Rattle.std.proofs.Common.{arith, refl, sym, rules, ◌%◌}
+use Rattle.std.proofs.Common.{arith, refl, sym, rules, ◌%◌, ◌≡◌, Err, List, ℕ}
 use Rattle.bytes_field.proofs.Sizes.{size_field}
-use Rattle.bytes_field.proofs.Laws.{passed, within}
+use Rattle.bytes_field.proofs.Laws.{stepped, reaches, bytes_within}
 use Rattle.bytes_field.proofs.Fields.{row_begin, row_again, row_done}
 use Rattle.bytes_field.specs.Walk.{walk_of, field_walk}
 use Rattle.bytes_row.proofs.read_row.Goals as goal
@@ -8,57 +8,40 @@ use Rattle.bytes_row.proofs.read_row.Goals as goal
 pub loop-left-init : goal.loop-left-init
 loop-left-init c = (refl, refl, omega arith, row_begin _ _ _ _ _)
 
-pub overflow_add-result : goal.overflow_add-result
-overflow_add-result c =
+pub further-requires : goal.further-requires
+further-requires c =
     let a = c.args in
     let o = c.loop-left in
-    let l = c.read_field.new in
-    let w = walk_of o.seen o.buffer o.n o.late in
+    let l = c.read_field-r.new in
+    let w = walk_of o.seen o.buffer o.w.reads o.w.late in
     omega (
       arith,
-      within a.s.now o.at (λ t. field_walk a.b a.many (o.left % 16) w t) l.seen l.buffer (λ t. size_field a.b a.many (o.left % 16) w t)
-          c.tail.ensures c.read_field.ensures c.in-Refused.is,
-      o.invariant.2,
+      bytes_within a.s.now o.w.size c.read_field-r.result l.seen l.buffer (λ t. field_walk a.b a.many (o.left % 16) w t) c.tail-t.ensures
+          c.read_field-r.ensures (λ t. size_field a.b a.many (o.left % 16) w t),
     )
 
-pub returns-in-Refused : goal.returns-in-Refused
-returns-in-Refused c =
+pub returns-in_err-w : goal.returns-in_err-w
+returns-in_err-w c =
     let a = c.args in
     let o = c.loop-left in
-    let l = c.read_field.new in
-    let w = walk_of o.seen o.buffer o.n o.late in
-    sym (row_again _ _ _ _ _ _ o.invariant.3 _ (passed a.s.now o.at (λ t. field_walk a.b a.many (o.left % 16) w t) l.seen l.buffer
-    c.tail.ensures c.read_field.ensures c.in-Refused.is)).left
-
-pub overflow_add-at : goal.overflow_add-at
-overflow_add-at c =
-    let a = c.args in
-    let o = c.loop-left in
-    let l = c.read_field.new in
-    let w = walk_of o.seen o.buffer o.n o.late in
-    omega (
-      arith,
-      within a.s.now o.at (λ t. field_walk a.b a.many (o.left % 16) w t) l.seen l.buffer (λ t. size_field a.b a.many (o.left % 16) w t)
-          c.tail.ensures c.read_field.ensures c.in-Used.is,
-      o.invariant.2,
-    )
+    let l = c.read_field-r.new in
+    let w = walk_of o.seen o.buffer o.w.reads o.w.late in
+    let z : c.from_residual.result ≡ Err c.in_err-w.field-0.0 = search rules in
+    rw z (sym (row_again _ _ _ _ _ _ o.invariant.3 _ (stepped a.s.now o.w.size (λ t. field_walk a.b a.many (o.left % 16) w t) l.seen l.buffer
+    c.read_field-r.result c.tail-t.ensures c.read_field-r.ensures (c.in_err-w.ensures l.seen l.buffer))).left)
 
 pub loop-left-preserved : goal.loop-left-preserved
 loop-left-preserved c =
     let a = c.args in
     let o = c.loop-left in
-    let l = c.read_field.new in
-    let w = walk_of o.seen o.buffer o.n o.late in (
+    let l = c.read_field-r.new in
+    let f = λ (t : List ℕ). field_walk a.b a.many (o.left % 16) (walk_of o.seen o.buffer o.w.reads o.w.late) t in
+    let e = stepped a.s.now o.w.size f l.seen l.buffer c.read_field-r.result c.tail-t.ensures c.read_field-r.ensures
+    (c.in_ok-w.ensures l.seen l.buffer) in (
       search rules,
       search rules,
-      omega (
-        arith,
-        within a.s.now o.at (λ t. field_walk a.b a.many (o.left % 16) w t) l.seen l.buffer (λ t. size_field a.b a.many (o.left % 16) w t)
-            c.tail.ensures c.read_field.ensures c.in-Used.is,
-        o.invariant.2,
-      ),
-      row_again _ _ _ _ _ _ o.invariant.3 _ (passed a.s.now o.at (λ t. field_walk a.b a.many (o.left % 16) w t) l.seen l.buffer
-          c.tail.ensures c.read_field.ensures c.in-Used.is),
+      reaches a.s.now o.w.size f (λ t. size_field a.b a.many (o.left % 16) _ t) o.invariant.2 e,
+      row_again _ _ _ _ _ _ o.invariant.3 _ e,
     )
 
 pub returns : goal.returns

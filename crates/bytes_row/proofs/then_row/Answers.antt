@@ -7,10 +7,9 @@ use Rattle.bytes_row.proofs.then_row.Goals as goal
 pub further-requires : goal.further-requires
 further-requires c =
     let a = c.args in
-    let g = c.in-Used in
-    let w = walk_of a.seen.now a.buffer.now g.n g.late in
+    let w = walk_of a.seen.now a.buffer.now a.p.reads a.p.late in
     omega (
       arith,
-      bytes_within a.s.now g.at c.read_row.result c.read_row.new.seen c.read_row.new.buffer (λ t. row_walk a.b a.many 5 a.row w t)
-          c.tail-t.ensures c.read_row.ensures (λ u. size_row a.b a.many 5 a.row w u),
+      bytes_within a.s.now a.p.size c.read_row-r.result c.read_row-r.new.seen c.read_row-r.new.buffer (λ t. row_walk a.b a.many 5 a.row w t)
+          c.tail-t.ensures c.read_row-r.ensures (λ u. size_row a.b a.many 5 a.row w u),
     )

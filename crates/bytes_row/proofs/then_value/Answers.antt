@@ -9,10 +9,9 @@ use Rattle.bytes_row.proofs.then_value.Goals as goal
 pub further-requires : goal.further-requires
 further-requires c =
     let a = c.args in
-    let g = c.in-Used in
     omega (
       arith,
-      bytes_within a.s.now g.at c.read_value.result [] c.read_value.new.buffer
-          (λ t. map_parse (uses_value (walk_of [] a.buffer.now g.n g.late)) (value_of a.next t)) c.tail-t.ensures (c.read_value.ensures [])
+      bytes_within a.s.now a.p.size c.read_value.result [] c.read_value.new.buffer
+          (λ t. map_parse (uses_value (walk_of [] a.buffer.now a.p.reads a.p.late)) (value_of a.next t)) c.tail-t.ensures (c.read_value.ensures [])
           (λ u. rw size_map (size_value a.next u)),
     )

@@ -1,9 +1,5 @@
 use Rattle.bytes_struct.proofs.Seek.{Seeking}
-use Rattle.std.proofs.Common.{◌-◌}
 use Rattle.bytes_struct.proofs.find_among.Given as goal
 
 abbrev pub invariant-loop-i : goal.invariant-loop-i
 invariant-loop-i l = Seeking l.row l.n l.name l.i
-
-abbrev pub decreases-loop-i : goal.decreases-loop-i
-decreases-loop-i l = l.n - l.i

@@ -1,66 +1,63 @@
-use Rattle.std.proofs.Common.{arith, ◌∙◌, sym, ◌+◌, ◌*◌}
-use Rattle.bytes_wire.specs.Number.{u16_of, as16}
-use Rattle.bytes_wire.proofs.Laws.{told, told_size, size_number}
-use Rattle.bytes_types.proofs.Fields.{two_left, field_no_type, field_some, field_past}
+use Rattle.std.proofs.Common.{arith, ◌∙◌, ◌≡◌, sym, ◌+◌, ◌*◌, rules, of_calls, Ok}
+use Rattle.std.proofs.iter.Serving.{serving}
+use Rattle.bytes_wire.specs.Parse.{as_read, as_parse}
+use Rattle.bytes_wire.specs.Number.{u16_of, below}
+use Rattle.bytes_wire.proofs.Laws.{told, told_size, there, behind_bad, refused_within, size_number, size_below}
+use Rattle.bytes_types.proofs.Fields.{two_left, field_no_name, field_no_type, field_some}
+use Rattle.bytes_field.specs.Walk.{part_used}
 use Rattle.bytes_before.specs.Before.{names_at}
 use Rattle.bytes_types.proofs.struct_field.Goals as goal
+
+pub map_err-requires : goal.map_err-requires
+map_err-requires c = λ e q.
+    let h = refused_within as_read c.read_u16.ensures (size_number 2 _) q in
+    grind (serving, arith, h, c.requires)
+
+pub slice_bounds-read_below-count : goal.slice_bounds-read_below-count
+slice_bounds-read_below-count c =
+    let a = c.args in
+    let s = a.s.now in
+    let at = a.from + 4 * a.i in
+    let q : c.read_u16.result ≡ Ok c.in_ok-x.x = search rules in
+    two_left s at c.requires (told as_parse u16_of at s c.read_u16.ensures q)
+
+pub slice_bounds-read_below-start : goal.slice_bounds-read_below-start
+slice_bounds-read_below-start c =
+    let a = c.args in
+    let s = a.s.now in
+    let at = a.from + 4 * a.i in
+    let q : c.read_u16.result ≡ Ok c.in_ok-x.x = search rules in
+    two_left s at c.requires (told as_parse u16_of at s c.read_u16.ensures q)
+
+pub map_err-requires-2 : goal.map_err-requires-2
+map_err-requires-2 c = λ e p.
+    let h = refused_within as_read c.read_below.ensures (size_below c.args.own _) p in
+    grind (serving, arith, h, c.requires)
+
+pub returns-in_err-t : goal.returns-in_err-t
+returns-in_err-t c =
+    let a = c.args in
+    let s = a.s.now in
+    let at = a.from + 4 * a.i in
+    let q : c.read_u16.result ≡ Ok c.in_ok-x.x = search rules in
+    behind_bad as_read part_used (at + 2) (search (rules, of_calls)) (there as_parse (below a.own) (at + 2) s c.read_below.ensures)
+    (λ k o e. field_no_type a.own (names_at s a.from a.i) s at (told as_parse u16_of at s c.read_u16.ensures q) (sym c.name_before.ensures ∙ c.if-name_before.false) e)
 
 pub overflow_add-result : goal.overflow_add-result
 overflow_add-result c =
     let a = c.args in
-    omega (arith, told_size as16 u16_of (a.from + 4 * a.i) a.s.now (size_number 2) c.requires c.read_u16.ensures c.in-Refused.is)
-
-pub slice_bounds-read_u16-count-in-Got : goal.slice_bounds-read_u16-count-in-Got
-slice_bounds-read_u16-count-in-Got c =
-    let a = c.args in
+    let s = a.s.now in
     let at = a.from + 4 * a.i in
-    two_left a.s.now at c.requires (told as16 u16_of at a.s.now c.read_u16.ensures c.in-Got.is)
+    let q : c.read_u16.result ≡ Ok c.in_ok-x.x = search rules in
+    let p : c.read_below.result ≡ Ok c.in_ok-t.t = search rules in
+    omega (arith, told_size as_parse (below a.own) (at + 2) s (size_below a.own) (two_left s at c.requires (told as_parse u16_of at s c.read_u16.ensures q)) c.read_below.ensures p)
 
-pub slice_bounds-read_u16-start-in-Got : goal.slice_bounds-read_u16-start-in-Got
-slice_bounds-read_u16-start-in-Got c =
-    let a = c.args in
-    let at = a.from + 4 * a.i in
-    two_left a.s.now at c.requires (told as16 u16_of at a.s.now c.read_u16.ensures c.in-Got.is)
-
-pub overflow_add-result-in-Refused-read_u16 : goal.overflow_add-result-in-Refused-read_u16
-overflow_add-result-in-Refused-read_u16 c =
+pub returns : goal.returns
+returns c =
     let a = c.args in
     let s = a.s.now in
     let at = a.from + 4 * a.i in
-    let l = two_left s at c.requires (told as16 u16_of at s c.read_u16.ensures c.in-Got.is) in
-    omega (arith, told_size as16 u16_of (at + 2) s (size_number 2) l c.read_u16-in-Got.ensures c.in-Refused-read_u16.is)
-
-pub overflow_add-result-then-t-own : goal.overflow_add-result-then-t-own
-overflow_add-result-then-t-own c =
-    let a = c.args in
-    let s = a.s.now in
-    let at = a.from + 4 * a.i in
-    let l = two_left s at c.requires (told as16 u16_of at s c.read_u16.ensures c.in-Got.is) in
-    omega (arith, told_size as16 u16_of (at + 2) s (size_number 2) l c.read_u16-in-Got.ensures c.in-Got-read_u16.is)
-
-pub returns-in-Refused-read_u16 : goal.returns-in-Refused-read_u16
-returns-in-Refused-read_u16 c =
-    let a = c.args in
-    let s = a.s.now in
-    let at = a.from + 4 * a.i in
-    field_no_type a.own (names_at s a.from a.i) s at (told as16 u16_of at s c.read_u16.ensures c.in-Got.is)
-    (sym c.name_before.ensures ∙ c.if-name_before.false)
-    (told as16 u16_of (at + 2) s c.read_u16-in-Got.ensures c.in-Refused-read_u16.is)
-
-pub returns-then-t-own : goal.returns-then-t-own
-returns-then-t-own c =
-    let a = c.args in
-    let s = a.s.now in
-    let at = a.from + 4 * a.i in
-    field_some a.own (names_at s a.from a.i) s at (told as16 u16_of at s c.read_u16.ensures c.in-Got.is)
-    (sym c.name_before.ensures ∙ c.if-name_before.false)
-    (told as16 u16_of (at + 2) s c.read_u16-in-Got.ensures c.in-Got-read_u16.is) c.if-t-own.true
-
-pub returns-else-t-own : goal.returns-else-t-own
-returns-else-t-own c =
-    let a = c.args in
-    let s = a.s.now in
-    let at = a.from + 4 * a.i in
-    field_past a.own (names_at s a.from a.i) s at (told as16 u16_of at s c.read_u16.ensures c.in-Got.is)
-    (sym c.name_before.ensures ∙ c.if-name_before.false)
-    (told as16 u16_of (at + 2) s c.read_u16-in-Got.ensures c.in-Got-read_u16.is) c.if-t-own.false
+    let q : c.read_u16.result ≡ Ok c.in_ok-x.x = search rules in
+    let p : c.read_below.result ≡ Ok c.in_ok-t.t = search rules in
+    field_some a.own (names_at s a.from a.i) s at (told as_parse u16_of at s c.read_u16.ensures q) (sym c.name_before.ensures ∙ c.if-name_before.false)
+    (told as_parse (below a.own) (at + 2) s c.read_below.ensures p)

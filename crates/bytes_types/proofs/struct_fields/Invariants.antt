@@ -1,9 +1,5 @@
 use Rattle.bytes_types.proofs.Fields.{FieldsUpto}
-use Rattle.std.proofs.Common.{◌-◌}
 use Rattle.bytes_types.proofs.struct_fields.Given as goal
 
 abbrev pub invariant-loop-i : goal.invariant-loop-i
 invariant-loop-i l = FieldsUpto l.own l.s l.from l.count l.i l.at
-
-abbrev pub decreases-loop-i : goal.decreases-loop-i
-decreases-loop-i l = l.count - l.i

@@ -1,83 +1,94 @@
-use Rattle.std.proofs.Common.{get_or, ◌≤◌}
-use Rattle.bytes_wire.specs.Number.{u8_of, u16_of, u32_of, as8, as16, as32}
-use Rattle.bytes_wire.specs.Value.{value_of}
+use Rattle.std.proofs.Common.{rules, of_calls, Ok, get_or, ◌≡◌, ◌≤◌, ◌∙◌, refl}
+use Rattle.std.proofs.iter.Serving.{serving}
+use Rattle.mir.specs.declared.Value.{Value}
+use Rattle.bytes_wire.specs.declared.Cause.{Cause}
+use Rattle.bytes_wire.specs.Parse.{as_read, as_parse, later, map_parse, checked}
+use Rattle.bytes_wire.specs.Number.{u8_of, u32_of, below}
+use Rattle.bytes_wire.specs.Value.{value_of, integer, boolean}
 use Rattle.bytes_wire.proofs.read_value.Goals as goal
 use native.Mathlib.Omega.{arith}
 use borrow.Author.Tests.{le-leb, lt-leb, lt-ltb, le-ltb}
 use lib.ListN.{get_or-eq_default}
-use Rattle.bytes_wire.proofs.Laws.{size_number, told, told_size}
+use lib.Dec.{eqb, ltb}
+use Rattle.bytes_wire.proofs.Laws.{size_number, size_below, told, told_size, there, behind_as, kind_chooses, refused_within}
 
-pub returns-then-s-lt1 : goal.returns-then-s-lt1
+pub returns-in_default : goal.returns-in_default
 unfolding value_of
-returns-then-s-lt1 c = simp (lt-leb _ _ c.if-s-lt1.true)
+returns-in_default c = simp (lt-leb _ _ c.in_default.len_below, c.at.ensures)
+
+pub map_err-requires : goal.map_err-requires
+map_err-requires c = λ e q. let h = refused_within as_read c.read_u32.ensures (size_number 4 _) q in grind (serving, arith, h)
+
+pub returns-in_err-x-in-0 : goal.returns-in_err-x-in-0
+returns-in_err-x-in-0 c =
+    behind_as as_read as_read (λ d. later 1 (map_parse integer d)) 1 (λ k o. refl) (search (rules, of_calls)) (there as_parse u32_of 1 c.args.s.now c.read_u32.ensures)
+    ∙ kind_chooses c.args.next c.args.s.now c.in-len1-up.len_at_least c.in-0.is
 
 pub overflow_add-result : goal.overflow_add-result
-overflow_add-result c = omega (arith, told_size as32 u32_of 1 c.args.s.now (size_number 4) c.if-s-lt1.false c.read_u32.ensures c.in-Got.is)
+overflow_add-result c =
+    let e : c.read_u32.result ≡ Ok c.in_ok-x-in-0.x = search rules in
+    omega (arith, told_size as_parse u32_of 1 c.args.s.now (size_number 4) c.in-len1-up.len_at_least c.read_u32.ensures e)
 
-pub overflow_add-result-in-Refused : goal.overflow_add-result-in-Refused
-overflow_add-result-in-Refused c = omega (arith, told_size as32 u32_of 1 c.args.s.now (size_number 4) c.if-s-lt1.false c.read_u32.ensures c.in-Refused.is)
+pub returns-in_ok-x-in-0 : goal.returns-in_ok-x-in-0
+unfolding value_of
+returns-in_ok-x-in-0 c =
+    let e : c.read_u32.result ≡ Ok c.in_ok-x-in-0.x = search rules in
+    simp (le-leb _ _ c.in-len1-up.len_at_least, c.in-0.is, told as_parse u32_of 1 c.args.s.now c.read_u32.ensures e)
+
+pub map_err-requires-in-1 : goal.map_err-requires-in-1
+map_err-requires-in-1 c = λ e q. let h = refused_within as_read c.read_u8.ensures (size_number 1 _) q in grind (serving, arith, h)
+
+pub returns-in_err-x-in-1 : goal.returns-in_err-x-in-1
+returns-in_err-x-in-1 c =
+    behind_as as_read as_read (λ d. later 1 (map_parse boolean (map_parse (λ x. eqb x 1) (checked Cause.Undefined (λ x. ltb x 2) d)))) 1 (λ k o. refl) (search (rules, of_calls)) (there as_parse u8_of 1 c.args.s.now c.read_u8.ensures)
+    ∙ kind_chooses c.args.next c.args.s.now c.in-len1-up.len_at_least c.in-1.is
 
 pub overflow_add-result-then-x-lt2 : goal.overflow_add-result-then-x-lt2
-overflow_add-result-then-x-lt2 c = omega (arith, told_size as8 u8_of 1 c.args.s.now (size_number 1) c.if-s-lt1.false c.read_u8.ensures c.in-Got-read_u8.is)
-
-pub overflow_add-result-in-Refused-read_u8 : goal.overflow_add-result-in-Refused-read_u8
-overflow_add-result-in-Refused-read_u8 c =
-    omega (arith, told_size as8 u8_of 1 c.args.s.now (size_number 1) c.if-s-lt1.false c.read_u8.ensures c.in-Refused-read_u8.is)
-
-pub overflow_add-result-then-x-next : goal.overflow_add-result-then-x-next
-overflow_add-result-then-x-next c = omega (arith, told_size as16 u16_of 1 c.args.s.now (size_number 2) c.if-s-lt1.false c.read_u16.ensures c.in-Got-read_u16.is)
-
-pub overflow_add-result-in-Refused-read_u16 : goal.overflow_add-result-in-Refused-read_u16
-overflow_add-result-in-Refused-read_u16 c =
-    omega (arith, told_size as16 u16_of 1 c.args.s.now (size_number 2) c.if-s-lt1.false c.read_u16.ensures c.in-Refused-read_u16.is)
-
-pub returns-in-Got : goal.returns-in-Got
-unfolding value_of
-returns-in-Got c = simp (le-leb _ _ c.if-s-lt1.false, c.in-0.is, told as32 u32_of 1 c.args.s.now c.read_u32.ensures c.in-Got.is)
-
-pub returns-in-Refused : goal.returns-in-Refused
-unfolding value_of
-returns-in-Refused c = simp (le-leb _ _ c.if-s-lt1.false, c.in-0.is, told as32 u32_of 1 c.args.s.now c.read_u32.ensures c.in-Refused.is)
+overflow_add-result-then-x-lt2 c =
+    let e : c.read_u8.result ≡ Ok c.in_ok-x-in-1.x = search rules in
+    omega (arith, told_size as_parse u8_of 1 c.args.s.now (size_number 1) c.in-len1-up.len_at_least c.read_u8.ensures e)
 
 pub returns-then-x-lt2 : goal.returns-then-x-lt2
 unfolding value_of
 returns-then-x-lt2 c =
-    simp (le-leb _ _ c.if-s-lt1.false, c.in-1.is, told as8 u8_of 1 c.args.s.now c.read_u8.ensures c.in-Got-read_u8.is, lt-ltb _ _ c.if-x-lt2.true)
+    let e : c.read_u8.result ≡ Ok c.in_ok-x-in-1.x = search rules in
+    simp (le-leb _ _ c.in-len1-up.len_at_least, c.in-1.is, told as_parse u8_of 1 c.args.s.now c.read_u8.ensures e, lt-ltb _ _ c.if-x-lt2.true)
 
 pub returns-else-x-lt2 : goal.returns-else-x-lt2
 unfolding value_of
 returns-else-x-lt2 c =
-    simp (le-leb _ _ c.if-s-lt1.false, c.in-1.is, told as8 u8_of 1 c.args.s.now c.read_u8.ensures c.in-Got-read_u8.is, le-ltb _ _ c.if-x-lt2.false)
+    let e : c.read_u8.result ≡ Ok c.in_ok-x-in-1.x = search rules in
+    simp (le-leb _ _ c.in-len1-up.len_at_least, c.in-1.is, told as_parse u8_of 1 c.args.s.now c.read_u8.ensures e, le-ltb _ _ c.if-x-lt2.false, c.at-else-x-lt2.ensures)
 
-pub returns-in-Refused-read_u8 : goal.returns-in-Refused-read_u8
+pub map_err-requires-in-3 : goal.map_err-requires-in-3
+map_err-requires-in-3 c = λ e q. let h = refused_within as_read c.read_below.ensures (size_below c.args.next _) q in grind (serving, arith, h)
+
+pub returns-in_err-x-in-3 : goal.returns-in_err-x-in-3
+returns-in_err-x-in-3 c =
+    behind_as as_read as_read (λ d. later 1 (map_parse Value.Operand (map_parse (λ x. record { 0 = x }) d))) 1 (λ k o. refl)
+    (search (rules, of_calls)) (there as_parse (below c.args.next) 1 c.args.s.now c.read_below.ensures)
+    ∙ kind_chooses c.args.next c.args.s.now c.in-len1-up.len_at_least c.in-3.is
+
+pub overflow_add-result-in-3 : goal.overflow_add-result-in-3
+overflow_add-result-in-3 c =
+    let e : c.read_below.result ≡ Ok c.in_ok-x-in-3.x = search rules in
+    omega (arith, told_size as_parse (below c.args.next) 1 c.args.s.now (size_below c.args.next) c.in-len1-up.len_at_least c.read_below.ensures e)
+
+pub returns-in_ok-x-in-3 : goal.returns-in_ok-x-in-3
 unfolding value_of
-returns-in-Refused-read_u8 c =
-    simp (le-leb _ _ c.if-s-lt1.false, c.in-1.is, told as8 u8_of 1 c.args.s.now c.read_u8.ensures c.in-Refused-read_u8.is)
+returns-in_ok-x-in-3 c =
+    let e : c.read_below.result ≡ Ok c.in_ok-x-in-3.x = search rules in
+    simp (le-leb _ _ c.in-len1-up.len_at_least, c.in-3.is, told as_parse (below c.args.next) 1 c.args.s.now c.read_below.ensures e)
 
 pub returns-in-2 : goal.returns-in-2
 unfolding value_of
-returns-in-2 c = simp (le-leb _ _ c.if-s-lt1.false, c.in-2.is)
-
-pub returns-then-x-next : goal.returns-then-x-next
-unfolding value_of
-returns-then-x-next c =
-    simp (le-leb _ _ c.if-s-lt1.false, c.in-3.is, told as16 u16_of 1 c.args.s.now c.read_u16.ensures c.in-Got-read_u16.is, lt-ltb _ _ c.if-x-next.true)
-
-pub returns-else-x-next : goal.returns-else-x-next
-unfolding value_of
-returns-else-x-next c =
-    simp (le-leb _ _ c.if-s-lt1.false, c.in-3.is, told as16 u16_of 1 c.args.s.now c.read_u16.ensures c.in-Got-read_u16.is, le-ltb _ _ c.if-x-next.false)
-
-pub returns-in-Refused-read_u16 : goal.returns-in-Refused-read_u16
-unfolding value_of
-returns-in-Refused-read_u16 c =
-    simp (le-leb _ _ c.if-s-lt1.false, c.in-3.is, told as16 u16_of 1 c.args.s.now c.read_u16.ensures c.in-Refused-read_u16.is)
+returns-in-2 c = simp (le-leb _ _ c.in-len1-up.len_at_least, c.in-2.is)
 
 pub returns-in-4 : goal.returns-in-4
 unfolding value_of
-returns-in-4 c = simp (le-leb _ _ c.if-s-lt1.false, c.in-4.is)
+returns-in-4 c = simp (le-leb _ _ c.in-len1-up.len_at_least, c.in-4.is)
 
-pub returns-in_default : goal.returns-in_default
+pub returns-in_default-kind : goal.returns-in_default-kind
 unfolding value_of
-returns-in_default c = let h : 5 ≤ get_or c.args.s.now 0 0 = omega arith in
-    simp (le-leb _ _ c.if-s-lt1.false, get_or-eq_default)
+returns-in_default-kind c = let h : 5 ≤ get_or c.args.s.now 0 0 = omega arith in
+    simp (le-leb _ _ c.in-len1-up.len_at_least, get_or-eq_default, c.at-in_default-kind.ensures)

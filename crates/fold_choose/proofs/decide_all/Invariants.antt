@@ -1,10 +1,6 @@
 use Rattle.fold_choose.proofs.Flags.{Deciding}
-use Rattle.std.proofs.Common.{◌-◌}
 use Rattle.fold_choose.proofs.decide_all.Given as goal
 
 abbrev pub invariant-loop-j : goal.invariant-loop-j
 invariant-loop-j l = Deciding l.settings l.shapes l.graph l.looked l.s l.b l.facts
     (record { first = l.first; count = l.count }) l.initial.choice l.j l.choice
-
-abbrev pub decreases-loop-j : goal.decreases-loop-j
-decreases-loop-j l = l.count - l.j

@@ -1,6 +1,6 @@
 use Rattle.std.proofs.Common.{◌≤◌, ◌<◌, arith, length, true, slice_set}
 use mathlib.Core.Path.{sym, ◌∙◌}
-use borrow.Author.Tests.{not-true, not-false, eq-eqb, ne_eqb}
+use borrow.Author.Tests.{eq-eqb, ne_eqb}
 use Rattle.fold_climb.specs.Scanned.{sight_of}
 use Rattle.fold_climb.proofs.Depth.{climb_barred}
 use Rattle.fold_climb.proofs.Turn.{turn_done, turn_other, turn_array, turn_stop, turn_on, refused_past, refused_met, climbs, fewer}
@@ -27,21 +27,21 @@ returns-then-array t c =
     (slice_set a.visited a.v.0 true) c.loop-i.i c.loop-i.met c.loop-i.invariant c.loop-i-test.true
     (sym c.number.ensures ∙ c.if-number-v.true) (eq-eqb _ _ (sym c.byte_at-array.ensures ∙ c.if-array.true)))
 
-pub climb-r-requires : goal.climb-r-requires
-climb-r-requires t c =
+pub climb-requires : goal.climb-requires
+climb-requires t c =
     let a = c.args in
     let k : a.v.0 < length a.visited = omega arith in
     (omega (arith, c.decreases, fewer (sight_of a.shapes.now a.graph.now) a.v.0 a.visited k c.if-visited-at.false, c.loop-i.invariant.clear), tt)
 
-pub returns-then-not-r : goal.returns-then-not-r
-returns-then-not-r t c =
+pub returns-in_err-met : goal.returns-in_err-met
+returns-in_err-met t c =
     let a = c.args in
     let S = sight_of a.shapes.now a.graph.now in
     let k : a.v.0 < length a.visited = omega arith in
-    turn_stop S a.v.0 a.graph.now (slice_set a.visited a.v.0 true) c.loop-i.i c.loop-i.met c.loop-i.invariant c.loop-i-test.true
+    rw c.from_residual.ensures (turn_stop S a.v.0 a.graph.now (slice_set a.visited a.v.0 true) c.loop-i.i c.loop-i.met c.loop-i.invariant c.loop-i-test.true
     (sym c.number.ensures ∙ c.if-number-v.true) (ne_eqb _ _ (λ e. c.if-array.false (c.byte_at-array.ensures ∙ e)))
-    c.number-then-number-v.result c.number-then-number-v.ensures c.climb-r.result c.climb-r.ensures (not-true _ c.if-not-r.true) ∙ sym
-    (climbs S a.v.0 a.visited k c.if-visited-at.false (sym c.allowed.ensures ∙ c.if-not-allowed.false))
+    c.number-then-number-v.result c.number-then-number-v.ensures c.in_err-met.ensures ∙ sym
+    (climbs S a.v.0 a.visited k c.if-visited-at.false (sym c.allowed.ensures ∙ c.if-not-allowed.false)))
 
 pub loop-i-preserved-then-number-v : goal.loop-i-preserved-then-number-v
 loop-i-preserved-then-number-v t c =
@@ -49,7 +49,7 @@ loop-i-preserved-then-number-v t c =
     let S = sight_of a.shapes.now a.graph.now in
     turn_on S a.v.0 a.graph.now (slice_set a.visited a.v.0 true) c.loop-i.i c.loop-i.met c.loop-i.invariant c.loop-i-test.true
     (sym c.number.ensures ∙ c.if-number-v.true) (ne_eqb _ _ (λ e. c.if-array.false (c.byte_at-array.ensures ∙ e)))
-    c.number-then-number-v.result c.number-then-number-v.ensures c.climb-r.result c.climb-r.ensures (not-false _ c.if-not-r.false)
+    c.number-then-number-v.result c.number-then-number-v.ensures _ c.in_ok-met.ensures
 
 pub loop-i-preserved : goal.loop-i-preserved
 loop-i-preserved t c =

@@ -8,7 +8,3 @@ decreases-climb l = unmarked l.visited
 
 abbrev pub invariant-loop-i : goal.invariant-loop-i
 invariant-loop-i l = Climbing (sight_of l.shapes l.graph) l.v.0 l.graph l.initial.met l.i l.met
-
--- proposed from the loop's first test
-abbrev pub decreases-loop-i : goal.decreases-loop-i
-decreases-loop-i l = l.i

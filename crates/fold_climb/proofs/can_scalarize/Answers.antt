@@ -1,7 +1,7 @@
 use mathlib.Core.Path.{ap, ◌∙◌}
 use Rattle.mir.specs.Lookup.{is_some}
-use Rattle.fold_climb.proofs.Decide.{some_ok}
+use Rattle.fold_climb.proofs.Decide.{some_option}
 use Rattle.fold_climb.proofs.can_scalarize.Goals as goal
 
 pub returns : goal.returns
-returns c = some_ok c.climb-r.result ∙ ap is_some c.climb-r.ensures
+returns c = c.is_some.ensures ∙ some_option c.climb.result ∙ ap is_some c.climb.ensures

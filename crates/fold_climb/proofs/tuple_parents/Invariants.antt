@@ -5,6 +5,3 @@ use Rattle.fold_climb.proofs.tuple_parents.Given as goal
 
 abbrev pub invariant-loop-i : goal.invariant-loop-i
 invariant-loop-i l = Testing (climbs (sight_of l.shapes l.graph)) l.v.0 l.graph l.initial.i l.i
-
-abbrev pub decreases-loop-i : goal.decreases-loop-i
-decreases-loop-i l = l.i

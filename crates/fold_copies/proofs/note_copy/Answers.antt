@@ -1,14 +1,14 @@
 use Rattle.fold_copies.proofs.Scan.{rows_more, rows_same}
 use Rattle.fold_copies.proofs.note_copy.Goals as goal
 
-pub returns-in-Nothing-clause-noted : goal.returns-in-Nothing-clause-noted
-returns-in-Nothing-clause-noted c =
+pub returns-in_default-clause-noted : goal.returns-in_default-clause-noted
+returns-in_default-clause-noted c =
     let a = c.args in
-    λ cs r m w. rw c.in-Nothing.is (rows_same a.copies.now a.n cs r m)
+    λ cs r m w. rw c.in_default.is (rows_same a.copies.now a.n cs r m)
 
-pub returns-in-Copy-clause-noted : goal.returns-in-Copy-clause-noted
-returns-in-Copy-clause-noted c =
+pub returns-clause-noted : goal.returns-clause-noted
+returns-clause-noted c =
     let a = c.args in
-    let x = c.in-Copy in
-    λ cs r m w. rw x.is (rows_more a.copies.now a.n cs (record { source = x.source.0; dest = x.dest.0; asked = x.asked }) r m w c.requires
-    c.set_number.ensures c.set_number-in-Copy.ensures c.number.ensures c.set_number-in-Copy-2.ensures c.set_number-in-Copy-3.ensures)
+    let x = c.in-Some.c in
+    λ cs r m w. rw c.in-Some.is (rows_more a.copies.now a.n cs (record { source = x.source.0; dest = x.dest.0; asked = x.asked }) r m w c.requires
+    c.set_number.ensures c.set_number-2.ensures c.number.ensures c.set_number-3.ensures c.set_number-4.ensures)

@@ -1,4 +1,3 @@
-use native.Mathlib.Omega.{arith}
 use mathlib.Core.List.{[]}
 use mathlib.Core.Bool.{false}
 use mathlib.Core.Path.{ap, ◌∙◌}
@@ -6,11 +5,8 @@ use Rattle.fold_family.specs.Copies.{dynamic_step}
 use Rattle.fold_copies.proofs.Fields.{noted_other, noted_static, noted_dynamic}
 use Rattle.fold_copies.proofs.note_dynamic.Goals as goal
 
-pub returns-then-kind-lt-LOAD : goal.returns-then-kind-lt-LOAD
-returns-then-kind-lt-LOAD c = noted_other c.args.b c.args.t.now c.args.kind c.args.dynamic.now (λ z. omega arith) (λ z. omega arith)
-
-pub returns-then-kind-gt-STORE : goal.returns-then-kind-gt-STORE
-returns-then-kind-gt-STORE c = noted_other c.args.b c.args.t.now c.args.kind c.args.dynamic.now (λ z. omega arith) (λ z. omega arith)
+pub returns-then-kind-ne-STORE : goal.returns-then-kind-ne-STORE
+returns-then-kind-ne-STORE c = noted_other c.args.b c.args.t.now c.args.kind c.args.dynamic.now c.if-kind-ne-LOAD.true c.if-kind-ne-STORE.true
 
 pub returns-then-is_dynamic : goal.returns-then-is_dynamic
 returns-then-is_dynamic c =

@@ -1,9 +1,5 @@
 use Rattle.fold_copies.proofs.Scan.{Scanning}
-use Rattle.std.proofs.Common.{◌-◌}
 use Rattle.fold_copies.proofs.scan_copies.Given as goal
 
 abbrev pub invariant-loop-k : goal.invariant-loop-k
 invariant-loop-k l = Scanning l.s l.b l.facts l.first l.count l.initial.copies l.initial.dynamic l.copies l.dynamic l.n l.k l.row
-
-abbrev pub decreases-loop-k : goal.decreases-loop-k
-decreases-loop-k l = l.count - l.k

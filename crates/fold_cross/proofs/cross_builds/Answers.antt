@@ -9,7 +9,7 @@ loop-j-preserved c =
     c.block_number-own.ensures.1 c.first_slot.ensures c.row_place-rows.ensures c.instruction_count-count.ensures _ _
     l.family l.marks l.members l.j l.invariant c.loop-j-test.true
     c.eligible_build-d.result c.eligible_build-d.ensures _ _ _ c.find_family-n.ensures
-    _ _ c.unite_abroad.ensures c.unite_abroad.auto.marks c.unmark.ensures c.find_family-n.auto.members
+    c.find_family-n.auto.members _ c.first_members-listed.ensures _ _ c.unite_abroad.ensures c.unite_abroad.auto.marks c.unmark.ensures
 
 pub returns : goal.returns
 returns c =

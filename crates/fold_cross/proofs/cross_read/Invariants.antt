@@ -1,9 +1,5 @@
 use Rattle.fold_cross.proofs.Crossing.{Crossing}
-use Rattle.std.proofs.Common.{◌-◌}
 use Rattle.fold_cross.proofs.cross_read.Given as goal
 
 abbrev pub invariant-loop-k : goal.invariant-loop-k
 invariant-loop-k l = Crossing l.b l.s l.facts l.shapes l.eligible l.readers l.initial.marks l.marks l.k
-
-abbrev pub decreases-loop-k : goal.decreases-loop-k
-decreases-loop-k l = l.many - l.k

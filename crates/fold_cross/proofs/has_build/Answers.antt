@@ -1,4 +1,5 @@
-use Rattle.fold_cross.proofs.Idle.{idling_again}
+use mathlib.Core.Path.{sym, ◌∙◌}
+use Rattle.fold_cross.proofs.Idle.{none_left, idling_again}
 use Rattle.fold_cross.proofs.has_build.Goals as goal
 
 pub loop-k-preserved : goal.loop-k-preserved
@@ -6,4 +7,4 @@ loop-k-preserved c =
     let a = c.args in
     let l = c.loop-k in
     idling_again a.s.now a.facts.now a.first a.count a.eligible.now _ l.k _ c.row_place-rows.ensures l.invariant
-    c.loop-k-test.true c.eligible_build.ensures c.in-Nothing.is
+    c.loop-k-test.true c.eligible_build.ensures (none_left c.eligible_build.result (sym c.is_some.ensures ∙ c.if-is_some.false))

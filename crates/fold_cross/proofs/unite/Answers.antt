@@ -1,14 +1,16 @@
+use mathlib.Core.Path.{refl}
+use Rattle.std.proofs.Common.{length}
 use Rattle.fold_cross.proofs.Uniting.{unite_again, unite_done}
 use Rattle.fold_cross.proofs.unite.Goals as goal
 
-pub loop-k-preserved : goal.loop-k-preserved
-loop-k-preserved c =
+pub loop-v-preserved : goal.loop-v-preserved
+loop-v-preserved c =
     let a = c.args in
-    let l = c.loop-k in
-    unite_again a.members.now a.n a.marks.now l.marks _ l.k _ l.invariant c.loop-k-test.true c.place.ensures c.set_flag.ensures
+    let l = c.loop-v in
+    unite_again a.members.now (length a.members.now) a.marks.now l.marks _ l.v-index _ l.invariant c.loop-v-test.true refl c.set_flag.ensures
 
 pub returns : goal.returns
 returns c =
     let a = c.args in
-    let l = c.loop-k in
-    unite_done a.members.now a.n a.marks.now l.marks l.k l.invariant c.loop-k-test.false
+    let l = c.loop-v in
+    unite_done a.members.now (length a.members.now) a.marks.now l.marks l.v-index l.invariant c.loop-v-test.false

@@ -27,4 +27,4 @@ returns c =
     let a = c.args in
     let l = c.loop-turns in
     never_late a.copies.now a.shape a.v.0 a.marks.now a.members.now a.v refl l.q l.marks l.members l.turns l.invariant
-    (omega (arith, c.loop-turns-test.false))
+    (omega (arith, c.loop-turns-test.false)) _

@@ -1,5 +1,4 @@
-use Rattle.std.proofs.Common.{true, ◌||◌, ℕ}
-use mathlib.Core.Path.{sym, ap}
+use mathlib.Core.Path.{refl}
 use lib.Dec.{eqb}
 use borrow.Author.Tests.{ne_eqb}
 use Rattle.fold_phis.proofs.FrontPhis.{tells_none, tells_phi}
@@ -14,7 +13,7 @@ pub returns-then-shape-eq-TUPLE : goal.returns-then-shape-eq-TUPLE
 returns-then-shape-eq-TUPLE c =
     let a = c.args in
     tells_phi a.s.now a.facts.now a.slot a.shapes.now c.kind.result c.kind.ensures c.if-kind-ne-PHI.false c.dest-d.result.0
-    c.byte_at-shape.result c.dest-d.ensures c.byte_at-shape.ensures true (sym (ap (λ (x : ℕ). eqb x 1 || eqb x 2) c.if-shape-eq-TUPLE.true))
+    c.byte_at-shape.result c.dest-d.ensures c.byte_at-shape.ensures (eqb c.byte_at-shape.result 1) (rw c.if-shape-eq-TUPLE.true refl)
 
 pub returns-else-shape-eq-TUPLE : goal.returns-else-shape-eq-TUPLE
 returns-else-shape-eq-TUPLE c =

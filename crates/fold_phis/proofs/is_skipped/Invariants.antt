@@ -1,9 +1,5 @@
 use Rattle.fold_phis.proofs.FrontPhis.{Skipping}
-use Rattle.std.proofs.Common.{◌-◌}
 use Rattle.fold_phis.proofs.is_skipped.Given as goal
 
 abbrev pub invariant-loop-k : goal.invariant-loop-k
 invariant-loop-k l = Skipping l.s l.facts l.first l.count l.shapes l.k
-
-abbrev pub decreases-loop-k : goal.decreases-loop-k
-decreases-loop-k l = l.count - l.k

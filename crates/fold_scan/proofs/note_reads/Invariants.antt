@@ -3,6 +3,3 @@ use Rattle.fold_scan.proofs.note_reads.Given as goal
 
 abbrev pub invariant-loop-k : goal.invariant-loop-k
 invariant-loop-k l = Noting l.facts l.slot l.kind l.d.0 l.initial.graph l.k l.graph
-
-abbrev pub decreases-loop-k : goal.decreases-loop-k
-decreases-loop-k l = l.k

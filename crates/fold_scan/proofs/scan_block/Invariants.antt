@@ -3,6 +3,3 @@ use Rattle.fold_scan.proofs.scan_block.Given as goal
 
 abbrev pub invariant-loop-k : goal.invariant-loop-k
 invariant-loop-k l = Scanning l.s l.b l.facts l.first l.count l.shapes l.eligible l.cross l.structs l.initial.graph l.k l.graph
-
-abbrev pub decreases-loop-k : goal.decreases-loop-k
-decreases-loop-k l = l.k

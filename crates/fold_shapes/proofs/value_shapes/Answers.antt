@@ -6,5 +6,5 @@ loop-v-preserved c =
     let a = c.args in
     let l = c.loop-v in
     fill_again a.s.now a.types.now a.many a.recorded.now a.next a.settings _ _ l.shapes l.eligible l.v _ _ _ _ _
-    l.invariant c.loop-v-test.true c.number.ensures c.recorded_shape.ensures c.recorded_eligible.ensures c.set_byte.ensures
+    l.invariant c.loop-v-test.true c.recorded_type-t.ensures c.recorded_shape.ensures c.recorded_eligible.ensures c.set_byte.ensures
     c.set_flag.ensures

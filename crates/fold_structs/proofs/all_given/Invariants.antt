@@ -1,9 +1,5 @@
 use Rattle.fold_structs.proofs.Given.{Naming}
-use Rattle.std.proofs.Common.{◌-◌}
 use Rattle.fold_structs.proofs.all_given.Given as goal
 
 abbrev pub invariant-loop-i : goal.invariant-loop-i
 invariant-loop-i l = Naming l.t l.at l.n l.u l.names l.m l.i
-
-abbrev pub decreases-loop-i : goal.decreases-loop-i
-decreases-loop-i l = l.m - l.i

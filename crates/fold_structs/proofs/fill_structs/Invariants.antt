@@ -1,9 +1,5 @@
 use Rattle.fold_structs.proofs.Conditions.{Filling}
-use Rattle.std.proofs.Common.{◌-◌}
 use Rattle.fold_structs.proofs.fill_structs.Given as goal
 
 abbrev pub invariant-loop-k : goal.invariant-loop-k
 invariant-loop-k l = Filling l.b l.s l.facts l.first l.count l.settings l.cross l.initial.structs l.k l.structs
-
-abbrev pub decreases-loop-k : goal.decreases-loop-k
-decreases-loop-k l = l.count - l.k

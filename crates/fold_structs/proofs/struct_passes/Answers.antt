@@ -1,7 +1,9 @@
 use Rattle.std.proofs.Common.{drop, get_or}
 use mathlib.Core.Path.{ap, ◌∙◌}
 use Rattle.bytes_wire.specs.Number.{at16}
-use Rattle.fold_structs.proofs.Conditions.{typed, passes_short, passes_type, passes_marked, passes_told}
+use Rattle.bytes_sections.specs.Index.{recorded_from}
+use Rattle.fold_structs.specs.Told.{goes_by}
+use Rattle.fold_structs.proofs.Conditions.{typed, goes_told, passes_short, passes_type, passes_marked, passes_told}
 use Rattle.fold_structs.proofs.struct_passes.Goals as goal
 
 pub returns-then-size-lt2 : goal.returns-then-size-lt2
@@ -29,5 +31,7 @@ returns c =
     passes_told a.b a.s.now a.facts.now a.settings a.cross.now a.t.now a.size (typed c.u16_at.result) c.u16_at.ensures c.type_eligible.result
     c.type_eligible.ensures c.if-not-type_eligible.false c.u16_at-2.result
     (c.u16_at-2.ensures ∙ ap (λ u. at16 u 0) (c.tail.ensures ∙ ap (λ o. drop o a.t.now) c.fields_place.ensures)) c.flag.result
-    c.flag.ensures c.if-flag.false c.number.result (c.number.ensures ∙ ap (λ u. get_or u c.u16_at-2.result 0) c.recorded.ensures)
-    c.goes_by-y.result c.goes_by-y.ensures c.told_by.result c.told_by.ensures
+    c.flag.ensures c.if-flag.false c.unwrap_or.result
+    (c.unwrap_or.ensures ∙ goes_told c.recorded_type-recorded.result (typed c.u16_at.result)
+    ∙ ap (λ o. goes_by o (typed c.u16_at.result)) (c.recorded_type-recorded.ensures ∙ ap (λ u. recorded_from (get_or u c.u16_at-2.result 0)) c.recorded.ensures))
+    c.told_by.result c.told_by.ensures

@@ -16,4 +16,4 @@ returns c =
     }
     in
     counted _ c.args.input.now c.args.output.now _ _ _ _ (λ j. omega (arith, c.type_inv.input j)) fit
-    c.lower_into-answer.ensures c.totals_after-after.ensures
+    c.lower_into-answer.ensures c.totals_after.ensures

@@ -5,16 +5,16 @@ use Rattle.pass_families.proofs.Putting.{lines_accepted, lines_refused}
 use Rattle.pass_families.proofs.families_text.Goals as goal
 
 pub put_routine-requires : goal.put_routine-requires
-put_routine-requires c = (accepted_read c.args.s.now _ (λ j. omega (arith, c.type_inv.s j)) _ c.read_routine.ensures _ c.in-Accepted.is, c.requires)
+put_routine-requires c = (accepted_read c.args.s.now _ (λ j. omega (arith, c.type_inv.s j)) _ c.read_routine.ensures _ c.in-Ok.is, c.requires)
 
-pub returns-in-Refused-clause-written : goal.returns-in-Refused-clause-written
-returns-in-Refused-clause-written c =
+pub returns-in-Err-clause-written : goal.returns-in-Err-clause-written
+returns-in-Err-clause-written c =
     written_as
-    (lines_refused c.args.named c.args.s.now c.in-Refused.c c.in-Refused.o c.cause_number.result c.cause_number.ensures
-    (refused_read c.args.s.now _ (λ j. omega (arith, c.type_inv.s j)) _ c.read_routine.ensures _ _ c.in-Refused.is))
+    (lines_refused c.args.named c.args.s.now c.in-Err.e.cause c.in-Err.e.offset c.cause_number.result c.cause_number.ensures
+    (refused_read c.args.s.now _ (λ j. omega (arith, c.type_inv.s j)) _ c.read_routine.ensures _ c.in-Err.is))
     c.checked_line.ensures.written
 
-pub returns-in-Accepted-clause-written : goal.returns-in-Accepted-clause-written
-returns-in-Accepted-clause-written c =
-    let a = accepted_read c.args.s.now _ (λ j. omega (arith, c.type_inv.s j)) _ c.read_routine.ensures _ c.in-Accepted.is in
+pub returns-in-Ok-clause-written : goal.returns-in-Ok-clause-written
+returns-in-Ok-clause-written c =
+    let a = accepted_read c.args.s.now _ (λ j. omega (arith, c.type_inv.s j)) _ c.read_routine.ensures _ c.in-Ok.is in
     written_as (lines_accepted c.args.named c.args.s.now _ _ a) (c.put_routine.ensures.written a)

@@ -1,5 +1,5 @@
 use Rattle.pass_families.proofs.Marked.{listing, listing_room, listing_on, listing_past, listed, listed_few}
-use Rattle.pass_families.proofs.list_members.Goals.{then-family-v, else-family-v}
+use Rattle.pass_families.proofs.list_members.Goals.{then-marked, else-marked}
 use Rattle.pass_families.proofs.list_members.Goals as goal
 
 pub loop-v-init : goal.loop-v-init
@@ -10,9 +10,9 @@ bounds-line-n c = listing_room _ _ _ _ _ c.loop-v.invariant c.requires c.loop-v-
 
 pub loop-v-preserved : goal.loop-v-preserved
 loop-v-preserved c =
-    elim c.if-family-v.branch [
-      | then-family-v w ↦ rw (w.line-is, w.n-is) (listing_on _ _ _ _ _ c.loop-v.invariant c.loop-v-test.true w.if-family-v.true)
-      | else-family-v w ↦ rw (w.line-is, w.n-is) (listing_past _ _ _ _ _ c.loop-v.invariant c.loop-v-test.true w.if-family-v.false)
+    elim c.if-marked.branch [
+      | then-marked w ↦ rw (w.line-is, w.n-is) (listing_on _ _ _ _ _ c.loop-v.invariant c.loop-v-test.true w.if-marked.true)
+      | else-marked w ↦ rw (w.line-is, w.n-is) (listing_past _ _ _ _ _ c.loop-v.invariant c.loop-v-test.true w.if-marked.false)
     ]
 
 pub returns-clause-listed : goal.returns-clause-listed

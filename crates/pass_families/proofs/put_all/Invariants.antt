@@ -1,4 +1,4 @@
-use Rattle.std.proofs.Common.{◌-◌, ◌*◌, ◌≤◌}
+use Rattle.std.proofs.Common.{◌*◌, ◌≤◌}
 use Rattle.pass_families.specs.Widths.{line_width}
 use Rattle.pass_families.proofs.Putting.{Putting}
 use Rattle.pass_families.proofs.put_all.Given as goal
@@ -8,6 +8,3 @@ invariant-loop-j l =
     (l.j ≤ l.count)
     × (l.to ≤ line_width * l.j)
     × Putting l.named l.s l.facts l.from.block l.shapes l.copies l.dynamic l.from.slot l.count l.initial.text l.text l.to l.j
-
-abbrev pub decreases-loop-j : goal.decreases-loop-j
-decreases-loop-j l = l.count - l.j

@@ -1,14 +1,21 @@
 -- Each total by its own sum.
 use Rattle.pass_numbers.specs.Totals.{with_counts}
+use Rattle.pass_numbers.proofs.Laws.{added_min}
 use Rattle.pass_numbers.proofs.with_counts.Goals as goal
 
 pub returns : goal.returns
 unfolding with_counts
 returns c =
     simp (
-      c.add-builds.ensures,
-      c.add-extracts.ensures,
-      c.add-inserts.ensures,
-      c.add-assigns.ensures,
-      c.add-materializations.ensures,
+      added_min,
+      c.saturating_add.ensures,
+      c.from.ensures,
+      c.saturating_add-2.ensures,
+      c.from-2.ensures,
+      c.saturating_add-3.ensures,
+      c.from-3.ensures,
+      c.saturating_add-4.ensures,
+      c.from-4.ensures,
+      c.saturating_add-5.ensures,
+      c.from-5.ensures,
     )

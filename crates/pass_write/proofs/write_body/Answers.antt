@@ -22,4 +22,4 @@ returns c = λ h.
     let g = c.put_body.ensures m.chosen (begun m) in
     let seen = shelved_written m h.before h.room _ _ _ h.written g _ refl in
     answers_written m h.before h.room _ _ _ h.written g c.reason-reason.result _
-    (c.reason-reason.ensures x (rewritten_blocks c.args.setup.settings x) seen) c.lowered.ensures
+    (c.reason-reason.ensures x (rewritten_blocks c.args.setup.settings x) seen) c.new.ensures

@@ -1,21 +1,20 @@
-use borrow.Author.Tests.{not-true, not-false}
-use Rattle.rewrite_arms.proofs.Actions.{no_parts, has, has_parts, there, init_gone, init_there, take_stays, take_assigns, take_shares}
+use Rattle.std.proofs.Common.{refl}
+use Rattle.rewrite_arms.proofs.Actions.{no_parts, has, has_parts, take_stays, take_assigns, take_shares}
 use Rattle.rewrite_arms.proofs.plan_take.Goals as goal
 
-pub returns-then-not-init : goal.returns-then-not-init
-returns-then-not-init c = λ facts rows used S i p o r d a. take_stays _ _ o (init_gone a (not-true _ c.if-not-init.true))
+pub returns-in_default : goal.returns-in_default
+returns-in_default c = λ facts rows used S i p o r d a. take_stays _ _ o (rw c.in_default.is at a)
 
-pub returns-in-Untracked : goal.returns-in-Untracked
-returns-in-Untracked c =
-    λ facts rows used S i p o r d a. elim (init_there a (not-false _ c.if-not-init.false)) [
-      | there x e v ↦
-          take_assigns d _ _ o x e (rw (c.value_at.ensures x v) at (no_parts (c.tracked_source.ensures _ _ _ _ S r) c.in-Untracked.is)) v
-    ]
+pub returns-in-None : goal.returns-in-None
+returns-in-None c =
+    λ facts rows used S i p o r d a.
+    let h = rw c.in-Some.is at a in
+    take_assigns d _ _ o h.value h.is (rw (c.value_at-x.ensures h.value h.stands) at (no_parts (c.in-None.ensures _ _ _ _ S r) refl)) h.stands
 
-pub returns-in-Tracked : goal.returns-in-Tracked
-returns-in-Tracked c =
-    λ facts rows used S i p o r d a. elim (init_there a (not-false _ c.if-not-init.false)) [
-      | there x e v ↦ elim (has_parts (c.tracked_source.ensures _ _ _ _ S r) c.in-Tracked.is) [
-        | has xs f k ↦ take_shares d _ _ o x _ xs e (rw (c.value_at.ensures x v) at f) k
-      ]
+pub returns-in-Some-tracked_source : goal.returns-in-Some-tracked_source
+returns-in-Some-tracked_source c =
+    λ facts rows used S i p o r d a.
+    let h = rw c.in-Some.is at a in
+    elim (has_parts (c.in-Some-tracked_source.ensures _ _ _ _ S r) refl) [
+      | has xs f k ↦ take_shares d _ _ o h.value _ xs h.is (rw (c.value_at-x.ensures h.value h.stands) at f) k
     ]

@@ -5,4 +5,4 @@ use Rattle.rewrite_before.proofs.copy_instruction.Goals as goal
 
 pub returns-clause-instruction_written : goal.returns-clause-instruction_written
 returns-clause-instruction_written c = instruction_copied _ _ _ _ _ _ _ _ _ _ c.place-at.ensures.0 c.tail.ensures
-    (c.minus.ensures ∙ ap (λ k. k - c.place-at.result) c.end.ensures.0) c.copy_bytes.ensures.writes
+    (c.saturating_sub.ensures ∙ ap (λ k. k - c.place-at.result) c.end.ensures.0) c.copy_bytes.ensures.writes

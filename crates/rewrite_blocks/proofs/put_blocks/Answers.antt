@@ -1,5 +1,6 @@
 use Prim.Native.Nat.{◌+◌, ◌*◌}
 use native.Mathlib.Omega.{arith}
+use Rattle.std.proofs.lemmas.Result.{err_from_is_err_and}
 use Rattle.rewrite_step.specs.Stepping.{lent_as}
 use Rattle.rewrite_perform.proofs.Lows.{low_mono}
 use Rattle.rewrite_blocks.proofs.Rounds.{laid_clash, laid_again, laid_all}
@@ -13,15 +14,16 @@ put_block-requires c =
       (omega (arith, l.invariant.tracked_size, q.1.1.0), omega (arith, l.invariant.work_size, q.1.1.1)),
     )
 
-pub returns-in-Clash-clause-all_put : goal.returns-in-Clash-clause-all_put
-returns-in-Clash-clause-all_put c =
+pub returns-in_err-q-clause-all_put : goal.returns-in_err-q-clause-all_put
+returns-in_err-q-clause-all_put c =
     let a = c.args in
     let l = c.loop-k in
     let t = c.put_block in
-    λ τ ch ks co fo z en. laid_clash a.setup a.s.now a.facts.now a.choice.now
+    let e = err_from_is_err_and c.from_residual.result c.from_residual.ensures.1 in
+    λ τ ch ks co fo z en. rw e.1 (laid_clash a.setup a.s.now a.facts.now a.choice.now
     (lent_as a.tracked.now a.dropped.now a.work.now a.out.now) a.p (lent_as l.tracked l.dropped l.work l.out) l.q
     l.k l.invariant c.loop-k-test.true (lent_as t.new.tracked t.new.dropped t.new.work t.new.out)
-    t.result t.ensures.one_put τ ch ks co fo z en c.in-Clash.is
+    t.result t.ensures.one_put τ ch ks co fo z en _ _ c.in_err-q.was)
 
 pub loop-k-preserved : goal.loop-k-preserved
 loop-k-preserved c =
@@ -31,7 +33,7 @@ loop-k-preserved c =
     laid_again a.setup a.s.now a.facts.now a.choice.now (lent_as a.tracked.now a.dropped.now a.work.now a.out.now)
     a.p (lent_as l.tracked l.dropped l.work l.out) l.q l.k l.invariant c.loop-k-test.true
     (lent_as t.new.tracked t.new.dropped t.new.work t.new.out)
-    t.result t.ensures.one_put _ c.in-Went.is t.ensures.by_index t.auto.tracked t.auto.dropped t.auto.work t.auto.out
+    t.result t.ensures.one_put _ c.in_ok-q.was t.ensures.by_index t.auto.tracked t.auto.dropped t.auto.work t.auto.out
 
 pub returns : goal.returns
 returns c =

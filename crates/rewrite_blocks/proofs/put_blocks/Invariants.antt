@@ -6,6 +6,3 @@ use Rattle.rewrite_blocks.proofs.put_blocks.Given as goal
 abbrev pub invariant-loop-k : goal.invariant-loop-k
 invariant-loop-k l = Laid l.setup l.s l.facts l.choice (lent_as l.initial.tracked l.initial.dropped l.initial.work l.initial.out)
     l.initial.q (lent_as l.tracked l.dropped l.work l.out) l.q l.k
-
-abbrev pub decreases-loop-k : goal.decreases-loop-k
-decreases-loop-k l = l.setup.bounds.blocks - l.k

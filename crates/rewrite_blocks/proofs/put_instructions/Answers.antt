@@ -1,5 +1,6 @@
 use Prim.Native.Nat.{◌+◌}
 use native.Mathlib.Omega.{arith}
+use Rattle.std.proofs.lemmas.Result.{err_from_is_err_and}
 use Rattle.rewrite_step.specs.Stepping.{lent_as}
 use Rattle.rewrite_perform.proofs.Lows.{low_mono}
 use Rattle.rewrite_blocks.proofs.Walks.{walking_long, walking_clash, walking_again, walking_done}
@@ -15,15 +16,16 @@ step-requires c = let l = c.loop-j in
       (omega (arith, l.invariant.used, r.used, c.loop-j-test.true, r.most), walking_long _ _ _ _ _ _ _ _ _ _ l.invariant r),
     )
 
-pub returns-in-Clash-clause-instructions_put : goal.returns-in-Clash-clause-instructions_put
-returns-in-Clash-clause-instructions_put c = let a = c.args in
+pub returns-in_err-v-clause-instructions_put : goal.returns-in_err-v-clause-instructions_put
+returns-in_err-v-clause-instructions_put c = let a = c.args in
     let l = c.loop-j in
     let t = c.step in
     let l₀ = lent_as a.tracked.now a.dropped.now a.work.now a.out.now in
     let l₁ = lent_as l.tracked l.dropped l.work l.out in
     let l' = lent_as t.new.tracked t.new.dropped t.new.work t.new.out in
-    walking_clash a.setup a.s.now a.facts.now a.choice.now a.at l₀ a.w l₁ l.v l.j l.invariant c.requires
-    c.loop-j-test.true _ c.flag-fold.ensures l' t.result t.ensures.steps_on c.in-Clash.is
+    let e = err_from_is_err_and c.from_residual.result c.from_residual.ensures.1 in
+    rw e.1 (walking_clash a.setup a.s.now a.facts.now a.choice.now a.at l₀ a.w l₁ l.v l.j l.invariant c.requires
+    c.loop-j-test.true _ c.flag-fold.ensures l' t.result t.ensures.steps_on _ _ c.in_err-v.was)
 
 pub loop-j-preserved : goal.loop-j-preserved
 loop-j-preserved c = let a = c.args in
@@ -33,7 +35,7 @@ loop-j-preserved c = let a = c.args in
     let l₁ = lent_as l.tracked l.dropped l.work l.out in
     let l' = lent_as t.new.tracked t.new.dropped t.new.work t.new.out in
     walking_again a.setup a.s.now a.facts.now a.choice.now a.at l₀ a.w l₁ l.v l.j l.invariant c.requires
-    c.loop-j-test.true _ c.flag-fold.ensures l' t.result t.ensures.steps_on _ c.in-Went.is t.ensures.by_index
+    c.loop-j-test.true _ c.flag-fold.ensures l' t.result t.ensures.steps_on _ c.in_ok-v.was t.ensures.by_index
     t.auto.tracked t.auto.dropped t.auto.work t.auto.out
 
 pub returns : goal.returns

@@ -4,8 +4,5 @@ use Rattle.rewrite_blocks.proofs.Walks.{Walking}
 use Rattle.rewrite_blocks.proofs.put_instructions.Given as goal
 
 abbrev pub invariant-loop-j : goal.invariant-loop-j
-invariant-loop-j l = Walking l.setup l.s l.facts l.choice (record { first = l.first; count = l.count })
+invariant-loop-j l = Walking l.setup l.s l.facts l.choice l.at
     (lent_as l.initial.tracked l.initial.dropped l.initial.work l.initial.out) l.initial.v (lent_as l.tracked l.dropped l.work l.out) l.v l.j
-
-abbrev pub decreases-loop-j : goal.decreases-loop-j
-decreases-loop-j l = l.count - l.j

@@ -2,9 +2,10 @@ use Prim.Native.Nat.{◌+◌}
 use mathlib.Core.Path.{refl}
 use native.Mathlib.Omega.{arith}
 use Rattle.rewrite_step.specs.declared.Reached.{Reached}
+use Rattle.std.proofs.lemmas.Result.{err_from_is_err_and}
 use Rattle.rewrite_step.specs.Stepping.{lent_as}
 use Rattle.rewrite_perform.proofs.Lows.{low_mono}
-use Rattle.rewrite_blocks.proofs.Laying.{block_clash, block_end, low_begun, low_walked, low_end}
+use Rattle.rewrite_blocks.proofs.Laying.{block_clash, block_end_clash, block_end, low_begun, low_walked, low_end}
 use Rattle.rewrite_blocks.proofs.put_rewritten.Goals as goal
 
 pub put_instructions-requires : goal.put_instructions-requires
@@ -18,19 +19,19 @@ put_instructions-requires c =
       long = c.requires.1.1;
     }
 
-pub put_end-r-requires : goal.put_end-r-requires
-put_end-r-requires c =
+pub put_end-requires : goal.put_end-requires
+put_end-requires c =
     let t = c.put_instructions in
     let body = c.moved-body in
     low_mono (4800 + 129) 8000 _ (omega arith)
-    (low_walked 4800 c.block_slots-at.result.count _ _ t.result c.block_slots-at.ensures.most c.in-Went.is
-    (t.ensures.by_index (4800 + 1) (low_begun 4800 c.args.p body.result body.ensures c.requires.0)))
+    (low_walked 4800 c.block_slots-at.result.count _ _ c.block_slots-at.ensures.most
+    (c.in_ok-q.ensures.by_index (4800 + 1) (low_begun 4800 c.args.p body.result body.ensures c.requires.0)))
 
 pub put_count-requires : goal.put_count-requires
 put_count-requires c = low_mono 4800 8000 _ (omega arith) c.requires.0
 
-pub returns-in-Clash-clause-one_put : goal.returns-in-Clash-clause-one_put
-returns-in-Clash-clause-one_put c = let a = c.args in
+pub returns-in_err-q-clause-one_put : goal.returns-in_err-q-clause-one_put
+returns-in_err-q-clause-one_put c = let a = c.args in
     let pre = c.requires in
     let t = c.put_instructions in
     let body = c.moved-body in
@@ -39,12 +40,13 @@ returns-in-Clash-clause-one_put c = let a = c.args in
     let l = lent_as cleared.new.tracked a.dropped.now a.work.now a.out.now in
     let w : Reached = record { progress = body.result; used = 256 } in
     let l' = lent_as t.new.tracked t.new.dropped t.new.work t.new.out in
-    λ off τ ch ks co fo h z en. block_clash a.setup a.s.now a.facts.now a.choice.now a.k.0 a.p off at.result at.ensures l w pre.1.1 body.ensures
+    let e = err_from_is_err_and c.from_residual.result c.from_residual.ensures.1 in
+    λ off τ ch ks co fo h z en. rw e.1 (block_clash a.setup a.s.now a.facts.now a.choice.now a.k.0 a.p off at.result at.ensures l w pre.1.1 body.ensures
     (λ next s rows x y. cleared.ensures next s rows 256 x (omega arith) pre.1.0 y) refl τ ch ks co fo h en l' t.result
-    t.ensures.instructions_put c.in-Clash.is
+    t.ensures.instructions_put _ _ c.in_err-q.was)
 
-pub returns-in-Went : goal.returns-in-Went
-returns-in-Went c = let a = c.args in
+pub returns-in_err-done-clause-one_put : goal.returns-in_err-done-clause-one_put
+returns-in_err-done-clause-one_put c = let a = c.args in
     let pre = c.requires in
     let t = c.put_instructions in
     let body = c.moved-body in
@@ -53,13 +55,26 @@ returns-in-Went c = let a = c.args in
     let l = lent_as cleared.new.tracked a.dropped.now a.work.now a.out.now in
     let w : Reached = record { progress = body.result; used = 256 } in
     let l' = lent_as t.new.tracked t.new.dropped t.new.work t.new.out in
-    let e = c.put_end-r in
-    let v = c.put_count in
-    let got = c.in-Went.is in record {
-      by_index = λ n y. low_end n _ e.result v.result
-          (low_walked n at.result.count _ _ t.result at.ensures.most got (t.ensures.by_index (n + 1) (low_begun n a.p body.result body.ensures y)))
-          e.ensures.by_index v.ensures.by_index;
+    let e = err_from_is_err_and c.from_residual-in_err-done.result c.from_residual-in_err-done.ensures.1 in
+    λ off τ ch ks co fo h z en. rw e.1 (block_end_clash a.setup a.s.now a.facts.now a.choice.now a.k.0 a.p off at.result at.ensures l w pre.1.1
+    body.ensures (λ next s rows x y. cleared.ensures next s rows 256 x (omega arith) pre.1.0 y) refl τ ch ks co fo h en l' t.result
+    t.ensures.instructions_put _ c.put_end.new.work _ _ _ c.in_ok-q.was c.in_err-done.ensures.end_put)
+
+pub returns : goal.returns
+returns c = let a = c.args in
+    let pre = c.requires in
+    let t = c.put_instructions in
+    let body = c.moved-body in
+    let at = c.block_slots-at in
+    let cleared = c.clear in
+    let l = lent_as cleared.new.tracked a.dropped.now a.work.now a.out.now in
+    let w : Reached = record { progress = body.result; used = 256 } in
+    let l' = lent_as t.new.tracked t.new.dropped t.new.work t.new.out in
+    let v = c.put_count in record {
+      by_index = λ n y. low_end n _ _ v.result
+          (low_walked n at.result.count _ _ at.ensures.most (c.in_ok-q.ensures.by_index (n + 1) (low_begun n a.p body.result body.ensures y)))
+          c.in_ok-done.ensures.by_index v.ensures.by_index;
       one_put = λ off τ ch ks co fo h z en. block_end a.setup a.s.now a.facts.now a.choice.now a.k.0 a.p off at.result at.ensures l w pre.1.1
           body.ensures (λ next s rows x y. cleared.ensures next s rows 256 x (omega arith) pre.1.0 y) refl τ ch ks co fo h en l' t.result
-          t.ensures.instructions_put _ e.new.work _ _ e.result v.result got e.ensures.end_put v.ensures.count_put z;
+          t.ensures.instructions_put _ c.put_end.new.work _ _ _ v.result c.in_ok-q.was c.in_ok-done.ensures.end_put v.ensures.count_put z;
     }

@@ -2,13 +2,13 @@ use Rattle.std.proofs.Common.{arith}
 use Rattle.rewrite_chains.proofs.Stored.{forwards_none, last_none, last_some}
 use Rattle.rewrite_chains.proofs.store_last.Goals as goal
 
-pub returns-in-At-clause-last_stored : goal.returns-in-At-clause-last_stored
-returns-in-At-clause-last_stored c =
-    λ τ S q y g r tb h e a.
-    rw (last_some τ S _ q y _ (c.step_index.ensures τ q (rw c.recorded.ensures g) h e) c.in-At.is)
-    (c.store_part.ensures.part_stored _ _ S y r tb (omega (arith, g.few, h)) a)
+pub returns-in_err-k-clause-last_stored : goal.returns-in_err-k-clause-last_stored
+returns-in_err-k-clause-last_stored c =
+    λ τ S y g r tb h a.
+    rw c.from_residual.ensures (forwards_none (last_none τ S _ _ y (c.in_err-k.ensures τ (rw c.recorded.ensures g) h)) r)
 
-pub returns-in-Nothing-clause-last_stored : goal.returns-in-Nothing-clause-last_stored
-returns-in-Nothing-clause-last_stored c =
-    λ τ S q y g r tb h e a.
-    forwards_none (last_none τ S _ q y (c.step_index.ensures τ q (rw c.recorded.ensures g) h e) c.in-Nothing.is) r
+pub returns-clause-last_stored : goal.returns-clause-last_stored
+returns-clause-last_stored c =
+    λ τ S y g r tb h a.
+    rw (last_some τ S _ _ y _ (c.in_ok-k.ensures τ (rw c.recorded.ensures g) h))
+    (c.store_part.ensures.part_stored _ _ S y r tb (omega (arith, g.few, h)) a)

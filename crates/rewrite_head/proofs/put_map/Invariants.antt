@@ -4,6 +4,3 @@ use Rattle.rewrite_head.proofs.put_map.Given as goal
 
 abbrev pub invariant-loop-k : goal.invariant-loop-k
 invariant-loop-k l = Mapped l.recorded l.fresh l.next l.many l.bytes l.initial.out l.to l.out l.k
-
-abbrev pub decreases-loop-k : goal.decreases-loop-k
-decreases-loop-k l = l.bytes - l.k

@@ -4,6 +4,3 @@ use Rattle.rewrite_head.proofs.put_types.Given as goal
 
 abbrev pub invariant-loop-v : goal.invariant-loop-v
 invariant-loop-v l = Typed l.recorded l.fresh l.next l.many l.initial.out l.initial.p l.out l.p l.v
-
-abbrev pub decreases-loop-v : goal.decreases-loop-v
-decreases-loop-v l = l.all - l.v

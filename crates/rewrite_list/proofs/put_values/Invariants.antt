@@ -4,6 +4,3 @@ use Rattle.rewrite_list.proofs.put_values.Given as goal
 
 abbrev pub invariant-loop-i : goal.invariant-loop-i
 invariant-loop-i l = Valuing l.b l.s l.facts l.t l.tracked l.list l.initial.out l.initial.w l.out l.w l.here l.i
-
-abbrev pub decreases-loop-i : goal.decreases-loop-i
-decreases-loop-i l = l.list.many - l.i

@@ -1,13 +1,13 @@
-use Rattle.std.proofs.Common.{◌∙◌}
+use Rattle.std.proofs.Common.{ℕ, zero, suc, ◌≡◌, refl, ap, ◌∙◌, false, get_or}
+use Rattle.std.proofs.Math.ListN.{replicate}
 use Rattle.rewrite_parts.proofs.Tables.{rep_clear}
-use Rattle.rewrite_parts.proofs.Loops.{clearing, cleared_more, cleared_all}
 use Rattle.rewrite_parts.proofs.clear.Goals as goal
 
-pub loop-i-init : goal.loop-i-init
-loop-i-init c = clearing _
-
-pub loop-i-preserved : goal.loop-i-preserved
-loop-i-preserved c = cleared_more c.loop-i.invariant c.loop-i-test.true
+no_mark : (n v : ℕ) → get_or (replicate n false) v false ≡ false
+no_mark zero v = refl
+no_mark (suc n) zero = refl
+no_mark (suc n) (suc v) = no_mark n v
 
 pub returns : goal.returns
-returns c = λ next s rows used h b m l. rep_clear (cleared_all c.loop-i.invariant c.loop-i-test.false) h b (c.loop-i.invariant.size ∙ m) l
+returns c = λ next s rows used h b m l.
+    rep_clear (λ v. ap (λ xs. get_or xs v false) (c.fill.ensures.after (λ y e. e)) ∙ no_mark _ v) h b (c.fill.ensures.len ∙ m) l

@@ -1,9 +1,5 @@
 use Rattle.rewrite_parts.proofs.ByName.{Seeking}
-use Rattle.std.proofs.Common.{◌-◌}
 use Rattle.rewrite_parts.proofs.find_init.Given as goal
 
 abbrev pub invariant-loop-i : goal.invariant-loop-i
 invariant-loop-i l = Seeking l.s l.at l.n l.name l.here l.i
-
-abbrev pub decreases-loop-i : goal.decreases-loop-i
-decreases-loop-i l = l.n - l.i

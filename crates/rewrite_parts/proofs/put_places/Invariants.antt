@@ -1,9 +1,5 @@
 use Rattle.rewrite_parts.proofs.Loops.{Laying}
-use Rattle.std.proofs.Common.{◌-◌}
 use Rattle.rewrite_parts.proofs.put_places.Given as goal
 
 abbrev pub invariant-loop-i : goal.invariant-loop-i
 invariant-loop-i l = Laying l.s l.before l.n l.at l.initial.rows l.to l.rows l.here l.i
-
-abbrev pub decreases-loop-i : goal.decreases-loop-i
-decreases-loop-i l = l.n - l.i

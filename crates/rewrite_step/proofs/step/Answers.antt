@@ -1,16 +1,28 @@
 use Prim.Native.Nat.{◌+◌}
+use mathlib.Core.Path.{refl}
+use Rattle.std.proofs.lemmas.Result.{err_from_is_err_and}
 use Rattle.rewrite_step.specs.Stepping.{lent_as}
-use Rattle.rewrite_step.proofs.Turns.{low_used}
-use Rattle.rewrite_step.proofs.Turns.{step_turn}
+use Rattle.rewrite_step.proofs.Turns.{clash_too, went_too, step_turn}
 use Rattle.rewrite_step.proofs.step.Goals as goal
+
+pub returns-in_err-progress : goal.returns-in_err-progress
+returns-in_err-progress c =
+    let a = c.args in
+    let e = err_from_is_err_and c.from_residual.result c.from_residual.ensures.1 in
+    record {
+      by_index = λ k l. rw e.1 tt;
+      steps_on = step_turn a.setup a.s.now a.facts.now a.slot a.fold
+          (lent_as a.tracked.now a.dropped.now a.work.now a.out.now) a.w _ _ _ _ _ _ _ _ c.requires.1.1
+          c.settle-d.auto.rows c.settle-d.ensures.settles_all c.carry_out.ensures.puts_piece c.carry_out.ensures.work_unchanged
+          (clash_too _ _ c.in_err-progress.was e.1);
+    }
 
 pub returns : goal.returns
 returns c =
     let a = c.args in record {
-      by_index = λ k l. low_used (k + 1) c.settle-d.result.used (a.w.used + 17) c.carry_out-r.result _ c.with_used.ensures
-          c.settle-d.ensures.used_bound (c.carry_out-r.ensures.by_index k l);
+      by_index = λ k l. (c.in_ok-progress.ensures.by_index k l, c.settle-d.ensures.used_bound);
       steps_on = step_turn a.setup a.s.now a.facts.now a.slot a.fold
           (lent_as a.tracked.now a.dropped.now a.work.now a.out.now) a.w _ _ _ _ _ _ _ _ c.requires.1.1
-          c.settle-d.auto.rows c.settle-d.ensures.settles_all c.carry_out-r.ensures.puts_piece c.carry_out-r.ensures.work_unchanged
-          c.with_used.ensures;
+          c.settle-d.auto.rows c.settle-d.ensures.settles_all c.carry_out.ensures.puts_piece c.carry_out.ensures.work_unchanged
+          (went_too _ c.in_ok-progress.was refl);
     }

@@ -1,5 +1,6 @@
 use native.Mathlib.Omega.{arith}
 use mathlib.Core.Path.{◌∙◌, sym}
+use Rattle.mir.specs.Option.{as_option}
 use Rattle.rewrite_wanted.proofs.Asking.{none_other, some_type, recorded_told}
 use Rattle.rewrite_wanted.proofs.asked_type.Goals as goal
 
@@ -13,4 +14,4 @@ returns-else-type_shape-eq-OTHER c = λ τ g l. rw (c.in-Types.is, ← c.tail.en
 
 pub returns-in-Recorded : goal.returns-in-Recorded
 returns-in-Recorded c = λ τ g l. rw c.in-Recorded.is
-    (recorded_told τ _ _ _ _ _ _ c.recorded_type.result g.known (sym c.recorded.ensures) (omega (arith, g.values)) c.recorded_type.ensures)
+    (recorded_told τ _ _ _ _ _ _ (as_option c.recorded_type.result) g.known (sym c.recorded.ensures) (omega (arith, g.values)) c.recorded_type.ensures)

@@ -1,6 +1,5 @@
 use mathlib.Core.Path.{ap, ◌∙◌}
 use Rattle.bytes_wire.specs.WellFormed.{FitValue}
-use Rattle.bytes_sections.specs.Index.{recorded_number}
 use Rattle.rewrite.specs.Rebuild.{return_type}
 use Rattle.shelf_field.proofs.operand_type.Goals as goal
 
@@ -8,4 +7,4 @@ pub returns : goal.returns
 returns c = λ s types τ x g h.
     let v = c.value_at.ensures x h in
     let w : FitValue c.args.b.next c.value_at.result = rw v.0 v.1 in
-    c.operand_number.ensures _ s types τ g w ∙ ap (λ z. recorded_number (return_type τ z)) v.0
+    c.value_type.ensures _ s types τ g w ∙ ap (λ z. return_type τ z) v.0

@@ -1,7 +1,7 @@
 use Rattle.shelf_field.proofs.Lines.{Left}
 use Rattle.rewrite_progress.specs.Ground.{Ground}
 use Rattle.mir.specs.Lookup.{Types}
-use Rattle.bytes_sections.specs.Index.{recorded_number}
+use Rattle.shelf_rows.specs.Rows.{Is}
 use Rattle.rewrite_parts.specs.Rows.{ValueAt}
 use Rattle.bytes_operands.specs.Fields.{value_step}
 use Rattle.mir.specs.declared.Value.{Value}
@@ -17,9 +17,6 @@ use Rattle.shelf_list.proofs.all_fit.Given as goal
 abbrev pub invariant-loop-i : goal.invariant-loop-i
 invariant-loop-i l =
     (l.here ≤ l.at + 5 * l.i) × ((l.i ≤ l.n)
-    × ((τ : Types) (o : Option TypeId) (xs : List Value) → Ground l.b l.s l.types l.recorded τ → l.number.0 ≡ recorded_number o
+    × ((τ : Types) (o : Option TypeId) (xs : List Value) → Ground l.b l.s l.types l.recorded τ → Is l.number o
     → ValuesAt l.b.next l.t l.at xs → length xs ≡ l.n
     → Left (ValueAt l.b.next l.t) (value_step l.t 0 0) (λ k x. fits τ x (part_type (row_of τ o) k)) (all_fit τ (part_type (row_of τ o)) xs) l.n l.here l.i))
-
-abbrev pub decreases-loop-i : goal.decreases-loop-i
-decreases-loop-i l = l.n - l.i

@@ -15,6 +15,3 @@ invariant-loop-i l =
     (l.here ≤ l.at + 5 * l.i) × ((l.i ≤ l.n)
     × ((s types : List ℕ) (τ : Types) (xs : List Value) → Ground l.b s types l.recorded τ → ValuesAt l.b.next l.t l.at xs → length xs ≡ l.n
     → Left (ValueAt l.b.next l.t) (value_step l.t 0 0) (λ k x. is_known τ x) (every (is_known τ) xs) l.n l.here l.i))
-
-abbrev pub decreases-loop-i : goal.decreases-loop-i
-decreases-loop-i l = l.n - l.i

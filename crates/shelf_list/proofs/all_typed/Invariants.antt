@@ -15,6 +15,3 @@ invariant-loop-i l =
     (l.here ≡ l.at + 2 * l.i) × ((l.i ≤ l.n)
     × ((s types : List ℕ) (τ : Types) (ds : List ValueId) → Ground l.b s types l.recorded τ → IdsAt l.b.next l.t l.at ds → length ds ≡ l.n
     → Left (IdAt l.b.next l.t) two (λ k v. is_some (recorded_type τ v)) (every (λ v. is_some (recorded_type τ v)) ds) l.n l.here l.i))
-
-abbrev pub decreases-loop-i : goal.decreases-loop-i
-decreases-loop-i l = l.n - l.i

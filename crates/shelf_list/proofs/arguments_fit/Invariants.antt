@@ -20,6 +20,3 @@ invariant-loop-i l =
     × ((τ : Types) (xs : List Value) (ts : List TypeId) → Ground l.b l.s l.types l.recorded τ → ValuesAt l.b.next l.t l.at xs → length xs ≡ l.n
     → TypesIn l.b.types l.t l.parameters ts → length ts ≡ l.n
     → Left (ValueAt l.b.next l.t) (value_step l.t 0 0) (λ k x. fits τ x (some (get_or ts k no_type))) (arguments_fit τ xs ts) l.n l.here l.i)))
-
-abbrev pub decreases-loop-i : goal.decreases-loop-i
-decreases-loop-i l = l.n - l.i

@@ -21,6 +21,3 @@ invariant-loop-i l =
     × ((s types : List ℕ) (τ : Types) (ds : List ValueId) (ts : List TypeId) → Ground l.b s types l.recorded τ → IdsAt l.b.next l.t l.at ds
     → length ds ≡ l.n → TypesIn l.b.types l.t l.returns ts → length ts ≡ l.n
     → Left (IdAt l.b.next l.t) two (λ k d. same_type (recorded_type τ d) (some (get_or ts k no_type))) (dests_fit τ ds ts) l.n l.here l.i)))
-
-abbrev pub decreases-loop-i : goal.decreases-loop-i
-decreases-loop-i l = l.n - l.i

@@ -5,7 +5,6 @@ use native.Mathlib.Omega.{arith}
 use Rattle.mir.specs.declared.NameId.{NameId}
 use Rattle.rewrite_parts.specs.Rows.{InitAt}
 use Rattle.bytes_struct.specs.Fields.{no_field}
-use Rattle.bytes_sections.specs.Index.{recorded_number}
 use Rattle.mir.specs.Parts.{given}
 use Rattle.shelf_field.proofs.Lines.{left_begin, left_fail, left_next, left_done, lined_by}
 use Rattle.shelf_list.proofs.Tests.{fields_all}
@@ -28,7 +27,7 @@ returns-then-not-given_fits c = λ τ o fs ss g e l h m k p.
     let j : ◌≡◌ {A = NameId} (record { 0 = c.u16_at.result }) y.name = ap (λ z. record { 0 = z }) (c.u16_at.ensures ∙ q.named) in
     let w : InitAt a.b.next a.t.now (given y.name fs) c.find_init-init.result = rw j at (c.find_init-init.ensures _ fs l h) in
     c.given_fits.ensures τ (given y.name fs) y.part g w
-    (c.part_type-part.ensures τ o g.known.rows g.rows e ∙ ap recorded_number q.part))
+    (c.part_type-part.ensures τ o g.known.rows g.rows e ∙ q.part))
     c.if-not-given_fits.true
 
 pub loop-i-preserved : goal.loop-i-preserved
@@ -41,7 +40,7 @@ loop-i-preserved c =
           let j : ◌≡◌ {A = NameId} (record { 0 = c.u16_at.result }) y.name = ap (λ z. record { 0 = z }) (c.u16_at.ensures ∙ q.named) in
           let w : InitAt a.b.next a.t.now (given y.name fs) c.find_init-init.result = rw j at (c.find_init-init.ensures _ fs l h) in
           c.given_fits.ensures τ (given y.name fs) y.part g w
-          (c.part_type-part.ensures τ o g.known.rows g.rows e ∙ ap recorded_number q.part))
+          (c.part_type-part.ensures τ o g.known.rows g.rows e ∙ q.part))
           c.if-not-given_fits.false (omega arith),
     )
 

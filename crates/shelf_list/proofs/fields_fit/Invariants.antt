@@ -4,7 +4,7 @@ use Rattle.shelf.specs.Fits.{given_fits, fields_fit}
 use Rattle.rewrite_progress.specs.Ground.{Ground}
 use Rattle.mir.specs.Lookup.{Types}
 use Rattle.mir.specs.Parts.{given}
-use Rattle.bytes_sections.specs.Index.{recorded_number}
+use Rattle.shelf_rows.specs.Rows.{Is}
 use Rattle.bytes_struct.specs.Fields.{Names, no_field}
 use Rattle.rewrite_parts.specs.Rows.{Inits}
 use Rattle.mir.specs.Syntax.{FieldInit}
@@ -22,9 +22,6 @@ abbrev pub invariant-loop-i : goal.invariant-loop-i
 invariant-loop-i l =
     (l.i ≤ l.n)
     × ((τ : Types) (o : Option TypeId) (fs : List FieldInit) (ss : List StructField) → Ground l.b l.s l.types l.recorded τ
-    → l.number.0 ≡ recorded_number o → Inits l.b.next l.t l.at fs → length fs ≡ l.n → Names l.row 4 ss → length ss ≡ l.n → ((k : ℕ)
+    → Is l.number o → Inits l.b.next l.t l.at fs → length fs ≡ l.n → Names l.row 4 ss → length ss ≡ l.n → ((k : ℕ)
     → k < length ss → part_type (row_of τ o) k ≡ some (get_or ss k no_field).part)
     → Left (FieldHere τ o l.row) suc (λ k z. given_fits τ (given z.name fs) z.part) (fields_fit τ fs ss) l.n l.i l.i)
-
-abbrev pub decreases-loop-i : goal.decreases-loop-i
-decreases-loop-i l = l.n - l.i

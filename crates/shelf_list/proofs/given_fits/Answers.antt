@@ -1,9 +1,12 @@
+use mathlib.Core.Path.{refl}
 use mathlib.Core.Option.{some}
-use Rattle.shelf_list.proofs.Tests.{given_some, given_none}
+use Rattle.shelf.specs.Fits.{given_fits}
 use Rattle.shelf_list.proofs.given_fits.Goals as goal
 
-pub returns-then-init : goal.returns-then-init
-returns-then-init c = λ τ o y g w e. given_some τ o y w c.if-init.true (λ x h. c.value_fits.ensures τ x (some y) g h e)
+pub returns-in-Some : goal.returns-in-Some
+unfolding given_fits
+returns-in-Some c = λ τ o y g w e. let there = rw c.in-Some.is at w in rw there.is (c.value_fits.ensures τ there.value (some y) g there.stands e)
 
-pub returns : goal.returns
-returns c = λ τ o y g w e. given_none τ o y w c.if-init.false
+pub returns-in-None : goal.returns-in-None
+unfolding given_fits
+returns-in-None c = λ τ o y g w e. rw (rw c.in-None.is at w) refl

@@ -2,7 +2,7 @@ use Rattle.shelf_list.specs.Lists.{SourceAt}
 use Rattle.shelf_field.proofs.Lines.{Left}
 use Rattle.rewrite_progress.specs.Ground.{Ground}
 use Rattle.mir.specs.Lookup.{Types}
-use Rattle.bytes_sections.specs.Index.{recorded_number}
+use Rattle.shelf_rows.specs.Rows.{Is}
 use Rattle.bytes_operands.specs.Fields.{value_step}
 use Rattle.mir.specs.Syntax.{Source}
 use Rattle.mir.specs.declared.TypeId.{TypeId}
@@ -16,9 +16,6 @@ use Rattle.shelf_list.proofs.sources_fit.Given as goal
 abbrev pub invariant-loop-i : goal.invariant-loop-i
 invariant-loop-i l =
     (l.here ≤ l.at + 7 * l.i) × ((l.i ≤ l.n)
-    × ((τ : Types) (o : Option TypeId) (xs : List Source) → Ground l.b l.s l.types l.recorded τ → l.number.0 ≡ recorded_number o
+    × ((τ : Types) (o : Option TypeId) (xs : List Source) → Ground l.b l.s l.types l.recorded τ → Is l.number o
     → SourcesAt l.b.next l.t l.at xs → length xs ≡ l.n
     → Left (SourceAt l.b.next l.t) (value_step l.t 2 0) (λ k x. fits τ x.value o) (every (λ x. fits τ x.value o) xs) l.n l.here l.i))
-
-abbrev pub decreases-loop-i : goal.decreases-loop-i
-decreases-loop-i l = l.n - l.i

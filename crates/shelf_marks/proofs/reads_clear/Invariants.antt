@@ -4,6 +4,3 @@ use Rattle.shelf_marks.proofs.reads_clear.Given as goal
 
 abbrev pub invariant-loop-k : goal.invariant-loop-k
 invariant-loop-k l = Clearing l.facts l.slot l.marks l.k
-
-abbrev pub decreases-loop-k : goal.decreases-loop-k
-decreases-loop-k l = l.n - l.k

@@ -9,7 +9,6 @@ use Rattle.shelf_parts.proofs.Inside.{extract_field_agrees}
 use Prim.Native.Nat.{◌+◌}
 use Rattle.bytes_wire.specs.Number.{at16}
 use Rattle.mir.specs.declared.NameId.{NameId}
-use Rattle.bytes_sections.specs.Index.{recorded_number}
 use Rattle.shelf_parts.proofs.extract_field.Goals as goal
 
 pub returns : goal.returns
@@ -21,4 +20,4 @@ returns c = λ τ seen i n g e.
     let j : ◌≡◌ {A = NameId} (record { 0 = c.u16_at.result }) k =
     ap (λ z. record { 0 = z }) (c.u16_at.ensures ∙ ap (λ m. at16 c.args.t.now m) e' ∙ sym h) in
     c.both.ensures ∙ and_both (c.id_has-same.ensures _ _ τ d (some y) g p w) (c.same_type-named.ensures (field_type_of (row_of τ o) k) (some y)
-    (c.field_type-part.ensures τ o g.known.rows g.rows a ∙ ap (λ m. recorded_number (field_type_of (row_of τ o) m)) j) w))).each i n e
+    (c.field_type-part.ensures τ o g.known.rows g.rows a ∙ ap (λ m. field_type_of (row_of τ o) m) j) w))).each i n e

@@ -8,7 +8,6 @@ use Rattle.shelf_field.proofs.Single.{type_moved}
 use Rattle.shelf_parts.proofs.Inside.{extract_tuple_agrees}
 use Prim.Native.Nat.{◌+◌}
 use Rattle.bytes_wire.specs.Number.{at32}
-use Rattle.bytes_sections.specs.Index.{recorded_number}
 use Rattle.shelf_parts.proofs.extract_tuple.Goals as goal
 
 pub returns : goal.returns
@@ -21,4 +20,4 @@ returns c = λ τ seen i n g e.
     c.both.ensures ∙ and_both (c.id_has-same.ensures _ _ τ d (some y) g p w) (c.both-taken.ensures ∙ and_both
     (c.has_shape-shaped.ensures _ τ o g a)
     (c.same_type-fit.ensures (part_type (row_of τ o) k) (some y) (c.part_type-part.ensures τ o g.known.rows g.rows a ∙ ap
-    (λ m. recorded_number (part_type (row_of τ o) m)) (sym j)) w)))).each i n e
+    (λ m. part_type (row_of τ o) m) (sym j)) w)))).each i n e

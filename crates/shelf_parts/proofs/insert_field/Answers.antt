@@ -8,7 +8,6 @@ use Rattle.shelf_parts.proofs.Inside.{insert_field_agrees}
 use Prim.Native.Nat.{◌+◌}
 use Rattle.bytes_wire.specs.Number.{at16}
 use Rattle.mir.specs.declared.NameId.{NameId}
-use Rattle.bytes_sections.specs.Index.{recorded_number}
 use Rattle.bytes_operands.specs.Fields.{value_end}
 use Rattle.shelf_parts.proofs.insert_field.Goals as goal
 
@@ -21,4 +20,4 @@ returns c = λ τ seen i n g e.
     ap (λ z. record { 0 = z }) (c.u16_at.ensures ∙ ap (λ m. at16 a.t.now m) e' ∙ sym h) in
     c.both.ensures ∙ and_both (c.id_has-same.ensures _ _ τ d (some y) g p w) (c.both-fit.ensures ∙ and_both (c.value_fits-old.ensures τ x
     (some y) g q w) (c.value_fits-new.ensures τ z (field_type_of (row_of τ (some y)) k) g (value_moved (ap (λ m. m + 2) e') r)
-    (c.field_type-part.ensures τ (some y) g.known.rows g.rows w ∙ ap (λ m. recorded_number (field_type_of (row_of τ (some y)) m)) j))))).each i n e
+    (c.field_type-part.ensures τ (some y) g.known.rows g.rows w ∙ ap (λ m. field_type_of (row_of τ (some y)) m) j))))).each i n e

@@ -7,7 +7,6 @@ use Rattle.shelf_field.proofs.Single.{type_moved, value_moved}
 use Rattle.shelf_parts.proofs.Inside.{insert_tuple_agrees}
 use Prim.Native.Nat.{◌+◌}
 use Rattle.bytes_wire.specs.Number.{at32}
-use Rattle.bytes_sections.specs.Index.{recorded_number}
 use Rattle.bytes_operands.specs.Fields.{value_end}
 use Rattle.shelf_parts.proofs.insert_tuple.Goals as goal
 
@@ -20,5 +19,5 @@ returns c = λ τ seen i n g e.
     c.both.ensures ∙ and_both (c.id_has-same.ensures _ _ τ d (some y) g p w) (c.both-fit.ensures ∙ and_both
     (c.value_fits-old.ensures τ x (some y) g q w) (c.both-put.ensures ∙ and_both (c.has_shape-shaped.ensures _ τ (some y) g w)
     (c.value_fits-new.ensures τ z (part_type (row_of τ (some y)) k) g (value_moved (ap (λ m. m + 4) e') r)
-    (c.part_type-part.ensures τ (some y) g.known.rows g.rows w ∙ ap (λ m. recorded_number (part_type (row_of τ (some y)) m))
+    (c.part_type-part.ensures τ (some y) g.known.rows g.rows w ∙ ap (λ m. part_type (row_of τ (some y)) m)
     (sym j))))))).each i n e

@@ -2,8 +2,8 @@ use Rattle.shelf_place.proofs.Places.{Walking}
 use Rattle.shelf_place.specs.Places.{StepsIn}
 use Rattle.rewrite_progress.specs.Ground.{Ground}
 use Rattle.mir.specs.Lookup.{Types}
-use Rattle.bytes_sections.specs.Index.{recorded_number}
-use Rattle.mir.specs.Syntax.{Projection}
+use Rattle.shelf_rows.specs.Rows.{Is}
+use Rattle.mir.specs.declared.Projection.{Projection}
 use Rattle.mir.specs.declared.TypeId.{TypeId}
 use mathlib.Core.Option.{Option}
 use mathlib.Core.List.{List}
@@ -15,8 +15,5 @@ abbrev pub invariant-loop-i : goal.invariant-loop-i
 invariant-loop-i l =
     (l.here ≤ l.at + 6 * l.i) × ((l.i ≤ l.n)
     × ((recorded : List ℕ) (τ : Types) (o : Option TypeId) (ps : List Projection) → Ground l.b l.s l.types recorded τ
-    → l.initial.there.0 ≡ recorded_number o → StepsIn l.b.next l.t l.at ps → length ps ≡ l.n
-    → Walking τ l.b.next l.t (place_type τ o ps) l.n l.here l.there.0 l.i))
-
-abbrev pub decreases-loop-i : goal.decreases-loop-i
-decreases-loop-i l = l.n - l.i
+    → Is l.initial.there o → StepsIn l.b.next l.t l.at ps → length ps ≡ l.n
+    → Walking τ l.b.next l.t (place_type τ o ps) l.n l.here l.there l.i))

@@ -1,30 +1,29 @@
-use mathlib.Core.Path.{ap, ◌∙◌, sym}
+use mathlib.Core.Path.{◌∙◌, sym}
 use Rattle.shelf_place.proofs.Places.{pointed_none, pointed_index, pointed_field, pointed_tuple, pointed_nothing}
-use Rattle.bytes_operands.specs.Fields.{as_step}
 use Rattle.shelf_place.proofs.pointed_type.Goals as goal
 
 pub returns-then-n-eq0 : goal.returns-then-n-eq0
 returns-then-n-eq0 c = λ recorded τ o ps g e l h. pointed_none c.args.b.next c.args.t.now c.args.at c.args.n τ o ps h c.if-n-eq0.true
 
+pub returns-in_err-step : goal.returns-in_err-step
+returns-in_err-step c = λ recorded τ o ps g e l h.
+    let a = c.args in
+    rw c.from_residual.ensures
+    (pointed_nothing a.b.next a.t.now a.at a.n τ o ps l h c.if-n-eq0.false (λ q w. sym c.in_err-step.was ∙ c.step_at.ensures q w))
+
 pub returns-in-Index : goal.returns-in-Index
 returns-in-Index c = λ recorded τ o ps g e l h.
     let a = c.args in
     pointed_index a.b.next a.t.now a.at a.n τ o ps l h c.if-n-eq0.false
-    (λ q w. sym (ap as_step c.in-Index.is) ∙ c.step_at.ensures q w)
+    (λ q w. rw c.in-Index.is at (sym c.in_ok-step.was ∙ c.step_at.ensures q w))
     (λ qs m k. c.end_type.ensures recorded τ o qs g e (rw c.projection_end.ensures.0 m) k)
 
 pub returns-in-Field : goal.returns-in-Field
 returns-in-Field c = λ recorded τ o ps g e l h.
     let a = c.args in
-    pointed_field a.b.next a.t.now a.at a.n τ o ps l h c.if-n-eq0.false (λ q w. sym (ap as_step c.in-Field.is) ∙ c.step_at.ensures q w)
+    pointed_field a.b.next a.t.now a.at a.n τ o ps l h c.if-n-eq0.false (λ q w. rw c.in-Field.is at (sym c.in_ok-step.was ∙ c.step_at.ensures q w))
 
 pub returns-in-Tuple : goal.returns-in-Tuple
 returns-in-Tuple c = λ recorded τ o ps g e l h.
     let a = c.args in
-    pointed_tuple a.b.next a.t.now a.at a.n τ o ps l h c.if-n-eq0.false (λ q w. sym (ap as_step c.in-Tuple.is) ∙ c.step_at.ensures q w)
-
-pub returns-in-Nothing : goal.returns-in-Nothing
-returns-in-Nothing c = λ recorded τ o ps g e l h.
-    let a = c.args in
-    pointed_nothing a.b.next a.t.now a.at a.n τ o ps l h c.if-n-eq0.false
-    (λ q w. sym (ap as_step c.in-Nothing.is) ∙ c.step_at.ensures q w)
+    pointed_tuple a.b.next a.t.now a.at a.n τ o ps l h c.if-n-eq0.false (λ q w. rw c.in-Tuple.is at (sym c.in_ok-step.was ∙ c.step_at.ensures q w))

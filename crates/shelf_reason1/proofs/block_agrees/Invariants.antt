@@ -5,6 +5,3 @@ use Rattle.shelf_reason1.proofs.block_agrees.Given as goal
 
 abbrev pub invariant-loop-slot : goal.invariant-loop-slot
 invariant-loop-slot l = Passing l.b l.s l.facts l.fn.k.0 agrees l.slot
-
-abbrev pub decreases-loop-slot : goal.decreases-loop-slot
-decreases-loop-slot l = l.last - l.slot

@@ -6,6 +6,3 @@ use Rattle.shelf_reason1.proofs.blocks_agree.Given as goal
 
 abbrev pub invariant-loop-k : goal.invariant-loop-k
 invariant-loop-k l = Tested l.b l.s l.facts (block_agrees with_debug) l.k
-
-abbrev pub decreases-loop-k : goal.decreases-loop-k
-decreases-loop-k l = l.b.blocks - l.k

@@ -4,6 +4,3 @@ use Rattle.shelf_reason2.proofs.behind_phis.Given as goal
 
 abbrev pub invariant-loop-slot : goal.invariant-loop-slot
 invariant-loop-slot l = Fronts l.facts l.fn.k.0 l.slot
-
-abbrev pub decreases-loop-slot : goal.decreases-loop-slot
-decreases-loop-slot l = l.last - l.slot

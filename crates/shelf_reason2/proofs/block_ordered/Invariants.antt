@@ -3,6 +3,3 @@ use Rattle.shelf_reason2.proofs.block_ordered.Given as goal
 
 abbrev pub invariant-loop-slot : goal.invariant-loop-slot
 invariant-loop-slot l = Backward l.s l.facts l.fn.k.0 l.marks l.slot
-
-abbrev pub decreases-loop-slot : goal.decreases-loop-slot
-decreases-loop-slot l = l.slot

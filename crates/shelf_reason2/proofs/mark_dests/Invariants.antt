@@ -4,6 +4,3 @@ use Rattle.shelf_reason2.proofs.mark_dests.Given as goal
 
 abbrev pub invariant-loop-j : goal.invariant-loop-j
 invariant-loop-j l = Putting l.u l.initial.at l.n l.initial.marks l.marks l.at l.j
-
-abbrev pub decreases-loop-j : goal.decreases-loop-j
-decreases-loop-j l = l.n - l.j

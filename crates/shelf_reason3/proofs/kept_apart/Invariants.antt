@@ -5,6 +5,3 @@ use Rattle.shelf_reason3.proofs.kept_apart.Given as goal
 
 abbrev pub invariant-loop-k : goal.invariant-loop-k
 invariant-loop-k l = Tested l.b l.s l.facts (λ τ x. each_kind (parts_clear l.marks) x.instructions) l.k
-
-abbrev pub decreases-loop-k : goal.decreases-loop-k
-decreases-loop-k l = l.b.blocks - l.k

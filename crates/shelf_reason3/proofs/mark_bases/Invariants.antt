@@ -4,6 +4,3 @@ use Rattle.shelf_reason3.proofs.mark_bases.Given as goal
 
 abbrev pub invariant-loop-k : goal.invariant-loop-k
 invariant-loop-k l = Basing l.b l.s l.facts l.initial.marks l.marks l.k
-
-abbrev pub decreases-loop-k : goal.decreases-loop-k
-decreases-loop-k l = l.b.blocks - l.k

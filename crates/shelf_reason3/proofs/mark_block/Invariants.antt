@@ -4,6 +4,3 @@ use Rattle.shelf_reason3.proofs.mark_block.Given as goal
 
 abbrev pub invariant-loop-slot : goal.invariant-loop-slot
 invariant-loop-slot l = Based l.b l.s l.facts l.fn.k.0 l.initial.marks l.marks l.slot
-
-abbrev pub decreases-loop-slot : goal.decreases-loop-slot
-decreases-loop-slot l = l.last - l.slot

@@ -4,6 +4,3 @@ use Rattle.shelf_reason5.proofs.clean_buffer.Given as goal
 
 abbrev pub invariant-loop-k : goal.invariant-loop-k
 invariant-loop-k l = Sought l.buffer l.n l.dropped l.k
-
-abbrev pub decreases-loop-k : goal.decreases-loop-k
-decreases-loop-k l = l.n - l.k

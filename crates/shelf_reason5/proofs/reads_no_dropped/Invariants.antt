@@ -4,6 +4,3 @@ use Rattle.shelf_reason5.proofs.reads_no_dropped.Given as goal
 
 abbrev pub invariant-loop-k : goal.invariant-loop-k
 invariant-loop-k l = Over l.b l.out l.at l.dropped l.many l.k l.here
-
-abbrev pub decreases-loop-k : goal.decreases-loop-k
-decreases-loop-k l = l.many - l.k

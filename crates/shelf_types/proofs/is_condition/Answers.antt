@@ -1,13 +1,6 @@
-use Rattle.shelf_types.proofs.Fitted.{operand_fit, given_number, literal_condition, operand_condition, error_condition}
+use Rattle.std.proofs.Common.{refl, ◌∙◌}
+use Rattle.shelf_types.proofs.Fitted.{same_literals, condition_kind}
 use Rattle.shelf_types.proofs.is_condition.Goals as goal
 
-pub returns-in-Literal : goal.returns-in-Literal
-returns-in-Literal c = λ τ g h. literal_condition τ c.in-Literal.is c.literal_kind.ensures
-
-pub returns-in-Operand : goal.returns-in-Operand
-returns-in-Operand c = λ τ g h.
-    operand_condition τ c.in-Operand.is
-    (c.scalar_kind.ensures τ _ g.known.rows g.rows (given_number g (operand_fit h c.in-Operand.is) c.recorded_number.ensures))
-
-pub returns-in-Error : goal.returns-in-Error
-returns-in-Error c = λ τ g h. error_condition τ c.in-Error.is
+pub returns : goal.returns
+returns c = λ τ g h. c.eq.ensures ∙ same_literals _ _ (c.literals_of.ensures τ g h) refl ∙ condition_kind τ c.args.x

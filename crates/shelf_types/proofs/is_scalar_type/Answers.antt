@@ -1,8 +1,11 @@
-use Rattle.shelf_types.proofs.Numbers.{scalar_none, scalar_some}
+use Rattle.std.proofs.Common.{refl, sym}
+use Rattle.shelf.specs.Agrees.{is_scalar_type}
+use Rattle.shelf_types.proofs.Numbers.{scalar_some}
 use Rattle.shelf_types.proofs.is_scalar_type.Goals as goal
 
-pub returns-then-number-eq0 : goal.returns-then-number-eq0
-returns-then-number-eq0 c = λ τ o a l e. scalar_none τ o c.if-number-eq0.true e
+pub returns-in-Some : goal.returns-in-Some
+returns-in-Some c = λ τ o a l e. scalar_some τ _ (rw c.in-Some.is at e) (c.shape_of.ensures τ o a l e)
 
-pub returns : goal.returns
-returns c = λ τ o a l e. scalar_some τ o c.if-number-eq0.false e (c.shape_of.ensures τ o a l e)
+pub returns-in-None : goal.returns-in-None
+unfolding is_scalar_type
+returns-in-None c = λ τ o a l e. rw (sym (rw c.in-None.is at e)) refl

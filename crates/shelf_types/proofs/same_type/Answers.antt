@@ -1,8 +1,15 @@
-use Rattle.shelf_types.proofs.Numbers.{same_none, same_some}
+use Rattle.std.proofs.Common.{refl, sym}
+use Rattle.shelf.specs.Fits.{same_type}
 use Rattle.shelf_types.proofs.same_type.Goals as goal
 
-pub returns-then-a-eq0 : goal.returns-then-a-eq0
-returns-then-a-eq0 c = λ o q e f. same_none o q c.if-a-eq0.true e
+pub returns-in-Some-Some : goal.returns-in-Some-Some
+unfolding same_type
+returns-in-Some-Some c = λ o q e f. rw (sym (rw c.in-Some-Some.is-0 at e), sym (rw c.in-Some-Some.is-1 at f)) refl
 
-pub returns : goal.returns
-returns c = λ o q e f. same_some o q c.if-a-eq0.false e f
+pub returns-in-Some-None : goal.returns-in-Some-None
+unfolding same_type
+returns-in-Some-None c = λ o q e f. rw (sym (rw c.in-Some-None.is-0 at e), sym (rw c.in-Some-None.is-1 at f)) refl
+
+pub returns-in-None-default : goal.returns-in-None-default
+unfolding same_type
+returns-in-None-default c = λ o q e f. rw (sym (rw c.in-None-default.is-0 at e)) refl

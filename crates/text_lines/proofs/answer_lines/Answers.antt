@@ -8,4 +8,4 @@ returns-then-numbers-ne0-clause-written c =
 
 pub returns-clause-written : goal.returns-clause-written
 returns-clause-written c =
-    written_as (answer_taken c.args.numbers.now c.args.output.now _ c.if-numbers-ne0.false c.least-size.ensures) c.lowered_lines.ensures.written
+    written_as (answer_taken c.args.numbers.now c.args.output.now _ c.if-numbers-ne0.false c.min-size.ensures) c.lowered_lines.ensures.written

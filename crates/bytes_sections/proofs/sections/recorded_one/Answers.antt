@@ -1,14 +1,17 @@
-use Rattle.std.proofs.Common.{arith}
-use Rattle.bytes_wire.specs.Number.{u16_of, as16}
-use Rattle.bytes_wire.proofs.Laws.{told_size, size_number}
+use Rattle.std.proofs.Common.{arith, ◌≡◌, rules, Ok}
+use Rattle.std.proofs.iter.Serving.{serving}
+use Rattle.bytes_wire.specs.Number.{below}
+use Rattle.bytes_wire.specs.Parse.{as_read, as_parse}
+use Rattle.bytes_wire.proofs.Laws.{told_size, refused_within, size_below}
 use Rattle.bytes_sections.proofs.sections.recorded_one.Goals as goal
+
+pub map_err-requires : goal.map_err-requires
+map_err-requires c = λ e q.
+    let h = refused_within as_read c.read_below.ensures (size_below c.args.types _) q in
+    grind (serving, arith, h, c.requires)
 
 pub overflow_add-result : goal.overflow_add-result
 overflow_add-result c =
     let a = c.args in
-    omega (arith, told_size as16 u16_of a.here a.s.now (λ t. size_number 2 t) c.requires c.read_u16.ensures c.in-Refused.is)
-
-pub overflow_add-result-in-Got : goal.overflow_add-result-in-Got
-overflow_add-result-in-Got c =
-    let a = c.args in
-    omega (arith, told_size as16 u16_of a.here a.s.now (λ t. size_number 2 t) c.requires c.read_u16.ensures c.in-Got.is)
+    let q : c.read_below.result ≡ Ok c.in_ok-t.t = search rules in
+    omega (arith, told_size as_parse (below a.types) a.here a.s.now (size_below a.types) c.requires c.read_below.ensures q)

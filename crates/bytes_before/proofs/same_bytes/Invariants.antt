@@ -1,9 +1,0 @@
-use Rattle.bytes_before.proofs.Same.{Alike}
-use Rattle.std.proofs.Common.{length, ◌-◌}
-use Rattle.bytes_before.proofs.same_bytes.Given as goal
-
-abbrev pub invariant-loop-i : goal.invariant-loop-i
-invariant-loop-i l = Alike l.a l.b l.i
-
-abbrev pub decreases-loop-i : goal.decreases-loop-i
-decreases-loop-i l = length l.a - l.i

@@ -1,8 +1,8 @@
 -- Names that stand before.
 use Prim.Native.Nat.{ℕ, zero, suc, ◌+◌, ◌*◌}
-use mathlib.Core.Path.{◌≡◌, refl, ap, ◌∙◌, sym}
+use mathlib.Core.Path.{◌≡◌, refl, ap, ◌∙◌}
 use mathlib.Core.List.{List}
-use mathlib.Core.Bool.{Bool, true, false, ◌||◌, true≢false}
+use mathlib.Core.Bool.{Bool, true, false, ◌||◌}
 use Rattle.std.specs.List.{list_any, range_with_len}
 use native.Mathlib.Nat.{add-zero, zero-add}
 use native.Mathlib.Omega.{arith}
@@ -10,10 +10,6 @@ use lib.Dec.{eqb}
 use Rattle.bytes_wire.specs.Number.{at16}
 use Rattle.mir.specs.declared.NameId.{NameId}
 use Rattle.bytes_before.specs.Before.{has_name, names_at}
-
--- false is not true
-pub no_true : false ≡ true → ⊥
-no_true e = true≢false (sym e)
 
 -- what holds of one of n + 1 numbers holds of the last or of one of the others
 any_last : (t : ℕ → Bool) (a n : ℕ) → list_any t (range_with_len a (suc n)) ≡ (t (a + n) || list_any t (range_with_len a n))

@@ -1,17 +1,17 @@
 -- The instructions of a block, one after another, each into its row; then its terminator.
-use Prim.Native.Nat.{ℕ, suc, ◌+◌, ◌-◌, ◌*◌, ◌≤◌, ◌<◌, zero-le}
+use Prim.Native.Nat.{ℕ, suc, ◌+◌, ◌-◌, ◌*◌, ◌≤◌, ◌<◌}
 use mathlib.Core.Path.{◌≡◌, refl, ap, ◌∙◌, sym}
 use mathlib.Core.List.{List, [], ◌∷◌, ◌++◌, append_assoc, append-nil}
 use mathlib.Core.Bool.{Bool, false, not, ◌||◌}
 use mathlib.Core.Logic.{⊎_elim}
-use native.Mathlib.Nat.{add-zero, sub-zero, eq-or-lt_of_le}
+use native.Mathlib.Nat.{add-zero, eq-or-lt_of_le}
 use native.Mathlib.Omega.{arith}
 use lib.ListN.{length, get_or, drop, set, length-set, length-append, length-drop, get_or-append}
 use lib.Seq.{drop-drop, get_or_at, get_or-set_other}
 use Rattle.std.specs.Prelude.{Result, Ok, Err}
 use Rattle.bytes_wire.specs.declared.Refusal.{Refusal}
 use Rattle.bytes_wire.specs.Parse.{ok, bad, later, map_parse}
-use Rattle.bytes_wire.proofs.Laws.{Behind, size, size_map, map_id, map_later, map_map, later_later}
+use Rattle.bytes_wire.proofs.Laws.{Behind, size, size_map, map_later, map_map, later_later}
 use Rattle.bytes_wire.proofs.Inv.{no_ok, image, map_inv, map_bad}
 use Rattle.mir.specs.Syntax.{Instruction}
 use Rattle.mir.specs.Reads.{dests, is_phi}
@@ -47,19 +47,6 @@ pub record Filling (b : Bounds) (at count first : ℕ) (s : List ℕ) (clear : L
   pub marking : seen ≡ block_marks clear behind_it_lem
   pub filled : Filled b s first count before facts (InstructionsIn b s facts first behind_it_lem)
   pub left : later at (instructions_of b clear false count (drop at s)) ≡ later here (map_parse (λ is. behind_it_lem ++ is) (instructions_of b seen late (count - i) (drop here s)))
-
--- none is behind yet
-pub filling_start : (b : Bounds) (at count first : ℕ) (s : List ℕ) (clear : List Bool) (before : List ℕ) → at ≤ length s → Filling b at count first s clear before before 0 at false clear
-filling_start b at count first s clear before h =
-    record {
-      under = zero-le;
-      in_s = h;
-      behind_it_lem = [];
-      many = refl;
-      marking = refl;
-      filled = record { kept = kept_all (387 + 20 * first) before; rows = λ t r k l. absurd (omega arith) };
-      left = simp (map_id, sub-zero);
-    }
 
 -- the marks behind one more
 marks_more : (seen : List Bool) (is : List Instruction) (i : Instruction) → block_marks seen (is ++ (i ∷ [])) ≡ marks (block_marks seen is) (dests i.kind)

@@ -8,12 +8,12 @@ use native.Mathlib.Omega.{arith}
 use borrow.Author.Tests.{lt-ltb, le-ltb, ltb-true, ne_eqb}
 use lib.ListN.{length, get_or, drop, length-drop}
 use lib.Dec.{ltb, eqb}
-use Rattle.bytes_wire.specs.Parse.{Parse, ok, bad, map_parse, checked}
+use Rattle.bytes_wire.specs.Parse.{Parse, ok, bad, checked}
 use Rattle.bytes_wire.specs.Number.{number_of, u8_of}
 use Rattle.bytes_wire.specs.declared.Cause.{Cause}
 use Rattle.bytes_wire.proofs.Laws.{number_short, number_some, from_8}
-use Rattle.bytes_wire.proofs.Inv.{both, image, and_inv, map_inv, checked_inv}
-use Rattle.bytes_field.specs.Decode.{defined_bits, bits_of, kind_of}
+use Rattle.bytes_wire.proofs.Inv.{checked_inv}
+use Rattle.bytes_field.specs.Decode.{defined_bits, kind_of}
 use Rattle.bytes_field.specs.Walk.{Walk}
 use Rattle.bytes_block.specs.Decode.{Head, head_of}
 
@@ -84,11 +84,3 @@ module _ (late : Bool) (s : List ℕ) where
 -- what is known at a walk's count is known at the place of what is read there
 pub peeked : (s : List ℕ) (x : ℕ) (w : Walk) (k : ℕ) → x ≡ get_or s k 0 → (v : Walk) (at : ℕ) → ok w k ≡ ok v at → x ≡ get_or s at 0
 peeked s x w k h v at e = let q : k ≡ at = cc in h ∙ ap (λ i. get_or s i 0) q
-
--- a head's kind is one of the 19
-pub head_below : (late : Bool) (s : List ℕ) {h : Head} {n : ℕ} → head_of late s ≡ ok h n → h.kind < 19
-unfolding head_of
-head_below late s {h} e =
-    elim (and_inv s (bits_of s) (λ x t. map_parse (λ k. record { bits = x; kind = k }) (kind_of late t)) e) [
-      | both x m j p q r ↦ elim (map_inv (λ k. record { bits = x; kind = k }) (kind_of late (drop m s)) q) [ image k f g ↦ omega (arith, ap (λ y. y.kind) g, kind_below late (drop m s) f) ]
-    ]

@@ -1,4 +1,6 @@
 // Instructions, terminators and blocks.
+// (Bytes and a place in them stay two parameters, and that it is not past their end a clause: each step goes on from the place that
+// the one before answers, so that a struct of both would be made anew, with its proof, at each.)
 #![tactic(auto)]
 
 ghost use Rattle.std.specs.Prelude.{◌≡◌, List, Bool, true, false, ℕ, ◌+◌, ◌-◌, ◌*◌, ◌≤◌, ◌<◌, length, get_or};

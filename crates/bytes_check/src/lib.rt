@@ -1,4 +1,5 @@
 // The entry that tells whether bytes are a routine.
+// (A number and a lent offset: poelvigu_check, the entry for C, hands on to it.)
 #![tactic(auto)]
 
 ghost use Rattle.std.specs.Prelude.{◌≡◌};

@@ -1,10 +1,10 @@
 -- A part of the input that is lent to be copied.
-use Prim.Native.Nat.{ℕ, zero, suc, ◌+◌, ◌-◌, ◌≤◌, ◌<◌}
-use mathlib.Core.Path.{◌≡◌, refl, ap, ◌∙◌, sym}
+use Prim.Native.Nat.{ℕ, zero, suc, ◌-◌, ◌≤◌}
+use mathlib.Core.Path.{◌≡◌, refl, ap, ◌∙◌}
 use mathlib.Core.List.{List, [], ◌∷◌}
 use native.Mathlib.Omega.{arith}
-use lib.ListN.{length, get_or, set, take, drop, length-set, drop_of_length-le}
-use lib.Seq.{sets, slice, drop-cons}
+use lib.ListN.{take, drop}
+use lib.Seq.{slice}
 
 -- a part that is lent is the part in the middle
 none_taken : (k : ℕ) → take {A = ℕ} k [] ≡ []

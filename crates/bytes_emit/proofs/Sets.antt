@@ -5,8 +5,8 @@ use mathlib.Core.List.{List, [], ◌∷◌, ◌++◌}
 use native.Mathlib.Nat.{add-zero}
 use native.Mathlib.Numerals.{add-one, add-two}
 use native.Mathlib.Omega.{arith}
-use lib.ListN.{length, get_or, set, length-set}
-use lib.Seq.{sets, set_comm, slice, slice-cons, slice_empty}
+use lib.ListN.{length, set}
+use lib.Seq.{sets, set_comm, slice}
 use Rattle.bytes_wire.specs.Number.{to_bytes}
 
 -- two runs, the second behind the first, are one
@@ -43,10 +43,6 @@ halves x =
     let c : x / 256 / 256 ≡ x / 65536 = omega arith in
     rw (a, b, c)
 
--- and so a u32 is stored by its halves
-pub sets_halves : (l : List ℕ) (i x : ℕ) → sets (sets l i (to_bytes 2 (x % 65536))) (i + 2) (to_bytes 2 (x / 65536)) ≡ sets l i (to_bytes 4 x)
-sets_halves l i x = sym (ap (sets l i) (halves x) ∙ sets_append l i (to_bytes 2 (x % 65536)) (to_bytes 2 (x / 65536)))
-
 -- two bytes, a run of two, and two runs behind them, as an Assign is written
 pub sets_assign : (l : List ℕ) (i a b : ℕ) (ds xs ts : List ℕ) → length ds ≡ 2 → sets (sets (sets (sets (sets l i (a ∷ [])) (i + 1) (b ∷ [])) (i + 2) ds) (i + 4) xs) (i + 4 + length xs) ts ≡ sets l i (a ∷ b ∷ (ds ++ (xs ++ ts)))
 sets_assign l i a b ds xs ts h =
@@ -60,24 +56,3 @@ pub record Copied (s out₀ : List ℕ) (from end to₀ : ℕ) (out : List ℕ) 
   pub place : to + (end - at) ≡ to₀ + (end - from)
   pub len : length out ≡ length out₀
   pub left : sets out to (slice at end s) ≡ sets out₀ to₀ (slice from end s)
-
--- none is stored yet
-pub copy_start : (s out : List ℕ) (from end to : ℕ) → from ≤ end → Copied s out from end to out from to
-copy_start s out from end to h = record { low = omega arith; high = h; place = refl; len = refl; left = refl }
-
-module _ (s out₀ : List ℕ) (from end to₀ : ℕ) (out : List ℕ) (at to : ℕ) (c : Copied s out₀ from end to₀ out at to) where
-  -- one more is stored
-  pub copy_again : (out' : List ℕ) → at < end → end ≤ length s → out' ≡ sets out to (get_or s at 0 ∷ []) → Copied s out₀ from end to₀ out' (at + 1) (to + 1)
-  copy_again out' h le e = record {
-    low = omega arith;
-    high = omega arith;
-    place = omega (arith, c.place);
-    len = ap length e ∙ length-set out to (get_or s at 0) ∙ c.len;
-    left = rw (e, add-one to, add-one at) (sym (ap (sets out to) (slice-cons at end s 0 h le))) ∙ c.left;
-  }
-
-  -- all are stored
-  pub copy_done : end ≤ at → (to ≡ to₀ + (end - from)) × (out ≡ sets out₀ to₀ (slice from end s))
-  copy_done h =
-      let z : at ≡ end = omega arith in
-      (omega (arith, c.place), sym (ap (sets out to) (ap (λ k. slice k end s) z ∙ slice_empty end s)) ∙ c.left)

@@ -1,4 +1,5 @@
 // Writers. None asks for room: a byte past the end is counted and not stored, so that one code path sizes and writes.
+// (The bounds of `to` halve from writer to writer, specs/Written: a place with its bound in the type would change its type at each call.)
 #![tactic(auto)]
 
 ghost use Rattle.std.specs.Prelude.{◌≡◌, [], ◌∷◌, ◌+◌, ◌<◌, ◌≤◌, length};
@@ -9,12 +10,12 @@ ghost use Rattle.mir.specs.Syntax.{Assign, plain};
 ghost use Rattle.bytes_field.specs.Encode.{instruction_bytes, value_id_bytes, type_id_bytes, name_id_bytes};
 ghost use Rattle.bytes_emit.specs.Written.{Writes, Copyable, Copies, number_room, word_room, value_room, instruction_room};
 
-use mir::{Literal, NameId, TypeId, Value, ValueId, kind};
+use bytes_wire::ValueKind;
+use mir::kind::Kind;
+use mir::{Literal, NameId, TypeId, Value, ValueId};
 
-// The bit map of an instruction with nothing beside it, and the kind of an Assign.
+// The bit map of an instruction with nothing beside it.
 const NO_BITS: u8 = 0;
-
-const ASSIGN: u8 = kind::ASSIGN as u8;
 
 // A number of one, two and four bytes, the lowest first.
 pub fn put_u8(out: &mut [u8], to: usize, b: u8)
@@ -39,7 +40,7 @@ pub fn put_u32(out: &mut [u8], to: usize, x: u32)
     put_u16(out, to + 2, (x / 65536) as u16);
 }
 
-// The numbers of values, types and names.
+// The numbers of values, types and names. (One function over a trait of the three would be longer than they are.)
 pub fn put_value_id(out: &mut [u8], to: usize, v: ValueId)
     requires { to < word_room }
     ensures { out.new ≡ sets out.old to (value_id_bytes v) }
@@ -68,17 +69,17 @@ fn put_literal(out: &mut [u8], to: usize, l: Literal) -> usize
 {
     match l {
         Literal::Integer(x) => {
-            put_u8(out, to, bytes_wire::INTEGER);
+            put_u8(out, to, ValueKind::Integer as u8);
             put_u32(out, to + 1, x);
             to + 5
         }
         Literal::Boolean(b) => {
-            put_u8(out, to, bytes_wire::BOOLEAN);
+            put_u8(out, to, ValueKind::Boolean as u8);
             put_u8(out, to + 1, b as u8);
             to + 2
         }
         Literal::Unit => {
-            put_u8(out, to, bytes_wire::UNIT);
+            put_u8(out, to, ValueKind::Unit as u8);
             to + 1
         }
     }
@@ -92,12 +93,12 @@ pub fn put_value(out: &mut [u8], to: usize, x: Value) -> usize
     match x {
         Value::Literal(l) => put_literal(out, to, l),
         Value::Operand(v) => {
-            put_u8(out, to, bytes_wire::OPERAND);
+            put_u8(out, to, ValueKind::Operand as u8);
             put_value_id(out, to + 1, v);
             to + 3
         }
         Value::Error => {
-            put_u8(out, to, bytes_wire::ERROR);
+            put_u8(out, to, ValueKind::Error as u8);
             to + 1
         }
     }
@@ -109,7 +110,7 @@ pub fn put_assign(out: &mut [u8], to: usize, d: ValueId, x: Value, t: TypeId) ->
     ensures { Writes (instruction_bytes (plain (Assign d x t))) out.old out.new to result }
 {
     put_u8(out, to, NO_BITS);
-    put_u8(out, to + 1, ASSIGN);
+    put_u8(out, to + 1, Kind::Assign as u8);
     put_value_id(out, to + 2, d);
     let at = put_value(out, to + 4, x);
     put_type_id(out, at, t);

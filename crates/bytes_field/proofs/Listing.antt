@@ -13,10 +13,6 @@ use Rattle.bytes_field.specs.Walk.{Walk, uses, simple_walk, pair_walk, times, co
 use Rattle.bytes_field.specs.declared.Bounds.{Bounds}
 use Rattle.bytes_field.specs.declared.Lists.{Lists}
 
--- true is not false
-no_false : true ≡ false → ⊥
-no_false e = let z : ◌≡◌ {A = ℕ} 0 1 = cc in omega arith
-
 module _ (b : Bounds) (l : Lists) (c d : ℕ) (w : Walk) (s : List ℕ) where
   -- the count is refused
   pub no_count : {k : Cause} {o : ℕ} → count_of l.most s ≡ bad k o → bad k o ≡ list_walk b l c d w s

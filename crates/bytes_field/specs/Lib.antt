@@ -1,3 +1,4 @@
 pub mod Decode
 pub mod Encode
 pub mod Walk
+pub mod ProjectionKind

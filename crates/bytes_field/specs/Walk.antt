@@ -30,6 +30,10 @@ pub record Walk : Type 0 where
 abbrev pub walk_of : List Bool → List ℕ → ℕ → Bool → Walk
 walk_of seen buffer n late = record { seen = seen; buffer = buffer; count = n; late = late }
 
+-- what was noted before a field, with the lent marks and buffer
+abbrev pub walk_before : List Bool → List ℕ → Scan → Walk
+walk_before seen buffer x = walk_of seen buffer x.reads x.late
+
 abbrev pub defines : Walk → ValueId → Walk
 defines w d = record { seen = mark w.seen d; buffer = w.buffer; count = w.count; late = w.late }
 
@@ -171,7 +175,7 @@ terminator_rows = 0x6 ∷ 0x662 ∷ 0x66228 ∷ 0xa ∷ 0x0 ∷ []
 
 -- what the code's answers say, with the lent marks and buffer
 abbrev pub scanned : List Bool → List ℕ → Scan → Parse Walk
-scanned seen buffer x = ok (walk_of seen buffer x.reads x.late) x.size
+scanned seen buffer x = ok (walk_before seen buffer x) x.size
 
 abbrev pub as_scan : Result Scan Refusal → List Bool → List ℕ → Parse Walk
 as_scan r seen buffer = as_answer (scanned seen buffer) r
@@ -181,13 +185,13 @@ abbrev pub bytes_of : Result Scan Refusal → ℕ
 bytes_of (Ok x) = x.size
 bytes_of (Err e) = e.offset
 
--- a field was passed over: `n` reads are noted as before
-abbrev pub Skipped : {A : Type 0} → Result Scan Refusal → ℕ → Bool → Parse A → Type 0
-Skipped r n late d = (seen : List Bool) (buffer : List ℕ) → as_scan r seen buffer ≡ map_parse (λ x. walk_of seen buffer n late) d
+-- a field was passed over: the reads of the walk before it are noted as before
+abbrev pub Skipped : {A : Type 0} → Result Scan Refusal → Scan → Parse A → Type 0
+Skipped r x d = (seen : List Bool) (buffer : List ℕ) → as_scan r seen buffer ≡ map_parse (λ a. walk_before seen buffer x) d
 
--- a field was read, and what it uses noted behind `n` reads: the buffer `before` became `after`
-abbrev pub Noted : {A : Type 0} → Result Scan Refusal → ℕ → Bool → List ℕ → List ℕ → (Walk → A → Walk) → Parse A → Type 0
-Noted r n late before after noting d = (seen : List Bool) → as_scan r seen after ≡ map_parse (noting (walk_of seen before n late)) d
+-- a field was read, and what it uses noted behind the reads of the walk before it: the buffer `before` became `after`
+abbrev pub Noted : {A : Type 0} → Result Scan Refusal → Scan → List ℕ → List ℕ → (Walk → A → Walk) → Parse A → Type 0
+Noted r x before after noting d = (seen : List Bool) → as_scan r seen after ≡ map_parse (noting (walk_before seen before x)) d
 
 -- a walk that keeps nothing of what it reads
 abbrev pub unit : {A : Type 0} → A → Unit {0}

@@ -1,18 +1,23 @@
-// The readers of the fields of an instruction. Each is given the bytes from its field on, checks the field, notes what it
-// reads or marks what it defines, and answers how many bytes it took.
+// The readers of the fields of an instruction. Each is given the bytes from its field on and the walk before it, checks the field,
+// notes what it reads or marks what it defines, and answers how many bytes it took.
+// (The marks and the buffer are two parameters, since most readers here are given one of them alone.)
 #![tactic(auto)]
+
+pub mod projection_kind;
 
 ghost use Rattle.std.specs.Prelude.{◌≡◌, List, Bool, cond, ℕ, ◌+◌, ◌-◌, ◌<◌, length, set, take, drop, ltb};
 ghost use Rattle.bytes_wire.specs.Parse.{map_parse, later};
 ghost use Rattle.bytes_wire.specs.Number.{number_of, below};
 ghost use Rattle.bytes_wire.specs.Value.{value_of, value_id_of};
 ghost use Rattle.bytes_field.specs.Decode.{defined_of, operation_of, projection_of};
-ghost use Rattle.bytes_field.specs.Walk.{walk_of, defines, uses, uses_value, uses_projection, as_scan, bytes_of, places, Skipped, Noted};
+ghost use Rattle.bytes_field.specs.Walk.{walk_of, walk_before, defines, uses, uses_value, uses_projection, as_scan, bytes_of, places, Skipped, Noted};
 
 use bytes_wire::{Cause, Refusal};
 use mir::{Value, ValueId};
+pub use projection_kind::ProjectionKind;
 
-// What the numbers of an instruction stay below, and the mosts of its lists and projections.
+// What the numbers of an instruction stay below, and the mosts of its lists and projections. (How many values and blocks there are at most
+// is no fact of the type: the bounds of the output count the fresh values too, and those of a type have none.)
 #[derive(Clone, Copy)]
 pub struct Bounds {
     pub types: u16,
@@ -22,7 +27,8 @@ pub struct Bounds {
     pub projections: u8,
 }
 
-// How many bytes a walk took, how many reads it noted, and whether another kind than Phi was met.
+// How many bytes a walk took, how many reads it noted, and whether another kind than Phi was met. Of the walk before it a reader of a field
+// does not read the bytes.
 #[derive(Clone, Copy, PartialEq, Eq, Debug)]
 pub struct Scan {
     pub size: usize,
@@ -42,13 +48,6 @@ pub struct Lists {
 pub const ID: usize = 2;
 
 pub const WORD: usize = 4;
-
-// The kinds of projections, in `Projection` order.
-pub const INDEX: u8 = 0;
-
-pub const FIELD: u8 = 1;
-
-pub const TUPLE: u8 = 2;
 
 // Notes that v is read, while there is room.
 fn note(buffer: &mut [u16], n: usize, v: ValueId) -> usize
@@ -86,34 +85,32 @@ pub fn further(p: Result<Scan, Refusal>, before: usize) -> Result<Scan, Refusal>
 }
 
 // A number of `width` bytes.
-pub fn read_number(s: &[u8], n: usize, late: bool, width: usize) -> Result<Scan, Refusal>
-    ensures { Skipped result n late (number_of width s.now) }
+pub fn read_number(s: &[u8], before: Scan, width: usize) -> Result<Scan, Refusal>
+    ensures { Skipped result before (number_of width s.now) }
 {
     if s.len() < width {
         return Err(Cause::Truncated.at(0));
     }
     Ok(Scan {
         size: width,
-        reads: n,
-        late,
+        ..before
     })
 }
 
 // A u16 below a bound: the number of a type or a block.
-pub fn read_below(s: &[u8], n: usize, late: bool, bound: u16) -> Result<Scan, Refusal>
-    ensures { Skipped result n late (below bound s.now) }
+pub fn read_below(s: &[u8], before: Scan, bound: u16) -> Result<Scan, Refusal>
+    ensures { Skipped result before (below bound s.now) }
 {
     let x = bytes_wire::read_below(s, bound)?;
     Ok(Scan {
         size: x.size,
-        reads: n,
-        late,
+        ..before
     })
 }
 
 // One of `many` operations.
-pub fn read_operation(s: &[u8], n: usize, late: bool, many: u8) -> Result<Scan, Refusal>
-    ensures { Skipped result n late (operation_of many s.now) }
+pub fn read_operation(s: &[u8], before: Scan, many: u8) -> Result<Scan, Refusal>
+    ensures { Skipped result before (operation_of many s.now) }
 {
     let x = bytes_wire::read_u8(s)?;
     if many <= x.value {
@@ -121,20 +118,13 @@ pub fn read_operation(s: &[u8], n: usize, late: bool, many: u8) -> Result<Scan, 
     }
     Ok(Scan {
         size: x.size,
-        reads: n,
-        late,
+        ..before
     })
 }
 
 // A value that is defined here: it is marked.
-pub fn read_defined(
-    s: &[u8],
-    n: usize,
-    late: bool,
-    next: u16,
-    seen: &mut [bool],
-) -> Result<Scan, Refusal>
-    ensures { (buffer : List ℕ) → let w = walk_of seen.old buffer n late in
+pub fn read_defined(s: &[u8], before: Scan, next: u16, seen: &mut [bool]) -> Result<Scan, Refusal>
+    ensures { (buffer : List ℕ) → let w = walk_before seen.old buffer before in
         as_scan result seen.new buffer ≡ map_parse (defines w) (defined_of next seen.old s.now) }
 {
     let x = bytes_wire::read_below(s, next)?;
@@ -145,46 +135,33 @@ pub fn read_defined(
     table::set_flag(seen, v, true);
     Ok(Scan {
         size: x.size,
-        reads: n,
-        late,
+        ..before
     })
 }
 
 // A value number that is read: the base of a place.
-pub fn read_base(
-    s: &[u8],
-    n: usize,
-    late: bool,
-    next: u16,
-    buffer: &mut [u16],
-) -> Result<Scan, Refusal>
-    ensures { Noted result n late buffer.old buffer.new uses (value_id_of next s.now) }
+pub fn read_base(s: &[u8], before: Scan, next: u16, buffer: &mut [u16]) -> Result<Scan, Refusal>
+    ensures { Noted result before buffer.old buffer.new uses (value_id_of next s.now) }
 {
     let x = bytes_wire::read_below(s, next)?;
-    let m = note(buffer, n, ValueId(x.value));
+    let m = note(buffer, before.reads, ValueId(x.value));
     Ok(Scan {
         size: x.size,
         reads: m,
-        late,
+        ..before
     })
 }
 
 // A value, from its kind on.
-pub fn read_value(
-    s: &[u8],
-    n: usize,
-    late: bool,
-    next: u16,
-    buffer: &mut [u16],
-) -> Result<Scan, Refusal>
-    ensures { Noted result n late buffer.old buffer.new uses_value (value_of next s.now) }
+pub fn read_value(s: &[u8], before: Scan, next: u16, buffer: &mut [u16]) -> Result<Scan, Refusal>
+    ensures { Noted result before buffer.old buffer.new uses_value (value_of next s.now) }
 {
     let x = bytes_wire::read_value(s, next)?;
-    let m = note_value(buffer, n, x.value);
+    let m = note_value(buffer, before.reads, x.value);
     Ok(Scan {
         size: x.size,
         reads: m,
-        late,
+        ..before
     })
 }
 
@@ -192,11 +169,7 @@ pub fn read_value(
 pub fn tail(s: &[u8], at: usize) -> &[u8]
     ensures { result.now ≡ drop at s.now }
 {
-    let n = s.len();
-    if at < n {
-        return &s[at..];
-    }
-    &s[n..]
+    table::behind(s, at)
 }
 
 // The bytes from `a` to `e`, as far as they stand there.
@@ -216,21 +189,21 @@ pub fn between(s: &[u8], a: usize, e: usize) -> &[u8]
 // A projection: its kind, then a value, a name or an index.
 pub fn read_projection(
     s: &[u8],
-    n: usize,
-    late: bool,
+    before: Scan,
     next: u16,
     buffer: &mut [u16],
 ) -> Result<Scan, Refusal>
-    ensures { Noted result n late buffer.old buffer.new uses_projection (projection_of next s.now) }
+    ensures { Noted result before buffer.old buffer.new uses_projection (projection_of next s.now) }
 {
-    if s.len() < 1 {
+    let [kind, t @ ..] = s else {
         return Err(Cause::Truncated.at(0));
-    }
-    let t = tail(s, 1);
-    match s[0] {
-        INDEX => further(read_value(t, n, late, next, buffer), 1),
-        FIELD => further(read_number(t, n, late, ID), 1),
-        TUPLE => further(read_number(t, n, late, WORD), 1),
-        _ => Err(Cause::Undefined.at(0)),
+    };
+    let Ok(kind) = ProjectionKind::try_from(*kind) else {
+        return Err(Cause::Undefined.at(0));
+    };
+    match kind {
+        ProjectionKind::Index => further(read_value(t, before, next, buffer), 1),
+        ProjectionKind::Field => further(read_number(t, before, ID), 1),
+        ProjectionKind::Tuple => further(read_number(t, before, WORD), 1),
     }
 }

@@ -6,6 +6,7 @@ use Rattle.mir.specs.Syntax.{Instruction, InstructionKind, Terminator, Block}
 use Rattle.bytes_field.specs.Decode.{instruction_of, terminator_of}
 use Rattle.mir.specs.Reads.{reads, terminator_reads, kind_number}
 use Rattle.bytes_field.specs.declared.Bounds.{Bounds}
+use Rattle.bytes_index.specs.declared.slots.Slots.{Slots}
 use Rattle.bytes_index.specs.Table.{starts_in, place_in, end_in, kind_in, ReadsIn}
 
 -- what stands past the last instruction, and past the last block
@@ -53,3 +54,11 @@ LastSlot facts k r =
     → CodeIn b s facts ks
     → k < length ks
     → r ≡ get_or (starts_in facts) k 0 + length (get_or ks k no_block).instructions
+
+-- the slots of block k's instructions
+abbrev pub SlotsOf : List ℕ → ℕ → Slots → Type 0
+SlotsOf facts k at =
+    (b : Bounds) (s : List ℕ) (ks : List Block)
+    → CodeIn b s facts ks
+    → k < length ks
+    → (at.first ≡ get_or (starts_in facts) k 0) × (at.count ≡ length (get_or ks k no_block).instructions)

@@ -1,18 +1,25 @@
 // The table of facts that the reader leaves of a routine (specs/Table.antt says what stands where), and lookups in it.
 #![tactic(auto)]
 
-ghost use Rattle.std.specs.Prelude.{◌≡◌, List, ℕ, ◌+◌, ◌*◌, ◌<◌, length, get_or, drop};
+pub mod code;
+pub mod slots;
+
+ghost use Rattle.std.specs.Prelude.{◌≡◌, List, ℕ, ◌+◌, ◌*◌, ◌<◌, length, get_or};
 ghost use Rattle.mir.specs.Kind.{NamesKind};
 ghost use Rattle.mir.specs.Syntax.{Block};
 ghost use Rattle.bytes_field.specs.declared.Bounds.{Bounds};
 ghost use Rattle.bytes_index.specs.Table.{recorded_in, blocks_in, starts_in, block_set};
 ghost use Rattle.bytes_index.specs.Table.{columns_below, row_at, row_number, place_in, end_in, kind_in, read_count, read_in};
-ghost use Rattle.bytes_index.specs.Code.{no_block, CodeIn, LastSlot};
+ghost use Rattle.bytes_index.specs.Code.{no_block, CodeIn, LastSlot, SlotsOf};
 ghost use Rattle.table.specs.Number.{numbers_below};
 
+pub use code::{Code, Typing};
 use mir::kind::Kind;
-use mir::{BlockId, ValueId};
+use mir::{BlockId, ValueId, most};
+pub use slots::Slots;
 
+// (One table of u16 in the fixed memory of the pass, with 0 for no type, as the laws read it. The readers take a slice that is so long at
+// least, and no array: a caller may lend a longer one.)
 // Where the sections begin, and how long the table is.
 pub const RECORDED: usize = 65;
 
@@ -35,29 +42,18 @@ pub const COUNT: usize = 3;
 
 pub const READS: usize = 4;
 
-// The part of a table from a place on.
-fn section(facts: &[u16], from: usize) -> &[u16]
-    ensures { result.now ≡ drop from facts.now }
-{
-    let n = facts.len();
-    if from < n {
-        return &facts[from..];
-    }
-    &facts[n..]
-}
-
 // The recorded types, by value: 0 for none, else one more than the type's number.
 pub fn recorded(facts: &[u16]) -> &[u16]
     ensures { result.now ≡ recorded_in facts.now }
 {
-    section(facts, RECORDED)
+    table::behind(facts, RECORDED)
 }
 
 // The places of the blocks, and the place behind the last.
 pub fn blocks(facts: &[u16]) -> &[u16]
     ensures { result.now ≡ blocks_in facts.now }
 {
-    section(facts, BLOCKS)
+    table::behind(facts, BLOCKS)
 }
 
 // Stores that block `k` begins at a place, behind `total` instructions; for k the number of blocks, where the last ends.
@@ -98,7 +94,7 @@ pub fn kind_at(facts: &[u16], at: usize) -> Option<Kind>
     Kind::try_from(table::number(facts, at)).ok()
 }
 
-// An instruction's kind as a number, for what does not take it as an enum yet.
+// The number that stands for an instruction's kind.
 pub fn kind(facts: &[u16], slot: u16) -> u16
     ensures { result ≡ kind_in facts.now slot }
 {
@@ -155,4 +151,16 @@ pub fn last_slot(facts: &[u16], k: BlockId) -> u16
         return 0;
     }
     behind - 1
+}
+
+// The slots of the instructions of block `k`; none where the table has more than there can be.
+pub fn block_slots(facts: &[u16], k: BlockId) -> Slots
+    ensures { SlotsOf facts.now k.0 result }
+{
+    let first = first_slot(facts, k);
+    let count = instruction_count(facts, k);
+    if most::SLOTS < first as usize + count as usize {
+        return Slots { first: 0, count: 0 };
+    }
+    Slots { first, count }
 }

@@ -94,6 +94,3 @@ instruction_size b seen late s {i} {n} h e l p = omega (arith, ((instruction b s
 -- and so for a terminator
 pub terminator_canon : (b : Bounds) (s : List ℕ) {t : Terminator} {n : ℕ} → Bytes s → terminator_of b s ≡ ok t n → Canon (terminator_bytes t) s n
 terminator_canon b s {t} {n} h e = ((terminator b).each s t n h e).canon
-
-pub terminator_size : (b : Bounds) (s : List ℕ) {t : Terminator} {n : ℕ} → Bytes s → terminator_of b s ≡ ok t n → b.list ≤ 16 → n ≤ 96
-terminator_size b s {t} {n} h e l = omega (arith, ((terminator b).each s t n h e).small)

@@ -15,22 +15,7 @@ use Rattle.bytes_wire.proofs.Laws.{from_16, from_32}
 use Rattle.bytes_wire.proofs.Inv.{no_ok, behind, image, later_inv, map_inv, number_inv, tagged_inv}
 use Rattle.mir.specs.declared.Projection.{Projection}
 use Rattle.bytes_field.specs.Decode.{name_id_of, projection_of}
-use Rattle.bytes_operands.specs.Fields.{value_size, value_end, value_step, after}
-
--- the kinds of values that take one byte
-pub one_byte : (k : ℕ) → (k ≡ 0 → ⊥) → (k ≡ 1 → ⊥) → (k ≡ 3 → ⊥) → ◌≡◌ {A = ℕ} 1 (value_size k)
-one_byte zero f g h = absurd (f refl)
-one_byte (suc zero) f g h = absurd (g refl)
-one_byte (suc (suc zero)) f g h = refl
-one_byte (suc (suc (suc zero))) f g h = absurd (h refl)
-one_byte (suc (suc (suc (suc zero)))) f g h = refl
-one_byte (suc (suc (suc (suc (suc k))))) f g h = refl
-
--- a kind that is neither of two
-pub neither : (x y z k : ℕ) → (k ≡ 0 → ⊥) → (k ≡ 1 → ⊥) → z ≡ get_or (x ∷ y ∷ []) k z
-neither x y z zero f g = absurd (f refl)
-neither x y z (suc zero) f g = absurd (g refl)
-neither x y z (suc (suc k)) f g = refl
+use Rattle.bytes_operands.specs.Fields.{value_end, value_step, after}
 
 -- i of k things are behind
 pub record Going (end : ℕ → ℕ) (k at here i : ℕ) : Type 0 where

@@ -1,7 +1,10 @@
 // Lookups on an accepted instruction: where its fields stand, its operand fields, its projections.
+// (Bytes, a place and the next value stay three parameters, and how far the place lies a clause: each call has another place, which ends
+// some bytes further, past the bound of a type that held it.)
 #![tactic(auto)]
 
-ghost use Rattle.std.specs.Prelude.{◌≡◌, List, Bool, false, cond, ℕ, ◌+◌, ◌*◌, ◌/◌, ◌%◌, ◌≤◌, ◌<◌, drop, eqb};
+ghost use Rattle.std.specs.Prelude.{◌≡◌, List, Bool, false, cond, ℕ, ◌+◌, ◌*◌, ◌/◌, ◌%◌, ◌≤◌, ◌<◌, drop, eqb, get_or};
+ghost use Rattle.mir.specs.Kind.{number_of_kind, NamesKind};
 ghost use Rattle.mir.specs.Option.{as_option};
 ghost use Rattle.std.proofs.Math.ListN.{get_elem?};
 ghost use Rattle.bytes_wire.specs.Parse.{ok};
@@ -14,8 +17,10 @@ ghost use Rattle.bytes_operands.specs.Fields.{ValueAt, operand_fields, place_ste
 ghost use Rattle.bytes_operands.specs.Fields.{after, value_step, operand_row, operand_first, steps_at, step_count};
 ghost use Rattle.bytes_operands.specs.Reach.{value_reach, step_reach, list_reach, operand_reach};
 
-use bytes_field::Bounds;
-use mir::{NameId, Projection, Value, kind};
+use bytes_field::{Bounds, ProjectionKind};
+use bytes_wire::ValueKind;
+use mir::kind::Kind;
+use mir::{NameId, Projection, Value};
 
 // A kind's operand fields, lists and places aside: how many, how far the first stands behind the kind's first field,
 // and how far the second stands behind the first. (A Store's one stands behind its place.)
@@ -44,19 +49,18 @@ pub const OPERANDS: [Operands; 19] = [
     Operands(1, 2, 0), // HeapAllocCells
 ];
 
-// The kinds with a place, as a byte.
-const LOAD: u8 = kind::LOAD as u8;
-
-const STORE: u8 = kind::STORE as u8;
-
-// The row of a kind; none past the last.
-fn operands_of(kind: u8) -> Operands
-    ensures { result ≡ operand_row kind }
+// The kind of the instruction that the bytes begin with.
+fn kind_of(s: &[u8]) -> Option<Kind>
+    ensures { NamesKind (get_or s.now 1 0) result }
 {
-    if kind < 19 {
-        return OPERANDS[kind as usize];
-    }
-    Operands(0, 0, 0)
+    Kind::try_from(u16::from(bytes_wire::byte_at(s, 1))).ok()
+}
+
+// The row of a kind.
+fn operands_of(kind: Kind) -> Operands
+    ensures { result ≡ operand_row (number_of_kind kind) }
+{
+    OPERANDS[kind as usize]
 }
 
 // How many bytes a field takes whose bit may stand.
@@ -75,15 +79,15 @@ pub fn fields_place(s: &[u8]) -> usize
     2 + (stands(bits, 1, 8) + (stands(bits, 2, 12) + stands(bits, 4, 4)))
 }
 
-// How many bytes a value takes, by its kind.
+// How many bytes a value takes, by its kind's number.
 fn value_size(kind: u8) -> usize
     ensures { (result ≡ value_size kind) × (result < 6) }
 {
-    match kind {
-        bytes_wire::INTEGER => 5,
-        bytes_wire::BOOLEAN => 2,
-        bytes_wire::OPERAND => 3,
-        _ => 1,
+    match ValueKind::try_from(kind) {
+        Ok(ValueKind::Integer) => 5,
+        Ok(ValueKind::Boolean) => 2,
+        Ok(ValueKind::Operand) => 3,
+        Ok(ValueKind::Unit | ValueKind::Error) | Err(_) => 1,
     }
 }
 
@@ -116,11 +120,10 @@ pub fn projection_end(t: &[u8], at: usize) -> usize
     requires { at < step_reach }
     ensures { (result ≡ projection_end t.now at) × (result ≤ at + 6) }
 {
-    let kind = bytes_wire::byte_at(t, at);
-    match kind {
-        bytes_field::INDEX => value_end(t, at + 1),
-        bytes_field::FIELD => at + 3,
-        _ => at + 5,
+    match ProjectionKind::try_from(bytes_wire::byte_at(t, at)) {
+        Ok(ProjectionKind::Index) => value_end(t, at + 1),
+        Ok(ProjectionKind::Field) => at + 3,
+        Ok(ProjectionKind::Tuple) | Err(_) => at + 5,
     }
 }
 
@@ -149,10 +152,10 @@ pub fn values_end(t: &[u8], at: usize, before: u8, gap: u8, k: u8) -> usize
 }
 
 // Where the first operand field stands.
-fn operand_first(t: &[u8], kind: u8) -> usize
-    ensures { (result ≡ operand_first t.now kind) × (result < operand_reach) }
+fn operand_first(t: &[u8], kind: Kind) -> usize
+    ensures { (result ≡ operand_first t.now (number_of_kind kind)) × (result < operand_reach) }
 {
-    if kind == STORE {
+    if kind == Kind::Store {
         return projections_end(t, 3, bytes_wire::byte_at(t, 2));
     }
     operands_of(kind).1 as usize
@@ -163,7 +166,7 @@ pub fn operand(s: &[u8], b: Bounds, k: u8) -> Option<Value>
     ensures { (seen : List Bool) (late : Bool) (i : Instruction) (n : ℕ) →
         instruction_of b seen late s.now ≡ ok i n → as_option result ≡ get_elem? (operand_fields i.kind) k }
 {
-    let kind = bytes_wire::byte_at(s, 1);
+    let kind = kind_of(s)?;
     let o = operands_of(kind);
     if o.0 <= k {
         return None;
@@ -177,28 +180,27 @@ pub fn step_at(t: &[u8], at: usize, next: u16) -> Option<Projection>
     ensures { (p : Projection) (n : ℕ) → projection_of next (drop at t.now) ≡ ok p n → result ≡ Some p }
 {
     let u = bytes_field::tail(t, at);
-    let kind = bytes_wire::byte_at(u, 0);
-    match kind {
-        bytes_field::INDEX => found_at(u, 1, next).map(Projection::Index),
-        bytes_field::FIELD => Some(Projection::Field(NameId(bytes_wire::u16_at(u, 1)))),
-        _ => Some(Projection::Tuple(bytes_wire::u32_at(u, 1))),
+    match ProjectionKind::try_from(bytes_wire::byte_at(u, 0)) {
+        Ok(ProjectionKind::Index) => found_at(u, 1, next).map(Projection::Index),
+        Ok(ProjectionKind::Field) => Some(Projection::Field(NameId(bytes_wire::u16_at(u, 1)))),
+        Ok(ProjectionKind::Tuple) | Err(_) => Some(Projection::Tuple(bytes_wire::u32_at(u, 1))),
     }
 }
 
 // Where the count of an instruction's projections stands.
-fn steps_at(kind: u8) -> usize
-    ensures { (result ≡ steps_at kind) × (result < 5) }
+fn steps_at(kind: Kind) -> usize
+    ensures { (result ≡ steps_at (number_of_kind kind)) × (result < 5) }
 {
-    if kind == LOAD { 4 } else { 2 }
+    if kind == Kind::Load { 4 } else { 2 }
 }
 
 // How many projections an instruction has.
-fn step_count(t: &[u8], kind: u8) -> u8
-    ensures { result ≡ step_count t.now kind }
+fn step_count(t: &[u8], kind: Kind) -> u8
+    ensures { result ≡ step_count t.now (number_of_kind kind) }
 {
     match kind {
-        LOAD => bytes_wire::byte_at(t, 4),
-        STORE => bytes_wire::byte_at(t, 2),
+        Kind::Load => bytes_wire::byte_at(t, 4),
+        Kind::Store => bytes_wire::byte_at(t, 2),
         _ => 0,
     }
 }
@@ -208,7 +210,7 @@ pub fn projection(s: &[u8], b: Bounds, k: u8) -> Option<Projection>
     ensures { (seen : List Bool) (late : Bool) (i : Instruction) (n : ℕ) →
         instruction_of b seen late s.now ≡ ok i n → as_option result ≡ get_elem? (place_steps i.kind) k }
 {
-    let kind = bytes_wire::byte_at(s, 1);
+    let kind = kind_of(s)?;
     let t = bytes_field::tail(s, fields_place(s));
     if step_count(t, kind) <= k {
         return None;

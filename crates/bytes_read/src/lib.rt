@@ -1,4 +1,5 @@
 // The whole reader.
+// (Bytes and a place in them stay two parameters, as in bytes_block.)
 #![tactic(auto)]
 
 ghost use Rattle.std.specs.Prelude.{◌≡◌, false, ◌≤◌, length, replicate};

@@ -53,18 +53,6 @@ power (suc (suc (suc (suc (suc (suc zero)))))) h = refl
 power (suc (suc (suc (suc (suc (suc (suc zero))))))) h = refl
 power (suc (suc (suc (suc (suc (suc (suc (suc i)))))))) h = absurd (omega arith)
 
--- none is 0
-pub power_some : (i : ℕ) → i < 8 → 0 < get_or (1 ∷ 2 ∷ 4 ∷ 8 ∷ 16 ∷ 32 ∷ 64 ∷ 128 ∷ []) i 0
-power_some zero h = omega arith
-power_some (suc zero) h = omega arith
-power_some (suc (suc zero)) h = omega arith
-power_some (suc (suc (suc zero))) h = omega arith
-power_some (suc (suc (suc (suc zero)))) h = omega arith
-power_some (suc (suc (suc (suc (suc zero))))) h = omega arith
-power_some (suc (suc (suc (suc (suc (suc zero)))))) h = omega arith
-power_some (suc (suc (suc (suc (suc (suc (suc zero))))))) h = omega arith
-power_some (suc (suc (suc (suc (suc (suc (suc (suc i)))))))) h = absurd (omega arith)
-
 -- reading the map of `next` bits
 module _ (next : ℕ) (s : List ℕ) where
   -- a whole byte is missing

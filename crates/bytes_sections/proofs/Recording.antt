@@ -1,36 +1,31 @@
 -- The recorded types, one value after another.
 use Prim.Native.Nat.{ℕ, zero, suc, ◌+◌, ◌-◌, ◌≤◌, ◌<◌, zero-le}
-use mathlib.Core.Path.{◌≡◌, refl, ap, ◌∙◌, sym}
+use mathlib.Core.Path.{◌≡◌, ap, ◌∙◌, sym}
 use mathlib.Core.List.{List, [], ◌∷◌, ◌++◌, append_assoc, append-nil}
 use mathlib.Core.Bool.{Bool, true, false}
 use mathlib.Core.Option.{Option, none, some}
 use mathlib.Core.Logic.{⊎_elim}
-use native.Mathlib.Nat.{add-zero, sub-zero, eq-or-lt_of_le}
+use native.Mathlib.Nat.{add-zero, eq-or-lt_of_le}
 use native.Mathlib.Omega.{arith}
-use borrow.Author.Tests.{lt-ltb, le-ltb}
+use borrow.Author.Tests.{lt-ltb}
 use lib.ListN.{length, get_or, drop, set, length-append, length-drop, length-set, get_or-append}
 use lib.Seq.{drop-drop, drop-set-add, get_or-drop, get_or_at, get_or-set_same, get_or-set_other}
 use Rattle.bytes_wire.specs.Parse.{ok, bad, later, map_parse}
 use Rattle.bytes_wire.specs.Number.{u16_of}
 use Rattle.bytes_wire.specs.declared.Cause.{Cause}
 use Rattle.mir.specs.declared.TypeId.{TypeId}
-use Rattle.bytes_wire.proofs.Laws.{size, size_map, size_later, size_and, size_below, map_id, map_later, map_map, later_later}
+use Rattle.bytes_wire.proofs.Laws.{size, size_map, size_later, size_and, size_below, map_later, map_map, later_later}
 use Rattle.bytes_wire.proofs.Inv.{both, behind, image, later_inv, and_inv, map_inv}
 use Rattle.bytes_field.specs.Walk.{unit}
 use Rattle.bytes_index.specs.Table.{recorded_in}
 use Rattle.bytes_block.specs.Rows.{Kept}
-use Rattle.bytes_block.proofs.Filling.{kept_all, kept_set}
+use Rattle.bytes_block.proofs.Filling.{kept_set}
 use Rattle.bytes_sections.specs.Decode.{has_recorded, recorded_type_of, recorded_of}
 use Rattle.bytes_sections.proofs.Laws.{refused, refusal, no_value}
 use Rattle.bytes_sections.specs.Index.{recorded_number, RecordedAt, RecordedOne, RecordedRead}
 
 -- the type of one value, by its bit
 module _ (types : ℕ) (at : ℕ) (s before : List ℕ) where
-  -- the bit does not stand
-  one_no : (v : ℕ) (b : Bool) (after : List ℕ) → b ≡ false → after ≡ set before (65 + v) 0 → (ok tt at ≡ later at (map_parse unit (recorded_type_of types b (drop at s)))) × ((t : Option TypeId) (n : ℕ) → recorded_type_of types b (drop at s) ≡ ok t n → after ≡ set before (65 + v) (recorded_number t))
-  one_no v true after e f = absurd (let z : ◌≡◌ {A = ℕ} 0 1 = cc in omega arith)
-  one_no v false after e f = (ap (ok tt) (sym (add-zero at)), λ t n q. let z : none ≡ t = cc in f ∙ ap (λ y. set before (65 + v) (recorded_number y)) z)
-
   -- it stands, and a type follows
   one_some : (v : ℕ) (b : Bool) (after : List ℕ) {x k : ℕ} → b ≡ true → u16_of (drop at s) ≡ ok x k → x < types → after ≡ set before (65 + v) (x + 1) → (ok tt (at + k) ≡ later at (map_parse unit (recorded_type_of types b (drop at s)))) × ((t : Option TypeId) (n : ℕ) → recorded_type_of types b (drop at s) ≡ ok t n → after ≡ set before (65 + v) (recorded_number t))
   one_some v false after e g h f = absurd (let z : ◌≡◌ {A = ℕ} 0 1 = cc in omega arith)
@@ -38,37 +33,11 @@ module _ (types : ℕ) (at : ℕ) (s before : List ℕ) where
       let r : recorded_type_of types true (drop at s) ≡ ok (some (record { 0 = x })) k = simp (g, lt-ltb _ _ h) in
       (sym (rw r), λ t n q. let z : some (record { 0 = x }) ≡ t = cc in f ∙ ap (λ y. set before (65 + v) (recorded_number y)) z)
 
-  -- it stands, and the type is refused
-  one_bad : (b : Bool) {c : Cause} {o : ℕ} → b ≡ true → u16_of (drop at s) ≡ bad c o → bad c (at + o) ≡ later at (map_parse unit (recorded_type_of types b (drop at s)))
-  one_bad false e g = absurd (let z : ◌≡◌ {A = ℕ} 0 1 = cc in omega arith)
-  one_bad true e g = sym (rw g)
-
-  -- it is no type
-  one_past : (b : Bool) {x k : ℕ} → b ≡ true → u16_of (drop at s) ≡ ok x k → types ≤ x → bad Cause.OutOfRange at ≡ later at (map_parse unit (recorded_type_of types b (drop at s)))
-  one_past false e g h = absurd (let z : ◌≡◌ {A = ℕ} 0 1 = cc in omega arith)
-  one_past true e g h = sym (simp (g, le-ltb _ _ h, add-zero))
-
 -- reading one value's type
 module _ (types : ℕ) (map : List ℕ) (v at : ℕ) (s before : List ℕ) where
-  -- it has none
-  pub recorded_no : {after : List ℕ} → has_recorded map v ≡ false → after ≡ set before (65 + v) 0 → RecordedOne types map v at s (ok tt at) before after
-  recorded_no {after} e f = let r = one_no types at s before v (has_recorded map v) after e f in record { answers = r.0; long = ap length f ∙ length-set before (65 + v) 0; number = r.1 }
-
   -- it has one
   pub recorded_some : {after : List ℕ} {x k : ℕ} → has_recorded map v ≡ true → u16_of (drop at s) ≡ ok x k → x < types → after ≡ set before (65 + v) (x + 1) → RecordedOne types map v at s (ok tt (at + k)) before after
   recorded_some {after} {x} e g h f = let r = one_some types at s before v (has_recorded map v) after e g h f in record { answers = r.0; long = ap length f ∙ length-set before (65 + v) (x + 1); number = r.1 }
-
-  -- a refusal stores nothing
-  one_refused : {c : Cause} {o : ℕ} → bad c o ≡ later at (map_parse unit (recorded_type_of types (has_recorded map v) (drop at s))) → RecordedOne types map v at s (bad c o) before before
-  one_refused e = record { answers = e; long = refl; number = λ t n q. absurd (no_value at (recorded_type_of types (has_recorded map v) (drop at s)) e t n q) }
-
-  -- it is cut off
-  pub recorded_bad : {c : Cause} {o : ℕ} → has_recorded map v ≡ true → u16_of (drop at s) ≡ bad c o → RecordedOne types map v at s (bad c (at + o)) before before
-  recorded_bad e g = one_refused (one_bad types at s before (has_recorded map v) e g)
-
-  -- it is no type
-  pub recorded_past : {x k : ℕ} → has_recorded map v ≡ true → u16_of (drop at s) ≡ ok x k → types ≤ x → RecordedOne types map v at s (bad Cause.OutOfRange at) before before
-  recorded_past e g h = one_refused (one_past types at s before (has_recorded map v) e g h)
 
 -- no such answer reaches further than the bytes do
 size_recorded_type : (types : ℕ) (b : Bool) (s : List ℕ) → size (recorded_type_of types b s) ≤ length s
@@ -90,10 +59,6 @@ pub record Recording (types : ℕ) (map : List ℕ) (next at : ℕ) (s before fa
   pub many : length behind_it_lem ≡ v
   pub table : RecordedAt (recorded_in facts) behind_it_lem
   pub left : later at (recorded_of types map 0 next (drop at s)) ≡ later here (map_parse (λ rs. behind_it_lem ++ rs) (recorded_of types map v (next - v) (drop here s)))
-
--- none is behind yet
-pub recording_start : (types : ℕ) (map : List ℕ) (next at : ℕ) (s before : List ℕ) → at ≤ length s → Recording types map next at s before before 0 at
-recording_start types map next at s before h = record { under = zero-le; in_s = h; kept = kept_all 65 before; behind_it_lem = []; many = refl; table = λ v q l. absurd (omega arith); left = simp (map_id, sub-zero) }
 
 -- one more number is stored
 store_more : (recorded : List ℕ) (rs : List (Option TypeId)) (v : ℕ) (t : Option TypeId) → length rs ≡ v → RecordedAt recorded rs → RecordedAt (set recorded v (recorded_number t)) (rs ++ (t ∷ []))

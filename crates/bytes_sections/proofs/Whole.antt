@@ -28,7 +28,7 @@ use Rattle.bytes_types.proofs.Sizes.{size_types}
 use Rattle.mir.specs.Routine.{Routine}
 use Rattle.bytes_sections.specs.Decode.{mosts, sizes_of, bounds_of, body_of, routine_of, ended, whole_of}
 use Rattle.bytes_sections.specs.declared.Sizes.{Sizes}
-use Rattle.bytes_sections.specs.Index.{as_sizes, as_checked, verdict}
+use Rattle.bytes_sections.specs.Index.{as_sizes}
 use Rattle.bytes_sections.specs.Facts.{BodyRead, LeftFree, RoutineRead}
 use Rattle.bytes_field.proofs.Laws.{and_later}
 use Rattle.bytes_sections.proofs.SizesOf.{size_sizes, sizes_fit}
@@ -183,12 +183,3 @@ module _ (s : List ℕ) where
                 ];
             refused = λ e g. same_long;
           }
-
--- the verdict does not look at the value
-verdict_unit : {A : Type 0} (d : Parse A) → verdict (map_parse unit d) ≡ verdict d
-verdict_unit (ok a n) = refl
-verdict_unit (bad c o) = refl
-
--- so the code's answer tells it
-pub verdict_of_lem : {A : Type 0} (d : Parse A) (n : ℕ) {r r' : Result Bounds Refusal} → as_checked n r ≡ map_parse unit d → r ≡ r' → verdict (as_checked n r') ≡ verdict d
-verdict_of_lem d n e g = ap (λ r. verdict (as_checked n r)) (sym g) ∙ ap verdict e ∙ verdict_unit d

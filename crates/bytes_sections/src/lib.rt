@@ -1,4 +1,5 @@
 // A whole routine: the readers of its sections.
+// (Bytes and a place in them stay two parameters, as in bytes_block.)
 #![tactic(auto)]
 
 pub mod sections;

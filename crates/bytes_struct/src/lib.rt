@@ -4,7 +4,8 @@
 ghost use Rattle.bytes_struct.specs.Found.{FoundAmong, FoundInRow, FoundIn};
 
 use bytes_types::layout;
-use mir::{NameId, TypeId, type_kind};
+use mir::type_kind::TypeKind;
+use mir::{NameId, TypeId};
 
 // What is found of a field: its position, its type, and how many fields the struct has.
 #[derive(Clone, Copy)]
@@ -35,10 +36,12 @@ fn find_among(row: &[u8], n: u8, name: NameId) -> Option<FoundField>
 fn find_in_row(row: &[u8], name: NameId) -> Option<FoundField>
     ensures { FoundInRow row.now name result }
 {
-    if bytes_wire::byte_at(row, 0) == type_kind::STRUCT {
-        return find_among(row, bytes_wire::byte_at(row, layout::STRUCT_COUNT), name);
+    match bytes_types::kind_of(row) {
+        Some(TypeKind::Struct) => {
+            find_among(row, bytes_wire::byte_at(row, layout::STRUCT_COUNT), name)
+        }
+        _ => None,
     }
-    None
 }
 
 // sroa.rs 1411, `struct_field_index`: a name in type `t` of `many`; absent where there is no such type.

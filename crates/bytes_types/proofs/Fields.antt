@@ -2,7 +2,7 @@
 use Prim.Native.Nat.{ℕ, suc, ◌+◌, ◌-◌, ◌*◌, ◌≤◌, ◌<◌, zero-le}
 use mathlib.Core.Path.{◌≡◌, refl, ap, ◌∙◌, sym}
 use mathlib.Core.List.{List, [], ◌∷◌}
-use mathlib.Core.Bool.{true, false, not}
+use mathlib.Core.Bool.{false, not}
 use native.Mathlib.Nat.{add-zero, add_assoc, sub-zero}
 use native.Mathlib.Omega.{arith}
 use borrow.Author.Tests.{le-leb, lt-leb}
@@ -85,14 +85,6 @@ two_left s at h e = omega (arith, (number_inv 2 (drop at s) e).0, length-drop at
 
 -- a field that stands at a place
 module _ (own : ℕ) (names : List NameId) (s : List ℕ) (at : ℕ) where
-  -- its name is refused
-  pub field_no_name : {c : Cause} {o : ℕ} → u16_of (drop at s) ≡ bad c o → bad c (at + o) ≡ later at (map_parse unit (field_of own names (drop at s)))
-  field_no_name e = sym (rw e)
-
-  -- its name is not new
-  pub field_old : {x n : ℕ} → u16_of (drop at s) ≡ ok x n → has_name (record { 0 = x }) names ≡ true → bad Cause.Repeated at ≡ later at (map_parse unit (field_of own names (drop at s)))
-  field_old e h = sym (simp (e, h, add-zero))
-
   -- its type is refused
   pub field_no_type : {x n o : ℕ} {c : Cause} → u16_of (drop at s) ≡ ok x n → has_name (record { 0 = x }) names ≡ false → below own (drop (at + 2) s) ≡ bad c o → bad c (at + 2 + o) ≡ later at (map_parse unit (field_of own names (drop at s)))
   field_no_type {x} {n} {o} {c} e h f =

@@ -6,3 +6,4 @@ pub mod Rows
 pub mod Table
 pub mod RoundTrip
 pub mod Fit
+pub mod Numbered

@@ -1,7 +1,7 @@
 -- The table's rows are the kinds of types.
 use Prim.Native.Nat.{ℕ, zero, suc, ◌≤◌, ◌<◌}
 use mathlib.Core.Path.{◌≡◌, refl, ap, ◌∙◌, sym}
-use mathlib.Core.List.{List, [], ◌∷◌, map}
+use mathlib.Core.List.{List, map}
 use native.Mathlib.Omega.{arith}
 use borrow.Author.Tests.{le-leb, lt-leb}
 use lib.ListN.{length, get_or, drop, get_or-eq_default}
@@ -11,11 +11,7 @@ use Rattle.bytes_wire.proofs.Laws.{map_map, map_and, map_later, and_map, and_ok}
 use Rattle.bytes_field.specs.Walk.{Walk, simple_walk, field_walk, row_walk, unit}
 use Rattle.bytes_field.specs.declared.Bounds.{Bounds}
 use Rattle.bytes_field.proofs.Rows.{types_list}
-use Rattle.bytes_types.specs.Decode.{struct_of, type_kinds, type_of}
-
--- the rows of the kinds; a Struct has none
-abbrev pub type_rows : List ℕ
-type_rows = 0x0 ∷ 0x0 ∷ 0x0 ∷ 0xb ∷ 0x0 ∷ 0x53 ∷ 0x3 ∷ 0x3b ∷ 0x0 ∷ 0x0 ∷ 0x0 ∷ []
+use Rattle.bytes_types.specs.Decode.{struct_of, type_kinds, type_of, type_rows}
 
 -- the kind at the first byte, by the kind's number k
 chosen : (most own : ℕ) (s : List ℕ) → 1 ≤ length s → type_of most own s ≡ get_or (map (λ f. later 1 (f (drop 1 s))) (type_kinds most own)) (get_or s 0 0) (bad Cause.Undefined 0)
@@ -59,5 +55,5 @@ type_row : (b : Bounds) (w : Walk) (s : List ℕ) → 1 ≤ length s → get_or 
 type_row b w s h l g = kind_type b w (drop 1 s) (get_or s 0 0) l g ∙ sym (ap (map_parse unit) (chosen b.list b.types s h))
 
 -- and what was made of the walk over its row is what is made of the type
-pub read_row : (b : Bounds) (w : Walk) (s : List ℕ) {d : Parse (Unit {0})} {q : Parse Walk} → d ≡ map_parse unit q → q ≡ and_then s (ok w 1) (λ v t. row_walk b 0 5 (get_or type_rows (get_or s 0 0) 0) v t) → 1 ≤ length s → get_or s 0 0 < 11 → (get_or s 0 0 ≡ 4 → ⊥) → d ≡ map_parse unit (type_of b.list b.types s)
-read_row b w s e f h l g = e ∙ ap (map_parse unit) f ∙ type_row b w s h l g
+pub read_row : (b : Bounds) (w : Walk) (s : List ℕ) {k row : ℕ} {d : Parse (Unit {0})} {q : Parse Walk} → k ≡ get_or s 0 0 → row ≡ get_or type_rows k 0 → d ≡ map_parse unit q → q ≡ and_then s (ok w 1) (λ v t. row_walk b 0 5 row v t) → 1 ≤ length s → get_or s 0 0 < 11 → (get_or s 0 0 ≡ 4 → ⊥) → d ≡ map_parse unit (type_of b.list b.types s)
+read_row b w s i j e f h l g = e ∙ ap (map_parse unit) (f ∙ ap (λ r. and_then s (ok w 1) (λ v t. row_walk b 0 5 r v t)) (j ∙ ap (λ m. get_or type_rows m 0) i)) ∙ type_row b w s h l g

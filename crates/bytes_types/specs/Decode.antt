@@ -62,3 +62,8 @@ type_seq most earlier (suc k) s =
 -- "u16 type count, types"
 unfoldable pub types_of : ℕ → ℕ → List ℕ → Parse (List MirType)
 types_of most_types most s = and_then s (checked Cause.TooMany (λ n. leb n most_types) (u16_of s)) (λ n s. type_seq most [] n s)
+
+-- the rows of the kinds, in `MirType` order: the classes of their fields. A Struct has none. (Nothing here is believed: proofs/Rows.antt ties
+-- each row to the decoder of its kind.)
+abbrev pub type_rows : List ℕ
+type_rows = 0x0 ∷ 0x0 ∷ 0x0 ∷ 0xb ∷ 0x0 ∷ 0x53 ∷ 0x3 ∷ 0x3b ∷ 0x0 ∷ 0x0 ∷ 0x0 ∷ []

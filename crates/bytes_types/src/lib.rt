@@ -3,23 +3,36 @@
 
 pub mod layout;
 
-ghost use Rattle.std.specs.Prelude.{◌≡◌, List, [], Bool, ℕ, ◌+◌, ◌*◌, ◌≤◌, ◌<◌, length, drop};
+ghost use Rattle.std.specs.Prelude.{◌≡◌, List, [], Bool, ℕ, ◌+◌, ◌*◌, ◌≤◌, ◌<◌, length, get_or, drop};
 ghost use Rattle.bytes_wire.specs.Parse.{map_parse, later};
+ghost use Rattle.mir.specs.TypeKind.{number_of_type_kind, NamesTypeKind};
 ghost use Rattle.bytes_field.specs.Walk.{as_part, unit};
 ghost use Rattle.bytes_before.specs.Before.{names_at};
-ghost use Rattle.bytes_types.specs.Decode.{struct_fields, struct_of, type_of};
+ghost use Rattle.bytes_types.specs.Decode.{struct_fields, struct_of, type_of, type_rows};
 ghost use Rattle.bytes_types.specs.Index.{field_of, TypesRead};
 
 use bytes_field::{Bounds, Scan};
 use bytes_wire::{Cause, Refusal};
-use mir::{NameId, type_kind};
+use mir::NameId;
+use mir::type_kind::TypeKind;
 
 // The classes of each kind's fields (see `read_field` of bytes_row), in `MirType` order. A Struct has no row: its names
 // differ.
 pub const TYPE_ROWS: [u32; 11] = [0x0, 0x0, 0x0, 0xb, 0x0, 0x53, 0x3, 0x3b, 0x0, 0x0, 0x0];
 
-// How many kinds of types there are.
-const KINDS: u8 = 11;
+// The row of a kind of type.
+fn row_of_type(kind: TypeKind) -> u32
+    ensures { result ≡ get_or type_rows (number_of_type_kind kind) 0 }
+{
+    TYPE_ROWS[kind as usize]
+}
+
+// The kind of the type whose bytes begin here.
+pub fn kind_of(row: &[u8]) -> Option<TypeKind>
+    ensures { NamesTypeKind (get_or row.now 0 0) result }
+{
+    TypeKind::try_from(bytes_wire::byte_at(row, 0)).ok()
+}
 
 // Field `i` of the fields that begin at `from`: a new name, then a type below the struct's own number.
 fn struct_field(s: &[u8], from: usize, i: u8, own: u16) -> Result<usize, Refusal>
@@ -69,14 +82,13 @@ fn struct_type(s: &[u8], most: u8, own: u16) -> Result<usize, Refusal>
 pub fn read_type(s: &[u8], most: u8, own: u16) -> Result<usize, Refusal>
     ensures { as_part result ≡ map_parse unit (type_of most own s.now) }
 {
-    if s.len() < 1 {
+    let [kind, ..] = s else {
         return Err(Cause::Truncated.at(0));
-    }
-    let kind = s[0];
-    if KINDS <= kind {
+    };
+    let Ok(kind) = TypeKind::try_from(*kind) else {
         return Err(Cause::Undefined.at(0));
-    }
-    if kind == type_kind::STRUCT {
+    };
+    if kind == TypeKind::Struct {
         return struct_type(s, most, own);
     }
     let b = Bounds {
@@ -88,13 +100,12 @@ pub fn read_type(s: &[u8], most: u8, own: u16) -> Result<usize, Refusal>
     };
     let mut seen: [bool; 0] = [false; 0];
     let mut reads: [u16; 0] = [0; 0];
-    let k = kind as usize;
     let start = Scan {
         size: 1,
         reads: 0,
         late: false,
     };
-    let p = bytes_row::then_row(s, start, TYPE_ROWS[k], 0, b, &mut seen, &mut reads)?;
+    let p = bytes_row::then_row(s, start, row_of_type(kind), 0, b, &mut seen, &mut reads)?;
     Ok(p.size)
 }
 

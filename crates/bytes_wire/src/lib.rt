@@ -1,12 +1,16 @@
-// Numbers, numbers of things, and values, as the byte form has them.
+// Numbers, numbers of things, and values, as the byte form has them. (Readers of one, two and four bytes are three: `from_le_bytes` is of
+// no trait.)
 #![tactic(auto)]
 
-ghost use Rattle.std.specs.Prelude.{◌≡◌, ◌+◌, ◌*◌, ◌<◌, get_or};
-ghost use Rattle.bytes_wire.specs.Parse.{number_of_cause, as_parse, places};
-ghost use Rattle.bytes_wire.specs.Number.{u8_of, u16_of, u32_of, below, at16, at32};
+pub mod value_kind;
+
+ghost use Rattle.std.specs.Prelude.{◌≡◌, ◌+◌, ◌*◌, ◌<◌, ◌≤◌, length, get_or, IfOk};
+ghost use Rattle.bytes_wire.specs.Parse.{number_of_cause, as_answer, as_parse, ok, places};
+ghost use Rattle.bytes_wire.specs.Number.{from_bytes, number_of, u8_of, u16_of, u32_of, below, at16, at32};
 ghost use Rattle.bytes_wire.specs.Value.{value_of};
 
 use mir::{Literal, Value, ValueId};
+pub use value_kind::ValueKind;
 
 // Why a byte string is refused: rows 1 to 9 of document 01's table.
 #[derive(Clone, Copy, PartialEq, Eq, Debug)]
@@ -65,49 +69,43 @@ pub struct Read<T> {
     pub size: usize,
 }
 
-// The kinds of values, in `Value` order with the literals first.
-pub const INTEGER: u8 = 0;
-
-pub const BOOLEAN: u8 = 1;
-
-pub const UNIT: u8 = 2;
-
-pub const OPERAND: u8 = 3;
-
-pub const ERROR: u8 = 4;
+// The first N bytes.
+fn first_bytes<const N: usize>(s: &[u8]) -> Result<&[u8; N], Refusal>
+    ensures told { as_answer (λ bs. ok (from_bytes bs.now) N) result ≡ number_of N s.now }
+    ensures long { IfOk result (λ bs. length bs.now ≤ N) }
+{
+    s.first_chunk().ok_or(Cause::Truncated.at(0))
+}
 
 // A number of one, two and four bytes, the lowest first.
 pub fn read_u8(s: &[u8]) -> Result<Read<u8>, Refusal>
     ensures { as_parse result ≡ u8_of s.now }
 {
-    match s {
-        [a, ..] => Ok(Read { value: *a, size: 1 }),
-        _ => Err(Cause::Truncated.at(0)),
-    }
+    let bytes = first_bytes::<1>(s)?;
+    Ok(Read {
+        value: u8::from_le_bytes(*bytes),
+        size: 1,
+    })
 }
 
 pub fn read_u16(s: &[u8]) -> Result<Read<u16>, Refusal>
     ensures { as_parse result ≡ u16_of s.now }
 {
-    match s {
-        [a, b, ..] => Ok(Read {
-            value: u16::from_le_bytes([*a, *b]),
-            size: 2,
-        }),
-        _ => Err(Cause::Truncated.at(0)),
-    }
+    let bytes = first_bytes::<2>(s)?;
+    Ok(Read {
+        value: u16::from_le_bytes(*bytes),
+        size: 2,
+    })
 }
 
 pub fn read_u32(s: &[u8]) -> Result<Read<u32>, Refusal>
     ensures { as_parse result ≡ u32_of s.now }
 {
-    match s {
-        [a, b, c, d, ..] => Ok(Read {
-            value: u32::from_le_bytes([*a, *b, *c, *d]),
-            size: 4,
-        }),
-        _ => Err(Cause::Truncated.at(0)),
-    }
+    let bytes = first_bytes::<4>(s)?;
+    Ok(Read {
+        value: u32::from_le_bytes(*bytes),
+        size: 4,
+    })
 }
 
 // A u16 below a bound: the number of a value, a type or a block.
@@ -128,15 +126,18 @@ pub fn read_value(s: &[u8], next: u16) -> Result<Read<Value>, Refusal>
     let [kind, t @ ..] = s else {
         return Err(Cause::Truncated.at(0));
     };
-    match *kind {
-        INTEGER => {
+    let Ok(kind) = ValueKind::try_from(*kind) else {
+        return Err(Cause::Undefined.at(0));
+    };
+    match kind {
+        ValueKind::Integer => {
             let x = read_u32(t).map_err(|e| e.behind(1))?;
             Ok(Read {
                 value: Value::Literal(Literal::Integer(x.value)),
                 size: 1 + x.size,
             })
         }
-        BOOLEAN => {
+        ValueKind::Boolean => {
             let x = read_u8(t).map_err(|e| e.behind(1))?;
             if x.value < 2 {
                 Ok(Read {
@@ -147,22 +148,21 @@ pub fn read_value(s: &[u8], next: u16) -> Result<Read<Value>, Refusal>
                 Err(Cause::Undefined.at(1))
             }
         }
-        UNIT => Ok(Read {
+        ValueKind::Unit => Ok(Read {
             value: Value::Literal(Literal::Unit),
             size: 1,
         }),
-        OPERAND => {
+        ValueKind::Operand => {
             let x = read_below(t, next).map_err(|e| e.behind(1))?;
             Ok(Read {
                 value: Value::Operand(ValueId(x.value)),
                 size: 1 + x.size,
             })
         }
-        ERROR => Ok(Read {
+        ValueKind::Error => Ok(Read {
             value: Value::Error,
             size: 1,
         }),
-        _ => Err(Cause::Undefined.at(0)),
     }
 }
 
@@ -170,7 +170,7 @@ pub fn read_value(s: &[u8], next: u16) -> Result<Read<Value>, Refusal>
 pub fn byte_at(s: &[u8], at: usize) -> u8
     ensures { result ≡ get_or s.now at 0 }
 {
-    if at < s.len() { s[at] } else { 0 }
+    table::at(s, at, 0)
 }
 
 // The u16 at a place; bytes past the end count as 0.

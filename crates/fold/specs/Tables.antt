@@ -5,6 +5,8 @@ use Rattle.bytes_wire.specs.WellFormed.{Bytes}
 use Rattle.mir.specs.declared.TypeId.{TypeId}
 use Rattle.mir.specs.Syntax.{Block}
 use Rattle.bytes_field.specs.declared.Bounds.{Bounds}
+use Rattle.bytes_index.specs.declared.code.Code.{Code}
+use Rattle.bytes_index.specs.declared.code.Typing.{Typing}
 use Rattle.bytes_index.specs.Table.{recorded_in, blocks_in}
 use Rattle.bytes_index.specs.Code.{no_block, CodeIn}
 use Rattle.bytes_types.specs.Index.{TypesAt}
@@ -45,3 +47,10 @@ pub record Coded (b : Bounds) (s facts : List ℕ) (τ : Types) (ks : List Block
   pub few : b.blocks ≤ 32
   pub small : (k : ℕ) → k < length ks → length (get_or ks k no_block).instructions ≤ 128
   pub short : length s < 65536
+
+-- what is known of the types of a routine as the code has it, and of its types and recorded types
+abbrev pub CodeGround : Code → Types → Type 0
+CodeGround code τ = Ground code.bounds code.bytes.now code.facts.now (recorded_in code.facts.now) τ
+
+abbrev pub TypingGround : Typing → Types → Type 0
+TypingGround typing τ = Ground typing.code.bounds typing.code.bytes.now typing.code.facts.now typing.recorded.now τ

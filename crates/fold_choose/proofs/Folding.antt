@@ -4,7 +4,8 @@ use mathlib.Core.Path.{◌≡◌, refl, ap, ◌∙◌, sym}
 use mathlib.Core.List.{List}
 use mathlib.Core.Bool.{Bool, true, false, ◌||◌}
 use mathlib.Core.Option.{some, none-ne-some}
-use borrow.Author.Tests.{eq-eqb}
+use native.Mathlib.Omega.{arith}
+use borrow.Author.Tests.{eq-eqb, ne_eqb}
 use lib.Dec.{eqb}
 use lib.ListN.{length}
 use Rattle.mir.specs.declared.ValueId.{ValueId}
@@ -12,7 +13,7 @@ use Rattle.mir.specs.Syntax.{Instruction, InstructionKind}
 use Rattle.mir.specs.Syntax.{Assign, UnaryOp, BinaryOp, Call, Cast, Load, Store, Debug, Nop, Phi}
 use Rattle.mir.specs.Syntax.{MakeTuple, ExtractTupleElement, MakeStruct, ExtractStructField, InsertField, InsertTuple, MakeFixedArray, AssertEq, HeapAllocCells}
 use Rattle.mir.specs.Reads.{kind_number}
-use Rattle.bytes_field.specs.declared.Bounds.{Bounds}
+use Rattle.bytes_index.specs.declared.code.Code.{Code}
 use Rattle.bytes_laws.proofs.Bits.{true_false}
 use Rattle.bytes_index.specs.Table.{kind_in}
 use Rattle.fold.specs.declared.Settings.{Settings}
@@ -52,6 +53,10 @@ fold_any σ τ cross is (MakeFixedArray d xs t c) v kind looked r h e o w l = le
 fold_any σ τ cross is (AssertEq x y) v kind looked r h e o w l = absurd (none-ne-some _ e)
 fold_any σ τ cross is (HeapAllocCells d x) v kind looked r h e o w l = absurd (none-ne-some _ e)
 
+-- a number that is none of three is no build's
+pub none_of_three : (n : ℕ) → (n ≡ 10 → ⊥) → (n ≡ 12 → ⊥) → (n ≡ 16 → ⊥) → build_kind n ≡ false
+none_of_three n a b c = rw (ne_eqb n 10 a, ne_eqb n 12 b, ne_eqb n 16 c) refl
+
 -- an instruction of another kind is no build
 pub no_build : (i : InstructionKind) (v : ValueId) (kind : ℕ) → kind ≡ kind_number i → build_kind kind ≡ false → build_dest i ≡ some v → ⊥
 no_build i v kind k f h =
@@ -59,10 +64,10 @@ no_build i v kind k f h =
     let u = neither (eqb kind 12) (eqb kind 16) w.1 in
     build_kind_lem i v h (λ z. true_false (sym (eq-eqb kind 10 (k ∙ z)) ∙ w.0)) (λ z. true_false (sym (eq-eqb kind 12 (k ∙ z)) ∙ u.0)) (λ z. true_false (sym (eq-eqb kind 16 (k ∙ z)) ∙ u.1))
 
-module _ (σ : Settings) (shapes graph : List ℕ) (looked : Bool) (s : List ℕ) (b : Bounds) (facts : List ℕ) (slot kind : ℕ) (ks : kind ≡ kind_in facts slot) where
-  pub decided : (d : ℕ) → d ≡ dest_in s facts slot → (r : Bool) → FoldsBy σ shapes graph (record { 0 = d }) kind looked r → Answers σ shapes graph looked s b facts slot r
+module _ (σ : Settings) (shapes graph : List ℕ) (looked : Bool) (code : Code) (slot kind : ℕ) (ks : kind ≡ kind_in code.facts.now slot) where
+  pub decided : (d : ℕ) → d ≡ dest_in code.bytes.now code.facts.now slot → (r : Bool) → FoldsBy σ shapes graph (record { 0 = d }) kind looked r → Answers σ shapes graph looked code slot r
   decided d ds r folds τ cross is i v seen l few at h o looks =
-      elim (build_place b s facts slot i v at h) [
+      elim (build_place code.bounds code.bytes.now code.facts.now slot i v at h) [
         | build_at a low ↦
             let q : d ≡ v.0 = ds ∙ sym a in
             let z : record { 0 = d } ≡ v = ap (λ (x : ℕ). record { 0 = x }) q in
@@ -71,5 +76,10 @@ module _ (σ : Settings) (shapes graph : List ℕ) (looked : Bool) (s : List ℕ
             fold_any σ τ cross is i.kind v kind looked r (ks ∙ at.kind) h o dec (λ k. looks (sym at.kind ∙ sym ks ∙ k))
       ]
 
-  pub decided_none : (build : Bool) → build ≡ build_kind kind → build ≡ false → Answers σ shapes graph looked s b facts slot false
+  pub decided_none : (build : Bool) → build ≡ build_kind kind → build ≡ false → Answers σ shapes graph looked code slot false
   decided_none build bs f τ cross is i v seen l few at h o looks = absurd (no_build i.kind v kind (ks ∙ at.kind) (sym bs ∙ f) h)
+
+-- nor is one where no kind stands
+pub decided_past : (σ : Settings) (shapes graph : List ℕ) (looked : Bool) (code : Code) (slot : ℕ) → 18 < kind_in code.facts.now slot → Answers σ shapes graph looked code slot false
+decided_past σ shapes graph looked code slot far τ cross is i v seen l few at h o looks =
+    absurd (build_kind_lem i.kind v h (λ z. omega (arith, at.kind)) (λ z. omega (arith, at.kind)) (λ z. omega (arith, at.kind)))

@@ -16,6 +16,8 @@ use Rattle.mir.specs.Syntax.{Assign, UnaryOp, BinaryOp, Call, Cast, Load, Store,
 use Rattle.mir.specs.Syntax.{MakeTuple, ExtractTupleElement, MakeStruct, ExtractStructField, InsertField, InsertTuple, MakeFixedArray, AssertEq, HeapAllocCells}
 use Rattle.mir.specs.Reads.{is_phi, dests}
 use Rattle.bytes_field.specs.declared.Bounds.{Bounds}
+use Rattle.bytes_index.specs.declared.code.Code.{Code}
+use Rattle.bytes_index.specs.declared.slots.Slots.{Slots}
 use Rattle.bytes_laws.specs.WellFormed.{FitNew, FitKind}
 use Rattle.bytes_laws.proofs.Bits.{true_false}
 use Rattle.bytes_block.specs.Decode.{marks}
@@ -163,12 +165,12 @@ module _ (σ : Settings) (τ : Types) (cross : Marks) where
       go ih false e = refl
 
   -- what the code asks of a block
-  pub stands_once : (m : Mosts) (b : Bounds) (x : Block) (s facts : List ℕ) (first count : ℕ) → Fitting m b x → m.block ≤ 128 → b.list ≤ 16 → InstructionsIn b s facts first x.instructions → length x.instructions ≡ count → Standing σ τ cross b s facts first count x.instructions
-  stands_once m b x s facts first count (fitting total seen l f) short listed a c =
+  pub stands_once : (m : Mosts) (code : Code) (x : Block) (at : Slots) → Fitting m code.bounds x → m.block ≤ 128 → code.bounds.list ≤ 16 → InstructionsIn code.bounds code.bytes.now code.facts.now at.first x.instructions → length x.instructions ≡ at.count → Standing σ τ cross code at x.instructions
+  stands_once m code x at (fitting total seen l f) short listed a c =
       record {
-        code = a;
+        stands = a;
         counted = c;
         few = omega (arith, f.own);
-        listed = λ k h. le_trans (lists_fit b seen false x.instructions f.instructions k h) listed;
-        once = λ j d h e. built_behind d x.instructions ∙ built_once b seen false x.instructions f.instructions l j d h e;
+        listed = λ k h. le_trans (lists_fit code.bounds seen false x.instructions f.instructions k h) listed;
+        once = λ j d h e. built_behind d x.instructions ∙ built_once code.bounds seen false x.instructions f.instructions l j d h e;
       }

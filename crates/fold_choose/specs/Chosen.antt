@@ -6,7 +6,9 @@ use Rattle.mir.specs.Syntax.{Instruction, Block}
 use Rattle.bytes_field.specs.declared.Bounds.{Bounds}
 use Rattle.bytes_block.specs.declared.Mosts.{Mosts}
 use Rattle.bytes_block.specs.WellFormed.{FitCode}
-use Rattle.bytes_index.specs.Table.{starts_in, recorded_in, kind_in}
+use Rattle.bytes_index.specs.Table.{starts_in, kind_in}
+use Rattle.bytes_index.specs.declared.code.Code.{Code}
+use Rattle.bytes_index.specs.declared.slots.Slots.{Slots}
 use Rattle.bytes_index.specs.Code.{no_instruction, no_block, InstructionIn, InstructionsIn, CodeIn}
 use Rattle.bytes_operands.specs.Fields.{list_values}
 use Rattle.fold.specs.declared.Settings.{Settings}
@@ -18,12 +20,12 @@ use Rattle.fold.specs.Family.{Marks, build_dest, has_dynamic_index}
 use Rattle.fold.specs.Climb.{build_of}
 use Rattle.mir.specs.Phis.{behind_phis}
 use Rattle.fold.specs.Fold.{skipped}
-use Rattle.fold.specs.Tables.{ShapesAt, Ground, Coded}
+use Rattle.fold.specs.Tables.{ShapesAt, CodeGround, Coded}
 use Rattle.fold_looked.specs.Looked.{ArraysLooked}
 use Rattle.fold_climb.specs.Scanned.{graph_size, Scanned}
 use Rattle.rewrite.specs.Run.{Choice, folds_in, folds_build}
 use Rattle.rewrite_progress.specs.Chosen.{Follows}
-use Rattle.fold_choose.specs.declared.Slots.{Slots}
+use Rattle.fold_scan.specs.declared.ValueFacts.{ValueFacts}
 
 -- the flags: one for each slot, and one for each block behind them
 abbrev pub flags_size : ℕ
@@ -42,13 +44,6 @@ pub record Fits (b : Bounds) (ks : List Block) : Type 0 where
   pub mosts : Mosts
   pub short : mosts.block ≤ most_instructions
   pub each : (k : ℕ) → k < length ks → Fitting mosts b (get_or ks k no_block)
-
--- the slots of block k
-pub record SlotsOf (facts : List ℕ) (k : ℕ) (at : Slots) : Type 0 where
-  pub low : at.first + at.count ≤ most_slots
-  pub so :
-      (b : Bounds) (s : List ℕ) (ks : List Block) → CodeIn b s facts ks → k < length ks
-      → (at.first ≡ get_or (starts_in facts) k 0) × (at.count ≡ length (get_or ks k no_block).instructions)
 
 -- MakeTuple, MakeStruct and MakeFixedArray
 abbrev pub build_kind : ℕ → Bool
@@ -77,24 +72,23 @@ pub record Seen (σ : Settings) (τ : Types) (cross : Marks) (is : List Instruct
   pub scanned : Scanned σ τ cross is graph
 
 -- whether the build in a slot is folded, by those tables, where `looked` is right of an array
-abbrev pub Answers : Settings → List ℕ → List ℕ → Bool → List ℕ → Bounds → List ℕ → ℕ → Bool → Type 0
-Answers σ shapes graph looked s b facts slot answer =
+abbrev pub Answers : Settings → List ℕ → List ℕ → Bool → Code → ℕ → Bool → Type 0
+Answers σ shapes graph looked code slot answer =
     (τ : Types) (cross : Marks) (is : List Instruction) (i : Instruction) (d : ValueId)
     → Seen σ τ cross is shapes graph
-    → length τ.recorded ≡ b.next
-    → b.next ≤ most_values
-    → InstructionIn b s facts slot i
+    → length τ.recorded ≡ code.bounds.next
+    → code.bounds.next ≤ most_values
+    → InstructionIn code.bounds code.bytes.now code.facts.now slot i
     → build_dest i.kind ≡ some d
     → build_of σ τ cross d is ≡ some i.kind
     → (kind_number i.kind ≡ array_kind → looked ≡ has_dynamic_index τ d is)
     → answer ≡ folds_build σ τ cross is (some i.kind)
 
 -- a block's instructions: where they stand, few enough for the tables, and each build is the one of its dest
-pub record Standing (σ : Settings) (τ : Types) (cross : Marks) (b : Bounds) (s facts : List ℕ)
-    (first count : ℕ) (all : List Instruction) : Type 0 where
-  pub code : InstructionsIn b s facts first all
-  pub counted : length all ≡ count
-  pub few : count ≤ most_instructions
+pub record Standing (σ : Settings) (τ : Types) (cross : Marks) (code : Code) (at : Slots) (all : List Instruction) : Type 0 where
+  pub stands : InstructionsIn code.bounds code.bytes.now code.facts.now at.first all
+  pub counted : length all ≡ at.count
+  pub few : at.count ≤ most_instructions
   pub listed : (k : ℕ) → k < length all → length (list_values (get_or all k no_instruction).kind) ≤ 16
   pub once :
       (j : ℕ) (d : ValueId)
@@ -116,37 +110,37 @@ pub record Flagged (first : ℕ) (before behind : List Bool) : Type 0 where
   pub old : (j : ℕ) → (first ≤ j → j < most_slots → ⊥) → get_or behind j false ≡ get_or before j false
 
 -- what is decided of a block whose tables stand
-abbrev pub DecidesAll : Settings → List ℕ → List ℕ → List Bool → List ℕ → Bounds → List ℕ → Slots → List Bool → List Bool → Type 0
-DecidesAll σ shapes graph looked s b facts at before behind =
+abbrev pub DecidesAll : Settings → List ℕ → List ℕ → List Bool → Code → Slots → List Bool → List Bool → Type 0
+DecidesAll σ shapes graph looked code at before behind =
     (τ : Types) (cross : Marks) (all : List Instruction)
-    → Standing σ τ cross b s facts at.first at.count all
+    → Standing σ τ cross code at all
     → Seen σ τ cross (behind_phis all) shapes graph
     → ArraysLooked τ all looked
-    → length τ.recorded ≡ b.next
-    → b.next ≤ most_values
+    → length τ.recorded ≡ code.bounds.next
+    → code.bounds.next ≤ most_values
     → most_slots ≤ length before
     → FoldedAt σ τ cross at.first all behind
 
 -- what the graph of a block holds behind its filling
-abbrev pub FillsGraph : Settings → List ℕ → List Bool → Marks → List ℕ → Bounds → List ℕ → Slots → List ℕ → List ℕ → Type 0
-FillsGraph σ shapes eligible cross s b facts at before behind =
+abbrev pub FillsGraph : Settings → ValueFacts → Code → Slots → List ℕ → List ℕ → Type 0
+FillsGraph σ values code at before behind =
     (τ : Types) (all : List Instruction)
-    → Ground b s facts (recorded_in facts) τ
-    → ShapesAt σ τ shapes eligible
-    → Standing σ τ cross b s facts at.first at.count all
+    → CodeGround code τ
+    → ShapesAt σ τ values.shapes.now values.eligible.now
+    → Standing σ τ values.cross.now code at all
     → graph_size ≤ length before
-    → Scanned σ τ cross (behind_phis all) behind
+    → Scanned σ τ values.cross.now (behind_phis all) behind
 
 -- what is decided of a block with nothing but room for the graph
-abbrev pub DecidesBlock : Settings → List ℕ → List Bool → Marks → ℕ → List ℕ → Bounds → List ℕ → Slots → List Bool → List Bool → Type 0
-DecidesBlock σ shapes eligible cross room s b facts at before behind =
+abbrev pub DecidesBlock : Settings → ValueFacts → ℕ → Code → Slots → List Bool → List Bool → Type 0
+DecidesBlock σ values room code at before behind =
     (τ : Types) (all : List Instruction)
-    → Ground b s facts (recorded_in facts) τ
-    → ShapesAt σ τ shapes eligible
-    → Standing σ τ cross b s facts at.first at.count all
+    → CodeGround code τ
+    → ShapesAt σ τ values.shapes.now values.eligible.now
+    → Standing σ τ values.cross.now code at all
     → graph_size ≤ room
     → most_slots ≤ length before
-    → FoldedAt σ τ cross at.first all behind
+    → FoldedAt σ τ values.cross.now at.first all behind
 
 -- what is chosen of block k: no other flag changes
 pub record BlockChosen (c : Choice) (k first : ℕ) (x : Block) (before choice : List Bool) : Type 0 where
@@ -160,23 +154,23 @@ pub record BlockChosen (c : Choice) (k first : ℕ) (x : Block) (before choice :
       → get_or choice (first + j) false ≡ c.folds x d
 
 -- what is chosen of block k of a routine with nothing but room for the graph
-abbrev pub ChoosesBlock : Settings → List ℕ → List Bool → Marks → ℕ → List ℕ → Bounds → List ℕ → ℕ → List Bool → List Bool → Type 0
-ChoosesBlock σ shapes eligible cross room s b facts k before behind =
+abbrev pub ChoosesBlock : Settings → ValueFacts → ℕ → Code → ℕ → List Bool → List Bool → Type 0
+ChoosesBlock σ values room code k before behind =
     (τ : Types) (ks : List Block)
-    → Coded b s facts τ ks
-    → Fits b ks
-    → ShapesAt σ τ shapes eligible
+    → Coded code.bounds code.bytes.now code.facts.now τ ks
+    → Fits code.bounds ks
+    → ShapesAt σ τ values.shapes.now values.eligible.now
     → k < length ks
     → graph_size ≤ room
     → flags_size ≤ length before
-    → BlockChosen (chosen_by σ τ cross) k (get_or (starts_in facts) k 0) (get_or ks k no_block) before behind
+    → BlockChosen (chosen_by σ τ values.cross.now) k (get_or (starts_in code.facts.now) k 0) (get_or ks k no_block) before behind
 
 -- what is chosen of all blocks
-abbrev pub Chooses : Settings → List ℕ → List Bool → Marks → List ℕ → Bounds → List ℕ → List Bool → List Bool → Type 0
-Chooses σ shapes eligible cross s b facts before behind =
+abbrev pub Chooses : Settings → ValueFacts → Code → List Bool → List Bool → Type 0
+Chooses σ values code before behind =
     (τ : Types) (ks : List Block)
-    → Coded b s facts τ ks
-    → Fits b ks
-    → ShapesAt σ τ shapes eligible
+    → Coded code.bounds code.bytes.now code.facts.now τ ks
+    → Fits code.bounds ks
+    → ShapesAt σ τ values.shapes.now values.eligible.now
     → flags_size ≤ length before
-    → Follows (chosen_by σ τ cross) facts behind ks
+    → Follows (chosen_by σ τ values.cross.now) code.facts.now behind ks

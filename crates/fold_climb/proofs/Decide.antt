@@ -136,14 +136,6 @@ module _ {σ : Settings} {τ : Types} {cross : Marks} {is : List Instruction} {s
             array = λ n d. absurd (a n);
           }
 
-      pub for_none : (kind ≡ 12 → ⊥) → σ.tuples ≡ false → Decided σ τ cross is v kind dynamic false
-      for_none s off =
-          record {
-            tuple = λ xs n b. sym (tuple_decided xs b ∙ rw off);
-            struct = λ n. absurd (s n);
-            array = λ n d. sym (array_decided dynamic d ∙ rw off);
-          }
-
 -- the loop over the tuples that take the value as a part
 tuple_down : (g : List ℕ) (i : ℕ) → 0 < i → tuples_down g i ≡ cond (of_tuple g (i - 1)) (edge_in g (i - 1) ∷ tuples_down g (i - 1)) (tuples_down g (i - 1))
 unfolding tuples_down

@@ -3,16 +3,20 @@
 
 ghost use Rattle.std.specs.Prelude.{◌≡◌, not, ◌&&◌, ◌<◌};
 ghost use Rattle.mir.specs.Most.{most_values};
+ghost use Rattle.mir.specs.Kind.{number_of_kind};
 ghost use Rattle.mir.specs.Option.{as_option};
 ghost use Rattle.fold_climb.specs.Edges.{climb_of};
 ghost use Rattle.fold_climb.specs.Scanned.{sight_of, built_in, barred_in};
 ghost use Rattle.fold_climb.specs.Decided.{climbs, tuples_pass, FoldsBy};
 
 use fold::Settings;
-use mir::{ValueId, kind, most, shape};
+use mir::kind::Kind;
+use mir::shape::Shape;
+use mir::{ValueId, most};
 
 // Where the parts of the graph begin, how many numbers an edge takes, and how long the graph is (specs/Scanned.antt). An
-// edge is the child, the parent, and the kind of the parent's build; there are at most so many.
+// edge is the child, the parent, and the kind of the parent's build; there are at most so many. (The kind stands there as its
+// number: the graph is one table of u16, in fixed memory.)
 pub const BUILT: usize = 1;
 
 pub const BARRED: usize = 257;
@@ -54,7 +58,7 @@ fn climb(v: ValueId, graph: &[u16], shapes: &[u8], visited: Visited) -> Option<V
     if !allowed(graph, at) {
         return None;
     }
-    let array = bytes_wire::byte_at(shapes, at) == shape::FIXED_ARRAY;
+    let array = bytes_wire::byte_at(shapes, at) == Shape::FixedArray as u8;
     let mut met = visited;
     met[at] = true;
     for i in (0..table::number(graph, 0)).rev() {
@@ -83,7 +87,7 @@ fn tuple_parents(v: ValueId, graph: &[u16], shapes: &[u8]) -> bool
 {
     for i in (0..table::number(graph, 0)).rev() {
         let e = EDGES + WIDTH * i as usize;
-        if table::number(graph, e + KIND) == kind::MAKE_TUPLE {
+        if table::number(graph, e + KIND) == Kind::MakeTuple as u16 {
             if table::number(graph, e) == v.0 {
                 let p = ValueId(table::number(graph, e + PARENT));
                 if !can_scalarize(p, graph, shapes) {
@@ -98,31 +102,21 @@ fn tuple_parents(v: ValueId, graph: &[u16], shapes: &[u8]) -> bool
 // Whether the build of a value is taken apart, by the build's kind; `dynamic`: an array with a dynamic index.
 pub fn folds(
     v: ValueId,
-    kind: u16,
+    kind: Kind,
     dynamic: bool,
     settings: Settings,
     graph: &[u16],
     shapes: &[u8],
 ) -> bool
-    ensures { FoldsBy settings shapes.now graph.now v kind dynamic result }
+    ensures { FoldsBy settings shapes.now graph.now v (number_of_kind kind) dynamic result }
 {
-    if kind == kind::MAKE_STRUCT {
-        if !settings.structs {
-            return false;
+    match kind {
+        Kind::MakeStruct => settings.structs && can_scalarize(v, graph, shapes),
+        Kind::MakeFixedArray => settings.tuples && !dynamic && can_scalarize(v, graph, shapes),
+        _ => {
+            settings.tuples
+                && table::number(graph, BUILT + v.0 as usize) == 1
+                && tuple_parents(v, graph, shapes)
         }
-        return can_scalarize(v, graph, shapes);
     }
-    if !settings.tuples {
-        return false;
-    }
-    if kind == kind::MAKE_FIXED_ARRAY {
-        if dynamic {
-            return false;
-        }
-        return can_scalarize(v, graph, shapes);
-    }
-    if table::number(graph, BUILT + v.0 as usize) != 1 {
-        return false;
-    }
-    tuple_parents(v, graph, shapes)
 }

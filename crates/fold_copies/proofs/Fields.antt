@@ -1,15 +1,15 @@
 -- Where a copy's source and dest stand, and the base that a Load or Store looks into.
-use Prim.Native.Nat.{ℕ, ◌≤◌, ◌<◌}
+use Prim.Native.Nat.{ℕ, ◌-◌}
 use mathlib.Core.Path.{◌≡◌, refl, ap, ◌∙◌, sym}
 use mathlib.Core.List.{List, [], ◌∷◌}
-use mathlib.Core.Bool.{Bool, true, false, cond, not, true≢false}
+use mathlib.Core.Bool.{Bool, true, false, not, ◌||◌, true≢false}
 use mathlib.Core.Logic.{◌⊎◌, inl, inr, ⊎_elim}
 use mathlib.Core.Option.{Option, none, some}
 use native.Mathlib.Omega.{arith}
-use native.Mathlib.Nat.{add_comm, eq-or-lt_of_le}
+use native.Mathlib.Nat.{add_comm}
 use borrow.Author.Tests.{ne_eqb}
 use lib.ListN.{length, get_or, get_elem?, set, drop}
-use lib.Seq.{drop-drop}
+use lib.Seq.{drop-drop, get_or-drop}
 use lib.Dec.{eqb}
 use Rattle.bytes_wire.specs.Parse.{as_parse, Parse, ok, and_then, map_parse}
 use Rattle.bytes_wire.specs.Number.{u32_of, below, at16}
@@ -17,29 +17,33 @@ use Rattle.bytes_wire.specs.Value.{value_of, value_id_of}
 use Rattle.bytes_wire.specs.declared.Cause.{Cause}
 use Rattle.bytes_wire.specs.declared.Read.{Read}
 use Rattle.bytes_wire.specs.declared.Refusal.{Refusal}
-use Rattle.std.specs.Prelude.{Result, Ok, Err}
+use Rattle.std.specs.Prelude.{Result, Ok}
 use Rattle.mir.specs.declared.TypeId.{TypeId}
 use Rattle.mir.specs.declared.Value.{Value}
 use Rattle.mir.specs.declared.ValueId.{ValueId}
 use Rattle.bytes_wire.proofs.Laws.{from_16}
-use Rattle.bytes_wire.proofs.Inv.{no_ok, both, image, and_inv, map_inv, checked_inv, number_inv, below_inv}
+use Rattle.bytes_wire.proofs.Inv.{both, image, and_inv, map_inv, checked_inv, number_inv, below_inv}
 use Rattle.mir.specs.declared.Projection.{Projection}
 use Rattle.mir.specs.declared.Projection.TheVariants.{Index, Field, Tuple}
 use Rattle.mir.specs.Syntax.{Place, Instruction, InstructionKind}
 use Rattle.mir.specs.Syntax.{Assign, UnaryOp, BinaryOp, Call, Cast, Load, Store, Debug, Nop, Phi}
 use Rattle.mir.specs.Syntax.{MakeTuple, ExtractTupleElement, MakeStruct, ExtractStructField, InsertField, InsertTuple, MakeFixedArray, AssertEq, HeapAllocCells}
-use Rattle.mir.specs.Reads.{kind_number}
-use Rattle.bytes_field.specs.Decode.{defined_of, type_id_of, name_id_of, list_of, projection_of, instruction_of, assign_of, load_of, store_of, insert_field_of, insert_tuple_of}
-use Rattle.bytes_field.specs.Decode as decode
+use Rattle.mir.specs.Reads.{kind_number, reads}
+use Rattle.bytes_field.specs.Decode.{defined_of, type_id_of, name_id_of, instruction_of, assign_of, insert_field_of, insert_tuple_of}
 use Rattle.bytes_field.specs.declared.Bounds.{Bounds}
+use Rattle.bytes_index.specs.declared.code.Code.{Code}
+use Rattle.bytes_index.specs.Table.{row_at, row_number, place_in, end_in, kind_in, ReadsIn}
+use Rattle.bytes_index.specs.Code.{InstructionIn}
 use Rattle.bytes_types.specs.Index.{TypesAt}
+use Rattle.mir.specs.declared.shape.Shape.{Shape}
+use Rattle.mir.specs.Shape.{number_of_shape}
 use Rattle.bytes_operands.specs.Fields.{fields_place, place_steps}
 use Rattle.bytes_operands.proofs.Instruction.{chosen, instruction_fields, fields_read}
 use Rattle.mir.specs.Lookup.{Types, row_of, shape}
 use Rattle.fold.specs.Family.{Marks, accessed, dynamic_first}
 use Rattle.fold_family.specs.Copies.{any_shape, Copy, copied, assigned, copy_of, dynamic_step, dynamic_place}
 use Rattle.fold_shapes.specs.Shapes.{OfType}
-use Rattle.fold_copies.specs.Found.{Headed, ValueCopy, AssignCopy, CopyFound}
+use Rattle.fold_copies.specs.Found.{RowOf, ValueCopy, AssignCopy, CopyFound, DynamicNoted}
 
 -- a value's number takes two bytes
 id_at : (next : ℕ) (u : List ℕ) {d : ValueId} {m : ℕ} → value_id_of next u ≡ ok d m → (d.0 ≡ at16 u 0) × (m ≡ 2)
@@ -142,26 +146,49 @@ insert_tuple_at b u {k} e =
 pub got_size : {x : Result (Read Value) Refusal} {r : Read Value} {v : Value} {n : ℕ} → x ≡ Ok r → as_parse x ≡ ok v n → r.size ≡ n
 got_size {x} {r} {v} {n} p e = let f : ok r.value r.size ≡ ok v n = sym (ap as_parse p) ∙ e in cc
 
+-- a shape is Other where its number is 0
+pub other_shape : (k : Shape) → (k ≡ Shape.Other → ⊥) → number_of_shape k ≡ 0 → ⊥
+other_shape Shape.Other h e = h refl
+other_shape Shape.Tuple h e = absurd (let z : ◌≡◌ {A = ℕ} 1 0 = e in omega (arith, z))
+other_shape Shape.Struct h e = absurd (let z : ◌≡◌ {A = ℕ} 2 0 = e in omega (arith, z))
+other_shape Shape.FixedArray h e = absurd (let z : ◌≡◌ {A = ℕ} 3 0 = e in omega (arith, z))
+
 -- an Assign's type, and whether that makes it a copy
-module _ (s types u w : List ℕ) (many : ℕ) (x : Result (Read Value) Refusal) (y : Read Value) (t k : ℕ) (dest : ValueId) (got : x ≡ Ok y) (ew : w ≡ drop y.size u) (et : t ≡ at16 w 2) (ek : OfType shape s types many (record { 0 = t }) k) where
-  shape_of : (most : ℕ) (τ : Types) (v : Value) (n : ℕ) → TypesAt most s types τ.rows → length τ.rows ≡ many → as_parse x ≡ ok v n → k ≡ shape (row_of τ (some (record { 0 = at16 (drop n u) 2 })))
+module _ (code : Code) (u w : List ℕ) (x : Result (Read Value) Refusal) (y : Read Value) (t k : ℕ) (got : x ≡ Ok y) (ew : w ≡ drop y.size u) (et : t ≡ at16 w 2) (ek : OfType shape code (record { 0 = t }) k) where
+  shape_of : (most : ℕ) (τ : Types) (v : Value) (n : ℕ) → TypesAt most code.bytes.now code.facts.now τ.rows → length τ.rows ≡ code.bounds.types → as_parse x ≡ ok v n → k ≡ shape (row_of τ (some (record { 0 = at16 (drop n u) 2 })))
   unfolding row_of
   shape_of most τ v n a l e = ek most τ.rows a l ∙ ap (λ q. shape (get_elem? τ.rows q)) (et ∙ ap (λ q. at16 q 2) (ew ∙ ap (λ q. drop q u) (got_size got e)))
 
-  pub assigned_none : k ≡ 0 → AssignCopy s types many u x dest none
-  assigned_none h most τ v n a l e = ap (λ q. assigned q v dest.0) (sym h ∙ shape_of most τ v n a l e)
+  pub assigned_none : k ≡ 0 → AssignCopy code u x none
+  assigned_none h most τ v n a l e = ap (λ q. assigned q v (at16 u 0)) (sym h ∙ shape_of most τ v n a l e)
 
-  pub assigned_copied : (k ≡ 0 → ⊥) → (r : Option Copy) → ValueCopy x dest k r → AssignCopy s types many u x dest r
+  pub assigned_copied : (k ≡ 0 → ⊥) → (r : Option Copy) → ValueCopy u x k r → AssignCopy code u x r
   assigned_copied h r f most τ v n a l e =
-      let z : copied k v dest.0 ≡ assigned k v dest.0 = rw (ne_eqb k 0 h) in
-      f v n e ∙ z ∙ ap (λ q. assigned q v dest.0) (shape_of most τ v n a l e)
+      let z : copied k v (at16 u 0) ≡ assigned k v (at16 u 0) = rw (ne_eqb k 0 h) in
+      f v n e ∙ z ∙ ap (λ q. assigned q v (at16 u 0)) (shape_of most τ v n a l e)
+
+-- the instruction at the head of t, and its kind
+pub record Headed (b : Bounds) (t : List ℕ) (kind : ℕ) (i : Instruction) : Type 0 where
+  pub size : ℕ
+  pub read : instruction_of b [] false t ≡ ok i size
+  pub numbered : kind ≡ kind_number i.kind
+
+-- a slot's instruction stands at the head of the bytes from its place on
+pub headed : (b : Bounds) (s facts : List ℕ) (slot : ℕ) (i : Instruction) {t : List ℕ} → t ≡ drop (place_in facts slot) s → InstructionIn b s facts slot i → Headed b t (kind_in facts slot) i
+headed b s facts slot i et a = record { size = end_in facts slot - place_in facts slot; read = rw et a.read; numbered = a.kind }
+
+-- number j of a row, and its instruction at the head of the bytes likewise
+row_at_head : (code : Code) (row : List ℕ) (i : Instruction) (j : ℕ) (a : RowOf code row i) → get_or row j 0 ≡ row_number code.facts.now a.slot j
+row_at_head code row i j a = ap (λ l. get_or l j 0) a.behind ∙ get_or-drop (row_at a.slot) code.facts.now j 0
+
+row_headed : (code : Code) (row : List ℕ) (i : Instruction) {t : List ℕ} → t ≡ drop (get_or row 0 0) code.bytes.now → RowOf code row i → Headed code.bounds t (get_or row 2 0) i
+row_headed code row i et a =
+    rw (row_at_head code row i 2 a)
+    (headed code.bounds code.bytes.now code.facts.now a.slot i (et ∙ ap (λ n. drop n code.bytes.now) (row_at_head code row i 0 a)) a.stands)
 
 -- the kinds that copy
 abbrev CopyKind : ℕ → Type 0
 CopyKind k = (k ≡ 0) ⊎ ((k ≡ 14) ⊎ (k ≡ 15))
-
-pub insert_kind : {k : ℕ} → 14 ≤ k → k < 16 → CopyKind k
-insert_kind {k} f g = let h : k ≤ 15 = omega arith in ⊎_elim (λ h. inr (inr h)) (λ h. inr (inl (omega arith))) (eq-or-lt_of_le h)
 
 other_copy : (τ : Types) (i : InstructionKind) → (CopyKind (kind_number i) → ⊥) → none ≡ copy_of τ i
 other_copy τ (Assign d x t) h = absurd (h (inl refl))
@@ -184,8 +211,10 @@ other_copy τ (MakeFixedArray d xs t c) h = refl
 other_copy τ (AssertEq x y) h = refl
 other_copy τ (HeapAllocCells d x) h = refl
 
-pub found_none : (b : Bounds) (t : List ℕ) (kind : ℕ) → (CopyKind kind → ⊥) → (τ : Types) (i : Instruction) → Headed b t kind i → none ≡ copy_of τ i.kind
-found_none b t kind h τ i a = other_copy τ i.kind (λ k. h (rw a.numbered k))
+pub found_none : (code : Code) (row : List ℕ) → (CopyKind (get_or row 2 0) → ⊥) → CopyFound code row none
+found_none code row h most τ i w m a =
+    let e : get_or row 2 0 ≡ kind_number i.kind = row_at_head code row i 2 a ∙ a.stands.kind in
+    other_copy τ i.kind (λ k. h (rw e k))
 
 -- the fields of the instruction at the head of t, its kind being known
 pub fields_of : (b : Bounds) (t : List ℕ) {u : List ℕ} {fp kind : ℕ} (j : ℕ) → fp ≡ fields_place t → u ≡ drop fp t → (i : Instruction) → Headed b t kind i → kind ≡ j → FieldsRead b t u j i.kind
@@ -193,27 +222,32 @@ fields_of b t j ef eu i a h =
     let k = instruction_fields b [] false t i a.size a.read in
     record { size = _; read = fields_read b t ef eu (a.numbered ∙ k.numbered) i a.size a.read j h }
 
--- what copy_at finds: its own fields are u, behind the first of them stands v
-module _ (b : Bounds) (s types : List ℕ) (t u v : List ℕ) (fp kind : ℕ) (dest : ValueId) (x : Result (Read Value) Refusal) (r : Option Copy) (ef : fp ≡ fields_place t) (eu : u ≡ drop fp t) (ed : dest.0 ≡ at16 u 0) (ev : v ≡ drop 2 u) (ex : as_parse x ≡ value_of b.next v) where
-  -- its value
-  value_read : {y : Value} {m : ℕ} → value_of b.next (drop 2 u) ≡ ok y m → as_parse x ≡ ok y m
-  value_read q = ex ∙ rw ev q
+-- what copy_at finds: the instruction stands at the head of t, its own fields are u, and x was read behind the first of them
+module _ (code : Code) (row t u : List ℕ) (x : Result (Read Value) Refusal) (r : Option Copy)
+    (et : t ≡ drop (get_or row 0 0) code.bytes.now) (eu : u ≡ drop (fields_place t) t) (ex : as_parse x ≡ value_of code.bounds.next (drop 2 u)) where
+  abbrev b : Bounds
+  b = code.bounds
 
-  found_assigned : (τ : Types) (i : InstructionKind) → ((y : Value) (n : ℕ) → as_parse x ≡ ok y n → r ≡ assigned (shape (row_of τ (some (record { 0 = at16 (drop n u) 2 })))) y dest.0) → AssignAt b.next u i → r ≡ copy_of τ i
-  found_assigned τ i f k = f k.value k.took (value_read k.read) ∙ rw ed (sym (k.copy τ))
+  abbrev kind : ℕ
+  kind = get_or row 2 0
 
-  pub found_assign : kind ≡ 0 → AssignCopy s types b.types u x dest r → CopyFound s b types t kind r
-  found_assign h f most τ i a m e = found_assigned τ i.kind (λ y q. f most τ y q a m) (assign_at b u (fields_of b t 0 ef eu i e h).read)
+  fields : (j : ℕ) (i : Instruction) → RowOf code row i → kind ≡ j → FieldsRead b t u j i.kind
+  fields j i a h = fields_of b t j refl eu i (row_headed code row i et a) h
 
-  found_inserted : ValueCopy x dest any_shape r → (τ : Types) (i : InstructionKind) → InsertAt b.next u i → r ≡ copy_of τ i
-  found_inserted f τ i k = f k.value k.took (value_read k.read) ∙ rw ed (sym (k.copy τ))
+  found_assigned : (τ : Types) (i : InstructionKind) → ((y : Value) (n : ℕ) → as_parse x ≡ ok y n → r ≡ assigned (shape (row_of τ (some (record { 0 = at16 (drop n u) 2 })))) y (at16 u 0)) → AssignAt b.next u i → r ≡ copy_of τ i
+  found_assigned τ i f k = f k.value k.took (ex ∙ k.read) ∙ sym (k.copy τ)
 
-  pub found_insert : CopyKind kind → (kind ≡ 0 → ⊥) → ValueCopy x dest any_shape r → (τ : Types) (i : Instruction) → Headed b t kind i → r ≡ copy_of τ i.kind
-  found_insert k z f τ i a =
-      ⊎_elim (λ h. absurd (z h))
-      (⊎_elim
-      (λ h. found_inserted f τ i.kind (insert_field_at b u (fields_of b t 14 ef eu i a h).read))
-      (λ h. found_inserted f τ i.kind (insert_tuple_at b u (fields_of b t 15 ef eu i a h).read))) k
+  pub found_assign : kind ≡ 0 → AssignCopy code u x r → CopyFound code row r
+  found_assign h f most τ i a m e = found_assigned τ i.kind (λ y q. f most τ y q a m) (assign_at b u (fields 0 i e h).read)
+
+  found_inserted : ValueCopy u x any_shape r → (τ : Types) (i : InstructionKind) → InsertAt b.next u i → r ≡ copy_of τ i
+  found_inserted f τ i k = f k.value k.took (ex ∙ k.read) ∙ sym (k.copy τ)
+
+  pub found_insert : (kind ≡ 14) ⊎ (kind ≡ 15) → ValueCopy u x any_shape r → CopyFound code row r
+  found_insert k f most τ i w m a =
+      ⊎_elim
+      (λ h. found_inserted f τ i.kind (insert_field_at b u (fields 14 i a h).read))
+      (λ h. found_inserted f τ i.kind (insert_tuple_at b u (fields 15 i a h).read)) k
 
 -- the first step of a place
 first_step : (ps : List Projection) → dynamic_step (get_elem? ps 0) ≡ dynamic_first ps
@@ -222,47 +256,6 @@ first_step [] = refl
 first_step (Index x ∷ ps) = refl
 first_step (Field n ∷ ps) = refl
 first_step (Tuple k ∷ ps) = refl
-
--- a Load's base stands behind its dest, a Store's at the front
-load_base : (b : Bounds) (u : List ℕ) {d : ValueId} {p : Place} {t : TypeId} {n : ℕ} → load_of b [] u ≡ ok (Load d p t) n → p.base.0 ≡ at16 u 2
-unfolding load_of
-load_base b u {d} {p} {t} e =
-    elim (and_inv u (defined_of b.next [] u) (λ d s. and_then s (decode.place_of b s) (λ p s. map_parse (λ t. Load d p t) (type_id_of b.types s))) e) [
-      | both d' m j f q r ↦
-          let s = drop m u in
-          elim (and_inv s (decode.place_of b s) (λ p s. map_parse (λ t. Load d' p t) (type_id_of b.types s)) q) [
-            | both p' m2 j2 f2 q2 r2 ↦
-                elim (map_inv (λ t. Load d' p' t) (type_id_of b.types (drop m2 s)) q2) [
-                  | image t' f3 g ↦
-                      let z : p ≡ p' = cc in
-                      elim (and_inv s (value_id_of b.next s) (λ v t. map_parse (λ ps. record { base = v; projections = ps }) (list_of b.projections (projection_of b.next) t)) f2) [
-                        | both v m4 j4 f4 q4 r4 ↦
-                            elim (map_inv (λ ps. record { base = v; projections = ps }) (list_of b.projections (projection_of b.next) (drop m4 s)) q4) [
-                              | image ps f5 g5 ↦
-                                  ap (λ y. y.base.0) (z ∙ g5) ∙ (id_at b.next s f4).0 ∙ sym (from_16 s 0) ∙ rw (dest_at b.next [] u f).1 (from_16 u 2)
-                            ]
-                      ]
-                ]
-          ]
-    ]
-
-store_base_lem : (b : Bounds) (u : List ℕ) {p : Place} {x : Value} {t : TypeId} {n : ℕ} → store_of b [] u ≡ ok (Store p x t) n → p.base.0 ≡ at16 u 0
-unfolding store_of
-store_base_lem b u {p} {x} {t} e =
-    elim (and_inv u (decode.place_of b u) (λ p s. and_then s (value_of b.next s) (λ x s. map_parse (λ t. Store p x t) (type_id_of b.types s))) e) [
-      | both p' m j f q r ↦
-          elim (and_inv (drop m u) (value_of b.next (drop m u)) (λ x s. map_parse (λ t. Store p' x t) (type_id_of b.types s)) q) [
-            | both x' m2 j2 f2 q2 r2 ↦
-                elim (map_inv (λ t. Store p' x' t) (type_id_of b.types (drop m2 (drop m u))) q2) [
-                  | image t' f3 g ↦
-                      let z : p ≡ p' = cc in
-                      elim (and_inv u (value_id_of b.next u) (λ v t. map_parse (λ ps. record { base = v; projections = ps }) (list_of b.projections (projection_of b.next) t)) f) [
-                        | both v m4 j4 f4 q4 r4 ↦
-                            elim (map_inv (λ ps. record { base = v; projections = ps }) (list_of b.projections (projection_of b.next) (drop m4 u)) q4) [ image ps f5 g5 ↦ ap (λ y. y.base.0) (z ∙ g5) ∙ (id_at b.next u f4).0 ]
-                      ]
-                ]
-          ]
-    ]
 
 -- only a Load and a Store have a place
 place_cases : (P : InstructionKind → Type 0) → ((d : ValueId) (p : Place) (t : TypeId) → P (Load d p t)) → ((p : Place) (x : Value) (t : TypeId) → P (Store p x t)) → ((i : InstructionKind) → accessed i ≡ none → place_steps i ≡ [] → P i) → (i : InstructionKind) → P i
@@ -288,30 +281,37 @@ place_cases P f g h (AssertEq x y) = h (AssertEq x y) refl refl
 place_cases P f g h (HeapAllocCells d x) = h (HeapAllocCells d x) refl refl
 
 -- what note_dynamic finds
-module _ (b : Bounds) (t : List ℕ) (kind : ℕ) (d : Marks) where
+module _ (code : Code) (row : List ℕ) (d : Marks) where
   -- another kind
-  pub noted_other : (kind ≡ 5 → ⊥) → (kind ≡ 6 → ⊥) → (i : Instruction) → Headed b t kind i → d ≡ dynamic_place d (accessed i.kind)
+  pub noted_other : (eqb (get_or row 2 0) 5 || eqb (get_or row 2 0) 6) ≡ false → DynamicNoted code row d d
   unfolding accessed
-  noted_other f g i a =
-      place_cases (λ k. kind ≡ kind_number k → d ≡ dynamic_place d (accessed k)) (λ e p t z. absurd (f z)) (λ p x t z. absurd (g z)) (λ k n q z. rw n) i.kind a.numbered
+  noted_other f i a =
+      let e : get_or row 2 0 ≡ kind_number i.kind = row_at_head code row i 2 a ∙ a.stands.kind in
+      place_cases (λ k. (eqb (kind_number k) 5 || eqb (kind_number k) 6) ≡ false → d ≡ dynamic_place d (accessed k))
+      (λ e p t z. absurd (true≢false z)) (λ p x t z. absurd (true≢false z)) (λ k n q z. rw n) i.kind (rw e at f)
 
-  module _ (r : Bool) (e : (i : Instruction) (n : ℕ) → instruction_of b [] false t ≡ ok i n → r ≡ dynamic_step (get_elem? (place_steps i.kind) 0)) where
+  module _ (t : List ℕ) (et : t ≡ drop (get_or row 0 0) code.bytes.now) (r : Bool)
+      (e : (i : Instruction) (n : ℕ) → instruction_of code.bounds [] false t ≡ ok i n → r ≡ dynamic_step (get_elem? (place_steps i.kind) 0)) where
+    found : (i : Instruction) → RowOf code row i → dynamic_step (get_elem? (place_steps i.kind) 0) ≡ r
+    found i a = let h = row_headed code row i et a in sym (e i h.size h.read)
+
     -- without such a step nothing is noted
-    pub noted_static : r ≡ false → (i : Instruction) → Headed b t kind i → d ≡ dynamic_place d (accessed i.kind)
+    pub noted_static : r ≡ false → DynamicNoted code row d d
     unfolding accessed
     noted_static h i a =
         place_cases (λ k. dynamic_step (get_elem? (place_steps k) 0) ≡ false → d ≡ dynamic_place d (accessed k))
         (λ e p t z. rw (← first_step p.projections, z))
         (λ p x t z. rw (← first_step p.projections, z))
         (λ k n q z. rw n)
-        i.kind (sym (e i a.size a.read) ∙ h)
+        i.kind (found i a ∙ h)
 
-    -- with one, the base
-    pub noted_dynamic : r ≡ true → (u : List ℕ) (fp at base : ℕ) → fp ≡ fields_place t → u ≡ drop fp t → at ≡ cond (eqb kind 5) 2 0 → base ≡ at16 u at → {m : Marks} → m ≡ set d base true → (i : Instruction) → Headed b t kind i → m ≡ dynamic_place d (accessed i.kind)
+    -- with one, the base, which is the first read
+    pub noted_dynamic : r ≡ true → (base : ℕ) → base ≡ get_or row 4 0 → {m : Marks} → m ≡ set d base true → DynamicNoted code row d m
     unfolding accessed
-    noted_dynamic h u fp at base ef eu ea eb {m} em i a =
-        place_cases (λ k. kind ≡ kind_number k → FieldsRead b t u kind k → dynamic_step (get_elem? (place_steps k) 0) ≡ true → m ≡ dynamic_place d (accessed k))
-        (λ e p w z f q. let y : base ≡ p.base.0 = eb ∙ rw (ea, z) (sym (load_base b u (rw z at f.read))) in em ∙ rw (← first_step p.projections, q, y))
-        (λ p x w z f q. let y : base ≡ p.base.0 = eb ∙ rw (ea, z) (sym (store_base_lem b u (rw z at f.read))) in em ∙ rw (← first_step p.projections, q, y))
-        (λ k n s z f q. absurd (let y : dynamic_step (get_elem? [] 0) ≡ true = rw s at q in true≢false (sym y)))
-        i.kind a.numbered (fields_of b t kind ef eu i a refl) (sym (e i a.size a.read) ∙ h)
+    noted_dynamic h base eb {m} em i a =
+        let er : base ≡ row_number code.facts.now a.slot 4 = eb ∙ row_at_head code row i 4 a in
+        place_cases (λ k. ReadsIn code.facts.now a.slot (reads k) → dynamic_step (get_elem? (place_steps k) 0) ≡ true → m ≡ dynamic_place d (accessed k))
+        (λ e p t f q. let y : base ≡ p.base.0 = er ∙ f.each 0 (omega arith) in em ∙ rw (← first_step p.projections, q, y))
+        (λ p x t f q. let y : base ≡ p.base.0 = er ∙ f.each 0 (omega arith) in em ∙ rw (← first_step p.projections, q, y))
+        (λ k n s f q. absurd (let y : dynamic_step (get_elem? [] 0) ≡ true = rw s at q in true≢false (sym y)))
+        i.kind a.stands.reads_in (found i a ∙ h)

@@ -1,5 +1,5 @@
 -- The scan of a block: its copies, noted one after another.
-use Prim.Native.Nat.{ℕ, zero, suc, ◌+◌, ◌*◌, ◌-◌, ◌≤◌, ◌<◌, zero-le}
+use Prim.Native.Nat.{ℕ, zero, suc, ◌+◌, ◌≤◌, ◌<◌, zero-le}
 use mathlib.Core.Path.{◌≡◌, refl, ap, ◌∙◌, sym, subst}
 use mathlib.Core.List.{List, [], ◌∷◌, ◌++◌, append_assoc, append-nil}
 use mathlib.Core.Option.{Option, none, some}
@@ -14,16 +14,16 @@ use lib.ListN.{length, get_or, set, drop, replicate, length-append, length-set, 
 use lib.Seq.{get_or-set_same, get_or-set_other, get_or_at, drop-cons, drop-length}
 use Rattle.std.proofs.lemmas.List.{get_or-replicate}
 use Rattle.mir.specs.Syntax.{Instruction}
-use Rattle.bytes_field.specs.declared.Bounds.{Bounds}
-use Rattle.bytes_index.specs.Table.{place_in, end_in, kind_in}
-use Rattle.bytes_index.specs.Code.{no_instruction, InstructionIn, InstructionsIn}
+use Rattle.bytes_index.specs.declared.code.Code.{Code}
+use Rattle.bytes_index.specs.Table.{row_at as slot_row}
+use Rattle.bytes_index.specs.Code.{no_instruction, InstructionsIn}
 use Rattle.bytes_types.specs.Index.{TypesAt}
 use Rattle.mir.specs.Lookup.{Types}
 use Rattle.mir.specs.Most.{most_values, most_instructions}
 use Rattle.fold.specs.Family.{Marks, accessed}
 use Rattle.fold_family.specs.Copies.{Copy, no_copy, copy_of, before, copies, last, row_at, firsts_at, table_size, RowsAt, dynamic_place, dynamics}
 use Rattle.fold_family.proofs.Rows.{newest}
-use Rattle.fold_copies.specs.Found.{Headed, ScanCopies, CopyFound, CopyNoted, DynamicNoted}
+use Rattle.fold_copies.specs.Found.{RowOf, ScanCopies, CopyFound, CopyNoted, DynamicNoted}
 
 -- the last row of a value among some copies, with another behind them: those in front tell it, or it is the new one
 last_front : (cs : List Copy) (c : Copy) (v e : ℕ) → e ≤ length cs → last (cs ++ (c ∷ [])) v e ≡ last cs v e
@@ -149,10 +149,6 @@ module _ (l : List ℕ) (n : ℕ) (cs : List Copy) (c : Copy)
         → a₄ ≡ set a₃ (firsts_at + c.source) (n + 1) → RowsAt a₄ all × (length all ≡ n + 1)
     rows_more e₁ e₂ ex e₃ e₄ = (rw (e₄, e₃, ex, e₂, e₁, add-zero) rows_all, omega (arith, counted))
 
--- none
-pub rows_same : (l : List ℕ) (n : ℕ) (cs : List Copy) → RowsAt l cs → length cs ≡ n → RowsAt l (cs ++ []) × (length (cs ++ []) ≡ n)
-rows_same l n cs a h = (rw append-nil a, rw append-nil h)
-
 -- a clear table has no rows
 rows_none : RowsAt (replicate table_size 0) []
 unfolding last
@@ -197,65 +193,56 @@ left_more τ is l n dyn₀ dyn k l' n' dyn' h o eo f ed u =
       dynamic = u.dynamic ∙ ap (λ x. dynamics dyn x) e ∙ ap (λ x. dynamics x (drop (k + 1) is)) (sym ed);
     }
 
--- an instruction whose row begins at `row`
-pub headed : (b : Bounds) (s facts : List ℕ) (slot row : ℕ) (i : Instruction) (kind at : ℕ) (t : List ℕ) → row ≡ 387 + 20 * slot → kind ≡ get_or facts (row + 2) 0 → at ≡ get_or facts row 0 → t ≡ drop at s → InstructionIn b s facts slot i → Headed b t kind i
-headed b s facts slot row i kind at t er ek ea et a =
-    let k : kind ≡ kind_in facts slot = ek ∙ ap (λ x. get_or facts (x + 2) 0) er in
-    let z : row ≡ 387 + 20 * slot + 0 = omega arith in
-    let p : at ≡ place_in facts slot = ea ∙ ap (λ x. get_or facts x 0) z in
-    record { size = end_in facts slot - place_in facts slot; read = rw (et, p) a.read; numbered = k ∙ a.kind }
+module _ (code : Code) (first count : ℕ) (l₀ : List ℕ) (dyn₀ : Marks) where
+  -- the instructions of the block
+  abbrev Here : List Instruction → Type 0
+  Here is = InstructionsIn code.bounds code.bytes.now code.facts.now first is
 
-module _ (s : List ℕ) (b : Bounds) (facts : List ℕ) (first count : ℕ) (l₀ : List ℕ) (dyn₀ : Marks) where
-  -- the same, where the code keeps the place of the next row
-  pub record Scanning (l : List ℕ) (dyn : Marks) (n k row : ℕ) : Type 0 where
+  -- k of them are behind
+  pub record Scanning (l : List ℕ) (dyn : Marks) (n k : ℕ) : Type 0 where
     pub under : k ≤ count
     pub few : n ≤ k
-    pub at : row ≡ 387 + 20 * (first + k)
     pub long : length l ≡ length l₀
     pub long_dyn : length dyn ≡ length dyn₀
-    pub left : (most : ℕ) (τ : Types) (is : List Instruction) → TypesAt most s facts τ.rows → length τ.rows ≡ b.types → InstructionsIn b s facts first is → length is ≡ count → l₀ ≡ replicate table_size 0 → Left τ is l n dyn₀ dyn k
+    pub left : (most : ℕ) (τ : Types) (is : List Instruction) → TypesAt most code.bytes.now code.facts.now τ.rows → length τ.rows ≡ code.bounds.types → Here is → length is ≡ count → l₀ ≡ replicate table_size 0 → Left τ is l n dyn₀ dyn k
 
-  pub scan_start : (row : ℕ) → row ≡ 387 + 20 * first + 0 → Scanning l₀ dyn₀ 0 0 row
-  scan_start row e =
+  pub scan_start : Scanning l₀ dyn₀ 0 0
+  scan_start =
       record {
         under = zero-le;
         few = zero-le;
-        at = omega arith;
         long = refl;
         long_dyn = refl;
         left = λ most τ is a m p q r. record { done = []; noted = rw r rows_none; many = refl; rest = refl; dynamic = refl };
       }
 
-  pub scan_again : (l : List ℕ) (dyn : Marks) (n k row : ℕ) (l' : List ℕ) (dyn' : Marks) (n' kind at : ℕ) (t : List ℕ) (o : Option Copy)
-      → Scanning l dyn n k row
+  pub scan_again : (l : List ℕ) (dyn : Marks) (n k : ℕ) (row l' : List ℕ) (dyn' : Marks) (n' : ℕ) (o : Option Copy)
+      → Scanning l dyn n k
       → k < count
-      → kind ≡ get_or facts (row + 2) 0
-      → at ≡ get_or facts row 0
-      → t ≡ drop at s
-      → CopyFound s b facts t kind o
+      → row ≡ drop (slot_row (first + k)) code.facts.now
+      → CopyFound code row o
       → n' ≤ n + 1
       → CopyNoted o n n' l l'
-      → DynamicNoted t b kind dyn dyn'
+      → DynamicNoted code row dyn dyn'
       → length l' ≡ length l
       → length dyn' ≡ length dyn
-      → Scanning l' dyn' n' (k + 1) (row + 20)
-  scan_again l dyn n k row l' dyn' n' kind at t o u h ek ea et ec hn ef ey ll ly =
+      → Scanning l' dyn' n' (k + 1)
+  scan_again l dyn n k row l' dyn' n' o u h er ec hn ef ey ll ly =
       record {
         under = omega arith;
         few = omega (arith, u.few);
-        at = omega (arith, u.at);
         long = ll ∙ u.long;
         long_dyn = ly ∙ u.long_dyn;
         left = λ most τ is a m p q r.
             let g : k < length is = omega arith in
-            let i = headed b s facts (first + k) row (get_or is k no_instruction) kind at t u.at ek ea et (p k g) in
+            let i : RowOf code row (get_or is k no_instruction) = record { slot = first + k; behind = er; stands = p k g } in
             left_more τ is l n dyn₀ dyn k l' n' dyn' g o (ec most τ _ a m i) (λ cs z w. ef cs z w (u.long ∙ ap length r ∙ length-replicate {A = ℕ} table_size 0)) (ey _ i) (u.left most τ is a m p q r);
       }
 
   -- all are behind
-  pub scan_done : (l : List ℕ) (dyn : Marks) (n k row : ℕ) → Scanning l dyn n k row → count ≤ k → ScanCopies s b facts first count l₀ l dyn₀ dyn
+  pub scan_done : (l : List ℕ) (dyn : Marks) (n k : ℕ) → Scanning l dyn n k → count ≤ k → ScanCopies code first count l₀ l dyn₀ dyn
   unfolding copies dynamics
-  scan_done l dyn n k row u h most τ is a m p q w r =
+  scan_done l dyn n k u h most τ is a m p q w r =
       let f = u.left most τ is a m p q r in
       let z : k ≡ length is = omega (arith, u.under) in
       let e : drop k is ≡ [] = rw z (drop-length is) in

@@ -2,29 +2,63 @@
 // index that is not known.
 #![tactic(auto)]
 
-ghost use Rattle.std.specs.Prelude.{◌≡◌, cond, ◌+◌, ◌≤◌, ◌<◌, eqb};
+ghost use Rattle.std.specs.Prelude.{◌≡◌, ◌+◌, ◌≤◌, ◌<◌, ◌||◌, drop, eqb, get_or};
 ghost use Rattle.mir.specs.Option.{as_option};
 ghost use Rattle.mir.specs.Lookup.{is_integer};
 ghost use Rattle.mir.specs.Most.{most_instructions};
+ghost use Rattle.bytes_wire.specs.Parse.{as_parse};
+ghost use Rattle.bytes_wire.specs.Value.{value_of};
+ghost use Rattle.bytes_index.specs.Table.{row_at};
+ghost use Rattle.bytes_operands.specs.Fields.{fields_place};
 ghost use Rattle.fold_family.specs.Copies.{dynamic_step};
-ghost use Rattle.fold_copies.specs.Found.{as_copy, ValueCopy, AssignCopy, CopyFound, CopyNoted, DynamicNoted, ScanCopies};
+ghost use Rattle.fold_copies.specs.Found.{asked_number, as_copy, ValueCopy, AssignCopy, CopyFound, CopyNoted, DynamicNoted, ScanCopies};
 
-use bytes_field::Bounds;
+use bytes_index::Code;
 use bytes_wire::{Read, Refusal};
-use mir::{Literal, Projection, TypeId, Value, ValueId, kind, most, shape};
+use mir::kind::Kind;
+use mir::shape::Shape;
+use mir::{Literal, Projection, TypeId, Value, ValueId, most};
 
-// What makes `dest` a member where `source` is one, for a root of the shape asked for. (A number, as the table of copies has
-// it: there `fold_family::ANY` stands for any shape.)
+// What makes `dest` a member where `source` is one, for a root of the shape asked for; for any root where none is.
 #[derive(Clone, Copy)]
 pub struct BlockCopy {
     pub source: ValueId,
     pub dest: ValueId,
-    pub asked: u8,
+    pub asked: Option<Shape>,
 }
 
-// The copy of a value that was read.
-fn copied(x: Result<Read<Value>, Refusal>, dest: ValueId, asked: u8) -> Option<BlockCopy>
-    ensures { ValueCopy x dest asked (as_copy result) }
+// The rows of the table from that of slot `first + k` on; the sum can pass what 16 bits hold, so no slot is given as a u16.
+fn rows(facts: &[u16], first: u16, k: u16) -> &[u16]
+    ensures { result.now ≡ drop (row_at (first + k)) facts.now }
+{
+    let slot = first as usize + k as usize;
+    table::behind(facts, bytes_index::ROWS + bytes_index::WIDTH * slot)
+}
+
+// The bytes from a row's instruction on.
+fn instruction<'a>(code: Code<'a>, row: &[u16]) -> &'a [u8]
+    ensures { result.now ≡ drop (get_or row.now 0 0) code.entry.bytes.now }
+{
+    bytes_field::tail(code.bytes, table::place(row, 0))
+}
+
+// The own fields of the instruction at the head of `t`.
+fn own_fields(t: &[u8]) -> &[u8]
+    ensures { result.now ≡ drop (fields_place t.now) t.now }
+{
+    bytes_field::tail(t, bytes_operands::fields_place(t))
+}
+
+// The value that stands behind a dest at the head of the fields.
+fn source(u: &[u8], next: u16) -> Result<Read<Value>, Refusal>
+    ensures { as_parse result ≡ value_of next (drop 2 u.now) }
+{
+    bytes_wire::read_value(bytes_field::tail(u, 2), next)
+}
+
+// The copy of the value that was read of the fields `u`.
+fn copied(u: &[u8], x: Result<Read<Value>, Refusal>, asked: Option<Shape>) -> Option<BlockCopy>
+    ensures { ValueCopy u.now x (asked_number asked) (as_copy result) }
 {
     match x {
         Ok(
@@ -34,7 +68,7 @@ fn copied(x: Result<Read<Value>, Refusal>, dest: ValueId, asked: u8) -> Option<B
             },
         ) => Some(BlockCopy {
             source,
-            dest,
+            dest: ValueId(bytes_wire::u16_at(u, 0)),
             asked,
         }),
         _ => None,
@@ -42,48 +76,51 @@ fn copied(x: Result<Read<Value>, Refusal>, dest: ValueId, asked: u8) -> Option<B
 }
 
 // The copy that an Assign makes, whose fields are `u` and whose value is `x`: its type stands behind the value.
-fn assigned(
-    s: &[u8],
-    types: &[u16],
-    many: u16,
-    u: &[u8],
-    x: Result<Read<Value>, Refusal>,
-    dest: ValueId,
-) -> Option<BlockCopy>
-    ensures { AssignCopy s.now types.now many u.now x dest (as_copy result) }
+fn assigned(code: Code, u: &[u8], x: Result<Read<Value>, Refusal>) -> Option<BlockCopy>
+    ensures { AssignCopy code.entry u.now x (as_copy result) }
 {
     match x {
         Err(_) => None,
         Ok(r) => {
             let t = TypeId(bytes_wire::u16_at(bytes_field::tail(u, r.size), 2));
-            let shape = fold_shapes::type_shape(s, types, many, t);
-            if shape == shape::OTHER {
-                return None;
+            match fold_shapes::type_shape(code, t) {
+                Shape::Other => None,
+                shape => copied(u, x, Some(shape)),
             }
-            copied(x, dest, shape)
         }
     }
 }
 
-// The copy that the instruction at the head of `t` makes, whose kind is `kind`.
-fn copy_at(s: &[u8], b: Bounds, types: &[u16], t: &[u8], kind: u16) -> Option<BlockCopy>
-    ensures { CopyFound s.now b types.now t.now kind (as_copy result) }
+// The copy that a row's instruction makes.
+fn copy_at(code: Code, row: &[u16]) -> Option<BlockCopy>
+    ensures { CopyFound code.entry row.now (as_copy result) }
 {
+    let kind = bytes_index::kind_at(row, bytes_index::KIND)?;
     match kind {
-        kind::ASSIGN | kind::INSERT_FIELD | kind::INSERT_TUPLE => {
-            let u = bytes_field::tail(t, bytes_operands::fields_place(t));
-            let dest = ValueId(bytes_wire::u16_at(u, 0));
-            let x = bytes_wire::read_value(bytes_field::tail(u, 2), b.next);
-            if kind == kind::ASSIGN {
-                return assigned(s, types, b.types, u, x, dest);
-            }
-            copied(x, dest, fold_family::ANY)
+        Kind::Assign => {
+            let u = own_fields(instruction(code, row));
+            assigned(code, u, source(u, code.bounds.next))
+        }
+        Kind::InsertField | Kind::InsertTuple => {
+            let u = own_fields(instruction(code, row));
+            copied(u, source(u, code.bounds.next), None)
         }
         _ => None,
     }
 }
 
-// Notes a copy behind `n` others: its row goes in front of the last one of the same source. How many copies there are then.
+// The shape asked for, as the table of copies has it.
+fn asked_number(asked: Option<Shape>) -> u16
+    ensures { result ≡ asked_number asked }
+{
+    match asked {
+        Some(shape) => shape as u16,
+        None => fold_family::ANY,
+    }
+}
+
+// Notes a copy behind `n` others: its row goes in front of the last one of the same source. How many copies there are then. (The
+// rows of the values stand behind those of the copies, so the table is no slice of that length.)
 fn note_copy(c: Option<BlockCopy>, n: u16, copies: &mut [u16]) -> u16
     requires { n < most_instructions }
     ensures few { result ≤ n + 1 }
@@ -93,7 +130,7 @@ fn note_copy(c: Option<BlockCopy>, n: u16, copies: &mut [u16]) -> u16
     let at = fold_family::WIDTH * n as usize;
     let head = fold_family::FIRSTS + c.source.0 as usize;
     table::set_number(copies, at + fold_family::DEST, c.dest.0);
-    table::set_number(copies, at + fold_family::ASKED, c.asked as u16);
+    table::set_number(copies, at + fold_family::ASKED, asked_number(c.asked));
     table::set_number(copies, at + fold_family::NEXT, table::number(copies, head));
     table::set_number(copies, head, n + 1);
     n + 1
@@ -113,58 +150,47 @@ fn is_dynamic(p: Option<Projection>) -> bool
     matches!(p, Some(Projection::Index(x)) if !is_integer(x))
 }
 
-// Where the base of a Load's place stands in its fields, behind its dest; a Store's stands first.
-fn base_place(kind: u16) -> usize
-    ensures { result ≡ cond (eqb kind 5) 2 0 }
+// A Load or a Store looks into a value, by a place.
+fn has_place(row: &[u16]) -> bool
+    ensures { result ≡ (eqb (get_or row.now 2 0) 5 || eqb (get_or row.now 2 0) 6) }
 {
-    if kind == kind::LOAD { 2 } else { 0 }
+    matches!(
+        bytes_index::kind_at(row, bytes_index::KIND),
+        Some(Kind::Load | Kind::Store)
+    )
 }
 
-// Marks the base of a Load or Store at the head of `t` whose first projection is such an Index; nothing where no marks are lent.
-fn note_dynamic(t: &[u8], b: Bounds, kind: u16, dynamic: &mut [bool])
-    ensures { DynamicNoted t.now b kind dynamic.old dynamic.new }
+// Marks the base of a row's Load or Store, its first read, where its first projection is such an Index; nothing where no marks
+// are lent.
+fn note_dynamic(code: Code, row: &[u16], dynamic: &mut [bool])
+    ensures { DynamicNoted code.entry row.now dynamic.old dynamic.new }
 {
     if dynamic.is_empty() {
         return;
     }
-    if kind != kind::LOAD && kind != kind::STORE {
+    if !has_place(row) {
         return;
     }
-    if is_dynamic(bytes_operands::projection(t, b, 0)) {
-        let u = bytes_field::tail(t, bytes_operands::fields_place(t));
-        table::set_flag(
-            dynamic,
-            bytes_wire::u16_at(u, base_place(kind)) as usize,
-            true,
-        );
+    let t = instruction(code, row);
+    if is_dynamic(bytes_operands::projection(t, code.bounds, 0)) {
+        let base = table::number(row, bytes_index::READS);
+        table::set_flag(dynamic, base as usize, true);
     }
 }
 
-// Scans a block once, its `count` instructions standing in the slots from `first` on: notes its copies in `copies`, which is
-// clear, chained by their source, and marks in `dynamic` each value that a Load or Store looks into by an index that is no
-// Integer literal; a caller that does not ask for these lends no marks.
-pub fn scan_copies(
-    s: &[u8],
-    b: Bounds,
-    facts: &[u16],
-    first: u16,
-    count: u16,
-    copies: &mut [u16],
-    dynamic: &mut [bool],
-)
-    ensures { ScanCopies s.now b facts.now first count
-        copies.old copies.new dynamic.old dynamic.new }
+// Scans a block once, whose `count` instructions stand in the slots from `first` on: notes its copies in `copies`, which is clear,
+// chained by their source, and marks in `dynamic` each value that a Load or Store looks into by an index that is no Integer
+// literal; a caller that does not ask for these lends no marks.
+pub fn scan_copies(code: Code, first: u16, count: u16, copies: &mut [u16], dynamic: &mut [bool])
+    ensures { ScanCopies code.entry first count copies.old copies.new dynamic.old dynamic.new }
 {
     if most::INSTRUCTIONS < count as usize {
         return;
     }
     let mut n: u16 = 0;
-    let mut row = bytes_index::row_place(first, 0);
     for k in 0..count {
-        let kind = table::number(facts, row + bytes_index::KIND);
-        let t = bytes_field::tail(s, table::place(facts, row));
-        n = note_copy(copy_at(s, b, facts, t, kind), n, copies);
-        note_dynamic(t, b, kind, dynamic);
-        row = row + bytes_index::WIDTH;
+        let row = rows(code.facts, first, k);
+        n = note_copy(copy_at(code, row), n, copies);
+        note_dynamic(code, row, dynamic);
     }
 }

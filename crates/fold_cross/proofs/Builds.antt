@@ -17,9 +17,14 @@ use Rattle.bytes_wire.proofs.Inv.{both, image, and_inv, map_inv, checked_inv, be
 use Rattle.mir.specs.Syntax.{Instruction, InstructionKind, Block}
 use Rattle.mir.specs.Syntax.{Assign, UnaryOp, BinaryOp, Call, Cast, Load, Store, Debug, Nop, Phi}
 use Rattle.mir.specs.Syntax.{MakeTuple, ExtractTupleElement, MakeStruct, ExtractStructField, InsertField, InsertTuple, MakeFixedArray, AssertEq, HeapAllocCells}
+use Rattle.mir.specs.declared.kind.Kind.{Kind}
+use Rattle.mir.specs.Kind.{number_of_kind}
 use Rattle.mir.specs.Reads.{kind_number}
 use Rattle.bytes_field.specs.Decode.{defined_of, type_id_of, list_of, field_init_of, make_tuple_of, make_struct_of, make_array_of, bit}
 use Rattle.bytes_field.specs.declared.Bounds.{Bounds}
+use Rattle.bytes_index.specs.declared.code.Code.{Code}
+use Rattle.bytes_index.specs.Table.{kind_in}
+use Rattle.bytes_index.specs.Code.{InstructionIn}
 use Rattle.bytes_operands.specs.Fields.{fields_place}
 use Rattle.mir.specs.Lookup.{Types, value_row}
 use Rattle.fold.specs.Scalarizable.{is_scalarizable}
@@ -31,8 +36,7 @@ use Rattle.fold_family.specs.Search.{FindsFamily}
 use Rattle.fold_family.specs.declared.Found.{Found}
 use Rattle.fold_family.proofs.Closed.{copies_few}
 use Rattle.fold_family.proofs.Finding.{size_clear}
-use Rattle.fold_copies.specs.Found.{Headed}
-use Rattle.fold_copies.proofs.Fields.{dest_at, fields_of}
+use Rattle.fold_copies.proofs.Fields.{Headed, dest_at, fields_of}
 use Rattle.std.specs.Prelude.{Some, None, Option as Answered}
 use Rattle.fold_cross.specs.Cross.{Root, Idle, Built, family_read, FamilyRead}
 use Rattle.fold_cross.proofs.Uniting.{union_clear}
@@ -91,6 +95,10 @@ array_at b c u e =
 abbrev BuildKind : ℕ → Type 0
 BuildKind k = (k ≡ 10) ⊎ ((k ≡ 12) ⊎ (k ≡ 16))
 
+pub build_kind : (k : Kind) {n : ℕ} → number_of_kind k ≡ n → (k ≡ Kind.MakeTuple) ⊎ ((k ≡ Kind.MakeStruct) ⊎ (k ≡ Kind.MakeFixedArray)) → BuildKind n
+build_kind k e h =
+    ⊎_elim (λ z. inl (sym e ∙ ap number_of_kind z)) (⊎_elim (λ z. inr (inl (sym e ∙ ap number_of_kind z))) (λ z. inr (inr (sym e ∙ ap number_of_kind z)))) h
+
 other_build : (i : InstructionKind) → (BuildKind (kind_number i) → ⊥) → build_dest i ≡ none
 unfolding build_dest
 other_build (MakeTuple e vs) f = absurd (f (inl refl))
@@ -114,14 +122,14 @@ other_build (AssertEq v w) f = refl
 other_build (HeapAllocCells e v) f = refl
 
 -- what eligible_build finds: another kind,
-pub found_none : (b : Bounds) (t : List ℕ) (kind : ℕ) (eligible : List Bool) → (BuildKind kind → ⊥) → (i : Instruction) → Headed b t kind i
-    → Built eligible b.next None i.kind
-found_none b t kind eligible f i a =
+pub found_none : (code : Code) (slot : ℕ) (eligible : List Bool) → (BuildKind (kind_in code.facts.now slot) → ⊥) → (i : Instruction)
+    → InstructionIn code.bounds code.bytes.now code.facts.now slot i → Built eligible code.bounds.next None i.kind
+found_none code slot eligible f i a =
     record {
       dest = λ v e. absurd (let z : ◌≡◌ {A = ℕ} 0 1 = cc in omega arith);
       idle = λ e. record {
         each = λ v g.
-            let y : none ≡ some v = sym (other_build i.kind (λ k. f (rw a.numbered k))) ∙ g in
+            let y : none ≡ some v = sym (other_build i.kind (λ k. f (rw a.kind k))) ∙ g in
             absurd (let z : ◌≡◌ {A = ℕ} 0 1 = cc in omega arith);
       };
     }

@@ -1,16 +1,16 @@
 -- The builds of a block, one after another, and those of the blocks.
-use Prim.Native.Nat.{ℕ, suc, ◌+◌, ◌*◌, ◌≤◌, ◌<◌}
+use Prim.Native.Nat.{ℕ, suc, ◌+◌, ◌≤◌, ◌<◌}
 use mathlib.Core.Path.{◌≡◌, ap, ◌∙◌, sym}
 use mathlib.Core.List.{List, ◌∷◌}
-use mathlib.Core.Bool.{Bool, false, cond}
+use mathlib.Core.Bool.{false, cond}
 use native.Mathlib.Numerals.{add-one}
 use native.Mathlib.Omega.{arith}
 use lib.ListN.{length, get_or, drop, replicate, length-replicate, take}
 use lib.Seq.{drop-cons, drop-length}
 use Rattle.mir.specs.Syntax.{Instruction, Block}
 use Rattle.bytes_field.specs.declared.Bounds.{Bounds}
-use Rattle.bytes_index.specs.Table.{starts_in}
-use Rattle.bytes_index.specs.Code.{no_instruction, no_block, InstructionIn, InstructionsIn, CodeIn}
+use Rattle.bytes_index.specs.declared.slots.Slots.{Slots}
+use Rattle.bytes_index.specs.Code.{no_instruction, no_block, InstructionIn, InstructionsIn, CodeIn, SlotsOf}
 use Rattle.mir.specs.Lookup.{Types}
 use Rattle.mir.specs.Most.{most_values}
 use Rattle.fold.specs.Family.{Marks, union, build_dest, read_elsewhere, cross_build, cross_builds, cross_blocks, cross_block_aggregates}
@@ -22,43 +22,52 @@ use Rattle.fold_readers.specs.Readers.{read_blocks}
 use Rattle.std.specs.Prelude.{Option as Answered}
 use Rattle.mir.specs.declared.ValueId.{ValueId}
 use Rattle.fold_family.proofs.Listed.{first_listed}
+use Rattle.fold_cross.specs.declared.values.Values.{Values}
 use Rattle.fold_cross.specs.Cross.{Ready, Built, IdleAll, cross_block, family_read, MembersCrossed, FamilyRead, CrossMarks}
 use Rattle.fold_cross.proofs.Builds.{read_crossed, read_length}
 use Rattle.fold_cross.proofs.Idle.{idle_builds}
 
-module _ (b : Bounds) (s facts shapes : List ℕ) (eligible : List Bool) (reader : List ℕ) where
-  -- the number of block k's instructions, in whatever code the table of facts tells of
-  abbrev Counts : (k count : ℕ) → Type 0
-  Counts k count = (b : Bounds) (s : List ℕ) (ks : List Block) → CodeIn b s facts ks → k < length ks → count ≡ length (get_or ks k no_block).instructions
+module _ (values : Values) where
+  abbrev b : Bounds
+  b = values.code.bounds
 
-  -- block k: where its instructions stand, and how many there are
-  module _ (k first count : ℕ) (ef : first ≡ get_or (starts_in facts) k 0) (ec : Counts k count) where
-    standing : (σ : Settings) (τ : Types) (ks : List Block) → Ready b s facts σ τ ks shapes eligible reader → k < length ks
-        → InstructionsIn b s facts first (get_or ks k no_block).instructions
-    standing σ τ ks a h = rw ef (a.coded.code.each k h).instructions
+  abbrev facts : List ℕ
+  facts = values.code.facts.now
+
+  -- some instructions in these slots
+  abbrev Here : Slots → List Instruction → Type 0
+  Here slots is = InstructionsIn b values.code.bytes.now facts slots.first is
+
+  -- block k, and the slots of its instructions
+  module _ (k : ℕ) (slots : Slots) (es : SlotsOf facts k slots) where
+    standing : (σ : Settings) (τ : Types) (ks : List Block) → Ready values σ τ ks → k < length ks → Here slots (get_or ks k no_block).instructions
+    standing σ τ ks a h = rw (es b _ ks a.coded.code h).0 (a.coded.code.each k h).instructions
+
+    counted : (σ : Settings) (τ : Types) (ks : List Block) → Ready values σ τ ks → k < length ks → slots.count ≡ length (get_or ks k no_block).instructions
+    counted σ τ ks a h = (es b _ ks a.coded.code h).1
 
     -- it has no root
     pub block_idle : (c : Marks)
-        → ((b : Bounds) (is : List Instruction) → InstructionsIn b s facts first is → length is ≡ count → IdleAll eligible b.next is)
-        → (σ : Settings) (τ : Types) (ks : List Block) → Ready b s facts σ τ ks shapes eligible reader → k < length ks → c ≡ cross_block σ τ ks k c
+        → ((is : List Instruction) → Here slots is → length is ≡ slots.count → IdleAll values.eligible.now b.next is)
+        → (σ : Settings) (τ : Types) (ks : List Block) → Ready values σ τ ks → k < length ks → c ≡ cross_block σ τ ks k c
     block_idle c f σ τ ks a h =
         let x = get_or ks k no_block in
-        sym (idle_builds σ τ shapes eligible b.next a.given a.coded.ground.values ks k x c x.instructions
-        (f b x.instructions (standing σ τ ks a h) (sym (ec b s ks a.coded.code h))))
+        sym (idle_builds σ τ values.shapes.now values.eligible.now b.next a.given a.coded.ground.values ks k x c x.instructions
+        (f x.instructions (standing σ τ ks a h) (sym (counted σ τ ks a h))))
 
     -- its copies
-    pub block_copies : (room table : List ℕ) (before after : Marks) → ScanCopies s b facts first count room table before after → room ≡ replicate table_size 0
-        → (σ : Settings) (τ : Types) (ks : List Block) → Ready b s facts σ τ ks shapes eligible reader → k < length ks
+    pub block_copies : (room table : List ℕ) (before after : Marks) → ScanCopies values.code slots.first slots.count room table before after → room ≡ replicate table_size 0
+        → (σ : Settings) (τ : Types) (ks : List Block) → Ready values σ τ ks → k < length ks
         → RowsAt table (copies τ (get_or ks k no_block).instructions)
     block_copies room table before after f clear σ τ ks a h =
-        let e = ec b s ks a.coded.code h in
+        let e = counted σ τ ks a h in
         let g = a.coded.ground in
         (f b.list τ (get_or ks k no_block).instructions g.known.rows g.rows (standing σ τ ks a h) (sym e) (omega (arith, a.coded.small k h)) clear).copied_all
 
-  module _ (table : List ℕ) (k count : ℕ) where
+  module _ (table : List ℕ) (k : ℕ) (slots : Slots) where
     -- what is given of block k: a routine that stands so, its copies in the table, clear marks for a family, and a mark for each value
     pub record Given (f₀ c₀ : Marks) (σ : Settings) (τ : Types) (ks : List Block) : Type 0 where
-      pub ready : Ready b s facts σ τ ks shapes eligible reader
+      pub ready : Ready values σ τ ks
       pub inside : k < length ks
       pub rows : RowsAt table (copies τ (get_or ks k no_block).instructions)
       pub clear : f₀ ≡ replicate b.next false
@@ -66,7 +75,7 @@ module _ (b : Bounds) (s facts shapes : List ℕ) (eligible : List Bool) (reader
 
     -- j instructions of it are behind, and the marks for a family are clear again
     pub record Building (f₀ f c₀ c : Marks) (members : List ℕ) (j : ℕ) : Type 0 where
-      pub under : j ≤ count
+      pub under : j ≤ slots.count
       pub long : length c ≡ length c₀
       pub wide : most_values ≤ length members
       pub left :
@@ -75,51 +84,50 @@ module _ (b : Bounds) (s facts shapes : List ℕ) (eligible : List Bool) (reader
           → cross_block σ τ ks k c₀ ≡ cross_builds σ τ ks k (get_or ks k no_block) (drop j (get_or ks k no_block).instructions) c
       pub clear : (σ : Settings) (τ : Types) (ks : List Block) → Given f₀ c₀ σ τ ks → f ≡ replicate b.next false
 
-    module _ (own first rows : ℕ) (eo : k < 254 → own ≡ k) (ef : first ≡ get_or (starts_in facts) k 0) (er : rows ≡ 387 + 20 * first + 0)
-        (ec : Counts k count) (f₀ c₀ : Marks) where
+    module _ (own : ℕ) (eo : k < 254 → own ≡ k) (es : SlotsOf facts k slots) (f₀ c₀ : Marks) where
       -- one more: its build d, the family f' of that, and its n members
-      module _ (f c : Marks) (members : List ℕ) (j : ℕ) (u : Building f₀ f c₀ c members j) (h : j < count) (d : Answered ValueId)
-          (eb : (b : Bounds) (slot : ℕ) (i : Instruction) → rows + 20 * j ≡ 387 + 20 * slot → InstructionIn b s facts slot i → Built eligible b.next d i.kind)
-          (f' : Marks) (members' : List ℕ) (n : ℕ) (em : FamilyRead d table shapes f f' members members' n)
+      module _ (f c : Marks) (members : List ℕ) (j : ℕ) (u : Building f₀ f c₀ c members j) (h : j < slots.count) (d : Answered ValueId)
+          (eb : (i : Instruction) → InstructionIn b values.code.bytes.now facts (slots.first + j) i → Built values.eligible.now b.next d i.kind)
+          (f' : Marks) (members' : List ℕ) (n : ℕ) (em : FamilyRead d table values.shapes.now f f' members members' n)
           (lm : length members' ≡ length members) (listed : List ℕ) (el : listed ≡ take n members') where
         -- of a routine that stands so
         module _ (σ : Settings) (τ : Types) (ks : List Block) (a : Given f₀ c₀ σ τ ks) where
           abbrev x : Block
           x = get_or ks k no_block
 
-          many : count ≡ length x.instructions
-          many = ec b s ks a.ready.coded.code a.inside
+          many : slots.count ≡ length x.instructions
+          many = counted k slots es σ τ ks a.ready a.inside
 
           abbrev i : Instruction
           i = get_or x.instructions j no_instruction
 
-          values : length τ.recorded ≡ b.next
-          values = a.ready.coded.ground.values
+          valued : length τ.recorded ≡ b.next
+          valued = a.ready.coded.ground.values
 
-          built : Built eligible b.next d i.kind
-          built = eb b (first + j) i (omega arith) (standing k first count ef ec σ τ ks a.ready a.inside j (omega (arith, many)))
+          built : Built values.eligible.now b.next d i.kind
+          built = eb i (standing k slots es σ τ ks a.ready a.inside j (omega (arith, many)))
 
           found : (f' ≡ family_read τ x.instructions d) × Members members' n f'
           found =
-              em σ τ x.instructions i.kind eligible b.next a.rows (a.ready.coded.small k a.inside) a.ready.given built (sym values)
+              em σ τ x.instructions i.kind values.eligible.now b.next a.rows (a.ready.coded.small k a.inside) a.ready.given built (sym valued)
               a.ready.coded.ground.few u.wide (u.clear σ τ ks a)
 
           sized : length f' ≡ b.next
-          sized = ap (λ y. length y) found.0 ∙ read_length τ x.instructions d ∙ values
+          sized = ap (λ y. length y) found.0 ∙ read_length τ x.instructions d ∙ valued
 
           all : Members listed (length listed) f'
-          all = rw el (first_listed members' n f' found.1 (omega (arith, sized, values, u.wide, a.ready.coded.ground.few)))
+          all = rw el (first_listed members' n f' found.1 (omega (arith, sized, valued, u.wide, a.ready.coded.ground.few)))
 
-          step : {c' : Marks} → MembersCrossed own listed (length listed) reader c c' → c' ≡ cross_build σ τ ks k x (build_dest i.kind) c
+          step : {c' : Marks} → MembersCrossed own listed (length listed) values.readers.now c c' → c' ≡ cross_build σ τ ks k x (build_dest i.kind) c
           step g =
               let o : own ≡ k = eo (omega (arith, a.ready.coded.many, a.ready.coded.few)) in
               let l : length c ≡ b.next = u.long ∙ a.each in
               g f' ks all (sized ∙ sym l) (a.ready.readers ∙ ap (λ y. read_blocks 0 (replicate y 0) ks) (sym sized))
               ∙ ap (λ y. cond (read_elsewhere y own 0 ks) (union y c) c) found.0
-              ∙ read_crossed σ τ shapes eligible b.next a.ready.given values ks own x c i.kind d built l
+              ∙ read_crossed σ τ values.shapes.now values.eligible.now b.next a.ready.given valued ks own x c i.kind d built l
               ∙ ap (λ y. cross_build σ τ ks y x (build_dest i.kind) c) o
 
-        pub building_again : (c' f'' : Marks) → MembersCrossed own listed (length listed) reader c c' → length c' ≡ length c → ClearsMembers listed (length listed) f' f''
+        pub building_again : (c' f'' : Marks) → MembersCrossed own listed (length listed) values.readers.now c c' → length c' ≡ length c → ClearsMembers listed (length listed) f' f''
             → Building f₀ f'' c₀ c' members' (j + 1)
         unfolding cross_builds
         building_again c' f'' g lc w =
@@ -136,13 +144,13 @@ module _ (b : Bounds) (s facts shapes : List ℕ) (eligible : List Bool) (reader
               clear = λ σ τ ks a. w (all σ τ ks a) ∙ ap (λ y. replicate y false) (sized σ τ ks a);
             }
 
-      pub building_done : (f c : Marks) (members : List ℕ) (j : ℕ) → Building f₀ f c₀ c members j → count ≤ j
+      pub building_done : (f c : Marks) (members : List ℕ) (j : ℕ) → Building f₀ f c₀ c members j → slots.count ≤ j
           → (σ : Settings) (τ : Types) (ks : List Block) → Given f₀ c₀ σ τ ks → c ≡ cross_block σ τ ks k c₀
       unfolding cross_builds
       building_done f c members j u h σ τ ks a =
           let x = get_or ks k no_block in
           let is = x.instructions in
-          let q : j ≡ length is = omega (arith, u.under, ec b s ks a.ready.coded.code a.inside) in
+          let q : j ≡ length is = omega (arith, u.under, counted k slots es σ τ ks a.ready a.inside) in
           sym (u.left σ τ ks a ∙ ap (λ y. cross_builds σ τ ks k x (drop y is) c) q ∙ ap (λ y. cross_builds σ τ ks k x y c) (drop-length is))
 
   -- k blocks are behind
@@ -151,14 +159,14 @@ module _ (b : Bounds) (s facts shapes : List ℕ) (eligible : List Bool) (reader
     pub long : length c ≡ length c₀
     pub left :
         (σ : Settings) (τ : Types) (ks : List Block)
-        → Ready b s facts σ τ ks shapes eligible reader
+        → Ready values σ τ ks
         → length c₀ ≡ b.next
         → cross_blocks σ τ ks 0 ks c₀ ≡ cross_blocks σ τ ks k (drop k ks) c
 
   pub crossing_again : (c₀ c c' : Marks) (k : ℕ)
       → Crossing c₀ c k
       → k < b.blocks
-      → ((σ : Settings) (τ : Types) (ks : List Block) → Ready b s facts σ τ ks shapes eligible reader → k < length ks → length c ≡ b.next
+      → ((σ : Settings) (τ : Types) (ks : List Block) → Ready values σ τ ks → k < length ks → length c ≡ b.next
       → c' ≡ cross_block σ τ ks k c)
       → length c' ≡ length c
       → Crossing c₀ c' (k + 1)
@@ -178,7 +186,7 @@ module _ (b : Bounds) (s facts shapes : List ℕ) (eligible : List Bool) (reader
       }
 
   pub crossing_done : (c₀ c : Marks) (k : ℕ) → Crossing c₀ c k → b.blocks ≤ k
-      → (σ : Settings) (τ : Types) (ks : List Block) → Ready b s facts σ τ ks shapes eligible reader → length c₀ ≡ b.next → c ≡ cross_blocks σ τ ks 0 ks c₀
+      → (σ : Settings) (τ : Types) (ks : List Block) → Ready values σ τ ks → length c₀ ≡ b.next → c ≡ cross_blocks σ τ ks 0 ks c₀
   unfolding cross_blocks
   crossing_done c₀ c k u h σ τ ks a l =
       let q : k ≡ length ks = omega (arith, u.under, a.coded.many) in
@@ -187,11 +195,11 @@ module _ (b : Bounds) (s facts shapes : List ℕ) (eligible : List Bool) (reader
   -- the whole: the readers are noted, then the builds of all blocks are held to them
   pub crossed_all : (r₀ : List ℕ) (c₀ c : Marks)
       → r₀ ≡ replicate b.next 0
-      → ((b' : Bounds) (s : List ℕ) (ks : List Block) → CodeIn b' s facts ks → length ks ≡ b.blocks → b.blocks < 254 → reader ≡ read_blocks 0 r₀ ks)
-      → ((σ : Settings) (τ : Types) (ks : List Block) → Ready b s facts σ τ ks shapes eligible reader → length c₀ ≡ b.next → c ≡ cross_blocks σ τ ks 0 ks c₀)
-      → CrossMarks s b facts shapes eligible c₀ c
+      → ((b' : Bounds) (s : List ℕ) (ks : List Block) → CodeIn b' s facts ks → length ks ≡ b.blocks → b.blocks < 254 → values.readers.now ≡ read_blocks 0 r₀ ks)
+      → ((σ : Settings) (τ : Types) (ks : List Block) → Ready values σ τ ks → length c₀ ≡ b.next → c ≡ cross_blocks σ τ ks 0 ks c₀)
+      → CrossMarks values.code values.shapes.now values.eligible.now c₀ c
   unfolding cross_block_aggregates
   crossed_all r₀ c₀ c e0 er f σ τ ks a g ec =
       let l : length c₀ ≡ b.next = ap (λ y. length y) ec ∙ length-replicate (length τ.recorded) false ∙ a.ground.values in
-      let r : reader ≡ read_blocks 0 (replicate b.next 0) ks = er b s ks a.code a.many (omega (arith, a.few)) ∙ ap (λ y. read_blocks 0 y ks) e0 in
+      let r : values.readers.now ≡ read_blocks 0 (replicate b.next 0) ks = er b _ ks a.code a.many (omega (arith, a.few)) ∙ ap (λ y. read_blocks 0 y ks) e0 in
       f σ τ ks (record { coded = a; given = g; readers = r }) l ∙ ap (λ y. cross_blocks σ τ ks 0 ks y) ec

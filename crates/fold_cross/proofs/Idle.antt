@@ -1,5 +1,5 @@
 -- A block without a build of an eligible type has nothing that is used across blocks.
-use Prim.Native.Nat.{ℕ, suc, ◌+◌, ◌*◌, ◌≤◌, ◌<◌}
+use Prim.Native.Nat.{ℕ, suc, ◌+◌, ◌≤◌, ◌<◌}
 use mathlib.Core.Path.{◌≡◌, refl, ap, ◌∙◌}
 use mathlib.Core.List.{List, [], ◌∷◌}
 use mathlib.Core.Bool.{Bool, true≢false, false}
@@ -8,7 +8,8 @@ use native.Mathlib.Nat.{eq-or-lt_of_le}
 use native.Mathlib.Omega.{arith}
 use lib.ListN.{length, get_or}
 use Rattle.mir.specs.Syntax.{Instruction, Block}
-use Rattle.bytes_field.specs.declared.Bounds.{Bounds}
+use Rattle.bytes_index.specs.declared.code.Code.{Code}
+use Rattle.bytes_index.specs.declared.slots.Slots.{Slots}
 use Rattle.bytes_index.specs.Code.{no_instruction, InstructionIn, InstructionsIn}
 use Rattle.mir.specs.Lookup.{Types}
 use Rattle.fold.specs.Tables.{ShapesAt}
@@ -24,33 +25,32 @@ pub none_left : {A : Type 0} (r : Answered A) → is_some r ≡ false → r ≡ 
 none_left (Some x) h = absurd (true≢false h)
 none_left None h = refl
 
-module _ (s facts : List ℕ) (first count : ℕ) (eligible : List Bool) where
+module _ (code : Code) (slots : Slots) (eligible : List Bool) where
   -- k instructions are behind, and none of them is one
   pub record Idling (k : ℕ) : Type 0 where
-    pub under : k ≤ count
+    pub under : k ≤ slots.count
     pub each :
-        (b : Bounds) (is : List Instruction)
-        → InstructionsIn b s facts first is
-        → length is ≡ count
+        (is : List Instruction)
+        → InstructionsIn code.bounds code.bytes.now code.facts.now slots.first is
+        → length is ≡ slots.count
         → (j : ℕ)
         → j < k
-        → Idle eligible b.next (get_or is j no_instruction).kind
+        → Idle eligible code.bounds.next (get_or is j no_instruction).kind
 
-  pub idling_again : (rows k : ℕ) (r : Answered ValueId)
-      → rows ≡ 387 + 20 * first + 0
+  pub idling_again : (k : ℕ) (r : Answered ValueId)
       → Idling k
-      → k < count
-      → ((b : Bounds) (slot : ℕ) (i : Instruction) → rows + 20 * k ≡ 387 + 20 * slot → InstructionIn b s facts slot i → Built eligible b.next r i.kind)
+      → k < slots.count
+      → ((i : Instruction) → InstructionIn code.bounds code.bytes.now code.facts.now (slots.first + k) i → Built eligible code.bounds.next r i.kind)
       → r ≡ None
       → Idling (k + 1)
-  idling_again rows k r er u h f e =
+  idling_again k r u h f e =
       record {
         under = omega arith;
-        each = λ b is a l j q.
+        each = λ is a l j q.
             let y : j ≤ k = omega arith in
             let i = get_or is k no_instruction in
-            let here : Idle eligible b.next i.kind = (f b (first + k) i (omega arith) (a k (omega arith))).idle e in
-            ⊎_elim (λ z. rw z here) (λ z. u.each b is a l j z) (eq-or-lt_of_le y);
+            let here : Idle eligible code.bounds.next i.kind = (f i (a k (omega arith))).idle e in
+            ⊎_elim (λ z. rw z here) (λ z. u.each is a l j z) (eq-or-lt_of_le y);
       }
 
 -- such instructions change nothing

@@ -9,7 +9,7 @@ use lib.ListN.{length, replicate}
 use Rattle.mir.specs.declared.ValueId.{ValueId}
 use Rattle.mir.specs.Syntax.{Instruction, Block}
 use Rattle.mir.specs.Lookup.{Types, value_row}
-use Rattle.bytes_field.specs.declared.Bounds.{Bounds}
+use Rattle.bytes_index.specs.declared.code.Code.{Code}
 use Rattle.fold.specs.declared.Settings.{Settings}
 use Rattle.fold.specs.Scalarizable.{is_scalarizable}
 use Rattle.fold.specs.Family.{Marks, build_dest, read_elsewhere, cross_family, cross_build, cross_builds, cross_block_aggregates, cross_blocks}
@@ -35,9 +35,9 @@ module _ (σ : Settings) (τ : Types) (x : Block) where
   builds_alone [] m = refl
   builds_alone (i ∷ is) m = ap (λ n. cross_builds σ τ (x ∷ []) 0 x is n) (build_alone (build_dest i.kind) m) ∙ builds_alone is m
 
-pub single_crosses : (s : List ℕ) (b : Bounds) (facts shapes : List ℕ) (eligible : List Bool) (clear : Marks) → b.blocks < 2
-    → CrossMarks s b facts shapes eligible clear clear
+pub single_crosses : (code : Code) (shapes : List ℕ) (eligible : List Bool) (clear : Marks) → code.bounds.blocks < 2
+    → CrossMarks code shapes eligible clear clear
 unfolding cross_block_aggregates cross_blocks
-single_crosses s b facts shapes eligible clear h σ τ [] a g e = e
-single_crosses s b facts shapes eligible clear h σ τ (x ∷ []) a g e = e ∙ sym (builds_alone σ τ x x.instructions (replicate (length τ.recorded) false))
-single_crosses s b facts shapes eligible clear h σ τ (x ∷ y ∷ ks) a g e = absurd (omega (arith, a.many))
+single_crosses code shapes eligible clear h σ τ [] a g e = e
+single_crosses code shapes eligible clear h σ τ (x ∷ []) a g e = e ∙ sym (builds_alone σ τ x x.instructions (replicate (length τ.recorded) false))
+single_crosses code shapes eligible clear h σ τ (x ∷ y ∷ ks) a g e = absurd (omega (arith, a.many))

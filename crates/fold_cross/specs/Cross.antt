@@ -3,7 +3,7 @@ use Rattle.std.specs.Prelude.{Option, Some, None, ℕ, ◌<◌, ◌≤◌, ◌�
 use Rattle.std.proofs.Math.Option.{some}
 use Rattle.mir.specs.declared.ValueId.{ValueId}
 use Rattle.mir.specs.Syntax.{InstructionKind, Instruction, Block}
-use Rattle.bytes_field.specs.declared.Bounds.{Bounds}
+use Rattle.bytes_index.specs.declared.code.Code.{Code}
 use Rattle.bytes_index.specs.Code.{no_instruction, no_block}
 use Rattle.mir.specs.Lookup.{Types}
 use Rattle.mir.specs.Most.{most_values, most_instructions}
@@ -13,13 +13,13 @@ use Rattle.fold.specs.declared.Settings.{Settings}
 use Rattle.fold_family.specs.Copies.{copies, RowsAt}
 use Rattle.fold_family.specs.Search.{Members}
 use Rattle.fold_readers.specs.Readers.{read_blocks}
+use Rattle.fold_cross.specs.declared.values.Values.{Values}
 
 -- a routine's code, the shapes of its values, and the block that reads each
-pub record Ready (b : Bounds) (s facts : List ℕ) (σ : Settings) (τ : Types) (ks : List Block)
-    (shapes : List ℕ) (eligible : List Bool) (reader : List ℕ) : Type 0 where
-  pub coded : Coded b s facts τ ks
-  pub given : ShapesAt σ τ shapes eligible
-  pub readers : reader ≡ read_blocks 0 (replicate b.next 0) ks
+pub record Ready (values : Values) (σ : Settings) (τ : Types) (ks : List Block) : Type 0 where
+  pub coded : Coded values.code.bounds values.code.bytes.now values.code.facts.now τ ks
+  pub given : ShapesAt σ τ values.shapes.now values.eligible.now
+  pub readers : values.readers.now ≡ read_blocks 0 (replicate values.code.bounds.next 0) ks
 
 -- a build of v, whether its type is eligible
 pub record Root (eligible : List Bool) (next v : ℕ) (on : Bool) (i : InstructionKind) : Type 0 where
@@ -48,11 +48,7 @@ abbrev pub family_read : Types → List Instruction → Option ValueId → Marks
 family_read τ is (Some v) = family τ v is
 family_read τ is None = replicate (length τ.recorded) false
 
--- the promises: the n members of a family are marked,
-abbrev pub Unites : List ℕ → ℕ → Marks → Marks → Type 0
-Unites members n before after = (m : Marks) → Members members n m → length m ≡ length before → after ≡ union m before
-
--- where another block than `own` reads one,
+-- the promises: the n members of a family are marked where another block than `own` reads one,
 abbrev pub MembersCrossed : ℕ → List ℕ → ℕ → List ℕ → Marks → Marks → Type 0
 MembersCrossed own members n reader before after =
     (m : Marks) (ks : List Block)
@@ -76,18 +72,18 @@ FamilyRead d table shapes clear m room members n =
     → (m ≡ family_read τ is d) × Members members n m
 
 -- what f says of a routine's code,
-abbrev pub Crossed : Types → List Block → (Settings → Marks → Marks) → List ℕ → Bounds → List ℕ → List ℕ → List Bool → List ℕ → Marks → Marks → Type 0
-Crossed τ ks f s b facts shapes eligible reader before after =
+abbrev pub Crossed : Types → List Block → (Settings → Marks → Marks) → Values → Marks → Marks → Type 0
+Crossed τ ks f values before after =
     (σ : Settings)
-    → Ready b s facts σ τ ks shapes eligible reader
-    → length before ≡ b.next
+    → Ready values σ τ ks
+    → length before ≡ values.code.bounds.next
     → after ≡ f σ before
 
 -- and the whole
-abbrev pub CrossMarks : List ℕ → Bounds → List ℕ → List ℕ → List Bool → Marks → Marks → Type 0
-CrossMarks s b facts shapes eligible clear marks =
+abbrev pub CrossMarks : Code → List ℕ → List Bool → Marks → Marks → Type 0
+CrossMarks code shapes eligible clear marks =
     (σ : Settings) (τ : Types) (ks : List Block)
-    → Coded b s facts τ ks
+    → Coded code.bounds code.bytes.now code.facts.now τ ks
     → ShapesAt σ τ shapes eligible
     → clear ≡ replicate (length τ.recorded) false
     → marks ≡ cross_block_aggregates σ τ ks

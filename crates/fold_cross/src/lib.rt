@@ -1,35 +1,35 @@
 // Aggregates that are used across blocks: a build's family is, with all its members, where another block reads one.
 #![tactic(auto)]
 
-ghost use Rattle.std.specs.Prelude.{◌≡◌, List, false, ℕ, ◌<◌, ◌≤◌, length, get_or, replicate};
+pub mod values;
+
+ghost use Rattle.std.specs.Prelude.{◌≡◌, List, false, ◌<◌, ◌≤◌, length, get_or, replicate};
 ghost use Rattle.mir.specs.Syntax.{Instruction, Block};
-ghost use Rattle.bytes_field.specs.declared.Bounds.{Bounds as DeclaredBounds};
 ghost use Rattle.bytes_index.specs.Code.{no_block, InstructionIn, InstructionsIn};
 ghost use Rattle.mir.specs.Lookup.{Types};
 ghost use Rattle.mir.specs.Most.{most_values};
-ghost use Rattle.bytes_index.specs.Table.{row_at};
-ghost use Rattle.fold.specs.Numbers.{most_place};
 ghost use Rattle.fold.specs.Family.{cross_blocks};
 ghost use Rattle.fold_family.specs.Copies.{copies as copies_of, RowsAt};
-ghost use Rattle.fold_readers.specs.Readers.{block_limit};
-ghost use Rattle.fold_cross.specs.Cross.{Built, IdleAll, cross_block, Unites, MembersCrossed, FamilyRead, Crossed, CrossMarks};
+ghost use Rattle.fold_cross.specs.Cross.{Built, IdleAll, cross_block, MembersCrossed, FamilyRead, Crossed, CrossMarks};
 
-use bytes_field::Bounds;
-use mir::{BlockId, ValueId, kind, most};
+use bytes_index::{Code, Slots};
+use fold_readers::BlockNumber;
+use mir::kind::Kind;
+use mir::{BlockId, ValueId, most};
+pub use values::Values;
 
 // How many values a routine has at most, as the bounds count them.
 const VALUES: u16 = most::VALUES as u16;
 
-// The dest of the build in the slot whose row begins at `row`, where its type is eligible.
-fn eligible_build(s: &[u8], facts: &[u16], row: usize, eligible: &[bool]) -> Option<ValueId>
-    requires { row < most_place }
-    ensures { (b : DeclaredBounds) (slot : ℕ) (i : Instruction) → row ≡ row_at slot
-        → InstructionIn b s.now facts.now slot i → Built eligible.now b.next result i.kind }
+// The dest of the build in a slot, where its type is eligible.
+fn eligible_build(code: Code, slot: u16, eligible: &[bool]) -> Option<ValueId>
+    ensures { (i : Instruction) → InstructionIn code.entry.bounds code.entry.bytes.now code.entry.facts.now slot i
+        → Built eligible.now code.entry.bounds.next result i.kind }
 {
-    let kind = table::number(facts, row + bytes_index::KIND);
+    let kind = bytes_index::instruction_kind(code.facts, slot)?;
     match kind {
-        kind::MAKE_TUPLE | kind::MAKE_STRUCT | kind::MAKE_FIXED_ARRAY => {
-            let t = bytes_field::tail(s, table::place(facts, row));
+        Kind::MakeTuple | Kind::MakeStruct | Kind::MakeFixedArray => {
+            let t = bytes_field::tail(code.bytes, bytes_index::place(code.facts, slot));
             let u = bytes_field::tail(t, bytes_operands::fields_place(t));
             let dest = ValueId(bytes_wire::u16_at(u, 0));
             if table::flag(eligible, dest.0 as usize) {
@@ -41,37 +41,27 @@ fn eligible_build(s: &[u8], facts: &[u16], row: usize, eligible: &[bool]) -> Opt
     }
 }
 
-// Whether a block has such a build, its `count` instructions standing in the slots from `first` on. Only the answer that it
-// has none says something: the other is left free, as one too many costs time alone.
-fn has_build(s: &[u8], facts: &[u16], first: u16, count: u16, eligible: &[bool]) -> bool
-    ensures { result ≡ false → (b : DeclaredBounds) (is : List Instruction) → InstructionsIn b s.now facts.now first is
-        → length is ≡ count → IdleAll eligible.now b.next is }
+// Whether a block, whose instructions stand in these slots, has such a build. Only the answer that it has none says something: the
+// other is left free, as one too many costs time alone.
+fn has_build(code: Code, slots: Slots, eligible: &[bool]) -> bool
+    ensures { result ≡ false → (is : List Instruction)
+        → InstructionsIn code.entry.bounds code.entry.bytes.now code.entry.facts.now slots.first is
+        → length is ≡ slots.count → IdleAll eligible.now code.entry.bounds.next is }
 {
-    let rows = bytes_index::row_place(first, 0);
-    for k in 0..count {
-        if eligible_build(s, facts, rows + bytes_index::WIDTH * k as usize, eligible).is_some() {
+    for k in 0..slots.count {
+        if eligible_build(code, slots.first + k, eligible).is_some() {
             return true;
         }
     }
     false
 }
 
-// Marks the members.
-fn unite(members: &[u16], marks: &mut [bool])
-    ensures { Unites members.now (length members.now) marks.old marks.new }
-{
-    for v in members {
-        table::set_flag(marks, *v as usize, true);
-    }
-}
-
 // Marks the members of a family of block `own` where another block reads one.
-fn unite_abroad(own: u8, members: &[u16], readers: &[u8], marks: &mut [bool])
-    requires { own < block_limit }
-    ensures { MembersCrossed own members.now (length members.now) readers.now marks.old marks.new }
+fn unite_abroad(own: BlockNumber, members: &[u16], readers: &[u8], marks: &mut [bool])
+    ensures { MembersCrossed own.number members.now (length members.now) readers.now marks.old marks.new }
 {
     if fold_readers::member_abroad(members, own, readers) {
-        unite(members, marks);
+        fold_family::mark_members(members, true, marks);
     }
 }
 
@@ -98,135 +88,84 @@ fn find_family(
 
 // Marks the families of the builds of block `k` that another block reads; the block's copies stand in `copies`, and the marks
 // of `family` are clear.
-fn cross_builds(
-    k: BlockId,
-    s: &[u8],
-    b: Bounds,
-    facts: &[u16],
-    copies: &[u16],
-    shapes: &[u8],
-    eligible: &[bool],
-    readers: &[u8],
-    family: &mut [bool],
-    marks: &mut [bool],
-)
+fn cross_builds(values: Values, k: BlockId, copies: &[u16], family: &mut [bool], marks: &mut [bool])
     ensures { (τ : Types) (ks : List Block) → k.0 < length ks
         → RowsAt copies.now (copies_of τ (get_or ks k.0 no_block).instructions)
-        → family.old ≡ replicate b.next false
-        → Crossed τ ks (λ σ m. cross_block σ τ ks k.0 m) s.now b
-        facts.now shapes.now eligible.now readers.now marks.old marks.new }
+        → family.old ≡ replicate values.entry.code.bounds.next false
+        → Crossed τ ks (λ σ m. cross_block σ τ ks k.0 m) values.entry marks.old marks.new }
 {
-    let number = k.0;
     let own = fold_readers::block_number(k);
-    let count = bytes_index::instruction_count(facts, k);
-    let rows = bytes_index::row_place(bytes_index::first_slot(facts, k), 0);
+    let slots = bytes_index::block_slots(values.code.facts, k);
     let mut members: [u16; most::VALUES] = [0; most::VALUES];
-    for j in 0..count {
-        let d = eligible_build(s, facts, rows + bytes_index::WIDTH * j as usize, eligible);
-        let n = find_family(d, copies, shapes, family, &mut members);
+    for j in 0..slots.count {
+        let d = eligible_build(values.code, slots.first + j, values.eligible);
+        let n = find_family(d, copies, values.shapes, family, &mut members);
         let listed = fold_family::first_members(&members, n);
-        unite_abroad(own, listed, readers, marks);
+        unite_abroad(own, listed, values.readers, marks);
         fold_family::unmark(listed, family);
     }
 }
 
 // Marks the families of the builds of block `k` that another block reads; its copies are looked for only where it has a
 // build of an eligible type.
-fn cross_block(
-    k: BlockId,
-    s: &[u8],
-    b: Bounds,
-    facts: &[u16],
-    shapes: &[u8],
-    eligible: &[bool],
-    readers: &[u8],
-    marks: &mut [bool],
-)
-    requires { b.next ≤ most_values }
-    ensures { (τ : Types) (ks : List Block) → k.0 < length ks → Crossed τ ks (λ σ m. cross_block σ τ ks k.0 m) s.now b
-        facts.now shapes.now eligible.now readers.now marks.old marks.new }
+fn cross_block(values: Values, k: BlockId, marks: &mut [bool])
+    ensures { (τ : Types) (ks : List Block) → k.0 < length ks
+        → Crossed τ ks (λ σ m. cross_block σ τ ks k.0 m) values.entry marks.old marks.new }
 {
-    let first = bytes_index::first_slot(facts, k);
-    let count = bytes_index::instruction_count(facts, k);
-    if !has_build(s, facts, first, count, eligible) {
+    let slots = bytes_index::block_slots(values.code.facts, k);
+    if !has_build(values.code, slots, values.eligible) {
         return;
     }
     let mut copies: [u16; fold_family::SIZE] = [0; fold_family::SIZE];
-    let mut none: [bool; 0] = [false; 0];
-    fold_copies::scan_copies(s, b, facts, first, count, &mut copies, &mut none);
+    fold_copies::scan_copies(values.code, slots.first, slots.count, &mut copies, &mut []);
     let mut family: [bool; most::VALUES] = [false; most::VALUES];
-    cross_builds(
-        k,
-        s,
-        b,
-        facts,
-        &copies,
-        shapes,
-        eligible,
-        readers,
-        &mut family[0..b.next as usize],
-        marks,
-    );
+    let n = values.code.bounds.next as usize;
+    cross_builds(values, k, &copies, &mut family[..n], marks);
 }
 
 // Marks the families of all builds that another block reads, block by block.
-fn cross_read(
-    s: &[u8],
-    b: Bounds,
-    facts: &[u16],
-    shapes: &[u8],
-    eligible: &[bool],
-    readers: &[u8],
-    marks: &mut [bool],
-)
-    requires { b.next ≤ most_values }
-    ensures { (τ : Types) (ks : List Block) → Crossed τ ks (λ σ m. cross_blocks σ τ ks 0 ks m) s.now b
-        facts.now shapes.now eligible.now readers.now marks.old marks.new }
+fn cross_read(values: Values, marks: &mut [bool])
+    ensures { (τ : Types) (ks : List Block) → Crossed τ ks (λ σ m. cross_blocks σ τ ks 0 ks m) values.entry marks.old marks.new }
 {
-    let many = b.blocks;
-    for k in 0..many {
-        cross_block(BlockId(k), s, b, facts, shapes, eligible, readers, marks);
+    for k in 0..values.code.bounds.blocks {
+        cross_block(values, BlockId(k), marks);
     }
 }
 
 // Marks the aggregates that are used across blocks; the readers are noted in `readers`, which are clear.
 fn cross_blocks(
-    s: &[u8],
-    b: Bounds,
-    facts: &[u16],
+    code: Code,
     shapes: &[u8],
     eligible: &[bool],
     readers: &mut [u8],
     marks: &mut [bool],
 )
-    requires { b.next ≤ most_values }
-    ensures { readers.old ≡ replicate b.next 0 → CrossMarks s.now b facts.now
-        shapes.now eligible.now marks.old marks.new }
+    requires { code.bounds.next ≤ most_values }
+    ensures { readers.old ≡ replicate code.entry.bounds.next 0
+        → CrossMarks code.entry shapes.now eligible.now marks.old marks.new }
 {
-    fold_readers::note_readers(facts, b.blocks, readers);
-    cross_read(s, b, facts, shapes, eligible, readers, marks);
+    fold_readers::note_readers(code.facts, code.bounds.blocks, readers);
+    let values = Values {
+        code,
+        shapes,
+        eligible,
+        readers,
+    };
+    cross_read(values, marks);
 }
 
 // Marks in `marks`, which are clear, one for each value, the aggregates that are used across blocks. Where there is one block,
 // no other reads a value.
-pub fn cross_marks(
-    s: &[u8],
-    b: Bounds,
-    facts: &[u16],
-    shapes: &[u8],
-    eligible: &[bool],
-    marks: &mut [bool],
-)
-    ensures { CrossMarks s.now b facts.now
-        shapes.now eligible.now marks.old marks.new }
+pub fn cross_marks(code: Code, shapes: &[u8], eligible: &[bool], marks: &mut [bool])
+    ensures { CrossMarks code.entry shapes.now eligible.now marks.old marks.new }
 {
-    if b.blocks < 2 {
+    if code.bounds.blocks < 2 {
         return;
     }
-    if VALUES < b.next {
+    if VALUES < code.bounds.next {
         return;
     }
-    let n = b.next as usize;
     let mut table: [u8; most::VALUES] = [0; most::VALUES];
-    cross_blocks(s, b, facts, shapes, eligible, &mut table[0..n], marks);
+    let n = code.bounds.next as usize;
+    cross_blocks(code, shapes, eligible, &mut table[..n], marks);
 }

@@ -1,11 +1,14 @@
 -- The members of a family, one after another, in place of all its marks.
-use Prim.Native.Nat.{ℕ, zero, suc, ◌≤◌, ◌<◌}
+use Prim.Native.Nat.{ℕ, zero, suc, ◌+◌, ◌≤◌, ◌<◌}
 use mathlib.Core.Path.{◌≡◌, refl, ap, ◌∙◌, sym, subst}
 use mathlib.Core.List.{List, [], ◌∷◌}
 use mathlib.Core.Bool.{Bool, true, false, ◌&&◌, ◌||◌, or-true, true≢false}
+use mathlib.Core.Logic.{⊎_elim}
 use native.Mathlib.Omega.{arith}
-use lib.ListN.{length, get_or, take, replicate, length-replicate}
-use lib.Seq.{ext_get_or}
+use lib.ListN.{length, get_or, set, take, replicate, length-set, length-replicate}
+use lib.Seq.{ext_get_or, get_or-set_same, get_or-set_other, set_out}
+use lib.Dec.{eqb, ltb}
+use borrow.Author.Tests.{ltb-true, ltb-false, eqb-true, eqb-false}
 use Rattle.std.specs.List.{list_any}
 use Rattle.std.proofs.lemmas.Grind.{get_or_default_zero}
 use Rattle.std.proofs.lemmas.List.Folds.{list_any_at, Any-from_list_any}
@@ -13,9 +16,10 @@ use Rattle.std.proofs.lemmas.List.{length-take-le, get_or-take}
 use Rattle.table.proofs.Elements.{clear_at}
 use Rattle.fold.specs.Family.{Marks}
 use Rattle.fold_family.specs.Copies.{meets}
-use Rattle.fold_family.specs.Search.{Listed, listed_at, Members, ClearsMembers, MemberIndexed}
+use Rattle.fold_family.specs.Search.{Listed, listed_at, Members, Flagged, kept, listed, Storing, ClearsMembers, MemberIndexed}
 use Rattle.fold_family.proofs.Dynamic.{dynamic_family}
 use Rattle.fold_family.proofs.Finding.{size_le}
+use Rattle.fold_family.proofs.Rows.{newest}
 
 -- a value that has both marks
 meets_at : (m d : Marks) (x : ℕ) → get_or m x false ≡ true → get_or d x false ≡ true → meets m d ≡ true
@@ -70,20 +74,55 @@ first_listed members n m a l =
     go : (x : ℕ) → Listed members n x → Listed (take n members) (length (take n members)) x
     go x (listed_at i h e) = listed_at i (omega (arith, z)) (get_or-take n members i 0 h ∙ e)
 
--- the marks of k members are cleared
-pub record Clearing (members : List ℕ) (m₀ m : Marks) (k : ℕ) : Type 0 where
-  pub long : length m ≡ length m₀
-  pub old : (x : ℕ) → get_or m x false ≡ true → get_or m₀ x false ≡ true
-  pub gone : (i : ℕ) → i < k → get_or m (get_or members i 0) false ≡ false
+-- the flags of k members are stored
+pub record Flagging (members : List ℕ) (on : Bool) (m₀ m : Marks) (k : ℕ) : Type 0 where
+  pub under : k ≤ length members
+  pub storing : Storing members k on m₀ m
 
-pub cleared : (members : List ℕ) (n : ℕ) (m₀ m : Marks) (k : ℕ) → Clearing members m₀ m k → n ≤ k → ClearsMembers members n m₀ m
-cleared members n m₀ m k u h a =
-    ext_get_or false m (replicate (length m₀) false) (u.long ∙ sym (length-replicate (length m₀) false))
-    (λ x y. go x (get_or m x false) refl ∙ sym (clear_at (length m₀) x))
+-- one more
+pub flag_again : (members : List ℕ) (on : Bool) (m₀ m : Marks) (k d : ℕ) {m' : Marks} → Flagging members on m₀ m k → k < length members
+    → d ≡ get_or members k 0 → m' ≡ set m d on → Flagging members on m₀ m' (k + 1)
+flag_again members on m₀ m k d f h ed em =
+    rw em record {
+      under = omega arith;
+      storing = record {
+        long = length-set m d on ∙ u.long;
+        stored = λ i q l. ⊎_elim
+            (λ z. let e : d ≡ get_or members i 0 = ed ∙ ap (λ y. get_or members y 0) (sym z) in rw e (get_or-set_same m _ on false (omega (arith, u.long))))
+            (λ z. same _ (omega (arith, u.long)) (u.stored i z l) (eqb (get_or members i 0) d) refl)
+            (newest i k (omega arith));
+        each = λ x. more x (eqb x d) refl (ltb x (length m)) refl;
+      };
+    }
   where
-    go : (x : ℕ) (b : Bool) → get_or m x false ≡ b → get_or m x false ≡ false
-    go x false e = e
-    go x true e = listed (a.only x (u.old x e))
+    u : Storing members k on m₀ m
+    u = f.storing
+
+    same : (x : ℕ) → x < length m → get_or m x false ≡ on → (b : Bool) → eqb x d ≡ b → get_or (set m d on) x false ≡ on
+    same x l e true z = rw (← eqb-true x d z) (get_or-set_same m x on false l)
+    same x l e false z = get_or-set_other m d x on false (eqb-false x d z) ∙ e
+
+    up : (x : ℕ) → get_or (set m d on) x false ≡ get_or m x false → Flagged members k on m₀ m x → Flagged members (k + 1) on m₀ (set m d on) x
+    up x e (kept z) = kept (e ∙ z)
+    up x e (listed (listed_at i l w) z) = listed (listed_at i (omega (arith, l)) w) (e ∙ z)
+
+    more : (x : ℕ) → (b : Bool) → eqb x d ≡ b → (c : Bool) → ltb x (length m) ≡ c → Flagged members (k + 1) on m₀ (set m d on) x
+    more x true e true l =
+        let z : x ≡ d = eqb-true x d e in
+        listed (listed_at k (omega arith) (sym ed ∙ sym z)) (rw (← z) (get_or-set_same m x on false (ltb-true _ _ l)))
+    more x true e false l = let z : x ≡ d = eqb-true x d e in up x (rw (← z) (ap (λ y. get_or y x false) (set_out m x on (ltb-false _ _ l)))) (u.each x)
+    more x false e c l = up x (get_or-set_other m d x on false (eqb-false x d e)) (u.each x)
+
+-- so clearing the flags of all members leaves none
+pub cleared : (members : List ℕ) (n : ℕ) (m₀ m : Marks) → Storing members n false m₀ m → ClearsMembers members n m₀ m
+cleared members n m₀ m u a =
+    ext_get_or false m (replicate (length m₀) false) (u.long ∙ sym (length-replicate (length m₀) false))
+    (λ x y. go x (omega (arith, y, u.long)) (get_or m₀ x false) refl (u.each x) ∙ sym (clear_at (length m₀) x))
+  where
+    go : (x : ℕ) → x < length m₀ → (b : Bool) → get_or m₀ x false ≡ b → Flagged members n false m₀ m x → get_or m x false ≡ false
+    go x l b e (listed w z) = z
+    go x l false e (kept z) = z ∙ e
+    go x l true e (kept z) = gone (a.only x e)
       where
-        listed : Listed members n x → get_or m x false ≡ false
-        listed (listed_at i l z) = ap (λ y. get_or m y false) (sym z) ∙ u.gone i (omega arith)
+        gone : Listed members n x → get_or m x false ≡ false
+        gone (listed_at i h w) = ap (λ y. get_or m y false) (sym w) ∙ u.stored i h (omega (arith, w, l))

@@ -62,6 +62,16 @@ pub record Members (table : List ℕ) (n : ℕ) (m : Marks) : Type 0 where
   pub marked : (i : ℕ) → i < n → get_or m (get_or table i 0) false ≡ true
   pub only : (x : ℕ) → get_or m x false ≡ true → Listed table n x
 
+-- the flags of the first n of a table are `on`, and no other has changed
+pub data Flagged (table : List ℕ) (n : ℕ) (on : Bool) (before after : Marks) (x : ℕ) : Type 0 where
+  kept : get_or after x false ≡ get_or before x false → Flagged table n on before after x
+  listed : Listed table n x → get_or after x false ≡ on → Flagged table n on before after x
+
+pub record Storing (table : List ℕ) (n : ℕ) (on : Bool) (before after : Marks) : Type 0 where
+  pub long : length after ≡ length before
+  pub stored : (i : ℕ) → i < n → get_or table i 0 < length before → get_or after (get_or table i 0) false ≡ on
+  pub each : (x : ℕ) → Flagged table n on before after x
+
 -- the family of v: its marks, its members, and one turn for each of them and for each of their copies
 pub record FamilyFound (τ : Types) (is : List Instruction) (v : ValueId) (m : Marks) (members : List ℕ) (r : Found) : Type 0 where
   pub same : m ≡ family τ v is

@@ -4,7 +4,8 @@
 
 ghost use Rattle.std.specs.Prelude.{◌≡◌, ◌+◌, ◌≤◌, ◌<◌, ◌&&◌, ◌||◌, ℕ, suc, false, eqb, get_or, length, take};
 ghost use Rattle.fold_family.specs.Copies.{any_shape, row_at, firsts_at, meets};
-ghost use Rattle.fold_family.specs.Search.{most_turns, joins_at, Join, Turn, is_open, FindsFamily, ClearsMembers, IsAlone, DynamicIndex, MemberIndexed};
+ghost use Rattle.fold_family.specs.Search.{most_turns, joins_at, Join, Turn, is_open};
+ghost use Rattle.fold_family.specs.Search.{FindsFamily, Storing, ClearsMembers, IsAlone, DynamicIndex, MemberIndexed};
 
 use mir::{ValueId, most};
 
@@ -24,7 +25,7 @@ pub const FIRSTS: usize = WIDTH * most::INSTRUCTIONS;
 pub const SIZE: usize = FIRSTS + most::VALUES;
 
 // A root of any shape is asked for. (A number and no Option: it stands in a table of u16, in fixed memory.)
-pub const ANY: u8 = 0;
+pub const ANY: u16 = 0;
 
 // The most turns that a search takes: one for each value, and one for each copy of a block.
 const TURNS: u16 = (most::VALUES + most::INSTRUCTIONS) as u16;
@@ -45,11 +46,12 @@ pub struct Found {
     pub turns: u16,
 }
 
-// The shape asked for is the root's, or none is asked for.
+// The shape asked for is the root's, or none is asked for. (Numbers, as the tables of values and copies have them: neither is taken
+// apart, and to make an enum of both in order to compare them would be no plainer.)
 fn asks(wanted: u16, shape: u8) -> bool
     ensures { result ≡ (eqb wanted any_shape || eqb wanted shape) }
 {
-    wanted == ANY as u16 || wanted == shape as u16
+    wanted == ANY || wanted == shape as u16
 }
 
 // Copy `k` joins where it asks for the root's shape, and its dest is a value that is not marked yet.
@@ -61,7 +63,8 @@ fn joins(copies: &[u16], k: u16, shape: u8, marks: &[bool]) -> bool
     asks(table::number(copies, at + ASKED), shape) && dest < marks.len() && !marks[dest]
 }
 
-// Looks at copy `k`, `found` members being found; how many are found then.
+// Looks at copy `k`, `found` members being found; how many are found then. (The list grows while it is searched, so it is no slice
+// of that length.)
 fn join(
     copies: &[u16],
     k: u16,
@@ -164,13 +167,20 @@ pub fn first_members(members: &[u16], n: u16) -> &[u16]
     }
 }
 
+// Marks the members, or clears their marks.
+pub fn mark_members(members: &[u16], on: bool, marks: &mut [bool])
+    ensures { Storing members.now (length members.now) on marks.old marks.new }
+{
+    for v in members {
+        table::set_flag(marks, *v as usize, on);
+    }
+}
+
 // Clears the marks of the members.
 pub fn unmark(members: &[u16], marks: &mut [bool])
     ensures { ClearsMembers members.now (length members.now) marks.old marks.new }
 {
-    for v in members {
-        table::set_flag(marks, *v as usize, false);
-    }
+    mark_members(members, false, marks);
 }
 
 // Whether one of the members of a family is looked into by an index that is not known, where `dynamic` are the marks that

@@ -1,3 +1,2 @@
-pub mod Slots
 pub mod Behind
 pub mod Looking

@@ -14,7 +14,8 @@ use Rattle.mir.specs.Syntax.{Instruction}
 use Rattle.mir.specs.Reads.{kind_number}
 use Rattle.mir.specs.Lookup.{Types}
 use Rattle.mir.specs.Phis.{behind_phis}
-use Rattle.bytes_field.specs.declared.Bounds.{Bounds}
+use Rattle.bytes_index.specs.declared.code.Code.{Code}
+use Rattle.bytes_index.specs.declared.slots.Slots.{Slots}
 use Rattle.bytes_index.specs.Table.{place_in, kind_in}
 use Rattle.bytes_index.specs.Code.{no_instruction, InstructionsIn}
 use Rattle.fold.specs.declared.Settings.{Settings}
@@ -30,15 +31,16 @@ use Rattle.fold_family.proofs.Sweeps.{family_length}
 use Rattle.fold_copies.specs.Found.{ScanCopies}
 use Rattle.fold_climb.proofs.Found.{dest, array_place}
 use Rattle.fold_scan.specs.Noted.{dest_in}
-use Rattle.fold_looked.specs.Looked.{Looking, LooksInto, LooksAt, LooksAll, LooksCopies}
+use Rattle.fold_looked.specs.declared.tables.Tables.{Tables}
+use Rattle.fold_looked.specs.Looked.{Looking, LooksInto, LooksAt, LooksAll, FillsLooked}
 use Rattle.fold_looked.proofs.Behind.{copies_behind, dynamics_behind, behind_few}
 
 -- a family is found, its marks are cleared, its members are held against the dynamic marks
-pub looks_into : (table : List ℕ) (shp : ℕ) (v : ValueId) (dynamic clear marks after : Marks) (room members listed : List ℕ) (found : Found) (r : Bool)
+pub looks_into : (tables : Tables) (shp : ℕ) (v : ValueId) (clear marks after : Marks) (room members listed : List ℕ) (found : Found) (r : Bool)
     → length members ≡ length room → listed ≡ take found.members members
-    → FindsFamily table shp v clear marks room members found → ClearsMembers listed (length listed) marks after → MemberIndexed listed (length listed) dynamic r
-    → LooksInto table shp v dynamic clear after room r
-looks_into table shp v dynamic clear marks after room members listed found r long el finds clears index τ is k ss h =
+    → FindsFamily tables.copies.now shp v clear marks room members found → ClearsMembers listed (length listed) marks after → MemberIndexed listed (length listed) tables.dynamic.now r
+    → LooksInto tables shp v clear after room r
+looks_into tables shp v clear marks after room members listed found r long el finds clears index τ is k ss h =
     let f = finds τ is k.rows (le_trans (copies_few τ is) k.short) ss h k.few k.wide k.cleared in
     let few : length marks ≤ length members = omega (arith, k.few, k.wide, ap length f.same, family_length τ v is) in
     let all : Members listed (length listed) marks = rw el (first_listed members found.members marks f.listed few) in
@@ -46,11 +48,11 @@ looks_into table shp v dynamic clear marks after room members listed found r lon
     (again, index τ v is (subst (Members listed (length listed)) f.same all) k.dynamic_all)
 
 -- the dest of the array in a slot is its first field
-pub looks_at : (s facts : List ℕ) (slot : ℕ) (shapes table : List ℕ) (dynamic clear after : Marks) (room : List ℕ) (r : Bool) (v : ValueId) (kind shp : ℕ)
-    → kind ≡ kind_in facts slot → kind ≡ 16 → v.0 ≡ dest_in s facts slot → shp ≡ get_or shapes v.0 0 → LooksInto table shp v dynamic clear after room r
-    → LooksAt s facts slot shapes table dynamic clear after room r
-looks_at s facts slot shapes table dynamic clear after room r v kind shp ks ka ds ss looks σ τ is b i eligible k sh l at =
-    elim (array_place b [] false (drop (place_in facts slot) s) i _ at.read (sym at.kind ∙ sym ks ∙ ka)) [
+pub looks_at : (code : Code) (slot : ℕ) (tables : Tables) (clear after : Marks) (room : List ℕ) (r : Bool) (v : ValueId) (shp : ℕ)
+    → kind_in code.facts.now slot ≡ 16 → v.0 ≡ dest_in code.bytes.now code.facts.now slot → shp ≡ get_or tables.shapes.now v.0 0 → LooksInto tables shp v clear after room r
+    → LooksAt code slot tables clear after room r
+looks_at code slot tables clear after room r v shp ka ds ss looks σ τ is i eligible k sh l at =
+    elim (array_place code.bounds [] false (drop (place_in code.facts.now slot) code.bytes.now) i _ at.read (sym at.kind ∙ ka)) [
       | dest w g a low ↦
           let z : v ≡ w = ap (λ (x : ℕ). record { 0 = x }) (ds ∙ sym a) in
           let h : v.0 < length τ.recorded = rw (z, l) low in
@@ -66,21 +68,20 @@ FlagAt τ all looked k =
     → build_dest (get_or all k no_instruction).kind ≡ some d
     → get_or looked k false ≡ has_dynamic_index τ d (behind_phis all)
 
-module _ (s facts : List ℕ) (first count : ℕ) (shapes table : List ℕ) (dynamic clear : Marks) (before : List Bool) where
+module _ (code : Code) (slots : Slots) (tables : Tables) (clear : Marks) (before : List Bool) where
   -- a block whose copies and dynamic marks stand
   pub record Standing : Type 0 where
     pub settings : Settings
     pub types : Types
     pub all : List Instruction
-    pub bounds : Bounds
     pub eligible : List Bool
     pub room : List ℕ
-    pub looking : Looking types (behind_phis all) table dynamic clear room
-    pub shaped : ShapesAt settings types shapes eligible
-    pub values : length types.recorded ≡ bounds.next
-    pub code : InstructionsIn bounds s facts first all
-    pub counted : length all ≡ count
-    pub few : count ≤ 128
+    pub looking : Looking types (behind_phis all) tables.copies.now tables.dynamic.now clear room
+    pub shaped : ShapesAt settings types tables.shapes.now eligible
+    pub values : length types.recorded ≡ code.bounds.next
+    pub stands : InstructionsIn code.bounds code.bytes.now code.facts.now slots.first all
+    pub counted : length all ≡ slots.count
+    pub few : slots.count ≤ 128
     pub wide : 128 ≤ length before
 
   -- of such a block the marks are clear again, and the first j flags stand
@@ -92,7 +93,7 @@ module _ (s facts : List ℕ) (first count : ℕ) (shapes table : List ℕ) (dyn
 
   module _ (family : Marks) (looked : List Bool) (members : List ℕ) (j : ℕ) (inv : Flagging family looked members j) where
     -- what is known of the block is so where the next array is looked at
-    known : (x : Standing) → Looking x.types (behind_phis x.all) table dynamic family members
+    known : (x : Standing) → Looking x.types (behind_phis x.all) tables.copies.now tables.dynamic.now family members
     known x =
         let k = x.looking in
         record {
@@ -105,8 +106,8 @@ module _ (s facts : List ℕ) (first count : ℕ) (shapes table : List ℕ) (dyn
         }
 
     -- the next flag
-    pub flag_on : j < count → (after : Marks) (behind : List ℕ) (r : Bool) (flags : List Bool)
-        → LooksAt s facts (first + j) shapes table dynamic family after members r → length behind ≡ length members → flags ≡ set looked j r
+    pub flag_on : j < slots.count → (after : Marks) (behind : List ℕ) (r : Bool) (flags : List Bool)
+        → LooksAt code (slots.first + j) tables family after members r → length behind ≡ length members → flags ≡ set looked j r
         → Flagging after flags behind (j + 1)
     flag_on h after behind r flags looks lm e =
         record {
@@ -120,8 +121,8 @@ module _ (s facts : List ℕ) (first count : ℕ) (shapes table : List ℕ) (dyn
             → (after ≡ family) × ((d : ValueId) → kind_number (get_or x.all j no_instruction).kind ≡ 16 → build_dest (get_or x.all j no_instruction).kind ≡ some d
             → r ≡ has_dynamic_index x.types d (behind_phis x.all))
         found x =
-            let code = x.code j (omega (arith, x.counted)) in
-            looks x.settings x.types (behind_phis x.all) x.bounds (get_or x.all j no_instruction) x.eligible (known x) x.shaped x.values code
+            looks x.settings x.types (behind_phis x.all) (get_or x.all j no_instruction) x.eligible (known x) x.shaped x.values
+            (x.stands j (omega (arith, x.counted)))
 
         here : (x : Standing) (k : ℕ) → k ≡ j → FlagAt x.types x.all flags k
         here x k z d a o = rw (e, z, get_or-set_same looked j r false (omega (arith, inv.long, x.few, x.wide))) ((found x).1 d (rw z at a) (rw z at o))
@@ -130,8 +131,8 @@ module _ (s facts : List ℕ) (first count : ℕ) (shapes table : List ℕ) (dyn
         there x k z d a o = rw (e, get_or-set_other looked j k r false (λ y. omega arith)) (inv.each x k z d a o)
 
     -- all of them
-    pub flags_all : count ≤ j → LooksAll s facts first count shapes table dynamic clear before looked
-    flags_all h σ τ all b eligible room k sh v code c few wide = record { each = λ i d l. inv.each block i (omega arith) d }
+    pub flags_all : slots.count ≤ j → LooksAll code slots tables.shapes.now tables.copies.now tables.dynamic.now clear before looked
+    flags_all h σ τ all eligible room k sh v stands c few wide = record { each = λ i d l. inv.each block i (omega arith) d }
       where
         block : Standing
         block =
@@ -139,33 +140,32 @@ module _ (s facts : List ℕ) (first count : ℕ) (shapes table : List ℕ) (dyn
               settings = σ;
               types = τ;
               all = all;
-              bounds = b;
               eligible = eligible;
               room = room;
               looking = k;
               shaped = sh;
               values = v;
-              code = code;
+              stands = stands;
               counted = c;
               few = few;
               wide = wide;
             }
 
 -- a block is scanned for its copies first
-pub looks_copies : (s : List ℕ) (b : Bounds) (facts : List ℕ) (first count : ℕ) (shapes zeros table : List ℕ)
-    → (none dynamic clear : Marks) (before after : List Bool)
-    → ScanCopies s b facts first count zeros table none dynamic → zeros ≡ replicate 640 0 → (b.next ≤ 256 → clear ≡ replicate b.next false)
-    → LooksAll s facts first count shapes table dynamic clear before after
-    → LooksCopies s b facts first count shapes none before after
-looks_copies s b facts first count shapes zeros table none dynamic clear before after scans z cl looks σ τ all eligible g sh code c few wide e =
-    let x = scans b.list τ all g.known.rows g.rows code c few z in
-    looks σ τ all b eligible (replicate 256 0)
+pub looks_copies : (code : Code) (slots : Slots) (shapes zeros table : List ℕ) (none dynamic clear : Marks) (before after : List Bool)
+    → ScanCopies code slots.first slots.count zeros table none dynamic → zeros ≡ replicate 640 0 → none ≡ replicate code.bounds.next false → clear ≡ replicate code.bounds.next false
+    → LooksAll code slots shapes table dynamic clear before after
+    → FillsLooked code slots shapes before after
+looks_copies code slots shapes zeros table none dynamic clear before after scans z e cl looks σ τ all eligible g sh stands c few wide =
+    let x = scans code.bounds.list τ all g.known.rows g.rows stands c few z in
+    let v : (m : Marks) → m ≡ replicate code.bounds.next false → m ≡ replicate (length τ.recorded) false = λ m h. h ∙ ap (λ (n : ℕ). replicate n false) (sym g.values) in
+    looks σ τ all eligible (replicate 256 0)
     (record {
       rows = subst (RowsAt table) (copies_behind τ all) x.copied_all;
       short = le_trans (behind_few all) (omega arith);
       few = omega (arith, g.values, g.few);
       wide = omega (arith, length-replicate {A = ℕ} 256 0);
-      cleared = cl g.few ∙ ap (λ (m : ℕ). replicate m false) (sym g.values);
-      dynamic_all = x.dynamic_all ∙ rw e (dynamics_behind τ (replicate (length τ.recorded) false) all);
+      cleared = v clear cl;
+      dynamic_all = x.dynamic_all ∙ rw (v none e) (dynamics_behind τ (replicate (length τ.recorded) false) all);
     })
-    sh g.values code c few wide
+    sh g.values stands c few wide

@@ -3,18 +3,26 @@ use Rattle.std.specs.Prelude.{ℕ, ◌≤◌, ◌<◌, ◌≡◌, List, Bool, fa
 use Rattle.std.proofs.Math.Option.{some}
 use Rattle.mir.specs.declared.ValueId.{ValueId}
 use Rattle.mir.specs.Syntax.{Instruction}
+use Rattle.mir.specs.declared.kind.Kind.{Kind}
+use Rattle.mir.specs.Kind.{number_of_kind}
 use Rattle.mir.specs.Reads.{kind_number}
 use Rattle.mir.specs.Lookup.{Types, value_row, shape}
 use Rattle.mir.specs.Most.{most_values, most_instructions}
 use Rattle.mir.specs.Phis.{behind_phis}
-use Rattle.bytes_field.specs.declared.Bounds.{Bounds}
-use Rattle.bytes_index.specs.Table.{recorded_in, kind_in}
+use Rattle.bytes_index.specs.Table.{kind_in}
+use Rattle.bytes_index.specs.declared.code.Code.{Code}
+use Rattle.bytes_index.specs.declared.slots.Slots.{Slots}
 use Rattle.bytes_index.specs.Code.{no_instruction, InstructionIn, InstructionsIn}
 use Rattle.fold.specs.declared.Settings.{Settings}
 use Rattle.fold.specs.Numbers.{array_kind}
 use Rattle.fold.specs.Family.{Marks, build_dest, has_dynamic_index}
-use Rattle.fold.specs.Tables.{ShapesAt, Ground}
+use Rattle.fold.specs.Tables.{ShapesAt, CodeGround}
+use Rattle.fold_looked.specs.declared.tables.Tables.{Tables}
 use Rattle.fold_family.specs.Copies.{copies, RowsAt, dynamics}
+
+-- each kind that a slot from one to another holds fails a test
+abbrev pub NonePasses : (Kind → Type 0) → List ℕ → ℕ → ℕ → Type 0
+NonePasses Fails facts from to = (slot : ℕ) (kind : Kind) → from ≤ slot → slot < to → kind_in facts slot ≡ number_of_kind kind → Fails kind
 
 -- none of the slots from one to another holds a MakeFixedArray
 abbrev pub NoneArrays : List ℕ → ℕ → ℕ → Type 0
@@ -30,22 +38,22 @@ pub record Looking (τ : Types) (is : List Instruction) (table : List ℕ) (dyna
   pub dynamic_all : dynamic ≡ dynamics (replicate (length τ.recorded) false) is
 
 -- the promises: of the answer that the family of v is looked into so, whose marks are clear again behind it,
-abbrev pub LooksInto : List ℕ → ℕ → ValueId → Marks → Marks → Marks → List ℕ → Bool → Type 0
-LooksInto table shp v dynamic clear after room r =
+abbrev pub LooksInto : Tables → ℕ → ValueId → Marks → Marks → List ℕ → Bool → Type 0
+LooksInto tables shp v clear after room r =
     (τ : Types) (is : List Instruction)
-    → Looking τ is table dynamic clear room
+    → Looking τ is tables.copies.now tables.dynamic.now clear room
     → shp ≡ shape (value_row τ v)
     → v.0 < length τ.recorded
     → (after ≡ clear) × (r ≡ has_dynamic_index τ v is)
 
 -- of the same for the build in a slot, where that is an array,
-abbrev pub LooksAt : List ℕ → List ℕ → ℕ → List ℕ → List ℕ → Marks → Marks → Marks → List ℕ → Bool → Type 0
-LooksAt s facts slot shapes table dynamic clear after room r =
-    (σ : Settings) (τ : Types) (is : List Instruction) (b : Bounds) (i : Instruction) (eligible : List Bool)
-    → Looking τ is table dynamic clear room
-    → ShapesAt σ τ shapes eligible
-    → length τ.recorded ≡ b.next
-    → InstructionIn b s facts slot i
+abbrev pub LooksAt : Code → ℕ → Tables → Marks → Marks → List ℕ → Bool → Type 0
+LooksAt code slot tables clear after room r =
+    (σ : Settings) (τ : Types) (is : List Instruction) (i : Instruction) (eligible : List Bool)
+    → Looking τ is tables.copies.now tables.dynamic.now clear room
+    → ShapesAt σ τ tables.shapes.now eligible
+    → length τ.recorded ≡ code.bounds.next
+    → InstructionIn code.bounds code.bytes.now code.facts.now slot i
     → (after ≡ clear) × ((d : ValueId) → kind_number i.kind ≡ array_kind → build_dest i.kind ≡ some d → r ≡ has_dynamic_index τ d is)
 
 -- each array that is built among some instructions has its flag, by what stands behind their phis
@@ -58,39 +66,26 @@ pub record ArraysLooked (τ : Types) (all : List Instruction) (looked : List Boo
       → get_or looked j false ≡ has_dynamic_index τ d (behind_phis all)
 
 -- of the flags of a block whose copies and dynamic marks stand,
-abbrev pub LooksAll : List ℕ → List ℕ → ℕ → ℕ → List ℕ → List ℕ → Marks → Marks → List Bool → List Bool → Type 0
-LooksAll s facts first count shapes table dynamic clear before after =
-    (σ : Settings) (τ : Types) (all : List Instruction) (b : Bounds) (eligible : List Bool) (room : List ℕ)
+abbrev pub LooksAll : Code → Slots → List ℕ → List ℕ → Marks → Marks → List Bool → List Bool → Type 0
+LooksAll code slots shapes table dynamic clear before after =
+    (σ : Settings) (τ : Types) (all : List Instruction) (eligible : List Bool) (room : List ℕ)
     → Looking τ (behind_phis all) table dynamic clear room
     → ShapesAt σ τ shapes eligible
-    → length τ.recorded ≡ b.next
-    → InstructionsIn b s facts first all
-    → length all ≡ count
-    → count ≤ most_instructions
+    → length τ.recorded ≡ code.bounds.next
+    → InstructionsIn code.bounds code.bytes.now code.facts.now slots.first all
+    → length all ≡ slots.count
+    → slots.count ≤ most_instructions
     → most_instructions ≤ length before
-    → ArraysLooked τ all after
-
--- of the flags of a block that is scanned, where the dynamic marks are clear before,
-abbrev pub LooksCopies : List ℕ → Bounds → List ℕ → ℕ → ℕ → List ℕ → Marks → List Bool → List Bool → Type 0
-LooksCopies s b facts first count shapes dynamic before after =
-    (σ : Settings) (τ : Types) (all : List Instruction) (eligible : List Bool)
-    → Ground b s facts (recorded_in facts) τ
-    → ShapesAt σ τ shapes eligible
-    → InstructionsIn b s facts first all
-    → length all ≡ count
-    → count ≤ most_instructions
-    → most_instructions ≤ length before
-    → dynamic ≡ replicate (length τ.recorded) false
     → ArraysLooked τ all after
 
 -- and of the whole
-abbrev pub FillsLooked : List ℕ → Bounds → List ℕ → ℕ → ℕ → List ℕ → List Bool → List Bool → Type 0
-FillsLooked s b facts first count shapes before after =
+abbrev pub FillsLooked : Code → Slots → List ℕ → List Bool → List Bool → Type 0
+FillsLooked code slots shapes before after =
     (σ : Settings) (τ : Types) (all : List Instruction) (eligible : List Bool)
-    → Ground b s facts (recorded_in facts) τ
+    → CodeGround code τ
     → ShapesAt σ τ shapes eligible
-    → InstructionsIn b s facts first all
-    → length all ≡ count
-    → count ≤ most_instructions
+    → InstructionsIn code.bounds code.bytes.now code.facts.now slots.first all
+    → length all ≡ slots.count
+    → slots.count ≤ most_instructions
     → most_instructions ≤ length before
     → ArraysLooked τ all after

@@ -1,144 +1,107 @@
 // Which arrays of a block are looked into by an index that is not known: those of whose family a member is.
 #![tactic(auto)]
 
-ghost use Rattle.std.specs.Prelude.{◌≡◌, false, ◌+◌, ◌≤◌};
-ghost use Rattle.mir.specs.Most.{most_slots, most_values};
-ghost use Rattle.fold_looked.specs.Looked.{NoneArrays, LooksInto, LooksAt, LooksAll, LooksCopies, FillsLooked};
+pub mod tables;
 
-use bytes_field::Bounds;
-use mir::{ValueId, kind, most};
+ghost use Rattle.std.specs.Prelude.{◌≡◌, false};
+ghost use Rattle.fold_looked.specs.Looked.{NonePasses, NoneArrays, LooksInto, LooksAt, LooksAll, FillsLooked};
 
-// Whether a slot of those from one to another holds a MakeFixedArray. Only the answer that none does says something: the other
-// is left free, as a block is scanned then, and one answer too many costs time alone.
+use bytes_index::{Code, Slots};
+use mir::kind::Kind;
+use mir::{ValueId, most};
+pub use tables::Tables;
+
+// Whether a slot of those from one to another holds an instruction of a kind that passes a test. Only the answer that none does
+// says something: the other is left free, as the slots are looked at then, and one answer too many costs time alone.
+// (That the test can be called is a fact of each closure: the bound Fn says nothing of it.)
+pub fn any_kind<F: Fn(Kind) -> bool>(facts: &[u16], from: u16, to: u16, test: F) -> bool
+    requires { F.IsAlwaysCallable test }
+    ensures { result ≡ false → NonePasses (λ kind. F.post test kind false) facts.now from to }
+{
+    for slot in from..to {
+        if let Some(kind) = bytes_index::instruction_kind(facts, slot) {
+            if test(kind) {
+                return true;
+            }
+        }
+    }
+    false
+}
+
+// Whether one of those slots holds a MakeFixedArray.
 fn any_array(facts: &[u16], from: u16, to: u16) -> bool
     ensures { result ≡ false → NoneArrays facts.now from to }
 {
-    (from..to).any(|slot| bytes_index::kind(facts, slot) == kind::MAKE_FIXED_ARRAY)
+    any_kind(facts, from, to, |kind| kind == Kind::MakeFixedArray)
 }
 
 // Whether a member of the family of `v` is looked into so; the marks of `family` are clear, before and after.
 fn looked_into(
-    copies: &[u16],
+    tables: Tables,
     shape: u8,
     v: ValueId,
-    dynamic: &[bool],
     family: &mut [bool],
     members: &mut [u16],
 ) -> bool
-    ensures { LooksInto copies.now shape v dynamic.now family.old family.new members.old result }
+    ensures { LooksInto tables.entry shape v family.old family.new members.old result }
 {
-    let found = fold_family::family(copies, shape, v, family, members);
+    let found = fold_family::family(tables.copies, shape, v, family, members);
     let members = fold_family::first_members(members, found.members);
     fold_family::unmark(members, family);
-    fold_family::member_indexed(members, dynamic)
+    fold_family::member_indexed(members, tables.dynamic)
 }
 
 // The same of the build in a slot, where that is an array.
-fn look(
-    s: &[u8],
-    facts: &[u16],
-    slot: u16,
-    shapes: &[u8],
-    copies: &[u16],
-    dynamic: &[bool],
-    family: &mut [bool],
-    members: &mut [u16],
-) -> bool
-    ensures { LooksAt s.now facts.now slot shapes.now copies.now dynamic.now
-        family.old family.new members.old result }
+fn look(code: Code, slot: u16, tables: Tables, family: &mut [bool], members: &mut [u16]) -> bool
+    ensures { LooksAt code.entry slot tables.entry family.old family.new members.old result }
 {
-    if bytes_index::kind(facts, slot) != kind::MAKE_FIXED_ARRAY {
+    if bytes_index::instruction_kind(code.facts, slot) != Some(Kind::MakeFixedArray) {
         return false;
     }
-    let v = fold_scan::dest(s, facts, slot);
-    let shape = bytes_wire::byte_at(shapes, v.0 as usize);
-    looked_into(copies, shape, v, dynamic, family, members)
+    let v = fold_scan::dest(code, slot);
+    let shape = bytes_wire::byte_at(tables.shapes, v.0 as usize);
+    looked_into(tables, shape, v, family, members)
 }
 
-// Gives each of a block's `count` instructions, which stand in the slots from `first` on, the flag whether it is an array that
-// is looked into so, by the block's copies and dynamic marks.
-fn look_all(
-    s: &[u8],
-    facts: &[u16],
-    first: u16,
-    count: u16,
-    shapes: &[u8],
-    copies: &[u16],
-    dynamic: &[bool],
-    family: &mut [bool],
-    looked: &mut [bool],
-)
-    requires { first + count ≤ most_slots }
-    ensures { LooksAll s.now facts.now first count shapes.now copies.now dynamic.now
+// Gives each of a block's instructions the flag whether it is an array that is looked into so.
+fn look_all(code: Code, slots: Slots, tables: Tables, family: &mut [bool], looked: &mut [bool])
+    ensures { LooksAll code.entry slots tables.entry.shapes.now tables.entry.copies.now tables.entry.dynamic.now
         family.old looked.old looked.new }
 {
     let mut members: [u16; most::VALUES] = [0; most::VALUES];
-    for j in 0..count {
-        let yes = look(
-            s,
-            facts,
-            first + j,
-            shapes,
-            copies,
-            dynamic,
-            family,
-            &mut members,
-        );
+    for j in 0..slots.count {
+        let yes = look(code, slots.first + j, tables, family, &mut members);
         table::set_flag(looked, j as usize, yes);
     }
 }
 
-// Scans a block for its copies first; `dynamic` is clear, one for each value.
-fn look_copies(
-    s: &[u8],
-    b: Bounds,
-    facts: &[u16],
-    first: u16,
-    count: u16,
-    shapes: &[u8],
-    dynamic: &mut [bool],
-    looked: &mut [bool],
-)
-    requires { (first + count ≤ most_slots) × (b.next ≤ most_values) }
-    ensures { LooksCopies s.now b facts.now first count shapes.now dynamic.old looked.old looked.new }
+// Scans a block for its copies first.
+fn look_copies(code: Code, slots: Slots, shapes: &[u8], looked: &mut [bool])
+    ensures { FillsLooked code.entry slots shapes.now looked.old looked.new }
 {
-    let mut copies: [u16; fold_family::SIZE] = [0; fold_family::SIZE];
-    fold_copies::scan_copies(s, b, facts, first, count, &mut copies, dynamic);
-    let mut family: [bool; most::VALUES] = [false; most::VALUES];
-    look_all(
-        s,
-        facts,
-        first,
-        count,
-        shapes,
-        &copies,
-        dynamic,
-        &mut family[..b.next as usize],
-        looked,
-    );
-}
-
-// Gives each array that a block builds the flag, at the number of its instruction, whether it is looked into by an index that is
-// not known. The block's `count` instructions stand in the slots from `first` on; it is scanned only where it builds an array.
-pub fn fill_looked(
-    s: &[u8],
-    b: Bounds,
-    facts: &[u16],
-    first: u16,
-    count: u16,
-    shapes: &[u8],
-    looked: &mut [bool],
-)
-    requires { first + count ≤ most_slots }
-    ensures { FillsLooked s.now b facts.now first count shapes.now looked.old looked.new }
-{
-    let n = b.next as usize;
+    let n = code.bounds.next as usize;
     if most::VALUES < n {
         return;
     }
-    if !any_array(facts, first, first + count) {
-        return;
-    }
+    let mut copies: [u16; fold_family::SIZE] = [0; fold_family::SIZE];
     let mut dynamic: [bool; most::VALUES] = [false; most::VALUES];
-    look_copies(s, b, facts, first, count, shapes, &mut dynamic[..n], looked);
+    let dynamic = &mut dynamic[..n];
+    fold_copies::scan_copies(code, slots.first, slots.count, &mut copies, dynamic);
+    let tables = Tables {
+        shapes,
+        copies: &copies,
+        dynamic,
+    };
+    let mut family: [bool; most::VALUES] = [false; most::VALUES];
+    look_all(code, slots, tables, &mut family[..n], looked);
+}
+
+// Gives each array that a block builds the flag, at the number of its instruction, whether it is looked into by an index that is
+// not known. The block is scanned only where it builds an array.
+pub fn fill_looked(code: Code, slots: Slots, shapes: &[u8], looked: &mut [bool])
+    ensures { FillsLooked code.entry slots shapes.now looked.old looked.new }
+{
+    if any_array(code.facts, slots.first, slots.first + slots.count) {
+        look_copies(code, slots, shapes, looked);
+    }
 }

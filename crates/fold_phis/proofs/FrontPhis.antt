@@ -4,7 +4,7 @@ use mathlib.Core.Path.{◌≡◌, refl, ap, ◌∙◌, sym}
 use mathlib.Core.List.{List, []}
 use mathlib.Core.Bool.{Bool, true, false, cond, ◌||◌}
 use native.Mathlib.Omega.{arith}
-use borrow.Author.Tests.{eq-eqb, ne_eqb}
+use borrow.Author.Tests.{ne_eqb}
 use lib.ListN.{length, get_or, drop, drop_of_length-le}
 use lib.Seq.{drop-cons}
 use lib.Dec.{eqb}
@@ -22,7 +22,13 @@ use Rattle.bytes_field.specs.declared.Bounds.{Bounds}
 use Rattle.bytes_operands.specs.Fields.{fields_place}
 use Rattle.bytes_operands.proofs.Instruction.{instruction_fields}
 use Rattle.bytes_index.specs.Table.{place_in, end_in, kind_in}
+use Rattle.bytes_index.specs.declared.code.Code.{Code}
+use Rattle.bytes_index.specs.declared.slots.Slots.{Slots}
 use Rattle.bytes_index.specs.Code.{no_instruction, InstructionsIn}
+use Rattle.std.specs.Prelude.{Some, Option as Answered}
+use Rattle.mir.specs.declared.kind.Kind.{Kind}
+use Rattle.mir.specs.Kind.{NamesKind}
+use Rattle.mir.proofs.Numbers.{names_one}
 use Rattle.fold.specs.declared.Settings.{Settings}
 use Rattle.mir.specs.Lookup.{Types, value_row, shape, is_tuple, is_struct, any}
 use Rattle.fold.specs.Tables.{ShapesAt}
@@ -73,16 +79,16 @@ no_phi τ (AssertEq x y) h = refl
 no_phi τ (HeapAllocCells d x) h = refl
 
 -- what the code says of the instruction in a slot
-module _ (s facts : List ℕ) (slot : ℕ) (shapes : List ℕ) (k : ℕ) (same : k ≡ kind_in facts slot) where
-  pub tells_none : (k ≡ 9 → ⊥) → TellsPhi s facts slot shapes false
-  tells_none l b σ τ eligible i f m at = no_phi τ i.kind (λ z. l (same ∙ at.kind ∙ z))
+module _ (code : Code) (slot : ℕ) (shapes : List ℕ) (o : Answered Kind) (named : NamesKind (kind_in code.facts.now slot) o) where
+  pub tells_none : (o ≡ Some Kind.Phi → ⊥) → TellsPhi code slot shapes false
+  tells_none l b σ τ eligible i f m at = no_phi τ i.kind (λ z. l (names_one _ o Kind.Phi named (at.kind ∙ z)))
 
-  pub tells_phi : k ≡ 9 → (d x : ℕ) → d ≡ dest_in s facts slot → x ≡ get_or shapes d 0 → (r : Bool) → r ≡ (eqb x 1 || eqb x 2) → TellsPhi s facts slot shapes r
+  pub tells_phi : o ≡ Some Kind.Phi → (d x : ℕ) → d ≡ dest_in code.bytes.now code.facts.now slot → x ≡ get_or shapes d 0 → (r : Bool) → r ≡ (eqb x 1 || eqb x 2) → TellsPhi code slot shapes r
   unfolding aggregate_phi is_tuple is_struct
   tells_phi z d x p q r rs b σ τ eligible i f m at =
-      let t = drop (place_in facts slot) s in
-      let w = instruction_fields b [] false t i (end_in facts slot - place_in facts slot) at.read in
-      let nine : get_or t 1 0 ≡ 9 = sym w.numbered ∙ sym (same ∙ at.kind) ∙ z in
+      let t = drop (place_in code.facts.now slot) code.bytes.now in
+      let w = instruction_fields b [] false t i (end_in code.facts.now slot - place_in code.facts.now slot) at.read in
+      let nine : get_or t 1 0 ≡ 9 = sym w.numbered ∙ sym at.kind ∙ sym (rw z at named) in
       elim (phi_dest b [] (drop (fields_place t) t) i.kind w.size (rw nine at w.read)) [
         | phi_at v y ss g a l ↦
             let o : d ≡ v.0 = p ∙ sym a in
@@ -91,21 +97,20 @@ module _ (s facts : List ℕ) (slot : ℕ) (shapes : List ℕ) (k : ℕ) (same :
       ]
 
 -- the instructions before k are no phi of a tuple or struct
-pub record Skipping (s facts : List ℕ) (first count : ℕ) (shapes : List ℕ) (k : ℕ) : Type 0 where
-  pub low : k ≤ count
-  pub small : first + count ≤ 288
+pub record Skipping (code : Code) (slots : Slots) (shapes : List ℕ) (k : ℕ) : Type 0 where
+  pub low : k ≤ slots.count
   pub left :
-      (b : Bounds) (σ : Settings) (τ : Types) (eligible : List Bool) (is : List Instruction) → ShapesAt σ τ shapes eligible → length τ.recorded ≡ b.next → InstructionsIn b s facts first is → length is ≡ count
+      (b : Bounds) (σ : Settings) (τ : Types) (eligible : List Bool) (is : List Instruction) → ShapesAt σ τ shapes eligible → length τ.recorded ≡ b.next → InstructionsIn b code.bytes.now code.facts.now slots.first is → length is ≡ slots.count
       → skipped τ is ≡ skipped τ (drop k is)
 
-module _ {s facts : List ℕ} {first count : ℕ} {shapes : List ℕ} where
-  pub skipping : first + count ≤ 288 → Skipping s facts first count shapes 0
-  skipping h = record { low = omega arith; small = h; left = λ b σ τ eligible is f m a l. refl }
+module _ {code : Code} {slots : Slots} {shapes : List ℕ} where
+  pub skipping : Skipping code slots shapes 0
+  skipping = record { low = omega arith; left = λ b σ τ eligible is f m a l. refl }
 
-  module _ {k : ℕ} (inv : Skipping s facts first count shapes k) where
+  module _ {k : ℕ} (inv : Skipping code slots shapes k) where
     -- the instruction at k, in front of those behind it
-    head : k < count → (r : Bool) → TellsPhi s facts (first + k) shapes r
-        → (b : Bounds) (σ : Settings) (τ : Types) (eligible : List Bool) (is : List Instruction) → ShapesAt σ τ shapes eligible → length τ.recorded ≡ b.next → InstructionsIn b s facts first is → length is ≡ count
+    head : k < slots.count → (r : Bool) → TellsPhi code (slots.first + k) shapes r
+        → (b : Bounds) (σ : Settings) (τ : Types) (eligible : List Bool) (is : List Instruction) → ShapesAt σ τ shapes eligible → length τ.recorded ≡ b.next → InstructionsIn b code.bytes.now code.facts.now slots.first is → length is ≡ slots.count
         → skipped τ is ≡ (r || skipped τ (drop (suc k) is))
     unfolding skipped any
     head h r tell b σ τ eligible is f m a l =
@@ -113,33 +118,32 @@ module _ {s facts : List ℕ} {first count : ℕ} {shapes : List ℕ} where
         let e = tell b σ τ eligible (get_or is k no_instruction) f m (a k g) in
         inv.left b σ τ eligible is f m a l ∙ rw (drop-cons is k no_instruction g) (ap (λ (x : Bool). x || skipped τ (drop (suc k) is)) (sym e))
 
-    pub skip_on : k < count → (r : Bool) → TellsPhi s facts (first + k) shapes r → r ≡ false → Skipping s facts first count shapes (k + 1)
+    pub skip_on : k < slots.count → (r : Bool) → TellsPhi code (slots.first + k) shapes r → r ≡ false → Skipping code slots shapes (k + 1)
     skip_on h r tell n =
         let z : suc k ≡ k + 1 = omega arith in
-        record { low = omega arith; small = inv.small; left = λ b σ τ eligible is f m a l. rw (n, z) at (head h r tell b σ τ eligible is f m a l) }
+        record { low = omega arith; left = λ b σ τ eligible is f m a l. rw (n, z) at (head h r tell b σ τ eligible is f m a l) }
 
-    pub skip_found : k < count → (r : Bool) → TellsPhi s facts (first + k) shapes r → r ≡ true → Skips s facts first count shapes true
+    pub skip_found : k < slots.count → (r : Bool) → TellsPhi code (slots.first + k) shapes r → r ≡ true → Skips code slots shapes true
     skip_found h r tell n b σ τ eligible is f m a l = sym (rw n at (head h r tell b σ τ eligible is f m a l))
 
-    pub skip_none : count ≤ k → Skips s facts first count shapes false
+    pub skip_none : slots.count ≤ k → Skips code slots shapes false
     unfolding skipped any
     skip_none h b σ τ eligible is f m a l =
         let g : length is ≤ k = omega (arith, l) in
         sym (rw (drop_of_length-le is g) at (inv.left b σ τ eligible is f m a l))
 
 -- the instructions before k are phis
-pub record Counting (facts : List ℕ) (first count k : ℕ) : Type 0 where
-  pub low : k ≤ count
-  pub small : first + count ≤ 288
-  pub left : (b : Bounds) (s : List ℕ) (is : List Instruction) → InstructionsIn b s facts first is → length is ≡ count → behind_phis is ≡ behind_phis (drop k is)
+pub record Counting (facts : List ℕ) (slots : Slots) (k : ℕ) : Type 0 where
+  pub low : k ≤ slots.count
+  pub left : (b : Bounds) (s : List ℕ) (is : List Instruction) → InstructionsIn b s facts slots.first is → length is ≡ slots.count → behind_phis is ≡ behind_phis (drop k is)
 
-module _ {facts : List ℕ} {first count : ℕ} where
-  pub counting : first + count ≤ 288 → Counting facts first count 0
-  counting h = record { low = omega arith; small = h; left = λ b s is a l. refl }
+module _ {facts : List ℕ} {slots : Slots} where
+  pub counting : Counting facts slots 0
+  counting = record { low = omega arith; left = λ b s is a l. refl }
 
-  module _ {k : ℕ} (inv : Counting facts first count k) where
+  module _ {k : ℕ} (inv : Counting facts slots k) where
     -- the instruction at k
-    one : k < count → (kind : ℕ) → kind ≡ kind_in facts (first + k) → (b : Bounds) (s : List ℕ) (is : List Instruction) → InstructionsIn b s facts first is → length is ≡ count
+    one : k < slots.count → (kind : ℕ) → kind ≡ kind_in facts (slots.first + k) → (b : Bounds) (s : List ℕ) (is : List Instruction) → InstructionsIn b s facts slots.first is → length is ≡ slots.count
         → behind_phis is ≡ cond (eqb kind 9) (behind_phis (drop (suc k) is)) (drop k is)
     unfolding behind_phis
     one h kind z b s is a l =
@@ -148,22 +152,24 @@ module _ {facts : List ℕ} {first count : ℕ} where
         let d = drop-cons is k no_instruction g in
         inv.left b s is a l ∙ rw (d, c) refl
 
-    pub count_on : k < count → (kind : ℕ) → kind ≡ kind_in facts (first + k) → kind ≡ 9 → Counting facts first count (k + 1)
-    count_on h kind z n =
+    pub count_on : k < slots.count → (o : Answered Kind) → NamesKind (kind_in facts (slots.first + k)) o → o ≡ Some Kind.Phi → Counting facts slots (k + 1)
+    count_on h o named n =
         let y : suc k ≡ k + 1 = omega arith in
-        record { low = omega arith; small = inv.small; left = λ b s is a l. rw (eq-eqb kind 9 n, y) at (one h kind z b s is a l) }
+        record { low = omega arith; left = λ b s is a l. rw y at (one h 9 (rw n at named) b s is a l) }
 
-    pub count_stop : k < count → (kind : ℕ) → kind ≡ kind_in facts (first + k) → (kind ≡ 9 → ⊥) → PhisIn facts first count k
-    count_stop h kind z n b s is a l = rw (ne_eqb kind 9 n) at (one h kind z b s is a l)
+    pub count_stop : k < slots.count → (o : Answered Kind) → NamesKind (kind_in facts (slots.first + k)) o → (o ≡ Some Kind.Phi → ⊥) → PhisIn facts slots k
+    count_stop h o named n b s is a l =
+        let z : kind_in facts (slots.first + k) ≡ 9 → ⊥ = λ e. n (names_one _ o Kind.Phi named e) in
+        rw (ne_eqb (kind_in facts (slots.first + k)) 9 z) at (one h (kind_in facts (slots.first + k)) refl b s is a l)
 
-    all : count ≤ k → PhisIn facts first count k
+    all : slots.count ≤ k → PhisIn facts slots k
     unfolding behind_phis
     all h b s is a l =
         let g : length is ≤ k = omega (arith, l) in
         let d = drop_of_length-le is g in
         inv.left b s is a l ∙ rw d refl
 
-    pub count_all : count ≤ k → PhisIn facts first count count
+    pub count_all : slots.count ≤ k → PhisIn facts slots slots.count
     count_all h b s is a l =
-        let z : count ≡ k = omega (arith, inv.low) in
+        let z : slots.count ≡ k = omega (arith, inv.low) in
         rw z (all h b s is a l)

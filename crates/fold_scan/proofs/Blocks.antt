@@ -13,7 +13,9 @@ use lib.Dec.{eqb}
 use Rattle.mir.specs.declared.ValueId.{ValueId}
 use Rattle.mir.specs.Syntax.{Instruction, InstructionKind}
 use Rattle.mir.specs.Reads.{kind_number, is_phi, reads}
-use Rattle.bytes_field.specs.declared.Bounds.{Bounds}
+use Rattle.bytes_index.specs.declared.code.Code.{Code}
+use Rattle.bytes_index.specs.declared.slots.Slots.{Slots}
+use Rattle.fold_scan.specs.declared.ValueFacts.{ValueFacts}
 use Rattle.bytes_operands.specs.Fields.{list_values}
 use Rattle.bytes_index.specs.Code.{no_instruction, InstructionsIn}
 use Rattle.fold.specs.declared.Settings.{Settings}
@@ -74,25 +76,23 @@ edges_fewer (i ∷ is) zero = le_refl _
 edges_fewer (i ∷ is) (suc k) = le_trans (edges_fewer is k) (build_more (build_dest i.kind) (reads i.kind) (edges_of is))
 
 -- the instructions from k on are scanned
-pub record Scanning (s : List ℕ) (b : Bounds) (facts : List ℕ) (first count : ℕ) (shapes : List ℕ) (eligible cross structs : List Bool) (before : List ℕ) (k : ℕ) (here : List ℕ) : Type 0 where
-  pub low : k ≤ count
-  pub small : first + count ≤ 288
+pub record Scanning (code : Code) (slots : Slots) (values : ValueFacts) (structs : List Bool) (before : List ℕ) (k : ℕ) (here : List ℕ) : Type 0 where
+  pub low : k ≤ slots.count
   pub long : length here ≡ length before
   pub held :
-      (σ : Settings) (τ : Types) (all : List Instruction) → InstructionsIn b s facts first all → length all ≡ count → ShapesAt σ τ shapes eligible
-      → Ready b τ before → StructsAt σ τ cross structs all → length (edges_of all) ≤ 2048 → Scanned σ τ cross (drop k all) here
+      (σ : Settings) (τ : Types) (all : List Instruction) → InstructionsIn code.bounds code.bytes.now code.facts.now slots.first all → length all ≡ slots.count → ShapesAt σ τ values.shapes.now values.eligible.now
+      → Ready code.bounds τ before → StructsAt σ τ values.cross.now structs all → length (edges_of all) ≤ 2048 → Scanned σ τ values.cross.now (drop k all) here
 
-module _ (s : List ℕ) (b : Bounds) (facts : List ℕ) (first count : ℕ) (shapes : List ℕ) (eligible cross structs : List Bool) (before : List ℕ) where
-  pub scan_start : first + count ≤ 288 → (here : List ℕ) → length here ≡ length before → ((at : ℕ) → at < 513 → get_or here at 0 ≡ 0) → Scanning s b facts first count shapes eligible cross structs before count here
+module _ (code : Code) (slots : Slots) (values : ValueFacts) (structs : List Bool) (before : List ℕ) where
+  pub scan_start : (here : List ℕ) → length here ≡ length before → ((at : ℕ) → at < 513 → get_or here at 0 ≡ 0) → Scanning code slots values structs before slots.count here
   unfolding edges_of tuple_edges_of build_of buildable_of blocked_in edges_down tuples_down
-  scan_start l here long z =
+  scan_start here long z =
       record {
         low = le_refl _;
-        small = l;
         long = long;
         held = λ σ τ all at n known ready st e.
-            let le : length all ≤ count = omega arith in
-            let d : drop count all ≡ [] = drop_of_length-le all le in
+            let le : length all ≤ slots.count = omega arith in
+            let d : drop slots.count all ≡ [] = drop_of_length-le all le in
             let few = ready.few in
             rw d
             (record {
@@ -104,19 +104,18 @@ module _ (s : List ℕ) (b : Bounds) (facts : List ℕ) (first count : ℕ) (sha
             });
       }
 
-  module _ (k : ℕ) (here : List ℕ) (inv : Scanning s b facts first count shapes eligible cross structs before k here) where
+  module _ (k : ℕ) (here : List ℕ) (inv : Scanning code slots values structs before k here) where
     -- of the graph before the scan only its length matters
-    pub scan_done : k ≤ 0 → (start : List ℕ) → length before ≡ length start → BlockScanned s b facts first count shapes eligible cross structs start here
+    pub scan_done : k ≤ 0 → (start : List ℕ) → length before ≡ length start → BlockScanned code slots values structs start here
     scan_done h start l σ τ all at n known ready st e =
         let z : k ≡ 0 = omega arith in
-        let r : Ready b τ before = record { next = ready.next; few = ready.few; room = omega (arith, ready.room) } in
-        behind_phis_lem σ τ cross here all (rw z at (inv.held σ τ all at n known r st e))
+        let r : Ready code.bounds τ before = record { next = ready.next; few = ready.few; room = omega (arith, ready.room) } in
+        behind_phis_lem σ τ values.cross.now here all (rw z at (inv.held σ τ all at n known r st e))
 
-    pub scan_step : 0 < k → (given : Bool) → given ≡ get_or structs (k - 1) false → (u : List ℕ) → length u ≡ length here → OneScanned s b facts (first + (k - 1)) shapes eligible cross given here u → Scanning s b facts first count shapes eligible cross structs before (k - 1) u
+    pub scan_step : 0 < k → (given : Bool) → given ≡ get_or structs (k - 1) false → (u : List ℕ) → length u ≡ length here → OneScanned code (slots.first + (k - 1)) values given here u → Scanning code slots values structs before (k - 1) u
     scan_step more given g u long one =
         record {
           low = omega (arith, inv.low);
-          small = inv.small;
           long = long ∙ inv.long;
           held = λ σ τ all at n known ready st e.
               let i = get_or all (k - 1) no_instruction in
@@ -124,7 +123,7 @@ module _ (s : List ℕ) (b : Bounds) (facts : List ℕ) (first count : ℕ) (sha
               let z : suc (k - 1) ≡ k = omega arith in
               let d : drop (k - 1) all ≡ i ∷ drop k all = drop-cons all (k - 1) no_instruction l ∙ ap (λ (m : ℕ). i ∷ drop m all) z in
               let f : length (edges_of (i ∷ drop k all)) ≤ 2048 = le_trans (rw d at (edges_fewer all (k - 1))) e in
-              let r : Ready b τ here = record { next = ready.next; few = ready.few; room = omega (arith, ready.room, inv.long) } in
+              let r : Ready code.bounds τ here = record { next = ready.next; few = ready.few; room = omega (arith, ready.room, inv.long) } in
               rw d (one σ τ (drop k all) i (at (k - 1) l) known r (λ c. g ∙ st (k - 1) l c) f (inv.held σ τ all at n known ready st e));
         }
 

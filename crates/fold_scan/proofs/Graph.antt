@@ -17,7 +17,7 @@ use Rattle.mir.specs.declared.Projection.{Projection}
 use Rattle.mir.specs.declared.Projection.TheVariants.{Index, Field, Tuple}
 use Rattle.mir.specs.Syntax.{Instruction}
 use Rattle.bytes_field.specs.Decode.{instruction_of}
-use Rattle.bytes_field.specs.declared.Bounds.{Bounds}
+use Rattle.bytes_index.specs.declared.code.Code.{Code}
 use Rattle.bytes_index.specs.Table.{place_in, end_in, read_count, read_in, ReadsIn}
 use Rattle.bytes_index.specs.Code.{InstructionIn}
 use Rattle.bytes_operands.specs.Fields.{place_steps}
@@ -305,16 +305,16 @@ module _ (kind d w : ℕ) (g : List ℕ) (m : ℕ) (e : m ≡ many_in g) (build 
   read_full l = let n : 2048 ≤ many_in g = omega arith in rw (ne_eqb kind 3 build, ne_eqb w d other, le-ltb (many_in g) 2048 n)
 
 -- the place of a Load or Store, whose first projection was found
-module _ (s : List ℕ) (b : Bounds) (facts : List ℕ) (slot : ℕ) (g : List ℕ) (place : ℕ) (p : place ≡ place_in facts slot) (t : List ℕ) (q : t ≡ drop place s)
-    (x : Option Projection) (found : (seen : List Bool) (late : Bool) (i : Instruction) (n : ℕ) → instruction_of b seen late t ≡ ok i n → x ≡ get_elem? (place_steps i.kind) 0)
+module _ (code : Code) (slot : ℕ) (g : List ℕ) (place : ℕ) (p : place ≡ place_in code.facts.now slot) (t : List ℕ) (q : t ≡ drop place code.bytes.now)
+    (x : Option Projection) (found : (seen : List Bool) (late : Bool) (i : Instruction) (n : ℕ) → instruction_of code.bounds seen late t ≡ ok i n → x ≡ get_elem? (place_steps i.kind) 0)
   where
-    found_first : (i : Instruction) → InstructionIn b s facts slot i → varies_first (place_steps i.kind) ≡ varies_found x
+    found_first : (i : Instruction) → InstructionIn code.bounds code.bytes.now code.facts.now slot i → varies_first (place_steps i.kind) ≡ varies_found x
     found_first i h =
-        let r : instruction_of b [] false t ≡ ok i (end_in facts slot - place_in facts slot) = rw (q, p) h.read in
+        let r : instruction_of code.bounds [] false t ≡ ok i (end_in code.facts.now slot - place_in code.facts.now slot) = rw (q, p) h.read in
         sym (first_step (place_steps i.kind)) ∙ ap varies_found (sym (found [] false i _ r))
 
-    pub place_barred : varies_found x ≡ true → (w : ℕ) → w ≡ read_in facts slot 0 → (u : List ℕ) → u ≡ barring w g → PlaceNoted s b facts slot g u
+    pub place_barred : varies_found x ≡ true → (w : ℕ) → w ≡ read_in code.facts.now slot 0 → (u : List ℕ) → u ≡ barring w g → PlaceNoted code slot g u
     place_barred v w e u f i h = rw (found_first i h, v) (f ∙ ap (λ (n : ℕ). barring n g) e)
 
-    pub place_kept : varies_found x ≡ false → PlaceNoted s b facts slot g g
+    pub place_kept : varies_found x ≡ false → PlaceNoted code slot g g
     place_kept v i h = rw (found_first i h, v)

@@ -14,12 +14,13 @@ use Rattle.mir.specs.Syntax.{Assign, UnaryOp, BinaryOp, Call, Cast, Load, Store,
 use Rattle.mir.specs.Syntax.{MakeTuple, ExtractTupleElement, MakeStruct, ExtractStructField, InsertField, InsertTuple, MakeFixedArray, AssertEq, HeapAllocCells}
 use Rattle.mir.specs.Reads.{kind_number, reads}
 use Rattle.bytes_field.specs.Decode.{instruction_of}
-use Rattle.bytes_field.specs.declared.Bounds.{Bounds}
+use Rattle.bytes_index.specs.declared.code.Code.{Code}
+use Rattle.fold_scan.specs.declared.ValueFacts.{ValueFacts}
 use Rattle.bytes_index.specs.Table.{place_in, kind_in, read_in, ReadsIn}
 use Rattle.bytes_operands.specs.Fields.{fields_place}
 use Rattle.fold.specs.declared.Settings.{Settings}
 use Rattle.mir.specs.Lookup.{Types, is_tuple, is_array}
-use Rattle.fold.specs.Family.{Marks, build_dest}
+use Rattle.fold.specs.Family.{build_dest}
 use Rattle.fold.specs.Tables.{ShapesAt}
 use Rattle.fold.specs.Climb.{buildable}
 use Rattle.fold_climb.proofs.Found.{dest, DestAt, tuple_place, struct_place, array_place}
@@ -28,8 +29,8 @@ use Rattle.fold_scan.proofs.Sorts.{idle, calls, walks}
 use Rattle.fold_scan.proofs.Extend.{idle_step, call_step, walk_step, build_step}
 
 -- the conditions of a tuple, and of an array, by the tables
-module _ (σ : Settings) (τ : Types) (cross : Marks) (shapes : List ℕ) (eligible : List Bool) (facts : ShapesAt σ τ shapes eligible) (d : ValueId) (low : d.0 < length τ.recorded) where
-  passes_tuple : (i : InstructionKind) → kind_number i ≡ 10 → build_dest i ≡ some d → passes_by shapes eligible cross d.0 1 ≡ buildable σ τ cross i
+module _ (σ : Settings) (τ : Types) (values : ValueFacts) (facts : ShapesAt σ τ values.shapes.now values.eligible.now) (d : ValueId) (low : d.0 < length τ.recorded) where
+  passes_tuple : (i : InstructionKind) → kind_number i ≡ 10 → build_dest i ≡ some d → passes_by values d.0 1 ≡ buildable σ τ values.cross.now i
   unfolding buildable build_dest is_tuple
   passes_tuple (Assign d' x t) h e = absurd (omega arith)
   passes_tuple (UnaryOp op d' x) h e = absurd (omega arith)
@@ -51,7 +52,7 @@ module _ (σ : Settings) (τ : Types) (cross : Marks) (shapes : List ℕ) (eligi
   passes_tuple (AssertEq x y) h e = absurd (omega arith)
   passes_tuple (HeapAllocCells d' x) h e = absurd (omega arith)
 
-  passes_array : (i : InstructionKind) → kind_number i ≡ 16 → build_dest i ≡ some d → passes_by shapes eligible cross d.0 3 ≡ buildable σ τ cross i
+  passes_array : (i : InstructionKind) → kind_number i ≡ 16 → build_dest i ≡ some d → passes_by values d.0 3 ≡ buildable σ τ values.cross.now i
   unfolding buildable build_dest is_array
   passes_array (Assign d' x t) h e = absurd (omega arith)
   passes_array (UnaryOp op d' x) h e = absurd (omega arith)
@@ -73,52 +74,52 @@ module _ (σ : Settings) (τ : Types) (cross : Marks) (shapes : List ℕ) (eligi
   passes_array (AssertEq x y) h e = absurd (omega arith)
   passes_array (HeapAllocCells d' x) h e = absurd (omega arith)
 
-module _ (s : List ℕ) (b : Bounds) (facts : List ℕ) (slot : ℕ) (shapes : List ℕ) (eligible cross : List Bool) (given : Bool) (g : List ℕ) (kind : ℕ) (k : kind ≡ kind_in facts slot) where
+module _ (code : Code) (slot : ℕ) (values : ValueFacts) (given : Bool) (g : List ℕ) (kind : ℕ) (k : kind ≡ kind_in code.facts.now slot) where
   -- an instruction that adds nothing
-  pub one_idle : (kind ≡ 3 → ⊥) → (kind ≡ 5 → ⊥) → (kind ≡ 6 → ⊥) → (kind ≡ 10 → ⊥) → (kind ≡ 12 → ⊥) → (kind ≡ 16 → ⊥) → OneScanned s b facts slot shapes eligible cross given g g
+  pub one_idle : (kind ≡ 3 → ⊥) → (kind ≡ 5 → ⊥) → (kind ≡ 6 → ⊥) → (kind ≡ 10 → ⊥) → (kind ≡ 12 → ⊥) → (kind ≡ 16 → ⊥) → OneScanned code slot values given g g
   one_idle h3 h5 h6 h10 h12 h16 σ τ is i at known ready pass small hold =
       let z : kind ≡ kind_number i.kind = k ∙ at.kind in
-      idle_step σ τ cross is i g hold ready.few
+      idle_step σ τ values.cross.now is i g hold ready.few
       (idle i.kind (λ p. h3 (z ∙ p)) (λ p. h5 (z ∙ p)) (λ p. h6 (z ∙ p)) (λ p. h10 (z ∙ p)) (λ p. h12 (z ∙ p)) (λ p. h16 (z ∙ p)))
 
   module _ (u : List ℕ) where
-    pub one_call : kind ≡ 3 → ((ws : List ValueId) → ReadsIn facts slot ws → u ≡ noted_reads 3 0 g ws) → OneScanned s b facts slot shapes eligible cross given g u
+    pub one_call : kind ≡ 3 → ((ws : List ValueId) → ReadsIn code.facts.now slot ws → u ≡ noted_reads kind 0 g ws) → OneScanned code slot values given g u
     one_call h f σ τ is i at known ready pass small hold =
-        call_step σ τ cross is i g hold ready.few ready.room (calls i.kind (sym (k ∙ at.kind) ∙ h)) 0 u (f (reads i.kind) at.reads_in)
+        call_step σ τ values.cross.now is i g hold ready.few ready.room (calls i.kind (sym (k ∙ at.kind) ∙ h)) 0 u (rw h at (f (reads i.kind) at.reads_in))
 
     -- a Load or Store
-    pub one_walk : (eqb kind 5 || eqb kind 6) ≡ true → PlaceNoted s b facts slot g u → OneScanned s b facts slot shapes eligible cross given g u
+    pub one_walk : (eqb kind 5 || eqb kind 6) ≡ true → PlaceNoted code slot g u → OneScanned code slot values given g u
     one_walk h f σ τ is i at known ready pass small hold =
         let w = walks i.kind (ap (λ (n : ℕ). eqb n 5 || eqb n 6) (sym (k ∙ at.kind)) ∙ h) in
-        let r : ReadsIn facts slot (w.base ∷ w.rest) = rw w.first at at.reads_in in
-        walk_step σ τ cross is i g hold ready.few ready.room w (read_in facts slot 0) (r.each 0 (omega arith)) u (f i at)
+        let r : ReadsIn code.facts.now slot (w.base ∷ w.rest) = rw w.first at at.reads_in in
+        walk_step σ τ values.cross.now is i g hold ready.few ready.room w (read_in code.facts.now slot 0) (r.each 0 (omega arith)) u (f i at)
 
-    module _ (d : ValueId) (q : d.0 ≡ dest_in s facts slot) (good : Bool) where
+    module _ (d : ValueId) (q : d.0 ≡ dest_in code.bytes.now code.facts.now slot) (good : Bool) where
       -- a build of the kind with number j
-      build : (j : ℕ) → eqb j 3 ≡ false → kind ≡ j → BuildNoted facts slot j d good g u
-          → ((i : Instruction) (n : ℕ) → instruction_of b [] false (drop (place_in facts slot) s) ≡ ok i n → kind_number i.kind ≡ j → DestAt b.next (drop (fields_place (drop (place_in facts slot) s)) (drop (place_in facts slot) s)) i.kind)
-          → ((σ : Settings) (τ : Types) (i : Instruction) (v : ValueId) → ShapesAt σ τ shapes eligible → (kind_number i.kind ≡ 12 → given ≡ buildable σ τ cross i.kind) → kind_number i.kind ≡ j → build_dest i.kind ≡ some v → v.0 < length τ.recorded → d.0 ≡ v.0 → good ≡ buildable σ τ cross i.kind)
-          → OneScanned s b facts slot shapes eligible cross given g u
+      build : (j : ℕ) → eqb j 3 ≡ false → kind ≡ j → BuildNoted code.facts.now slot kind d good g u
+          → ((i : Instruction) (n : ℕ) → instruction_of code.bounds [] false (drop (place_in code.facts.now slot) code.bytes.now) ≡ ok i n → kind_number i.kind ≡ j → DestAt code.bounds.next (drop (fields_place (drop (place_in code.facts.now slot) code.bytes.now)) (drop (place_in code.facts.now slot) code.bytes.now)) i.kind)
+          → ((σ : Settings) (τ : Types) (i : Instruction) (v : ValueId) → ShapesAt σ τ values.shapes.now values.eligible.now → (kind_number i.kind ≡ 12 → given ≡ buildable σ τ values.cross.now i.kind) → kind_number i.kind ≡ j → build_dest i.kind ≡ some v → v.0 < length τ.recorded → d.0 ≡ v.0 → good ≡ buildable σ τ values.cross.now i.kind)
+          → OneScanned code slot values given g u
       build j apart h noted found able σ τ is i at known ready pass small hold =
           let n : kind_number i.kind ≡ j = sym (k ∙ at.kind) ∙ h in
           elim (found i _ at.read n) [
             | dest v y w low ↦
                 let e : d.0 ≡ v.0 = q ∙ sym w in
                 let low' : v.0 < length τ.recorded = rw ready.next at low in
-                build_step σ τ cross is i g hold ready.few ready.room v y low' small good (able σ τ i v known pass n y low' e) d.0 (sym e) j n apart u (noted (reads i.kind) at.reads_in)
+                build_step σ τ values.cross.now is i g hold ready.few ready.room v y low' small good (able σ τ i v known pass n y low' e) d.0 (sym e) j n apart u (rw h at (noted (reads i.kind) at.reads_in))
           ]
 
-      pub one_tuple : kind ≡ 10 → good ≡ passes_by shapes eligible cross d.0 1 → BuildNoted facts slot 10 d good g u → OneScanned s b facts slot shapes eligible cross given g u
+      pub one_tuple : kind ≡ 10 → good ≡ passes_by values d.0 1 → BuildNoted code.facts.now slot kind d good g u → OneScanned code slot values given g u
       one_tuple h p noted =
-          build 10 refl h noted (λ i n e. tuple_place b [] false (drop (place_in facts slot) s) i n e)
-          (λ σ τ i v known pass n y low e. p ∙ ap (λ (x : ℕ). passes_by shapes eligible cross x 1) e ∙ passes_tuple σ τ cross shapes eligible known v low i.kind n y)
+          build 10 refl h noted (λ i n e. tuple_place code.bounds [] false (drop (place_in code.facts.now slot) code.bytes.now) i n e)
+          (λ σ τ i v known pass n y low e. p ∙ ap (λ (x : ℕ). passes_by values x 1) e ∙ passes_tuple σ τ values known v low i.kind n y)
 
-      pub one_array : kind ≡ 16 → good ≡ passes_by shapes eligible cross d.0 3 → BuildNoted facts slot 16 d good g u → OneScanned s b facts slot shapes eligible cross given g u
+      pub one_array : kind ≡ 16 → good ≡ passes_by values d.0 3 → BuildNoted code.facts.now slot kind d good g u → OneScanned code slot values given g u
       one_array h p noted =
-          build 16 refl h noted (λ i n e. array_place b [] false (drop (place_in facts slot) s) i n e)
-          (λ σ τ i v known pass n y low e. p ∙ ap (λ (x : ℕ). passes_by shapes eligible cross x 3) e ∙ passes_array σ τ cross shapes eligible known v low i.kind n y)
+          build 16 refl h noted (λ i n e. array_place code.bounds [] false (drop (place_in code.facts.now slot) code.bytes.now) i n e)
+          (λ σ τ i v known pass n y low e. p ∙ ap (λ (x : ℕ). passes_by values x 3) e ∙ passes_array σ τ values known v low i.kind n y)
 
-      pub one_struct : kind ≡ 12 → good ≡ given → BuildNoted facts slot 12 d good g u → OneScanned s b facts slot shapes eligible cross given g u
+      pub one_struct : kind ≡ 12 → good ≡ given → BuildNoted code.facts.now slot kind d good g u → OneScanned code slot values given g u
       one_struct h p noted =
-          build 12 refl h noted (λ i n e. struct_place b [] false (drop (place_in facts slot) s) i n e)
+          build 12 refl h noted (λ i n e. struct_place code.bounds [] false (drop (place_in code.facts.now slot) code.bytes.now) i n e)
           (λ σ τ i v known pass n y low e. p ∙ pass n)

@@ -1,5 +1,6 @@
 -- What the scan notes in the graph, one thing at a time.
-use Rattle.std.specs.Prelude.{ℕ, ◌+◌, ◌≤◌, ◌<◌, ◌≡◌, List, [], ◌∷◌, Bool, false, cond, not, ◌&&◌, length, get_or, set, drop, ltb, eqb}
+use Rattle.std.specs.Prelude.{ℕ, ◌+◌, ◌≤◌, ◌<◌, ◌≡◌, List, [], ◌∷◌, Bool}
+use Rattle.std.specs.Prelude.{false, cond, not, ◌&&◌, length, get_or, set, drop, ltb, eqb}
 use Rattle.std.proofs.Math.Option.{Option, none, some}
 use Rattle.bytes_wire.specs.Number.{at16}
 use Rattle.mir.specs.declared.ValueId.{ValueId}
@@ -8,6 +9,8 @@ use Rattle.mir.specs.Syntax.{Instruction}
 use Rattle.mir.specs.Reads.{kind_number}
 use Rattle.bytes_field.specs.declared.Bounds.{Bounds}
 use Rattle.bytes_index.specs.Table.{place_in, read_in, ReadsIn}
+use Rattle.bytes_index.specs.declared.code.Code.{Code}
+use Rattle.bytes_index.specs.declared.slots.Slots.{Slots}
 use Rattle.bytes_index.specs.Code.{no_instruction, InstructionIn, InstructionsIn}
 use Rattle.bytes_operands.specs.Fields.{place_steps, fields_place}
 use Rattle.mir.specs.Lookup.{Types}
@@ -19,6 +22,7 @@ use Rattle.fold.specs.Tables.{ShapesAt}
 use Rattle.fold.specs.Climb.{buildable}
 use Rattle.mir.specs.Phis.{behind_phis}
 use Rattle.fold_climb.specs.Edges.{varies_first, edges_of}
+use Rattle.fold_scan.specs.declared.ValueFacts.{ValueFacts}
 use Rattle.fold_climb.specs.Scanned.{built_from, barred_from, edge_at, most_edges, graph_size, many_in, Scanned}
 
 -- the value that the instruction in a slot defines: its first field
@@ -54,9 +58,11 @@ varies_found none = false
 varies_found (some p) = varies_first (p ∷ [])
 
 -- what noting the place of a Load or Store gives
-abbrev pub PlaceNoted : List ℕ → Bounds → List ℕ → ℕ → List ℕ → List ℕ → Type 0
-PlaceNoted s b facts slot before behind =
-    (i : Instruction) → InstructionIn b s facts slot i → behind ≡ cond (varies_first (place_steps i.kind)) (barring (read_in facts slot 0) before) before
+abbrev pub PlaceNoted : Code → ℕ → List ℕ → List ℕ → Type 0
+PlaceNoted code slot before behind =
+    (i : Instruction)
+    → InstructionIn code.bounds code.bytes.now code.facts.now slot i
+    → behind ≡ cond (varies_first (place_steps i.kind)) (barring (read_in code.facts.now slot 0) before) before
 
 -- what noting the reads of the instruction in a slot gives, whose kind and dest are these
 abbrev pub ReadsNoted : List ℕ → ℕ → ℕ → ValueId → List ℕ → List ℕ → Type 0
@@ -69,8 +75,8 @@ BuildNoted facts slot kind d good before behind =
     (ws : List ValueId) → ReadsIn facts slot ws → behind ≡ noted_reads kind d.0 (set before (built_from + d.0) (cond good 1 0)) ws
 
 -- the conditions of a tuple's or an array's build v: the shape, an eligible type, no use in another block
-abbrev pub passes_by : List ℕ → List Bool → List Bool → ℕ → ℕ → Bool
-passes_by shapes eligible cross v shape = eqb (get_or shapes v 0) shape && (get_or eligible v false && not (get_or cross v false))
+abbrev pub passes_by : ValueFacts → ℕ → ℕ → Bool
+passes_by values v shape = eqb (get_or values.shapes.now v 0) shape && (get_or values.eligible.now v false && not (get_or values.cross.now v false))
 
 -- the graph has room, and the instructions' values are those that have a recorded type
 pub record Ready (b : Bounds) (τ : Types) (graph : List ℕ) : Type 0 where
@@ -79,16 +85,16 @@ pub record Ready (b : Bounds) (τ : Types) (graph : List ℕ) : Type 0 where
   pub room : graph_size ≤ length graph
 
 -- what scanning the instruction in a slot gives; `given`: a MakeStruct passes its conditions
-abbrev pub OneScanned : List ℕ → Bounds → List ℕ → ℕ → List ℕ → List Bool → List Bool → Bool → List ℕ → List ℕ → Type 0
-OneScanned s b facts slot shapes eligible cross given before behind =
+abbrev pub OneScanned : Code → ℕ → ValueFacts → Bool → List ℕ → List ℕ → Type 0
+OneScanned code slot values given before behind =
     (σ : Settings) (τ : Types) (is : List Instruction) (i : Instruction)
-    → InstructionIn b s facts slot i
-    → ShapesAt σ τ shapes eligible
-    → Ready b τ before
-    → (kind_number i.kind ≡ struct_kind → given ≡ buildable σ τ cross i.kind)
+    → InstructionIn code.bounds code.bytes.now code.facts.now slot i
+    → ShapesAt σ τ values.shapes.now values.eligible.now
+    → Ready code.bounds τ before
+    → (kind_number i.kind ≡ struct_kind → given ≡ buildable σ τ values.cross.now i.kind)
     → length (edges_of (i ∷ is)) ≤ most_edges
-    → Scanned σ τ cross is before
-    → Scanned σ τ cross (i ∷ is) behind
+    → Scanned σ τ values.cross.now is before
+    → Scanned σ τ values.cross.now (i ∷ is) behind
 
 -- a mark for each instruction: a MakeStruct's says whether it passes its conditions
 abbrev pub StructsAt : Settings → Types → Marks → List Bool → List Instruction → Type 0
@@ -98,14 +104,14 @@ StructsAt σ τ cross structs all =
     → kind_number (get_or all k no_instruction).kind ≡ struct_kind
     → get_or structs k false ≡ buildable σ τ cross (get_or all k no_instruction).kind
 
--- what scanning a block of `count` instructions from the slot `first` on gives, of those behind the phis
-abbrev pub BlockScanned : List ℕ → Bounds → List ℕ → ℕ → ℕ → List ℕ → List Bool → List Bool → List Bool → List ℕ → List ℕ → Type 0
-BlockScanned s b facts first count shapes eligible cross structs before behind =
+-- what scanning a block gives, of its instructions behind the phis
+abbrev pub BlockScanned : Code → Slots → ValueFacts → List Bool → List ℕ → List ℕ → Type 0
+BlockScanned code slots values structs before behind =
     (σ : Settings) (τ : Types) (all : List Instruction)
-    → InstructionsIn b s facts first all
-    → length all ≡ count
-    → ShapesAt σ τ shapes eligible
-    → Ready b τ before
-    → StructsAt σ τ cross structs all
+    → InstructionsIn code.bounds code.bytes.now code.facts.now slots.first all
+    → length all ≡ slots.count
+    → ShapesAt σ τ values.shapes.now values.eligible.now
+    → Ready code.bounds τ before
+    → StructsAt σ τ values.cross.now structs all
     → length (edges_of all) ≤ most_edges
-    → Scanned σ τ cross (behind_phis all) behind
+    → Scanned σ τ values.cross.now (behind_phis all) behind

@@ -1,21 +1,33 @@
 // The scan of a block, which fills the graph that the climb looks at.
 #![tactic(auto)]
 
-ghost use Rattle.std.specs.Prelude.{◌≡◌, ℕ, ◌+◌, ◌≤◌, ◌<◌, get_or};
+ghost use Rattle.std.specs.Prelude.{◌≡◌, ℕ, ◌<◌, get_or};
 ghost use Rattle.mir.specs.Option.{as_option};
-ghost use Rattle.mir.specs.Most.{most_slots};
+ghost use Rattle.mir.specs.Kind.{number_of_kind};
+ghost use Rattle.mir.specs.Shape.{number_of_shape};
 ghost use Rattle.fold_climb.specs.Scanned.{edges_from};
 ghost use Rattle.fold_scan.specs.Noted.{dest_in, barring, noted_read, varies_found, passes_by};
 ghost use Rattle.fold_scan.specs.Noted.{ReadsNoted, PlaceNoted, BuildNoted, OneScanned, BlockScanned};
 
-use bytes_field::Bounds;
-use mir::{Literal, Projection, Value, ValueId, kind, most, shape};
+use bytes_index::{Code, Slots};
+use mir::kind::Kind;
+use mir::shape::Shape;
+use mir::{Literal, Projection, Value, ValueId, most};
+
+// What is known of all values: the shapes of their types, which types are eligible, which values are aggregates that are used
+// across blocks. (Lists by value, and shapes by their numbers, as the laws of fold/specs read them.)
+#[derive(Clone, Copy)]
+pub struct ValueFacts<'a> {
+    pub shapes: &'a [u8],
+    pub eligible: &'a [bool],
+    pub cross: &'a [bool],
+}
 
 // The value that the instruction in a slot defines, where that is its first field.
-pub fn dest(s: &[u8], facts: &[u16], slot: u16) -> ValueId
-    ensures { result.0 ≡ dest_in s.now facts.now slot }
+pub fn dest(code: Code, slot: u16) -> ValueId
+    ensures { result.0 ≡ dest_in code.entry.bytes.now code.entry.facts.now slot }
 {
-    let t = bytes_field::tail(s, bytes_index::place(facts, slot));
+    let t = bytes_field::tail(code.bytes, bytes_index::place(code.facts, slot));
     let u = bytes_field::tail(t, bytes_operands::fields_place(t));
     ValueId(bytes_wire::u16_at(u, 0))
 }
@@ -32,10 +44,10 @@ fn bar(graph: &mut [u16], v: ValueId)
 
 // Notes a value that an instruction reads: a Call wants it whole, to a build `d` of the kind it is a part, if not the build
 // itself.
-fn note_read(graph: &mut [u16], kind: u16, d: ValueId, w: ValueId)
-    ensures { graph.new ≡ noted_read kind d.0 graph.old w.0 }
+fn note_read(graph: &mut [u16], kind: Kind, d: ValueId, w: ValueId)
+    ensures { graph.new ≡ noted_read (number_of_kind kind) d.0 graph.old w.0 }
 {
-    if kind == kind::CALL {
+    if kind == Kind::Call {
         bar(graph, w);
         return;
     }
@@ -47,14 +59,14 @@ fn note_read(graph: &mut [u16], kind: u16, d: ValueId, w: ValueId)
         let at = fold_climb::EDGES + fold_climb::WIDTH * many as usize;
         table::set_number(graph, at, w.0);
         table::set_number(graph, at + fold_climb::PARENT, d.0);
-        table::set_number(graph, at + fold_climb::KIND, kind);
+        table::set_number(graph, at + fold_climb::KIND, kind as u16);
         table::set_number(graph, 0, many + 1);
     }
 }
 
 // Notes all that the instruction in a slot reads, the last one first: `kind` and `d` are its kind and its dest.
-fn note_reads(graph: &mut [u16], facts: &[u16], slot: u16, kind: u16, d: ValueId)
-    ensures { ReadsNoted facts.now slot kind d graph.old graph.new }
+fn note_reads(graph: &mut [u16], facts: &[u16], slot: u16, kind: Kind, d: ValueId)
+    ensures { ReadsNoted facts.now slot (number_of_kind kind) d graph.old graph.new }
 {
     for k in (0..bytes_index::read_count(facts, slot)).rev() {
         let w = bytes_index::read(facts, slot, k);
@@ -74,70 +86,54 @@ fn varies(p: Option<Projection>) -> bool
 }
 
 // The base of a Load or Store, its first read, is wanted whole where the first projection varies.
-fn note_place(s: &[u8], b: Bounds, facts: &[u16], slot: u16, graph: &mut [u16])
-    ensures { PlaceNoted s.now b facts.now slot graph.old graph.new }
+fn note_place(code: Code, slot: u16, graph: &mut [u16])
+    ensures { PlaceNoted code.entry slot graph.old graph.new }
 {
-    let t = bytes_field::tail(s, bytes_index::place(facts, slot));
-    if varies(bytes_operands::projection(t, b, 0)) {
-        bar(graph, bytes_index::read(facts, slot, 0));
+    let t = bytes_field::tail(code.bytes, bytes_index::place(code.facts, slot));
+    if varies(bytes_operands::projection(t, code.bounds, 0)) {
+        bar(graph, bytes_index::read(code.facts, slot, 0));
     }
 }
 
 // Conditions 1 to 3 of a tuple's or an array's build: the shape, an eligible type, no use in another block.
-fn passes(d: ValueId, shape: u8, shapes: &[u8], eligible: &[bool], cross: &[bool]) -> bool
-    ensures { result ≡ passes_by shapes.now eligible.now cross.now d.0 shape }
+fn passes(d: ValueId, shape: Shape, values: ValueFacts) -> bool
+    ensures { result ≡ passes_by values.entry d.0 (number_of_shape shape) }
 {
     let at = d.0 as usize;
-    if bytes_wire::byte_at(shapes, at) != shape {
+    if bytes_wire::byte_at(values.shapes, at) != shape as u8 {
         return false;
     }
-    if !table::flag(eligible, at) {
-        return false;
-    }
-    !table::flag(cross, at)
+    table::flag(values.eligible, at) && !table::flag(values.cross, at)
 }
 
 // Notes a build `d` of a kind, and whether it passes its conditions.
-fn note_build(graph: &mut [u16], facts: &[u16], slot: u16, kind: u16, d: ValueId, good: bool)
-    ensures { BuildNoted facts.now slot kind d good graph.old graph.new }
+fn note_build(graph: &mut [u16], facts: &[u16], slot: u16, kind: Kind, d: ValueId, good: bool)
+    ensures { BuildNoted facts.now slot (number_of_kind kind) d good graph.old graph.new }
 {
     table::set_number(graph, fold_climb::BUILT + d.0 as usize, good as u16);
     note_reads(graph, facts, slot, kind, d);
 }
 
 // Notes what the instruction in a slot adds to the graph; `pass`: a MakeStruct passes its conditions.
-fn scan_one(
-    s: &[u8],
-    b: Bounds,
-    facts: &[u16],
-    slot: u16,
-    shapes: &[u8],
-    eligible: &[bool],
-    cross: &[bool],
-    pass: bool,
-    graph: &mut [u16],
-)
-    ensures { OneScanned s.now b facts.now slot shapes.now eligible.now cross.now pass
-        graph.old graph.new }
+fn scan_one(code: Code, slot: u16, values: ValueFacts, pass: bool, graph: &mut [u16])
+    ensures { OneScanned code.entry slot values.entry pass graph.old graph.new }
 {
-    let kind = bytes_index::kind(facts, slot);
+    let Some(kind) = bytes_index::instruction_kind(code.facts, slot) else {
+        return;
+    };
     match kind {
-        kind::CALL => note_reads(graph, facts, slot, kind::CALL, ValueId(0)),
-        kind::LOAD => note_place(s, b, facts, slot, graph),
-        kind::STORE => note_place(s, b, facts, slot, graph),
-        kind::MAKE_TUPLE => {
-            let d = dest(s, facts, slot);
-            let good = passes(d, shape::TUPLE, shapes, eligible, cross);
-            note_build(graph, facts, slot, kind::MAKE_TUPLE, d, good);
+        Kind::Call => note_reads(graph, code.facts, slot, kind, ValueId(0)),
+        Kind::Load | Kind::Store => note_place(code, slot, graph),
+        Kind::MakeTuple => {
+            let d = dest(code, slot);
+            let good = passes(d, Shape::Tuple, values);
+            note_build(graph, code.facts, slot, kind, d, good);
         }
-        kind::MAKE_STRUCT => {
-            let d = dest(s, facts, slot);
-            note_build(graph, facts, slot, kind::MAKE_STRUCT, d, pass);
-        }
-        kind::MAKE_FIXED_ARRAY => {
-            let d = dest(s, facts, slot);
-            let good = passes(d, shape::FIXED_ARRAY, shapes, eligible, cross);
-            note_build(graph, facts, slot, kind::MAKE_FIXED_ARRAY, d, good);
+        Kind::MakeStruct => note_build(graph, code.facts, slot, kind, dest(code, slot), pass),
+        Kind::MakeFixedArray => {
+            let d = dest(code, slot);
+            let good = passes(d, Shape::FixedArray, values);
+            note_build(graph, code.facts, slot, kind, d, good);
         }
         _ => {}
     }
@@ -151,27 +147,13 @@ fn clear(graph: &mut [u16])
     graph[..end].fill(0);
 }
 
-// Fills the graph for a block of `count` instructions from the slot `first` on, the last one first.
-// `structs`: which MakeStructs pass their conditions, by instruction.
-pub fn scan_block(
-    s: &[u8],
-    b: Bounds,
-    facts: &[u16],
-    first: u16,
-    count: u16,
-    shapes: &[u8],
-    eligible: &[bool],
-    cross: &[bool],
-    structs: &[bool],
-    graph: &mut [u16],
-)
-    requires { first + count ≤ most_slots }
-    ensures { BlockScanned s.now b facts.now first count shapes.now eligible.now cross.now
-        structs.now graph.old graph.new }
+// Fills the graph for a block, the last instruction first. `structs`: which MakeStructs pass their conditions, by instruction.
+pub fn scan_block(code: Code, slots: Slots, values: ValueFacts, structs: &[bool], graph: &mut [u16])
+    ensures { BlockScanned code.entry slots values.entry structs.now graph.old graph.new }
 {
     clear(graph);
-    for k in (0..count).rev() {
+    for k in (0..slots.count).rev() {
         let pass = table::flag(structs, k as usize);
-        scan_one(s, b, facts, first + k, shapes, eligible, cross, pass, graph);
+        scan_one(code, slots.first + k, values, pass, graph);
     }
 }

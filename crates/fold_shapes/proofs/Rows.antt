@@ -4,7 +4,7 @@ use mathlib.Core.Path.{◌≡◌, refl, ◌∙◌, sym}
 use mathlib.Core.List.{List, [], ◌∷◌}
 use mathlib.Core.Bool.{true, false, cond}
 use mathlib.Core.Bool as B
-use mathlib.Core.Option.{Option, some}
+use mathlib.Core.Option.{Option, none, some}
 use native.Mathlib.Omega.{arith}
 use borrow.Author.Tests.{ltb-true, ltb-false}
 use lib.ListN.{length, get_or, get_elem?, drop}
@@ -22,10 +22,11 @@ use Rattle.mir.specs.MirType.{MirType}
 use Rattle.bytes_types.specs.Decode.{struct_of, type_kinds, type_of}
 use Rattle.bytes_types.specs.Index.{TypesAt}
 use Rattle.bytes_struct.proofs.Placed.{StructAt, struct_at, struct_stands}
+use Rattle.bytes_index.specs.declared.code.Code.{Code}
 use Rattle.fold.specs.declared.Settings.{Settings}
-use Rattle.mir.specs.Lookup.{shape}
+use Rattle.mir.specs.Lookup.{Types, row_of, shape}
 use Rattle.fold.specs.Scalarizable.{is_scalarizable}
-use Rattle.fold_shapes.specs.Shapes.{row_shape, row_eligible}
+use Rattle.fold_shapes.specs.Shapes.{row_shape, row_eligible, row_at, Said, OfType, RowSays}
 
 -- a list has as many as its first byte says
 list_length : {A : Type 0} (most : ℕ) (dec : List ℕ → Parse A) (s : List ℕ) {xs : List A} {n : ℕ} → list_of most dec s ≡ ok xs n → length xs ≡ get_or s 0 0
@@ -36,11 +37,6 @@ list_length most dec s e =
 -- two bytes for a type
 type_size : (own : ℕ) (s : List ℕ) {x : TypeId} {n : ℕ} → type_id_of own s ≡ ok x n → n ≡ 2
 type_size own s e = elim (map_inv (λ x. record { 0 = x }) (below own s) e) [ image x f g ↦ (number_inv 2 s (below_inv own s f).0).2 ]
-
--- what a row says of its type
-pub record Said (o : Option MirType) (t : List ℕ) : Type 0 where
-  pub shaped : shape o ≡ row_shape t
-  pub fits : (σ : Settings) → is_scalarizable σ o ≡ row_eligible σ t
 
 -- a Tuple
 tuple_said : (most own : ℕ) (t : List ℕ) {ty : MirType} {n : ℕ} → map_parse MirType.Tuple (list_of most (type_id_of own) t) ≡ ok ty n → Said (some ty) (3 ∷ t)
@@ -111,12 +107,23 @@ row_said most many t s types ts a m = go (ltb t many) refl
     go true e = let p : t < length ts = omega (arith, ltb-true t many e) in rw (some_at ts t MirType.Unit p) (type_said most t (drop (get_or types t 0) s) (a.each t p))
     go false e = rw (drop-length s, none_at ts t (omega (arith, ltb-false t many e))) record { shaped = refl; fits = λ σ. refl }
 
--- the code's way there
-pub shape_found : (most many t : ℕ) (s types : List ℕ) (ts : List MirType) {r at : ℕ} {u : List ℕ} → r ≡ row_shape u → u ≡ drop at s → at ≡ cond (ltb t many) (get_or types t 0) (length s) → TypesAt most s types ts → length ts ≡ many → r ≡ shape (get_elem? ts t)
-shape_found most many t s types ts e f g a m = e ∙ rw (f, g) (sym (row_said most many t s types ts a m).shaped)
+-- and so does that of an Option
+pub row_says : (code : Code) (o : Option TypeId) {at : ℕ} {u : List ℕ} → at ≡ row_at code o → u ≡ drop at code.bytes.now → RowSays code o u
+unfolding row_of shape is_scalarizable
+row_says code none e f most τ a m = rw (f, e, drop-length code.bytes.now) record { shaped = refl; fits = λ σ. refl }
+row_says code (some t) e f most τ a m = rw (f, e) (row_said most code.bounds.types t.0 code.bytes.now code.facts.now τ.rows a m)
 
-pub eligible_found : (most many t : ℕ) (s types : List ℕ) (ts : List MirType) (σ : Settings) {r : B.Bool} {at : ℕ} {u : List ℕ} → r ≡ row_eligible σ u → u ≡ drop at s → at ≡ cond (ltb t many) (get_or types t 0) (length s) → TypesAt most s types ts → length ts ≡ many → r ≡ is_scalarizable σ (get_elem? ts t)
-eligible_found most many t s types ts σ e f g a m = e ∙ rw (f, g) (sym ((row_said most many t s types ts a m).fits σ))
+-- what is said of a type is what its row says
+abbrev types_of : List MirType → Types
+types_of ts = record { rows = ts; recorded = [] }
+
+pub shape_found : (code : Code) (t : TypeId) {r : ℕ} {u : List ℕ} → r ≡ row_shape u → RowSays code (some t) u → OfType shape code t r
+unfolding row_of
+shape_found code t e f most ts a m = e ∙ sym (f most (types_of ts) a m).shaped
+
+pub eligible_found : (code : Code) (t : TypeId) (σ : Settings) {r : B.Bool} {u : List ℕ} → r ≡ row_eligible σ u → RowSays code (some t) u → OfType (is_scalarizable σ) code t r
+unfolding row_of
+eligible_found code t σ e f most ts a m = e ∙ sym ((f most (types_of ts) a m).fits σ)
 
 -- a kind that is none of the three
 pub other_kind : {A : Type 0} (d a b c : A) (k : ℕ) → (k ≡ 3 → ⊥) → (k ≡ 4 → ⊥) → (k ≡ 5 → ⊥) → d ≡ get_or (d ∷ d ∷ d ∷ a ∷ b ∷ c ∷ []) k d

@@ -1,56 +1,35 @@
 -- The shapes of values, one after another.
-use Prim.Native.Nat.{ℕ, suc, ◌+◌, ◌-◌, ◌≤◌, ◌<◌, zero-le}
-use mathlib.Core.Path.{◌≡◌, refl, ap, ◌∙◌}
+use Prim.Native.Nat.{ℕ, suc, ◌+◌, ◌≤◌, ◌<◌, zero-le}
+use mathlib.Core.Path.{◌≡◌, refl, ap, ◌∙◌, sym}
 use mathlib.Core.List.{List}
 use mathlib.Core.Bool.{Bool, false}
 use mathlib.Core.Option.{Option, none, some}
 use mathlib.Core.Logic.{⊎_elim}
 use native.Mathlib.Nat.{eq-or-lt_of_le}
 use native.Mathlib.Omega.{arith}
-use lib.ListN.{length, get_or, get_elem?, set, length-set}
+use lib.ListN.{length, get_or, set, length-set}
 use lib.Seq.{get_or-set_same, get_or-set_other}
 use Rattle.mir.specs.declared.TypeId.{TypeId}
-use Rattle.mir.specs.MirType.{MirType}
+use Rattle.bytes_index.specs.declared.code.Typing.{Typing}
 use Rattle.bytes_sections.specs.Index.{recorded_number, recorded_from}
 use Rattle.fold.specs.declared.Settings.{Settings}
 use Rattle.mir.specs.Lookup.{Types, row_of, recorded_type, value_row, shape}
 use Rattle.fold.specs.Scalarizable.{is_scalarizable}
 use Rattle.fold.specs.Tables.{Known}
-use Rattle.fold_shapes.specs.Shapes.{OfRecorded, FillsShapes}
+use Rattle.fold_shapes.specs.Shapes.{row_shape, row_eligible, RowSays, FillsShapes}
 
 -- a recorded type's number, taken apart again
 pub recorded_back : (o : Option TypeId) → recorded_from (recorded_number o) ≡ o
 recorded_back none = refl
 recorded_back (some t) = let z : t.0 + 1 ≡ suc t.0 = omega arith in ap recorded_from z
 
-pub none_recorded : {A : Type 0} (f : Option MirType → A) (τ : Types) (o : Option TypeId) {number : ℕ} → number ≡ 0 → number ≡ recorded_number o → f none ≡ f (row_of τ o)
-unfolding row_of
-none_recorded f τ none e h = refl
-none_recorded f τ (some t) e h = absurd (omega arith)
-
-pub some_recorded : {A : Type 0} (f : Option MirType → A) (τ : Types) (o : Option TypeId) {number : ℕ} → (number ≡ 0 → ⊥) → number ≡ recorded_number o → f (get_elem? τ.rows (number - 1)) ≡ f (row_of τ o)
-unfolding row_of
-some_recorded f τ none e h = absurd (e h)
-some_recorded f τ (some t) {number} e h = let z : number - 1 ≡ t.0 = omega arith in rw z
-
 -- v values have their shapes
-pub record Filling (s types : List ℕ) (many : ℕ) (recorded : List ℕ) (next : ℕ) (σ : Settings) (shapes₀ : List ℕ) (eligible₀ : List Bool) (shapes : List ℕ) (eligible : List Bool) (v : ℕ) : Type 0 where
-  pub under : v ≤ next
+pub record Filling (typing : Typing) (σ : Settings) (shapes₀ : List ℕ) (eligible₀ : List Bool) (shapes : List ℕ) (eligible : List Bool) (v : ℕ) : Type 0 where
+  pub under : v ≤ typing.code.bounds.next
   pub long_shapes : length shapes ≡ length shapes₀
   pub long_eligible : length eligible ≡ length eligible₀
-  pub shaped : (most : ℕ) (τ : Types) → Known most s types recorded τ → length τ.rows ≡ many → length τ.recorded ≡ next → next ≤ length shapes₀ → (j : ℕ) → j < v → get_or shapes j 0 ≡ shape (value_row τ (record { 0 = j }))
-  pub fits : (most : ℕ) (τ : Types) → Known most s types recorded τ → length τ.rows ≡ many → length τ.recorded ≡ next → next ≤ length eligible₀ → (j : ℕ) → j < v → get_or eligible j false ≡ is_scalarizable σ (value_row τ (record { 0 = j }))
-
--- none has them yet
-pub fill_start : (s types : List ℕ) (many : ℕ) (recorded : List ℕ) (next : ℕ) (σ : Settings) (shapes : List ℕ) (eligible : List Bool) → Filling s types many recorded next σ shapes eligible shapes eligible 0
-fill_start s types many recorded next σ shapes eligible =
-    record {
-      under = zero-le;
-      long_shapes = refl;
-      long_eligible = refl;
-      shaped = λ most τ k m l r j h. absurd (omega arith);
-      fits = λ most τ k m l r j h. absurd (omega arith);
-    }
+  pub shaped : (most : ℕ) (τ : Types) → Known most typing.code.bytes.now typing.code.facts.now typing.recorded.now τ → length τ.rows ≡ typing.code.bounds.types → length τ.recorded ≡ typing.code.bounds.next → typing.code.bounds.next ≤ length shapes₀ → (j : ℕ) → j < v → get_or shapes j 0 ≡ shape (value_row τ (record { 0 = j }))
+  pub fits : (most : ℕ) (τ : Types) → Known most typing.code.bytes.now typing.code.facts.now typing.recorded.now τ → length τ.rows ≡ typing.code.bounds.types → length τ.recorded ≡ typing.code.bounds.next → typing.code.bounds.next ≤ length eligible₀ → (j : ℕ) → j < v → get_or eligible j false ≡ is_scalarizable σ (value_row τ (record { 0 = j }))
 
 -- one more entry of a table
 one_more : {A : Type 0} (xs : List A) (v : ℕ) (a d : A) (f : ℕ → A) → v < length xs → a ≡ f v → ((j : ℕ) → j < v → get_or xs j d ≡ f j) → (j : ℕ) → j < v + 1 → get_or (set xs v a) j d ≡ f j
@@ -59,38 +38,27 @@ one_more xs v a d f r e g j h =
     ⊎_elim (λ q. rw q (get_or-set_same xs v a d r ∙ e)) (λ q. get_or-set_other xs v j a d (λ z. omega arith) ∙ g j q) (eq-or-lt_of_le y)
 
 -- the next has them
-pub fill_again : (s types : List ℕ) (many : ℕ) (recorded : List ℕ) (next : ℕ) (σ : Settings) (shapes₀ : List ℕ) (eligible₀ : List Bool)
-    (shapes : List ℕ) (eligible : List Bool) (v : ℕ) (o : Option TypeId) (a : ℕ) (b : Bool) (shapes₁ : List ℕ) (eligible₁ : List Bool)
-    → Filling s types many recorded next σ shapes₀ eligible₀ shapes eligible v
-    → v < next
-    → o ≡ recorded_from (get_or recorded v 0)
-    → OfRecorded shape s types many o a
-    → OfRecorded (is_scalarizable σ) s types many o b
+pub fill_again : (typing : Typing) (σ : Settings) (shapes₀ : List ℕ) (eligible₀ : List Bool)
+    (shapes : List ℕ) (eligible : List Bool) (v : ℕ) (o : Option TypeId) (row : List ℕ) (a : ℕ) (b : Bool) (shapes₁ : List ℕ) (eligible₁ : List Bool)
+    → Filling typing σ shapes₀ eligible₀ shapes eligible v
+    → v < typing.code.bounds.next
+    → o ≡ recorded_from (get_or typing.recorded.now v 0)
+    → RowSays typing.code o row
+    → a ≡ row_shape row
+    → b ≡ row_eligible σ row
     → shapes₁ ≡ set shapes v a
     → eligible₁ ≡ set eligible v b
-    → Filling s types many recorded next σ shapes₀ eligible₀ shapes₁ eligible₁ (v + 1)
+    → Filling typing σ shapes₀ eligible₀ shapes₁ eligible₁ (v + 1)
 unfolding value_row recorded_type
-fill_again s types many recorded next σ shapes₀ eligible₀ shapes eligible v o a b shapes₁ eligible₁ u h e f g p q =
+fill_again typing σ shapes₀ eligible₀ shapes eligible v o row a b shapes₁ eligible₁ u h e s f g p q =
     rw (p, q) record {
       under = omega arith;
       long_shapes = length-set shapes v a ∙ u.long_shapes;
       long_eligible = length-set eligible v b ∙ u.long_eligible;
       shaped = λ most τ k m l r.
           let n : o ≡ get_or τ.recorded v none = e ∙ ap recorded_from (k.recorded_types v (omega arith) (omega (arith, k.long))) ∙ recorded_back _ in
-          one_more shapes v a 0 (λ j. shape (value_row τ (record { 0 = j }))) (omega (arith, u.long_shapes)) (f most τ k.rows m ∙ ap (λ x. shape (row_of τ x)) n) (u.shaped most τ k m l r);
+          one_more shapes v a 0 (λ j. shape (value_row τ (record { 0 = j }))) (omega (arith, u.long_shapes)) (f ∙ sym (s most τ k.rows m).shaped ∙ ap (λ x. shape (row_of τ x)) n) (u.shaped most τ k m l r);
       fits = λ most τ k m l r.
           let n : o ≡ get_or τ.recorded v none = e ∙ ap recorded_from (k.recorded_types v (omega arith) (omega (arith, k.long))) ∙ recorded_back _ in
-          one_more eligible v b false (λ j. is_scalarizable σ (value_row τ (record { 0 = j }))) (omega (arith, u.long_eligible)) (g most τ k.rows m ∙ ap (λ x. is_scalarizable σ (row_of τ x)) n) (u.fits most τ k m l r);
-    }
-
--- all have them
-pub fill_done : (s types : List ℕ) (many : ℕ) (recorded : List ℕ) (next : ℕ) (σ : Settings) (shapes₀ : List ℕ) (eligible₀ : List Bool)
-    (shapes : List ℕ) (eligible : List Bool) (v : ℕ)
-    → Filling s types many recorded next σ shapes₀ eligible₀ shapes eligible v
-    → next ≤ v
-    → FillsShapes σ s types many recorded next shapes₀ eligible₀ shapes eligible
-fill_done s types many recorded next σ shapes₀ eligible₀ shapes eligible v u h most τ k m l r₁ r₂ =
-    record {
-      shaped = λ j q. u.shaped most τ k m l r₁ j (omega arith);
-      fits = λ j q. u.fits most τ k m l r₂ j (omega arith);
+          one_more eligible v b false (λ j. is_scalarizable σ (value_row τ (record { 0 = j }))) (omega (arith, u.long_eligible)) (g ∙ sym ((s most τ k.rows m).fits σ) ∙ ap (λ x. is_scalarizable σ (row_of τ x)) n) (u.fits most τ k m l r);
     }

@@ -1,13 +1,16 @@
 -- What the code reads off the bytes of a type's row, and what it promises. proofs/Rows.antt ties the bytes to the types.
-use Rattle.std.specs.Prelude.{ℕ, ◌≤◌, ◌≡◌, List, [], ◌∷◌, Bool, false, ◌&&◌, length, get_or, leb}
-use Rattle.std.proofs.Math.Option.{Option}
+use Rattle.std.specs.Prelude.{ℕ, ◌≤◌, ◌≡◌, List, [], ◌∷◌, Bool, false, cond, ◌&&◌, length, get_or, leb, ltb}
+use Rattle.std.proofs.Math.Option.{Option, none, some}
 use Rattle.std.proofs.Math.ListN.{get_elem?}
 use Rattle.bytes_wire.specs.Number.{at32}
 use Rattle.mir.specs.declared.TypeId.{TypeId}
 use Rattle.mir.specs.MirType.{MirType}
-use Rattle.mir.specs.Lookup.{Types, row_of}
+use Rattle.mir.specs.Lookup.{Types, row_of, shape}
 use Rattle.bytes_types.specs.Index.{TypesAt}
+use Rattle.bytes_index.specs.declared.code.Code.{Code}
+use Rattle.bytes_index.specs.declared.code.Typing.{Typing}
 use Rattle.fold.specs.declared.Settings.{Settings}
+use Rattle.fold.specs.Scalarizable.{is_scalarizable}
 use Rattle.fold.specs.Numbers.{tuple_shape, struct_shape, array_shape}
 use Rattle.fold.specs.Tables.{Known, ShapesAt}
 
@@ -29,29 +32,39 @@ row_eligible σ t =
     (get_or t 0 0)
     false
 
--- the promises: what f says of type t of `many`, where the type table stands at `types`,
-abbrev pub OfType : {A : Type 0} → (Option MirType → A) → List ℕ → List ℕ → ℕ → TypeId → A → Type 0
-OfType f s types many t answer =
+-- where a type's row begins: at the end of the bytes where there is no such type, or none
+abbrev pub row_at : Code → Option TypeId → ℕ
+row_at code none = length code.bytes.now
+row_at code (some t) = cond (ltb t.0 code.bounds.types) (get_or code.facts.now t.0 0) (length code.bytes.now)
+
+-- what a row says of its type, and the empty one of none
+pub record Said (o : Option MirType) (t : List ℕ) : Type 0 where
+  pub shaped : shape o ≡ row_shape t
+  pub fits : (σ : Settings) → is_scalarizable σ o ≡ row_eligible σ t
+
+-- the promises: what f says of type t of a routine,
+abbrev pub OfType : {A : Type 0} → (Option MirType → A) → Code → TypeId → A → Type 0
+OfType f code t answer =
     (most : ℕ) (ts : List MirType)
-    → TypesAt most s types ts
-    → length ts ≡ many
+    → TypesAt most code.bytes.now code.facts.now ts
+    → length ts ≡ code.bounds.types
     → answer ≡ f (get_elem? ts t.0)
 
--- what it says of a recorded type, or of none,
-abbrev pub OfRecorded : {A : Type 0} → (Option MirType → A) → List ℕ → List ℕ → ℕ → Option TypeId → A → Type 0
-OfRecorded f s types many o answer =
+-- what a row says of a type, or of none,
+abbrev pub RowSays : Code → Option TypeId → List ℕ → Type 0
+RowSays code o row =
     (most : ℕ) (τ : Types)
-    → TypesAt most s types τ.rows
-    → length τ.rows ≡ many
-    → answer ≡ f (row_of τ o)
+    → TypesAt most code.bytes.now code.facts.now τ.rows
+    → length τ.rows ≡ code.bounds.types
+    → Said (row_of τ o) row
 
--- and the tables of the `next` values: what stood in them, and what stands in them
-abbrev pub FillsShapes : Settings → List ℕ → List ℕ → ℕ → List ℕ → ℕ → List ℕ → List Bool → List ℕ → List Bool → Type 0
-FillsShapes σ s types many recorded next shapes₀ eligible₀ shapes eligible =
+-- and the tables of all values: what stood in them, and what stands in them
+abbrev pub FillsShapes : Settings → Typing → List ℕ → List Bool → List ℕ → List Bool → Type 0
+FillsShapes σ typing shapes₀ eligible₀ shapes eligible =
     (most : ℕ) (τ : Types)
-    → Known most s types recorded τ
-    → length τ.rows ≡ many
-    → length τ.recorded ≡ next
-    → next ≤ length shapes₀
-    → next ≤ length eligible₀
+    → Known most typing.code.bytes.now typing.code.facts.now typing.recorded.now τ
+    → length τ.rows ≡ typing.code.bounds.types
+    → length τ.recorded ≡ typing.code.bounds.next
+    → typing.code.bounds.next ≤ length shapes₀
+    → typing.code.bounds.next ≤ length eligible₀
     → ShapesAt σ τ shapes eligible

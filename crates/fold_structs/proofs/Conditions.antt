@@ -33,14 +33,21 @@ use Rattle.mir.specs.Parts.{or_else, struct_row, from_struct_fields, struct_part
 use Rattle.fold.specs.Climb.{buildable}
 use Rattle.bytes_index.specs.Table.{recorded_in, place_in, end_in, kind_in}
 use Rattle.bytes_index.specs.Code.{no_instruction}
+use Rattle.bytes_index.specs.declared.code.Code.{Code}
+use Rattle.bytes_index.specs.declared.slots.Slots.{Slots}
+use Rattle.mir.specs.declared.kind.Kind.{Kind}
+use Rattle.mir.specs.Kind.{NamesKind}
+use Rattle.rewrite_parts.specs.Rows.{Inits}
+use Rattle.bytes_struct.specs.Fields.{Names}
 use Rattle.rewrite_parts.proofs.Builds.{build_inits}
 use Rattle.bytes_struct.proofs.Placed.{type_fields}
-use Rattle.fold.specs.Tables.{Ground}
+use Rattle.fold.specs.Tables.{Ground, CodeGround}
 use Rattle.std.specs.Prelude.{Some, None, Option as Answered, unwrap_or}
 use Rattle.mir.specs.Option.{as_option}
 use Rattle.fold_shapes.proofs.Values.{recorded_back}
-use Rattle.fold_structs.specs.Told.{goes_by, AllGiven, TellsRow, Passes, StructTold, StructsTold}
+use Rattle.fold_structs.specs.Told.{goes_by, TellsRow, Passes, StructTold, StructsTold}
 use Rattle.fold_climb.proofs.Found.{dest_at}
+use Rattle.mir.proofs.Numbers.{names_one}
 
 -- a type's number at a place
 type_at : (types : ℕ) (t : List ℕ) (p : ℕ) {y : TypeId} {n : ℕ} → type_id_of types (drop p t) ≡ ok y n → (y.0 ≡ at16 t p) × (y.0 < types) × (n ≡ 2)
@@ -158,19 +165,25 @@ struct_row_of MirType.Unit e = absurd (omega arith)
 struct_row_of MirType.Error e = absurd (omega arith)
 struct_row_of MirType.Unknown e = absurd (omega arith)
 
-module _ (s types : List ℕ) (many : ℕ) (y : TypeId) (t : List ℕ) (shp : ℕ) (tells : OfType shape s types many y shp) where
-  pub told_none : (shp ≡ 2 → ⊥) → TellsRow s types many y t false
+-- the same of the lists themselves
+abbrev EachGiven : List ℕ → ℕ → ℕ → List ℕ → ℕ → ℕ → Bool → Type 0
+EachGiven t at n u names m answer =
+    (next : ℕ) (fs : List FieldInit) (ts : List StructField)
+    → Inits next t at fs → length fs ≡ n → Names u names ts → length ts ≡ m → answer ≡ is_some (from_struct_fields fs ts)
+
+module _ (code : Code) (y : TypeId) (t : List ℕ) (shp : ℕ) (tells : OfType shape code y shp) where
+  pub told_none : (shp ≡ 2 → ⊥) → TellsRow code y t false
   unfolding row_of is_struct is_some
   told_none h b τ i n d fs x at l e k = let z = ne_eqb (shape (get_elem? τ.rows y.0)) 2 (λ q. h (tells b.list τ.rows at l ∙ q)) in rw z refl
 
-  pub told_all : shp ≡ 2 → (place : ℕ) → place ≡ get_or types y.0 0 → (u : List ℕ) → u ≡ drop place s → (off : ℕ) → off ≡ fields_place t → (c : ℕ) → c ≡ get_or t (off + 2) 0 → (m : ℕ) → m ≡ get_or u 3 0 → (r : Bool) → AllGiven t (off + 3) c u 4 m r → TellsRow s types many y t r
+  pub told_all : shp ≡ 2 → (place : ℕ) → place ≡ get_or code.facts.now y.0 0 → (u : List ℕ) → u ≡ drop place code.bytes.now → (off : ℕ) → off ≡ fields_place t → (c : ℕ) → c ≡ get_or t (off + 2) 0 → (m : ℕ) → m ≡ get_or u 3 0 → (r : Bool) → EachGiven t (off + 3) c u 4 m r → TellsRow code y t r
   unfolding row_of is_struct is_some struct_fields_of shape
   told_all h place pl u us off os c cs m ms r all b τ i n d fs x at l e k =
       let z : shape (get_elem? τ.rows y.0) ≡ 2 = sym (tells b.list τ.rows at l) ∙ h in
       let w = row_there τ.rows y.0 z in
       let row = get_or τ.rows y.0 MirType.Unit in
       let q : shape (some row) ≡ 2 = sym (ap shape w.1) ∙ z in
-      let v : drop (get_or types y.0 0) s ≡ u = sym (us ∙ ap (λ a. drop a s) pl) in
+      let v : drop (get_or code.facts.now y.0 0) code.bytes.now ≡ u = sym (us ∙ ap (λ a. drop a code.bytes.now) pl) in
       let p = rw v at (at.each y.0 w.0) in
       let f = build_inits b [] false t 0 i n {d = d} {fs = fs} {y = x} e k off (os ∙ sym (zero-add (fields_place t))) in
       elim (struct_row_of row q) [
@@ -181,75 +194,73 @@ module _ (s types : List ℕ) (many : ℕ) (y : TypeId) (t : List ℕ) (shp : �
       ]
 
 -- what the code says of a MakeStruct
-module _ (b : Bounds) (s facts : List ℕ) (σ : Settings) (cross : Marks) (t : List ℕ) (n : ℕ) where
-  pub passes_short : n < 2 → Passes b s facts σ cross t n false
-  passes_short h τ i g e k = elim (find_struct b t i n e k) [ struct_found d fs y p a l m u two ↦ absurd (omega arith) ]
+module _ (code : Code) (σ : Settings) (cross : Marks) (t : List ℕ) (n : ℕ) where
+  pub passes_short : n < 2 → Passes code σ cross t n false
+  passes_short h τ i g e k = elim (find_struct code.bounds t i n e k) [ struct_found d fs y p a l m u two ↦ absurd (omega arith) ]
 
-  module _ (named : TypeId) (ns : named.0 ≡ at16 t (n - 2)) (yes : Bool) (fits : OfType (is_scalarizable σ) s facts b.types named yes) where
+  module _ (named : TypeId) (ns : named.0 ≡ at16 t (n - 2)) (yes : Bool) (fits : OfType (is_scalarizable σ) code named yes) where
     -- the named type
-    eligible_named : (τ : Types) → Ground b s facts (recorded_in facts) τ → (y : TypeId) → y.0 ≡ at16 t (n - 2) → is_scalarizable σ (row_of τ (some y)) ≡ yes
+    eligible_named : (τ : Types) → CodeGround code τ → (y : TypeId) → y.0 ≡ at16 t (n - 2) → is_scalarizable σ (row_of τ (some y)) ≡ yes
     unfolding row_of
-    eligible_named τ g y u = let z : y.0 ≡ named.0 = u ∙ sym ns in rw z (sym (fits b.list τ.rows g.known.rows g.rows))
+    eligible_named τ g y u = let z : y.0 ≡ named.0 = u ∙ sym ns in rw z (sym (fits code.bounds.list τ.rows g.known.rows g.rows))
 
-    pub passes_type : yes ≡ false → Passes b s facts σ cross t n false
+    pub passes_type : yes ≡ false → Passes code σ cross t n false
     unfolding buildable
-    passes_type h τ i g e k = elim (find_struct b t i n e k) [ struct_found d fs y p a l m u two ↦ rw (p, eligible_named τ g y u, h) refl ]
+    passes_type h τ i g e k = elim (find_struct code.bounds t i n e k) [ struct_found d fs y p a l m u two ↦ rw (p, eligible_named τ g y u, h) refl ]
 
     module _ (ok_type : yes ≡ true) (d : ℕ) (ds : d ≡ at16 (drop (fields_place t) t) 0) (marked : Bool) (ms : marked ≡ get_or cross d false) where
-      pub passes_marked : marked ≡ true → Passes b s facts σ cross t n false
+      pub passes_marked : marked ≡ true → Passes code σ cross t n false
       unfolding buildable
       passes_marked h τ i g e k =
-          elim (find_struct b t i n e k) [
+          elim (find_struct code.bounds t i n e k) [
             | struct_found v fs y p a l m u two ↦
                 let z : get_or cross v.0 false ≡ true = ap (λ c. get_or cross c false) (a ∙ sym ds) ∙ sym ms ∙ h in
                 rw (p, eligible_named τ g y u, ok_type, z) refl
           ]
 
-      pub passes_told : marked ≡ false → (w : TypeId) → w ≡ goes_by (recorded_from (get_or (recorded_in facts) d 0)) named → (r : Bool) → TellsRow s facts b.types w t r → Passes b s facts σ cross t n r
+      pub passes_told : marked ≡ false → (w : TypeId) → w ≡ goes_by (recorded_from (get_or (recorded_in code.facts.now) d 0)) named → (r : Bool) → TellsRow code w t r → Passes code σ cross t n r
       unfolding buildable struct_parts
       passes_told h w ws r tells τ i g e k =
-          elim (find_struct b t i n e k) [
+          elim (find_struct code.bounds t i n e k) [
             | struct_found v fs y p a l m u two ↦
                 let same : v.0 ≡ d = a ∙ sym ds in
                 let z : get_or cross v.0 false ≡ false = ap (λ c. get_or cross c false) same ∙ sym ms ∙ h in
-                let o : w ≡ goes_by (recorded_from (get_or (recorded_in facts) v.0 0)) y = ws ∙ ap (λ c. goes_by (recorded_from (get_or (recorded_in facts) c 0)) named) (sym same) ∙ ap (λ x. goes_by (recorded_from (get_or (recorded_in facts) v.0 0)) (typed x)) (ns ∙ sym u) in
-                let q = tells b τ i n v fs y g.known.rows g.rows e p in
-                rw (p, eligible_named τ g y u, ok_type, z, struct_row_lem b s facts (recorded_in facts) τ g v y l, ← o) q
+                let o : w ≡ goes_by (recorded_from (get_or (recorded_in code.facts.now) v.0 0)) y = ws ∙ ap (λ c. goes_by (recorded_from (get_or (recorded_in code.facts.now) c 0)) named) (sym same) ∙ ap (λ x. goes_by (recorded_from (get_or (recorded_in code.facts.now) v.0 0)) (typed x)) (ns ∙ sym u) in
+                let q = tells code.bounds τ i n v fs y g.known.rows g.rows e p in
+                rw (p, eligible_named τ g y u, ok_type, z, struct_row_lem code.bounds code.bytes.now code.facts.now (recorded_in code.facts.now) τ g v y l, ← o) q
           ]
 
 -- the instruction in a slot
-module _ (b : Bounds) (s facts : List ℕ) (σ : Settings) (cross : Marks) (slot : ℕ) where
-  pub told_other : (kind : ℕ) → kind ≡ kind_in facts slot → (kind ≡ 12 → ⊥) → StructTold b s facts σ cross slot false
-  told_other kind e h τ i g at z = absurd (h (e ∙ at.kind ∙ z))
+module _ (code : Code) (σ : Settings) (cross : Marks) (slot : ℕ) where
+  pub told_other : (kind : Answered Kind) → NamesKind (kind_in code.facts.now slot) kind → (kind ≡ Some Kind.MakeStruct → ⊥) → StructTold code σ cross slot false
+  told_other kind e h τ i g at z = absurd (h (names_one _ kind Kind.MakeStruct e (at.kind ∙ z)))
 
-  module _ (place end : ℕ) (ps : place ≡ place_in facts slot) (es : end ≡ end_in facts slot) where
-    pub told_short : end < place → StructTold b s facts σ cross slot false
+  module _ (place end : ℕ) (ps : place ≡ place_in code.facts.now slot) (es : end ≡ end_in code.facts.now slot) where
+    pub told_short : end < place → StructTold code σ cross slot false
     told_short h τ i g at z = absurd (omega (arith, at.rises))
 
-    pub told_struct : (t : List ℕ) → t ≡ drop place s → (r : Bool) → Passes b s facts σ cross t (end - place) r → StructTold b s facts σ cross slot r
+    pub told_struct : (t : List ℕ) → t ≡ drop place code.bytes.now → (r : Bool) → Passes code σ cross t (end - place) r → StructTold code σ cross slot r
     told_struct t ts r passes τ i g at z = passes τ i g (rw (ts, ps, es) at.read) z
 
 -- the first k flags stand
-pub record Filling (b : Bounds) (s facts : List ℕ) (first count : ℕ) (σ : Settings) (cross : Marks) (structs₀ : List Bool) (k : ℕ) (structs : List Bool) : Type 0 where
-  pub low : k ≤ count
-  pub small : first + count ≤ 288
+pub record Filling (code : Code) (slots : Slots) (σ : Settings) (cross : Marks) (structs₀ : List Bool) (k : ℕ) (structs : List Bool) : Type 0 where
+  pub low : k ≤ slots.count
   pub long : length structs ≡ length structs₀
-  pub told : count ≤ length structs₀ → (j : ℕ) → j < k → StructTold b s facts σ cross (first + j) (get_or structs j false)
+  pub told : slots.count ≤ length structs₀ → (j : ℕ) → j < k → StructTold code σ cross (slots.first + j) (get_or structs j false)
 
-module _ {b : Bounds} {s facts : List ℕ} {first count : ℕ} {σ : Settings} {cross : Marks} {structs₀ : List Bool} where
-  pub filling : first + count ≤ 288 → Filling b s facts first count σ cross structs₀ 0 structs₀
-  filling h = record { low = omega arith; small = h; long = refl; told = λ r j h. absurd (omega arith) }
+module _ {code : Code} {slots : Slots} {σ : Settings} {cross : Marks} {structs₀ : List Bool} where
+  pub filling : Filling code slots σ cross structs₀ 0 structs₀
+  filling = record { low = omega arith; long = refl; told = λ r j h. absurd (omega arith) }
 
-  pub filling_on : {k : ℕ} {structs structs' : List Bool} → Filling b s facts first count σ cross structs₀ k structs → k < count → (r : Bool) → StructTold b s facts σ cross (first + k) r → structs' ≡ set structs k r → Filling b s facts first count σ cross structs₀ (k + 1) structs'
+  pub filling_on : {k : ℕ} {structs structs' : List Bool} → Filling code slots σ cross structs₀ k structs → k < slots.count → (r : Bool) → StructTold code σ cross (slots.first + k) r → structs' ≡ set structs k r → Filling code slots σ cross structs₀ (k + 1) structs'
   filling_on {k} {structs} {structs'} inv h r one e =
       record {
         low = omega arith;
-        small = inv.small;
         long = ap length e ∙ length-set structs k r ∙ inv.long;
         told = λ room j l. go room j l (eqb j k) refl;
       }
     where
-      go : count ≤ length structs₀ → (j : ℕ) → j < k + 1 → (c : Bool) → eqb j k ≡ c → StructTold b s facts σ cross (first + j) (get_or structs' j false)
+      go : slots.count ≤ length structs₀ → (j : ℕ) → j < k + 1 → (c : Bool) → eqb j k ≡ c → StructTold code σ cross (slots.first + j) (get_or structs' j false)
       go room j l true q =
           let z : j ≡ k = eqb-true j k q in
           let w : k < length structs = omega (arith, inv.long) in
@@ -259,5 +270,5 @@ module _ {b : Bounds} {s facts : List ℕ} {first count : ℕ} {σ : Settings} {
           let m : j < k = omega (arith, n) in
           rw (e, get_or-set_other structs k j r false n) (inv.told room j m)
 
-  pub filled : {k : ℕ} {structs : List Bool} → Filling b s facts first count σ cross structs₀ k structs → count ≤ k → StructsTold b s facts first count σ cross structs₀ structs
+  pub filled : {k : ℕ} {structs : List Bool} → Filling code slots σ cross structs₀ k structs → slots.count ≤ k → StructsTold code slots σ cross structs₀ structs
   filled inv h τ all g at l room j m e = inv.told room j (omega (arith, l)) τ (get_or all j no_instruction) g (at j m) e

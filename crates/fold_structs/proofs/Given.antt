@@ -12,7 +12,9 @@ use Rattle.mir.specs.Syntax.{FieldInit}
 use Rattle.mir.specs.Parts.{given, cons_part, from_struct_fields}
 use Rattle.mir.specs.Lookup.{is_some}
 use Rattle.fold_structs.specs.Told.{AllGiven}
+use Rattle.rewrite_parts.specs.declared.listed.Listed.{Listed}
 use Rattle.rewrite_parts.specs.Rows.{Inits, InitAt}
+use Rattle.rewrite_parts.specs.Filled.{FindsInit}
 use Rattle.bytes_struct.specs.Fields.{Names, no_field}
 use Rattle.std.specs.Prelude.{Some, None, Option as Answered, is_some as found}
 use Rattle.mir.specs.declared.Value.{Value}
@@ -20,14 +22,11 @@ use mathlib.Core.Option.{Option}
 use Rattle.rewrite_parts.proofs.ByName.{part_given, part_missing}
 
 -- the first i names are given
-pub record Naming (t : List ℕ) (at n : ℕ) (u : List ℕ) (names m i : ℕ) : Type 0 where
-  pub low : i ≤ m
-  pub left : (next : ℕ) (fs : List FieldInit) (ts : List StructField) → Inits next t at fs → length fs ≡ n → Names u names ts → length ts ≡ m → is_some (from_struct_fields fs ts) ≡ is_some (from_struct_fields fs (drop i ts))
+pub record Naming (inits names : Listed) (i : ℕ) : Type 0 where
+  pub low : i ≤ names.count
+  pub left : (next : ℕ) (fs : List FieldInit) (ts : List StructField) → Inits next inits.bytes.now inits.at fs → length fs ≡ inits.count → Names names.bytes.now names.at ts → length ts ≡ names.count → is_some (from_struct_fields fs ts) ≡ is_some (from_struct_fields fs (drop i ts))
 
--- what the code says of one name
-abbrev pub FindsInit : List ℕ → ℕ → ℕ → ℕ → Answered ℕ → Type 0
-FindsInit t at n x r = (next : ℕ) (fs : List FieldInit) → Inits next t at fs → length fs ≡ n → InitAt next t (given (record { 0 = x }) fs) r
-
+-- what was found of one name
 init_there : (next : ℕ) (t : List ℕ) (o : Option Value) (r : Answered ℕ) → InitAt next t o r → found r ≡ true → is_some o ≡ true
 unfolding is_some
 init_there next t o None a h = absurd (true≢false (sym h))
@@ -38,12 +37,12 @@ unfolding is_some
 init_missing next t o None a h = rw a
 init_missing next t o (Some place) a h = absurd (true≢false h)
 
-module _ {t : List ℕ} {at n : ℕ} {u : List ℕ} {names m : ℕ} where
-  pub naming : Naming t at n u names m 0
+module _ {inits names : Listed} where
+  pub naming : Naming inits names 0
   naming = record { low = omega arith; left = λ next fs ts a l b k. refl }
 
-  module _ {i : ℕ} (inv : Naming t at n u names m i) where
-    front : i < m → (x : ℕ) → x ≡ at16 u (names + 4 * i) → (next : ℕ) (fs : List FieldInit) (ts : List StructField) → Inits next t at fs → length fs ≡ n → Names u names ts → length ts ≡ m
+  module _ {i : ℕ} (inv : Naming inits names i) where
+    front : i < names.count → (x : ℕ) → x ≡ at16 names.bytes.now (names.at + 4 * i) → (next : ℕ) (fs : List FieldInit) (ts : List StructField) → Inits next inits.bytes.now inits.at fs → length fs ≡ inits.count → Names names.bytes.now names.at ts → length ts ≡ names.count
         → is_some (from_struct_fields fs ts) ≡ is_some (cons_part (given (record { 0 = x }) fs) (from_struct_fields fs (drop (suc i) ts)))
     unfolding from_struct_fields
     front h x e next fs ts a l b k =
@@ -52,20 +51,20 @@ module _ {t : List ℕ} {at n : ℕ} {u : List ℕ} {names m : ℕ} where
         let z : f.name ≡ record { 0 = x } = ap (λ (y : ℕ). record { 0 = y }) (sym (e ∙ b.each i g)) in
         inv.left next fs ts a l b k ∙ rw (drop-cons ts i no_field g, z) refl
 
-    pub naming_on : i < m → (x : ℕ) → x ≡ at16 u (names + 4 * i) → (r : Answered ℕ) → FindsInit t at n x r → found r ≡ true → Naming t at n u names m (i + 1)
+    pub naming_on : i < names.count → (x : ℕ) → x ≡ at16 names.bytes.now (names.at + 4 * i) → (r : Answered ℕ) → FindsInit inits (record { 0 = x }) r → found r ≡ true → Naming inits names (i + 1)
     naming_on h x e r finds y =
         let z : suc i ≡ i + 1 = omega arith in
         record {
           low = omega arith;
           left = λ next fs ts a l b k.
-              front h x e next fs ts a l b k ∙ part_given (given (record { 0 = x }) fs) (from_struct_fields fs (drop (suc i) ts)) (init_there next t (given (record { 0 = x }) fs) r (finds next fs a l) y) ∙ ap (λ (o : ℕ). is_some (from_struct_fields fs (drop o ts))) z;
+              front h x e next fs ts a l b k ∙ part_given (given (record { 0 = x }) fs) (from_struct_fields fs (drop (suc i) ts)) (init_there next inits.bytes.now (given (record { 0 = x }) fs) r (finds next fs a l) y) ∙ ap (λ (o : ℕ). is_some (from_struct_fields fs (drop o ts))) z;
         }
 
-    pub naming_missing : i < m → (x : ℕ) → x ≡ at16 u (names + 4 * i) → (r : Answered ℕ) → FindsInit t at n x r → found r ≡ false → AllGiven t at n u names m false
+    pub naming_missing : i < names.count → (x : ℕ) → x ≡ at16 names.bytes.now (names.at + 4 * i) → (r : Answered ℕ) → FindsInit inits (record { 0 = x }) r → found r ≡ false → AllGiven inits names false
     naming_missing h x e r finds y next fs ts a l b k =
-        sym (front h x e next fs ts a l b k ∙ part_missing (given (record { 0 = x }) fs) (from_struct_fields fs (drop (suc i) ts)) (init_missing next t (given (record { 0 = x }) fs) r (finds next fs a l) y))
+        sym (front h x e next fs ts a l b k ∙ part_missing (given (record { 0 = x }) fs) (from_struct_fields fs (drop (suc i) ts)) (init_missing next inits.bytes.now (given (record { 0 = x }) fs) r (finds next fs a l) y))
 
-    pub naming_all : m ≤ i → AllGiven t at n u names m true
+    pub naming_all : names.count ≤ i → AllGiven inits names true
     unfolding from_struct_fields is_some
     naming_all h next fs ts a l b k =
         let g : length ts ≤ i = omega (arith, k) in

@@ -1,5 +1,5 @@
 -- Kinds and their numbers.
-use Rattle.std.proofs.Common.{ℕ, ◌<◌, ◌≡◌, Bool, true, false, eqb, refl, lit<}
+use Rattle.std.proofs.Common.{◌<◌, lit<}
 use Rattle.mir.specs.declared.kind.Kind.{Kind}
 use Rattle.mir.specs.declared.terminator.TerminatorKind.{TerminatorKind}
 use Rattle.mir.specs.Kind.{number_of_kind}

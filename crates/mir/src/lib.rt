@@ -1,5 +1,5 @@
-// The names and values of a routine, as the Rust has them (value.rs, ids of mir), and the numbers of its kinds and shapes. What
-// routines are made of stands in specs/.
+// The names and values of a routine, as the Rust has them (value.rs, ids of mir), and its kinds and shapes. What routines are made of
+// stands in specs/.
 #![tactic(auto)]
 
 pub mod kind;

@@ -6,12 +6,3 @@ pub enum Shape {
     Struct,
     FixedArray,
 }
-
-// The same as numbers, for what does not take them as an enum yet.
-pub const OTHER: u8 = 0;
-
-pub const TUPLE: u8 = 1;
-
-pub const STRUCT: u8 = 2;
-
-pub const FIXED_ARRAY: u8 = 3;

@@ -28,14 +28,3 @@ impl TryFrom<u8> for TerminatorKind {
         }
     }
 }
-
-// The same as numbers, for what does not take them as an enum yet.
-pub const JUMP: u8 = 0;
-
-pub const IF: u8 = 1;
-
-pub const BRANCH_CMP: u8 = 2;
-
-pub const RETURN: u8 = 3;
-
-pub const UNREACHABLE: u8 = 4;

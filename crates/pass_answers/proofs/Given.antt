@@ -18,8 +18,7 @@ use Rattle.shelf.specs.Reads.{with_debug}
 use Rattle.shelf.specs.Reason.{shelf_reason}
 use Rattle.shelf.specs.Answer.{refused, lowered, reason_of, with_reason, answer as given}
 use Rattle.pass_numbers.proofs.Laws.{given_refused}
-use Rattle.std.specs.Prelude.{Result, Ok, Err}
-use Rattle.pass_answers.specs.declared.Lowered.{Lowered}
+use Rattle.std.specs.Prelude.{Err}
 use Rattle.pass_answers.specs.declared.Refused.{Refused}
 use Rattle.pass_answers.specs.Numbers.{Answers}
 use Rattle.pass_answers.proofs.Laws.{answers}

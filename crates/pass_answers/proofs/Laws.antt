@@ -18,17 +18,12 @@ use Rattle.pass_answers.specs.declared.Refused.{Refused}
 use Rattle.pass_answers.specs.Numbers.{numbers_of, leaves, as_answer, Answers}
 use Rattle.pass_answers.specs.Totals.{totals_after, after_answer}
 
--- one is folded where the count is not 0
-pub some_folded : (n : ℕ) → ltb 0 n ≡ not (eqb n 0)
-some_folded zero = refl
-some_folded (suc n) = rw (lt-ltb 0 (suc n) (omega arith), ne_eqb (suc n) 0 (λ e. omega arith))
-
 pub answers : (o o' : Given) (r : Result Lowered Refused) (out out' : List ℕ) → o ≡ o' → as_answer r ≡ numbers_of o' → out' ≡ leaves o' out → Answers o r out out'
 answers o o' r out out' e f g = rw e (record { says = f; left = g })
 
 -- the counts among an answer's numbers
 abbrev counts_in : Numbers → Counts
-counts_in n = record { builds = n.builds; extracts = n.extracts; inserts = n.inserts; assigns = n.assigns; materializations = n.materializations }
+counts_in n = let c = n.counts in record { builds = c.builds; extracts = c.extracts; inserts = c.inserts; assigns = c.assigns; materializations = c.materializations }
 
 by_answer : (t : Totals) → Fit t → (r : Result Lowered Refused) → after_answer t r ≡ with_counts t (counts_in (as_answer r))
 by_answer t f (Err (Refused.Malformed r)) = sym (with_none t f)

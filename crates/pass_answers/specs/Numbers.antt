@@ -7,28 +7,17 @@ use Rattle.rewrite.specs.declared.Counts.{Counts}
 use Rattle.shelf.specs.Answer.{Answer as Given, refused, lowered}
 use Rattle.shelf_test.specs.Number.{number_of_reason}
 use Rattle.pass_numbers.specs.declared.Numbers.{Numbers}
+use Rattle.pass_numbers.specs.Totals.{totals_of, no_totals}
 use Rattle.pass_answers.specs.declared.Lowered.{Lowered}
 use Rattle.pass_answers.specs.declared.Refused.{Refused}
 
 -- a refusal: its number and its offset
 abbrev pub refusal : ℕ → ℕ → Numbers
-refusal n o = record { number = n; offset = o; result = 0; builds = 0; extracts = 0; inserts = 0; assigns = 0; materializations = 0; reason = 0; size = 0 }
+refusal n o = record { number = n; offset = o; result = 0; counts = no_totals; reason = 0; size = 0 }
 
 -- what is not refused: the result, the counts, the shelf reason and the size
 abbrev pub acceptance : Bool → Counts → ℕ → ℕ → Numbers
-acceptance w c k n =
-    record {
-      number = 0;
-      offset = 0;
-      result = bool_byte w;
-      builds = c.builds;
-      extracts = c.extracts;
-      inserts = c.inserts;
-      assigns = c.assigns;
-      materializations = c.materializations;
-      reason = k;
-      size = n;
-    }
+acceptance w c k n = record { number = 0; offset = 0; result = bool_byte w; counts = totals_of c; reason = k; size = n }
 
 abbrev pub numbers_of : Given → Numbers
 numbers_of (refused n o) = refusal n o

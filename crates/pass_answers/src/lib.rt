@@ -4,20 +4,13 @@
 ghost use Rattle.std.specs.Prelude.{◌≡◌, not, eqb, Ok};
 ghost use Rattle.shelf_test.specs.Number.{number_of_reason};
 ghost use Rattle.pass_answers.specs.declared.Refused.{Refused};
-ghost use Rattle.pass_answers.specs.Numbers.{refusal, acceptance, as_refusal, as_answer};
+ghost use Rattle.pass_answers.specs.Numbers.{acceptance, as_refusal, as_answer};
 ghost use Rattle.pass_answers.specs.Totals.{after_answer};
 
 use bytes_wire::Refusal;
 use pass_numbers::{Numbers, Totals};
 use rewrite::{Clash, Counts};
 use shelf_test::ShelfReason;
-
-// Rows 10 to 12 of document 01's table of refusals.
-const CLASH: u8 = 10;
-
-const NO_ROOM: u8 = 11;
-
-const TOO_LARGE: u8 = 12;
 
 // Why a call is refused.
 #[derive(Clone, Copy, Debug, PartialEq, Eq)]
@@ -71,32 +64,23 @@ impl Lowered {
     }
 }
 
-fn numbers_refused(number: u8, offset: usize) -> Numbers
-    ensures { result ≡ refusal number offset }
-{
-    Numbers {
-        number: number as u64,
-        offset: offset as u64,
-        result: 0,
-        builds: 0,
-        extracts: 0,
-        inserts: 0,
-        assigns: 0,
-        materializations: 0,
-        reason: 0,
-        size: 0,
-    }
-}
-
 // The number and offset that document 01 gives a refusal.
 fn refusal_of(r: Refused) -> Numbers
     ensures { result ≡ as_refusal r }
 {
-    match r {
-        Refused::Malformed(r) => numbers_refused(bytes_wire::cause_number(r.cause), r.offset),
-        Refused::Clash => numbers_refused(CLASH, 0),
-        Refused::NoRoom => numbers_refused(NO_ROOM, 0),
-        Refused::TooLarge => numbers_refused(TOO_LARGE, 0),
+    let (number, offset) = match r {
+        Refused::Malformed(refusal) => (bytes_wire::cause_number(refusal.cause), refusal.offset),
+        Refused::Clash => (10, 0),
+        Refused::NoRoom => (11, 0),
+        Refused::TooLarge => (12, 0),
+    };
+    Numbers {
+        number: number as u64,
+        offset: offset as u64,
+        result: 0,
+        counts: Totals::default(),
+        reason: 0,
+        size: 0,
     }
 }
 
@@ -110,11 +94,7 @@ pub fn numbers_of(a: Result<Lowered, Refused>) -> Numbers
             number: 0,
             offset: 0,
             result: l.result as u64,
-            builds: l.counts.builds as u64,
-            extracts: l.counts.extracts as u64,
-            inserts: l.counts.inserts as u64,
-            assigns: l.counts.assigns as u64,
-            materializations: l.counts.materializations as u64,
+            counts: Totals::from(l.counts),
             reason: shelf_test::reason_number(l.reason) as u64,
             size: l.size as u64,
         },

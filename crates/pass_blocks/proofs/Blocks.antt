@@ -1,25 +1,24 @@
 -- A run over the blocks is that of the definition.
 use Prim.Native.Nat.{ℕ, ◌+◌, ◌≤◌, ◌<◌}
-use mathlib.Core.Path.{◌≡◌, refl, ap, ◌∙◌, sym}
+use mathlib.Core.Path.{◌≡◌, refl, ap, ◌∙◌}
 use mathlib.Core.List.{List}
 use native.Mathlib.Nat.{zero-add}
 use native.Mathlib.Omega.{arith}
 use lib.ListN.{length, take}
-use lib.Seq.{sets, length-sets}
+use lib.Seq.{length-sets}
 use Rattle.bytes_field.specs.declared.Bounds.{Bounds}
-use Rattle.bytes_laws.proofs.Bits.{true_false}
 use Rattle.mir.specs.Lookup.{types_in}
 use Rattle.fold.specs.declared.Settings.{Settings}
 use Rattle.fold.specs.Family.{Marks}
 use Rattle.rewrite.specs.Run.{Rewritten, choice, all_blocks, rewritten_blocks}
-use Rattle.rewrite_progress.specs.Effect.{output_of, Output, further, behind, rewritten_effect, Puts, Low}
-use Rattle.std.specs.Prelude.{Result, Ok, Err}
+use Rattle.rewrite_progress.specs.Effect.{output_of, Output, further, behind, rewritten_effect, Puts}
+use Rattle.std.specs.Prelude.{Result}
 use Rattle.rewrite.specs.declared.Clash.{Clash}
 use Rattle.rewrite_progress.specs.declared.Progress.{Progress}
 use Rattle.pass_input.specs.Accepted.{Accepted}
 use Rattle.pass_input.proofs.Accepted.{next_is, next_few, few_fresh}
 use Rattle.pass_input.proofs.Copied.{take_sets}
-use Rattle.pass_blocks.specs.Runs.{body_of, start_at, highest_start, Runs, Begun}
+use Rattle.pass_blocks.specs.Runs.{body_of, start_at, Runs, Begun}
 
 runs_from_lem : (w : Rewritten) (to : ℕ) (out fresh out' fresh' : List ℕ) (dropped dropped' : Marks) (r : Result Progress Clash) → Puts (output_of out fresh dropped (start_at to)) (rewritten_effect w) w.clash out' fresh' dropped' r → Runs w to out fresh dropped out' fresh' dropped' r
 unfolding behind further rewritten_effect
@@ -65,16 +64,6 @@ module _ {s facts : List ℕ} {b : Bounds} (a : Accepted s facts b) (σ : Settin
 -- a progress with nothing but a place begins there
 pub begins : (to l f b e i s m : ℕ) → l ≡ 0 → f ≡ 0 → b ≡ 0 → e ≡ 0 → i ≡ 0 → s ≡ 0 → m ≡ 0 → ◌≡◌ {A = Progress} (record { to = to; lines = l; fresh = f; counts = record { builds = b; extracts = e; inserts = i; assigns = s; materializations = m } }) (start_at to)
 begins to l f b e i s m x₁ x₂ x₃ x₄ x₅ x₆ x₇ = rw (x₁, x₂, x₃, x₄, x₅, x₆, x₇) refl
-
--- the numbers of a run that begins are low
-pub low_start : (to : ℕ) → to ≤ highest_start → Low 64 (start_at to)
-low_start to l =
-    record { to = omega arith; lines = omega arith; fresh = omega arith; builds = omega arith; extracts = omega arith; inserts = omega arith; assigns = omega arith; materializations = omega arith }
-
--- another run writes what the first began
-pub run_again : (w : Rewritten) (body : List ℕ) (size to : ℕ) (out fresh out' fresh' : List ℕ) (dropped dropped' : Marks) (r : Result Progress Clash) → Begun w body size → Runs w to out fresh dropped out' fresh' dropped' r → out' ≡ sets out to (body_of w)
-run_again w body size to out fresh out' fresh' dropped dropped' (Err x) h q = absurd (true_false (sym (q.clashed x refl) ∙ h.calm))
-run_again w body size to out fresh out' fresh' dropped dropped' (Ok p) h q = (q.went p refl).written
 
 -- all of it stands in the buffer, where that is long enough
 pub begun_all : (w : Rewritten) (body : List ℕ) (size : ℕ) → Begun w body size → size ≤ length body → take size body ≡ body_of w

@@ -1,5 +1,6 @@
 // The blocks of the output. A run over them tells how long they are and which fresh numbers they take; behind the head they are
 // copied from where it wrote them, or run over again.
+// (The tables are lent one by one, as in rewrite_step. How long they are stays a clause: a longer one may be lent.)
 #![tactic(auto)]
 
 ghost use Rattle.std.specs.Prelude.{◌≡◌, ◌+◌, ◌≤◌, length};
@@ -7,13 +8,13 @@ ghost use Rattle.std.proofs.lemmas.List.Edits.{sets};
 ghost use Rattle.rewrite.specs.Run.{rewritten_blocks};
 ghost use Rattle.rewrite_parts.specs.Rows.{fresh_in};
 ghost use Rattle.rewrite_progress.specs.Effect.{PutLow, routine_low};
-ghost use Rattle.pass_input.specs.Accepted.{Chosen};
+ghost use Rattle.pass_input.specs.Accepted.{ChosenRun};
 ghost use Rattle.pass_blocks.specs.Runs.{body_of, Runs, Begun, highest_start, row_places};
 ghost use Rattle.mir.specs.Most.{most_blocks};
 
 use mir::most;
 use rewrite::Clash;
-use rewrite_progress::{Progress, Setup};
+use rewrite_progress::{Progress, Run};
 
 // In the working table the rows of parts come first; from here on it has the types of the fresh numbers.
 pub const FRESH: usize = 2432;
@@ -23,19 +24,18 @@ pub const WORK: usize = 7040;
 // Writes the blocks from `to` on; `work` is given the types of the fresh numbers, `dropped` the marks of the values that are
 // left out.
 pub fn run_blocks(
-    s: &[u8],
-    setup: Setup,
-    facts: &[u16],
-    choice: &[bool],
+    run: Run,
     to: usize,
     dropped: &mut [bool],
     work: &mut [u16],
     out: &mut [u8],
 ) -> Result<Progress, Clash>
-    requires { (to ≤ highest_start) × ((setup.bounds.blocks ≤ most_blocks) × (row_places ≤ length work.old)) }
+    requires near { to ≤ highest_start }
+    requires few { run.code.bounds.blocks ≤ most_blocks }
+    requires rows { row_places ≤ length work.old }
     ensures put_low { PutLow routine_low result }
-    ensures runs { (h : Chosen setup.settings s.now facts.now setup.bounds choice.now)
-        → Runs (rewritten_blocks setup.settings h.accepted.routine) to out.old (fresh_in work.old) dropped.old
+    ensures runs { (h : ChosenRun run.entry)
+        → Runs (rewritten_blocks run.entry.settings h.accepted.routine) to out.old (fresh_in work.old) dropped.old
         out.new (fresh_in work.new) dropped.new result }
 {
     let start = Progress {
@@ -43,35 +43,18 @@ pub fn run_blocks(
         ..Progress::default()
     };
     let mut tracked: [bool; most::VALUES] = [false; most::VALUES];
-    rewrite_blocks::put_blocks(
-        s,
-        setup,
-        facts,
-        choice,
-        start,
-        &mut tracked,
-        dropped,
-        work,
-        out,
-    )
+    rewrite_blocks::put_blocks(run, start, &mut tracked, dropped, work, out)
 }
 
 // Writes the blocks from `to` on, where there is room for their `size` bytes: copied from `body`, where a run wrote them, or by
 // another run, where they are longer than that.
-pub fn put_body(
-    s: &[u8],
-    setup: Setup,
-    facts: &[u16],
-    choice: &[bool],
-    body: &[u8],
-    size: usize,
-    out: &mut [u8],
-    to: usize,
-)
-    requires { (to ≤ highest_start) × ((setup.bounds.blocks ≤ most_blocks) × (to + size ≤ length out.old)) }
-    ensures { (h : Chosen setup.settings s.now facts.now setup.bounds choice.now)
-        → Begun (rewritten_blocks setup.settings h.accepted.routine) body.now size
-        → out.new ≡ sets out.old to (body_of (rewritten_blocks setup.settings h.accepted.routine)) }
+pub fn put_body(run: Run, body: &[u8], size: usize, out: &mut [u8], to: usize)
+    requires near { to ≤ highest_start }
+    requires few { run.code.bounds.blocks ≤ most_blocks }
+    requires room { to + size ≤ length out.old }
+    ensures { (h : ChosenRun run.entry)
+        → Begun (rewritten_blocks run.entry.settings h.accepted.routine) body.now size
+        → out.new ≡ sets out.old to (body_of (rewritten_blocks run.entry.settings h.accepted.routine)) }
 {
     if size <= body.len() {
         bytes_emit::copy_whole(&body[..size], out, to);
@@ -79,5 +62,5 @@ pub fn put_body(
     }
     let mut work: [u16; WORK] = [0; WORK];
     let mut dropped: [bool; most::VALUES] = [false; most::VALUES];
-    let _ = run_blocks(s, setup, facts, choice, to, &mut dropped, &mut work, out);
+    let _ = run_blocks(run, to, &mut dropped, &mut work, out);
 }

@@ -14,10 +14,15 @@ use Rattle.bytes_wire.specs.Parse.{bad, number_of_cause}
 use Rattle.bytes_wire.specs.declared.Cause.{Cause}
 use Rattle.mir.specs.declared.ValueId.{ValueId}
 use Rattle.mir.specs.Syntax.{Instruction, InstructionKind, Block}
+use Rattle.mir.specs.declared.kind.Kind.{Kind}
+use Rattle.mir.specs.Kind.{number_of_kind}
+use Rattle.mir.specs.Reads.{kind_number}
 use Rattle.mir.specs.Lookup.{Types, types_in}
 use Rattle.bytes_field.specs.declared.Bounds.{Bounds}
 use Rattle.bytes_index.specs.Table.{place_in, kind_in, starts_in}
-use Rattle.bytes_index.specs.Code.{no_instruction, no_block, InstructionsIn, CodeIn}
+use Rattle.bytes_index.specs.declared.code.Code.{Code}
+use Rattle.bytes_index.specs.declared.slots.Slots.{Slots}
+use Rattle.bytes_index.specs.Code.{no_instruction, no_block, InstructionsIn, SlotsOf}
 use Rattle.bytes_sections.specs.Decode.{mosts, whole_of}
 use Rattle.fold.specs.declared.Settings.{Settings}
 use Rattle.fold.specs.Family.{Marks, build_dest}
@@ -26,7 +31,8 @@ use Rattle.fold_family.specs.Copies.{dynamics}
 use Rattle.fold_copies.specs.Found.{ScanCopies}
 use Rattle.fold_climb.proofs.Found.{DestAt, dest, tuple_place, struct_place, array_place}
 use Rattle.fold_scan.proofs.Placed.{build_kind_lem}
-use Rattle.fold_choose.proofs.Buildless.{roomy}
+use Rattle.bytes_index.proofs.Rising.{roomy}
+use Rattle.mir.proofs.Numbers.{one_kind}
 use Rattle.text.specs.Written.{Written}
 use Rattle.text.proofs.Writing.{Writing, writing_start, writing_on, writing_done}
 use Rattle.text_lines.specs.Lines.{checked_line}
@@ -36,45 +42,55 @@ use Rattle.pass_input.specs.Accepted.{Accepted}
 use Rattle.pass_input.proofs.Accepted.{coded}
 use Rattle.pass_families.specs.Lines.{build_line, instruction_lines, block_lines, families_of}
 use Rattle.pass_families.specs.Shown.{Prepared, PutsBuild, PutsOne, PutsAll, PutsBlock, PutsBlocks}
+use Rattle.fold_looked.specs.declared.tables.Tables.{Tables}
 use Rattle.pass_families.proofs.Parts.{part_written}
 
 -- the kinds of builds
-abbrev pub BuildKind : ℕ → Type 0
-BuildKind kind = (kind ≡ 10) ⊎ ((kind ≡ 12) ⊎ (kind ≡ 16))
+abbrev pub BuildKind : Kind → Type 0
+BuildKind kind = (kind ≡ Kind.MakeTuple) ⊎ ((kind ≡ Kind.MakeStruct) ⊎ (kind ≡ Kind.MakeFixedArray))
 
 -- a build has a dest
 has_dest : {next : ℕ} {t : List ℕ} {i : InstructionKind} → DestAt next t i → build_dest i ≡ none → ⊥
 has_dest (dest d e a low) h = none-ne-some _ (sym h ∙ e)
 
-module _ (named : Bool) (s facts : List ℕ) (k : ℕ) (shapes table : List ℕ) (dynamic : Marks) where
-  module _ (j slot kind : ℕ) (ks : kind ≡ kind_in facts slot) (text : List ℕ) where
+module _ (named : Bool) (code : Code) (k : ℕ) (tables : Tables) where
+  module _ (j slot : ℕ) (text : List ℕ) where
     -- what is no build has no line,
-    pub puts_none : (BuildKind kind → ⊥) → PutsOne named s facts k j slot shapes table dynamic text text 0
-    puts_none h τ is b i p at = go (build_dest i.kind) refl
+    no_line : ((i : InstructionKind) (d : ValueId) → kind_in code.facts.now slot ≡ kind_number i → build_dest i ≡ some d → ⊥) → PutsOne named code k j slot tables text text 0
+    no_line h τ is i p at = go (build_dest i.kind) refl
       where
         go : (o : Option ValueId) → build_dest i.kind ≡ o → Written (build_line named τ is k j o) 0 text text 0
         go none e = record { place = omega arith; stored = refl }
-        go (some d) e =
-            let z : kind ≡ _ = ks ∙ at.kind in
-            absurd (build_kind_lem i.kind d e (λ q. h (inl (z ∙ q))) (λ q. h (inr (inl (z ∙ q)))) (λ q. h (inr (inr (z ∙ q)))))
+        go (some d) e = absurd (h i.kind d at.kind e)
 
-    -- and a build has its line
-    pub puts_one : (after : List ℕ) (n : ℕ) → BuildKind kind
-        → PutsBuild named s facts k j slot shapes table dynamic text after n → PutsOne named s facts k j slot shapes table dynamic text after n
-    puts_one after n h puts τ is b i p at = go (build_dest i.kind) refl
-      where
-        t : List ℕ
-        t = drop (place_in facts slot) s
+    pub puts_past : 18 < kind_in code.facts.now slot → PutsOne named code k j slot tables text text 0
+    puts_past far = no_line (λ i d z e. build_kind_lem i d e (λ q. omega arith) (λ q. omega arith) (λ q. omega arith))
 
-        built : build_dest i.kind ≡ none → ⊥
-        built e =
-            ⊎_elim (λ q. has_dest (tuple_place b [] false t i _ at.read (sym (ks ∙ at.kind) ∙ q)) e)
-            (⊎_elim (λ q. has_dest (struct_place b [] false t i _ at.read (sym (ks ∙ at.kind) ∙ q)) e)
-            (λ q. has_dest (array_place b [] false t i _ at.read (sym (ks ∙ at.kind) ∙ q)) e)) h
+    module _ (kind : Kind) (ks : number_of_kind kind ≡ kind_in code.facts.now slot) where
+      pub puts_none : (BuildKind kind → ⊥) → PutsOne named code k j slot tables text text 0
+      puts_none h =
+          no_line (λ i d z e. build_kind_lem i d e (λ q. h (inl (one_kind kind Kind.MakeTuple (ks ∙ z ∙ q))))
+          (λ q. h (inr (inl (one_kind kind Kind.MakeStruct (ks ∙ z ∙ q))))) (λ q. h (inr (inr (one_kind kind Kind.MakeFixedArray (ks ∙ z ∙ q))))))
 
-        go : (o : Option ValueId) → build_dest i.kind ≡ o → Written (build_line named τ is k j o) 0 text after n
-        go none e = absurd (built e)
-        go (some d) e = puts τ is b i d p at e
+      -- and a build has its line
+      pub puts_one : (after : List ℕ) (n : ℕ) → BuildKind kind → PutsBuild named code k j slot tables text after n → PutsOne named code k j slot tables text after n
+      puts_one after n h puts τ is i p at = go (build_dest i.kind) refl
+        where
+          t : List ℕ
+          t = drop (place_in code.facts.now slot) code.bytes.now
+
+          numbered : (c : Kind) → kind ≡ c → kind_number i.kind ≡ number_of_kind c
+          numbered c q = sym (ks ∙ at.kind) ∙ ap number_of_kind q
+
+          built : build_dest i.kind ≡ none → ⊥
+          built e =
+              ⊎_elim (λ q. has_dest (tuple_place code.bounds [] false t i _ at.read (numbered Kind.MakeTuple q)) e)
+              (⊎_elim (λ q. has_dest (struct_place code.bounds [] false t i _ at.read (numbered Kind.MakeStruct q)) e)
+              (λ q. has_dest (array_place code.bounds [] false t i _ at.read (numbered Kind.MakeFixedArray q)) e)) h
+
+          go : (o : Option ValueId) → build_dest i.kind ≡ o → Written (build_line named τ is k j o) 0 text after n
+          go none e = absurd (built e)
+          go (some d) e = puts τ is i d p at e
 
   -- instruction j's line comes first of those that are left
   first_line : (τ : Types) (is all : List Instruction) (j : ℕ) → j < length all
@@ -83,41 +99,41 @@ module _ (named : Bool) (s facts : List ℕ) (k : ℕ) (shapes table : List ℕ)
   unfolding instruction_lines
   first_line τ is all j h = rw (drop-cons all j no_instruction h, add-one j) refl
 
-  module _ (first count : ℕ) (text₀ : List ℕ) where
+  module _ (slots : Slots) (text₀ : List ℕ) where
     -- the lines of the first j instructions stand
     pub record Putting (text : List ℕ) (to j : ℕ) : Type 0 where
-      pub left : (τ : Types) (is : List Instruction) (b : Bounds) → Prepared b shapes table dynamic τ is → InstructionsIn b s facts first is
-          → length is ≡ count → Writing (instruction_lines named τ is k 0 is) (instruction_lines named τ is k j (drop j is)) text₀ text 0 to
+      pub left : (τ : Types) (is : List Instruction) → Prepared code tables τ is → InstructionsIn code.bounds code.bytes.now code.facts.now slots.first is
+          → length is ≡ slots.count → Writing (instruction_lines named τ is k 0 is) (instruction_lines named τ is k j (drop j is)) text₀ text 0 to
 
     pub putting : Putting text₀ 0 0
-    putting = record { left = λ τ is b p code c. writing_start (instruction_lines named τ is k 0 is) text₀ 0 }
+    putting = record { left = λ τ is p stands c. writing_start (instruction_lines named τ is k 0 is) text₀ 0 }
 
     module _ (text : List ℕ) (to j : ℕ) (inv : Putting text to j) where
-      pub putting_on : j < count → (part : List ℕ) (n : ℕ)
-          → PutsOne named s facts k j (first + j) shapes table dynamic (mid_of to (length text - to) text) part n
+      pub putting_on : j < slots.count → (part : List ℕ) (n : ℕ)
+          → PutsOne named code k j (slots.first + j) tables (mid_of to (length text - to) text) part n
           → Putting (put_mid to (length text - to) text part) (to + n) (j + 1)
       putting_on h part n puts =
           record {
-            left = λ τ is b p code c.
-                let w = puts τ is b (get_or is j no_instruction) p (code j (omega arith)) in
-                writing_on _ _ _ _ _ _ (inv.left τ is b p code c) _ _ _ _ (first_line τ is is j (omega arith)) (part_written _ text part to _ n refl w);
+            left = λ τ is p stands c.
+                let w = puts τ is (get_or is j no_instruction) p (stands j (omega arith)) in
+                writing_on _ _ _ _ _ _ (inv.left τ is p stands c) _ _ _ _ (first_line τ is is j (omega arith)) (part_written _ text part to _ n refl w);
           }
 
-      pub puts_all : count ≤ j → PutsAll named s facts k first count shapes table dynamic text₀ text to
+      pub puts_all : slots.count ≤ j → PutsAll named code k slots tables text₀ text to
       unfolding instruction_lines
-      puts_all h τ is b p code c =
-          writing_done _ _ _ _ _ _ (inv.left τ is b p code c) (ap (instruction_lines named τ is k j) (drop_of_length-le is (omega arith)))
+      puts_all h τ is p stands c =
+          writing_done _ _ _ _ _ _ (inv.left τ is p stands c) (ap (instruction_lines named τ is k j) (drop_of_length-le is (omega arith)))
 
 -- a block is scanned for its copies first
-pub puts_block : (named : Bool) (s : List ℕ) (b : Bounds) (facts : List ℕ) (k first count : ℕ) (shapes zeros table : List ℕ)
-    → (clear dynamic : Marks) (text after : List ℕ) (n : ℕ)
-    → ScanCopies s b facts first count zeros table clear dynamic → zeros ≡ replicate 640 0 → clear ≡ replicate b.next false
-    → PutsAll named s facts k first count shapes table dynamic text after n
-    → PutsBlock named s b facts k first count shapes text after n
-puts_block named s b facts k first count shapes zeros table clear dynamic text after n scans z cl puts σ τ is eligible g sh code c few =
-    let x = scans b.list τ is g.known.rows g.rows code c few z in
+pub puts_block : (named : Bool) (code : Code) (k : ℕ) (slots : Slots) (zeros : List ℕ) (tables : Tables)
+    → (clear : Marks) (text after : List ℕ) (n : ℕ)
+    → ScanCopies code slots.first slots.count zeros tables.copies.now clear tables.dynamic.now → zeros ≡ replicate 640 0 → clear ≡ replicate code.bounds.next false
+    → PutsAll named code k slots tables text after n
+    → PutsBlock named code k slots tables.shapes.now text after n
+puts_block named code k slots zeros tables clear text after n scans z cl puts σ τ is eligible g sh stands c few =
+    let x = scans code.bounds.list τ is g.known.rows g.rows stands c few z in
     let e : clear ≡ replicate (length τ.recorded) false = cl ∙ ap (λ (m : ℕ). replicate m false) (sym g.values) in
-    puts τ is b
+    puts τ is
     (record {
       settings = σ;
       eligible = eligible;
@@ -133,31 +149,35 @@ puts_block named s b facts k first count shapes zeros table clear dynamic text a
       };
       shaped = sh;
       values = g.values;
-    }) code c
+    }) stands c
 
--- block k has so many instructions
-abbrev pub Counts : List ℕ → ℕ → ℕ → Type 0
-Counts facts k count =
-    (b : Bounds) (s : List ℕ) (ks : List Block) → CodeIn b s facts ks → k < length ks → count ≡ length (get_or ks k no_block).instructions
-
--- its slots are among those of the table
-pub slots_few : {s facts : List ℕ} {b : Bounds} (a : Accepted s facts b) {slot k count : ℕ}
-    → slot ≡ get_or (starts_in facts) k 0 → k < b.blocks → Counts facts k count → slot + count < 288
-slots_few {s} {facts} {b} a {slot} {k} {count} here h counts =
+-- the slots of a block are among those of the table
+pub slots_few : {s facts : List ℕ} {b : Bounds} (a : Accepted s facts b) {k : ℕ} (slots : Slots) → SlotsOf facts k slots → k < b.blocks
+    → (slots.first ≡ get_or (starts_in facts) k 0) × (slots.first + slots.count < 288)
+slots_few {s} {facts} {b} a {k} slots so h =
     let x = coded a in
     let l : k < length a.routine.blocks = omega (arith, x.many) in
-    omega (arith, here, counts b s a.routine.blocks x.code l, roomy x.code k l)
+    let w = so b s a.routine.blocks x.code l in
+    (w.0, omega (arith, w.0, w.1, roomy x.code k l))
 
-module _ (named : Bool) (s : List ℕ) (b : Bounds) (facts shapes : List ℕ) (text₀ : List ℕ) where
-  -- the lines of the first k blocks stand, and block k's first instruction is in this slot
-  pub record PuttingBlocks (text : List ℕ) (to slot k : ℕ) : Type 0 where
-    pub here : Accepted s facts b → slot ≡ get_or (starts_in facts) k 0
-    pub left : (σ : Settings) (a : Accepted s facts b) (eligible : List Bool) → ShapesAt σ (types_in a.routine) shapes eligible
+-- the next block begins behind its terminator
+pub next_start : {s facts : List ℕ} {b : Bounds} (a : Accepted s facts b) {k : ℕ} (slots : Slots) → SlotsOf facts k slots → k < b.blocks
+    → get_or (starts_in facts) (k + 1) 0 ≡ slots.first + slots.count + 1
+next_start {s} {facts} {b} a {k} slots so h =
+    let x = coded a in
+    let l : k < length a.routine.blocks = omega (arith, x.many) in
+    let w = so b s a.routine.blocks x.code l in
+    rw (add-one k) (omega (arith, x.code.next k l, w.0, w.1))
+
+module _ (named : Bool) (code : Code) (shapes : List ℕ) (text₀ : List ℕ) where
+  -- the lines of the first k blocks stand
+  pub record PuttingBlocks (text : List ℕ) (to k : ℕ) : Type 0 where
+    pub left : (σ : Settings) (a : Accepted code.bytes.now code.facts.now code.bounds) (eligible : List Bool) → ShapesAt σ (types_in a.routine) shapes eligible
         → Writing (block_lines named (types_in a.routine) 0 a.routine.blocks) (block_lines named (types_in a.routine) k (drop k a.routine.blocks))
         text₀ text 0 to
 
-  pub putting_blocks : PuttingBlocks text₀ 0 0 0
-  putting_blocks = record { here = λ a. sym (coded a).code.first; left = λ σ a eligible sh. writing_start _ text₀ 0 }
+  pub putting_blocks : PuttingBlocks text₀ 0 0
+  putting_blocks = record { left = λ σ a eligible sh. writing_start _ text₀ 0 }
 
   -- block k's lines come first of those that are left
   first_block : (τ : Types) (all : List Block) (k : ℕ) → k < length all
@@ -167,27 +187,23 @@ module _ (named : Bool) (s : List ℕ) (b : Bounds) (facts shapes : List ℕ) (t
   first_block τ all k h = rw (drop-cons all k no_block h, add-one k) refl
 
   -- one block more
-  pub putting_on_blocks : (text : List ℕ) (to slot k count : ℕ) → PuttingBlocks text to slot k → k < b.blocks → Counts facts k count
-      → (part : List ℕ) (n : ℕ) → PutsBlock named s b facts k slot count shapes (mid_of to (length text - to) text) part n
-      → PuttingBlocks (put_mid to (length text - to) text part) (to + n) (slot + count + 1) (k + 1)
-  putting_on_blocks text to slot k count inv h counts part n puts =
+  pub putting_on_blocks : (text : List ℕ) (to k : ℕ) (slots : Slots) → PuttingBlocks text to k → k < code.bounds.blocks → SlotsOf code.facts.now k slots
+      → (part : List ℕ) (n : ℕ) → PutsBlock named code k slots shapes (mid_of to (length text - to) text) part n
+      → PuttingBlocks (put_mid to (length text - to) text part) (to + n) (k + 1)
+  putting_on_blocks text to k slots inv h so part n puts =
       record {
-        here = λ a.
-            let x = coded a in
-            let l : k < length a.routine.blocks = omega (arith, x.many) in
-            rw (add-one k) (omega (arith, x.code.next k l, inv.here a, counts b s a.routine.blocks x.code l));
         left = λ σ a eligible sh.
             let x = coded a in
             let l : k < length a.routine.blocks = omega (arith, x.many) in
-            let e = counts b s a.routine.blocks x.code l in
-            let code : InstructionsIn b s facts slot (get_or a.routine.blocks k no_block).instructions = rw (inv.here a) (x.code.each k l).instructions in
-            let w = puts σ (types_in a.routine) _ eligible x.ground sh code (sym e) (omega (arith, e, x.small k l)) in
-            writing_on _ _ _ _ _ _ (inv.left σ a eligible sh) _ _ _ _ (first_block _ _ k l) (part_written _ text part to _ n refl w);
+            let w = so code.bounds code.bytes.now a.routine.blocks x.code l in
+            let stands : InstructionsIn code.bounds code.bytes.now code.facts.now slots.first (get_or a.routine.blocks k no_block).instructions = rw w.0 (x.code.each k l).instructions in
+            let y = puts σ (types_in a.routine) _ eligible x.ground sh stands (sym w.1) (omega (arith, w.1, x.small k l)) in
+            writing_on _ _ _ _ _ _ (inv.left σ a eligible sh) _ _ _ _ (first_block _ _ k l) (part_written _ text part to _ n refl y);
       }
 
-  pub puts_blocks : (text : List ℕ) (to slot k : ℕ) → PuttingBlocks text to slot k → b.blocks ≤ k → PutsBlocks named s b facts shapes text₀ text to
+  pub puts_blocks : (text : List ℕ) (to k : ℕ) → PuttingBlocks text to k → code.bounds.blocks ≤ k → PutsBlocks named code shapes text₀ text to
   unfolding block_lines
-  puts_blocks text to slot k inv h σ a eligible sh =
+  puts_blocks text to k inv h σ a eligible sh =
       writing_done _ _ _ _ _ _ (inv.left σ a eligible sh)
       (ap (block_lines named (types_in a.routine) k) (drop_of_length-le a.routine.blocks (omega (arith, (coded a).many))))
 

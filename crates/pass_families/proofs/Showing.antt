@@ -23,17 +23,19 @@ use Rattle.text.proofs.Writing.{written_as}
 use Rattle.text_lines.specs.Lines.{numbers_line}
 use Rattle.pass_families.specs.Shown.{found_numbers, FindsBuild, PutsBuild}
 use Rattle.pass_families.specs.declared.BuildFamily.{BuildFamily}
+use Rattle.fold_looked.specs.declared.tables.Tables.{Tables}
+use Rattle.bytes_index.specs.declared.code.Code.{Code}
 
 -- a build's dest is its first field; its family is found, whose members are held against the dynamic marks
-pub finds_build : (s facts : List ℕ) (slot : ℕ) (shapes table : List ℕ) (dynamic clear marks : Marks) (room members listed : List ℕ)
+pub finds_build : (code : Code) (slot : ℕ) (tables : Tables) (clear marks : Marks) (room members listed : List ℕ)
     → (v : ValueId) (shp : ℕ) (found : Found) (looked : Bool)
-    → v.0 ≡ dest_in s facts slot → shp ≡ get_or shapes v.0 0
+    → v.0 ≡ dest_in code.bytes.now code.facts.now slot → shp ≡ get_or tables.shapes.now v.0 0
     → length members ≡ length room → listed ≡ take found.members members
-    → FindsFamily table shp v clear marks room members found → MemberIndexed listed (length listed) dynamic looked
-    → FindsBuild s facts slot shapes table dynamic clear marks room
+    → FindsFamily tables.copies.now shp v clear marks room members found → MemberIndexed listed (length listed) tables.dynamic.now looked
+    → FindsBuild code slot tables clear marks room
     (record { dest = v; members = found.members; turns = found.turns; looked = looked })
-finds_build s facts slot shapes table dynamic clear marks room members listed v shp found looked ds ss long el finds index σ τ is b i d eligible k sh l at h =
-    elim (build_place b s facts slot i d at h) [
+finds_build code slot tables clear marks room members listed v shp found looked ds ss long el finds index σ τ is i d eligible k sh l at h =
+    elim (build_place code.bounds code.bytes.now code.facts.now slot i d at h) [
       | build_at a low ↦
           let z : v ≡ d = ap (λ (x : ℕ). record { 0 = x }) (ds ∙ sym a) in
           let below : v.0 < length τ.recorded = rw (z, l) low in
@@ -50,16 +52,16 @@ finds_build s facts slot shapes table dynamic clear marks room members listed v 
     ]
 
 -- a line is put of what was found
-pub puts_build : (named : Bool) (s facts : List ℕ) (k j slot : ℕ) (shapes table : List ℕ) (dynamic clear marks : Marks) (room : List ℕ) (r : BuildFamily)
+pub puts_build : (named : Bool) (code : Code) (k j slot : ℕ) (tables : Tables) (clear marks : Marks) (room : List ℕ) (r : BuildFamily)
     → (text after : List ℕ) (n : ℕ)
-    → FindsBuild s facts slot shapes table dynamic clear marks room r → clear ≡ replicate (length dynamic) false → length room ≡ 256
+    → FindsBuild code slot tables clear marks room r → clear ≡ replicate (length tables.dynamic.now) false → length room ≡ 256
     → Written (numbers_line (found_numbers named k j r marks)) 0 text after n
-    → PutsBuild named s facts k j slot shapes table dynamic text after n
-puts_build named s facts k j slot shapes table dynamic clear marks room r text after n finds cl wide w τ is b i d p at h =
+    → PutsBuild named code k j slot tables text after n
+puts_build named code k j slot tables clear marks room r text after n finds cl wide w τ is i d p at h =
     let q = p.looking in
-    let many : length dynamic ≡ length τ.recorded =
+    let many : length tables.dynamic.now ≡ length τ.recorded =
     ap length q.dynamic_all ∙ dynamics_length (replicate (length τ.recorded) false) is ∙ length-replicate (length τ.recorded) false in
-    let looking : Looking τ is table dynamic clear room = record {
+    let looking : Looking τ is tables.copies.now tables.dynamic.now clear room = record {
       rows = q.rows;
       short = q.short;
       few = q.few;
@@ -67,5 +69,5 @@ puts_build named s facts k j slot shapes table dynamic clear marks room r text a
       cleared = cl ∙ ap (λ (m : ℕ). replicate m false) many;
       dynamic_all = q.dynamic_all;
     } in
-    let x = finds p.settings τ is b i d p.eligible looking p.shaped p.values at h in
+    let x = finds p.settings τ is i d p.eligible looking p.shaped p.values at h in
     written_as (ap numbers_line (rw (x.dest, x.marks, x.members, x.turns, x.looked) refl)) w

@@ -1,8 +1,9 @@
 // What the program `families` prints of bytes: a line for each build of a routine, or the refusal.
+// (The text is another part of the caller's at each call, and comes from the heap: how long it is stays a clause.)
 #![tactic(auto)]
 
-ghost use Rattle.std.specs.Prelude.{◌+◌, ◌*◌, ◌≤◌, length};
-ghost use Rattle.mir.specs.Most.{most_values, most_slots};
+ghost use Rattle.std.specs.Prelude.{◌*◌, ◌≤◌, length};
+ghost use Rattle.mir.specs.Most.{most_values};
 ghost use Rattle.bytes_sections.specs.Decode.{mosts, whole_of};
 ghost use Rattle.text.specs.Written.{Written};
 ghost use Rattle.text_lines.specs.Lines.{numbers_line};
@@ -11,9 +12,11 @@ ghost use Rattle.pass_families.specs.Widths.{line_width, longest_text};
 ghost use Rattle.pass_families.specs.Lines.{marked_from, families_of};
 ghost use Rattle.pass_families.specs.Shown.{found_numbers, FindsBuild, PutsBuild, PutsOne, PutsAll, PutsBlock, PutsBlocks, PutsRoutine};
 
-use bytes_field::Bounds;
+use bytes_index::{Code, Slots, Typing};
 use fold::Settings;
-use mir::{BlockId, ValueId, kind, most};
+use fold_looked::Tables;
+use mir::kind::Kind;
+use mir::{BlockId, ValueId, most};
 
 // The numbers of a line: block, instruction, dest, how many members the family has, how many turns the search for them took, and 1
 // where a member is looked into by an index that is not known, else 0. The members can stand behind.
@@ -49,26 +52,21 @@ pub struct BuildFamily {
     pub looked: bool,
 }
 
-// Finds that of the build in a slot, whose family is found by the block's copies: `family` is clear, one for each value, and gets
-// the family's marks.
+// Finds that of the build in a slot: `family` is clear, one for each value, and gets the family's marks.
 fn find_build(
-    s: &[u8],
-    facts: &[u16],
+    code: Code,
     slot: u16,
-    shapes: &[u8],
-    copies: &[u16],
-    dynamic: &[bool],
+    tables: Tables,
     family: &mut [bool],
     members: &mut [u16],
 ) -> BuildFamily
-    ensures { FindsBuild s.now facts.now slot shapes.now copies.now dynamic.now
-        family.old family.new members.old result }
+    ensures { FindsBuild code.entry slot tables.entry family.old family.new members.old result }
 {
-    let v = fold_scan::dest(s, facts, slot);
-    let shape = bytes_wire::byte_at(shapes, v.0 as usize);
-    let found = fold_family::family(copies, shape, v, family, members);
+    let v = fold_scan::dest(code, slot);
+    let shape = bytes_wire::byte_at(tables.shapes, v.0 as usize);
+    let found = fold_family::family(tables.copies, shape, v, family, members);
     let listed = fold_family::first_members(members, found.members);
-    let looked = fold_family::member_indexed(listed, dynamic);
+    let looked = fold_family::member_indexed(listed, tables.dynamic);
     BuildFamily {
         dest: v,
         members: found.members,
@@ -113,171 +111,115 @@ fn put_line(at: Spot, found: BuildFamily, family: &[bool], named: bool, text: &m
     text_lines::numbers_line(text, &line[..NUMBERS + many])
 }
 
-// The line of the build in a slot, whose family is found by the block's copies.
-fn put_build(
-    s: &[u8],
-    facts: &[u16],
-    at: Spot,
-    shapes: &[u8],
-    copies: &[u16],
-    dynamic: &[bool],
-    named: bool,
-    text: &mut [u8],
-) -> usize
-    requires { length dynamic.now ≤ most_values }
-    ensures written { PutsBuild named s.now facts.now at.block at.instruction at.slot shapes.now copies.now dynamic.now
+// The line of the build in a slot.
+fn put_build(code: Code, at: Spot, tables: Tables, named: bool, text: &mut [u8]) -> usize
+    ensures written { PutsBuild named code.entry at.block at.instruction at.slot tables.entry
         text.old text.new result }
     ensures upper_bound { result ≤ line_width }
 {
     let mut family: [bool; most::VALUES] = [false; most::VALUES];
     let mut members: [u16; most::VALUES] = [0; most::VALUES];
-    let marks = &mut family[..dynamic.len()];
-    let found = find_build(
-        s,
-        facts,
-        at.slot,
-        shapes,
-        copies,
-        dynamic,
-        marks,
-        &mut members,
-    );
+    let marks = &mut family[..tables.dynamic.len()];
+    let found = find_build(code, at.slot, tables, marks, &mut members);
     put_line(at, found, marks, named, text)
 }
 
 // The line of an instruction that is a build; nothing of any other.
-fn put_one(
-    s: &[u8],
-    facts: &[u16],
-    at: Spot,
-    shapes: &[u8],
-    copies: &[u16],
-    dynamic: &[bool],
-    named: bool,
-    text: &mut [u8],
-) -> usize
-    requires { length dynamic.now ≤ most_values }
-    ensures written { PutsOne named s.now facts.now at.block at.instruction at.slot shapes.now copies.now dynamic.now
+fn put_one(code: Code, at: Spot, tables: Tables, named: bool, text: &mut [u8]) -> usize
+    ensures written { PutsOne named code.entry at.block at.instruction at.slot tables.entry
         text.old text.new result }
     ensures upper_bound { result ≤ line_width }
 {
-    match bytes_index::kind(facts, at.slot) {
-        kind::MAKE_TUPLE | kind::MAKE_STRUCT | kind::MAKE_FIXED_ARRAY => {
-            put_build(s, facts, at, shapes, copies, dynamic, named, text)
+    let Some(kind) = bytes_index::instruction_kind(code.facts, at.slot) else {
+        return 0;
+    };
+    match kind {
+        Kind::MakeTuple | Kind::MakeStruct | Kind::MakeFixedArray => {
+            put_build(code, at, tables, named, text)
         }
         _ => 0,
     }
 }
 
-// The lines of a block's `count` instructions, the first of which is at `from`.
+// The lines of block `k`.
 fn put_all(
-    s: &[u8],
-    facts: &[u16],
-    from: Spot,
-    count: u16,
-    shapes: &[u8],
-    copies: &[u16],
-    dynamic: &[bool],
+    code: Code,
+    k: BlockId,
+    slots: Slots,
+    tables: Tables,
     named: bool,
     text: &mut [u8],
 ) -> usize
-    requires { (length dynamic.now ≤ most_values) × (from.slot + count ≤ most_slots) × (line_width * count ≤ length text.old) }
-    ensures written { PutsAll named s.now facts.now from.block from.slot count shapes.now copies.now dynamic.now
-        text.old text.new result }
-    ensures upper_bound { result ≤ line_width * count }
+    requires { line_width * slots.count ≤ length text.old }
+    ensures written { PutsAll named code.entry k.0 slots tables.entry text.old text.new result }
+    ensures upper_bound { result ≤ line_width * slots.count }
 {
     let mut to = 0;
-    for j in 0..count {
+    for j in 0..slots.count {
         let at = Spot {
-            block: from.block,
+            block: k.0,
             instruction: j,
-            slot: from.slot + j,
+            slot: slots.first + j,
         };
-        to = to
-            + put_one(
-                s,
-                facts,
-                at,
-                shapes,
-                copies,
-                dynamic,
-                named,
-                &mut text[to..],
-            );
+        to = to + put_one(code, at, tables, named, &mut text[to..]);
     }
     to
 }
 
-// The lines of a block, which is scanned for its copies first.
+// The lines of block `k`, which is scanned for its copies first. (How many values there are is known of accepted bytes alone, whose
+// bounds have a type that says no more of them.)
 fn put_block(
-    s: &[u8],
-    b: Bounds,
-    facts: &[u16],
-    from: Spot,
-    count: u16,
+    code: Code,
+    k: BlockId,
+    slots: Slots,
     shapes: &[u8],
     named: bool,
     text: &mut [u8],
 ) -> usize
-    requires { (b.next ≤ most_values) × (from.slot + count ≤ most_slots) × (line_width * count ≤ length text.old) }
-    ensures written { PutsBlock named s.now b facts.now from.block from.slot count shapes.now
-        text.old text.new result }
-    ensures upper_bound { result ≤ line_width * count }
+    requires { (code.bounds.next ≤ most_values) × (line_width * slots.count ≤ length text.old) }
+    ensures written { PutsBlock named code.entry k.0 slots shapes.now text.old text.new result }
+    ensures upper_bound { result ≤ line_width * slots.count }
 {
     let mut copies: [u16; fold_family::SIZE] = [0; fold_family::SIZE];
     let mut marks: [bool; most::VALUES] = [false; most::VALUES];
-    let dynamic = &mut marks[..b.next as usize];
-    fold_copies::scan_copies(s, b, facts, from.slot, count, &mut copies, dynamic);
-    put_all(s, facts, from, count, shapes, &copies, dynamic, named, text)
+    let dynamic = &mut marks[..code.bounds.next as usize];
+    fold_copies::scan_copies(code, slots.first, slots.count, &mut copies, dynamic);
+    let tables = Tables {
+        shapes,
+        copies: &copies,
+        dynamic,
+    };
+    put_all(code, k, slots, tables, named, text)
 }
 
-// The lines of all blocks. These stand in the table one behind another, each with a slot more for its terminator.
-fn put_blocks(
-    s: &[u8],
-    b: Bounds,
-    facts: &[u16],
-    shapes: &[u8],
-    named: bool,
-    text: &mut [u8],
-) -> usize
-    requires { Accepted s.now facts.now b × (longest_text ≤ length text.old) }
-    ensures written { PutsBlocks named s.now b facts.now shapes.now text.old text.new result }
+// The lines of all blocks.
+fn put_blocks(code: Code, shapes: &[u8], named: bool, text: &mut [u8]) -> usize
+    requires { Accepted code.bytes.now code.facts.now code.bounds × (longest_text ≤ length text.old) }
+    ensures written { PutsBlocks named code.entry shapes.now text.old text.new result }
     ensures upper_bound { result ≤ longest_text }
 {
     let mut to = 0;
-    let mut slot: u16 = 0;
-    for k in 0..b.blocks {
-        let count = bytes_index::instruction_count(facts, BlockId(k));
-        let from = Spot {
-            block: k,
-            instruction: 0,
-            slot,
-        };
-        to = to + put_block(s, b, facts, from, count, shapes, named, &mut text[to..]);
-        slot = slot + count + 1;
+    for k in 0..code.bounds.blocks {
+        let slots = bytes_index::block_slots(code.facts, BlockId(k));
+        to = to + put_block(code, BlockId(k), slots, shapes, named, &mut text[to..]);
     }
     to
 }
 
 // The lines of an accepted routine, the shapes of whose values' recorded types are found first.
-fn put_routine(s: &[u8], b: Bounds, facts: &[u16], named: bool, text: &mut [u8]) -> usize
-    requires { Accepted s.now facts.now b × (longest_text ≤ length text.old) }
-    ensures written { PutsRoutine named s.now b facts.now text.old text.new result }
+fn put_routine(code: Code, named: bool, text: &mut [u8]) -> usize
+    requires { Accepted code.bytes.now code.facts.now code.bounds × (longest_text ≤ length text.old) }
+    ensures written { PutsRoutine named code.entry text.old text.new result }
     ensures upper_bound { result ≤ longest_text }
 {
     let mut shapes: [u8; most::VALUES] = [0; most::VALUES];
     let mut eligible: [bool; most::VALUES] = [false; most::VALUES];
-    fold_shapes::value_shapes(
-        s,
-        facts,
-        b.types,
-        bytes_index::recorded(facts),
-        b.next,
-        ANY,
-        &mut shapes,
-        &mut eligible,
-    );
-    put_blocks(s, b, facts, &shapes, named, text)
+    let typing = Typing {
+        code,
+        recorded: bytes_index::recorded(code.facts),
+    };
+    fold_shapes::value_shapes(typing, ANY, &mut shapes, &mut eligible);
+    put_blocks(code, &shapes, named, text)
 }
 
 // Writes what is to be printed of some bytes, where `named` each line with the members of its family, and returns its length.
@@ -288,7 +230,14 @@ pub fn families_text(s: &[u8], named: bool, text: &mut [u8]) -> usize
 {
     let mut facts: [u16; bytes_index::SIZE] = [0; bytes_index::SIZE];
     match bytes_read::read_routine(s, &mut facts) {
-        Ok(b) => put_routine(s, b, &facts, named, text),
+        Ok(bounds) => {
+            let code = Code {
+                bytes: s,
+                bounds,
+                facts: &facts,
+            };
+            put_routine(code, named, text)
+        }
         Err(e) => text_lines::checked_line(
             text,
             bytes_wire::cause_number(e.cause) as u64,

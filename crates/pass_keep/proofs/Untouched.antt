@@ -27,7 +27,7 @@ use Rattle.shelf_test.specs.Number.{number_of_reason}
 use Rattle.shelf_test.specs.Shelved.{input_reason}
 use Rattle.shelf_test.proofs.Reasons.{reason_undropped}
 use Rattle.pass_numbers.proofs.Laws.{given_refused}
-use Rattle.std.specs.Prelude.{Result, Ok, Err}
+use Rattle.std.specs.Prelude.{Result, Err}
 use Rattle.pass_answers.specs.declared.Lowered.{Lowered}
 use Rattle.pass_answers.specs.declared.Refused.{Refused}
 use lib.Dec.{eqb}

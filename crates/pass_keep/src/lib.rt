@@ -4,21 +4,23 @@
 ghost use Rattle.std.specs.Prelude.{length};
 ghost use Rattle.shelf.specs.Answer.{answer as given};
 ghost use Rattle.pass_answers.specs.Numbers.{Answers};
-ghost use Rattle.pass_input.specs.Accepted.{Unchanged};
+ghost use Rattle.pass_input.specs.Accepted.{UnchangedCode};
 
+use bytes_index::Code;
+use fold::Settings;
 use pass_answers::{Lowered, Refused};
 use rewrite::Counts;
-use rewrite_progress::Setup;
 
 // Answers for a routine that is not changed.
-pub fn lower_same(s: &[u8], setup: Setup, facts: &[u16], out: &mut [u8]) -> Result<Lowered, Refused>
-    requires { Unchanged setup.settings s.now facts.now setup.bounds }
-    ensures { Answers (given setup.settings (length out.old) s.now) result out.old out.new }
+pub fn lower_same(code: Code, settings: Settings, out: &mut [u8]) -> Result<Lowered, Refused>
+    requires { UnchangedCode settings code }
+    ensures { Answers (given settings (length out.old) code.entry.bytes.now) result out.old out.new }
 {
-    if out.len() < s.len() {
+    let size = code.bytes.len();
+    if out.len() < size {
         return Err(Refused::NoRoom);
     }
-    bytes_emit::copy_whole(s, out, 0);
-    let reason = shelf_test::input_reason(s, setup.bounds, facts);
-    Ok(Lowered::new(Counts::default(), reason, s.len()))
+    bytes_emit::copy_whole(code.bytes, out, 0);
+    let reason = shelf_test::input_reason(code);
+    Ok(Lowered::new(Counts::default(), reason, size))
 }

@@ -1,12 +1,12 @@
 -- Laws of the settings, the ten numbers and the totals.
-use Prim.Native.Nat.{ℕ, ◌+◌, ◌≤◌, ◌<◌}
+use Prim.Native.Nat.{ℕ, suc, ◌+◌, ◌≤◌, ◌<◌}
 use Rattle.std.specs.Prelude.{min}
 use mathlib.Core.Path.{◌≡◌, refl, ap, ◌∙◌, sym}
-use mathlib.Core.List.{List, [], ◌∷◌}
+use mathlib.Core.List.{List, [], ◌∷◌, ◌++◌}
 use mathlib.Core.Bool.{Bool, true, false}
 use native.Mathlib.Omega.{arith}
 use borrow.Author.Tests.{lt-ltb, le-ltb, ltb-true, ltb-false}
-use lib.ListN.{set}
+use lib.ListN.{length, set, take, drop}
 use lib.Seq.{sets}
 use lib.Dec.{ltb}
 use Rattle.fold.specs.declared.Settings.{Settings}
@@ -34,21 +34,21 @@ same_settings t u most r room s f g = split (ltb 16 most) refl
     split true e = large r (g (ltb-true 16 most e)) ∙ sym (large most (ltb-true 16 most e))
     split false e = ap (λ n. given (record { tuples = t; structs = u; most = n }) room s) (f (ltb-false 16 most e))
 
--- ten numbers, stored one after another
-pub ten : (l₀ l₁ l₂ l₃ l₄ l₅ l₆ l₇ l₈ l₉ m : List ℕ) (a b c d e f g h i j : ℕ)
-    → l₁ ≡ set l₀ 0 a
-    → l₂ ≡ set l₁ 1 b
-    → l₃ ≡ set l₂ 2 c
-    → l₄ ≡ set l₃ 3 d
-    → l₅ ≡ set l₄ 4 e
-    → l₆ ≡ set l₅ 5 f
-    → l₇ ≡ set l₆ 6 g
-    → l₈ ≡ set l₇ 7 h
-    → l₉ ≡ set l₈ 8 i
-    → m ≡ set l₉ 9 j
-    → m ≡ sets l₀ 0 (a ∷ b ∷ c ∷ d ∷ e ∷ f ∷ g ∷ h ∷ i ∷ j ∷ [])
-ten l₀ l₁ l₂ l₃ l₄ l₅ l₆ l₇ l₈ l₉ m a b c d e f g h i j p q r s t u v w x y =
-    y ∙ ap (λ l. set l 9 j) (x ∙ ap (λ l. set l 8 i) (w ∙ ap (λ l. set l 7 h) (v ∙ ap (λ l. set l 6 g) (u ∙ ap (λ l. set l 5 f) (t ∙ ap (λ l. set l 4 e) (s ∙ ap (λ l. set l 3 d) (r ∙ ap (λ l. set l 2 c) (q ∙ ap (λ l. set l 1 b) p))))))))
+-- numbers that are stored from the first place on, as far as there is room
+sets_behind : (y : ℕ) (l xs : List ℕ) (i : ℕ) → sets (y ∷ l) (suc i) xs ≡ y ∷ sets l i xs
+sets_behind y l [] i = refl
+sets_behind y l (x ∷ xs) i = sets_behind y (set l i x) xs (suc i)
+
+sets_nowhere : (xs : List ℕ) (i : ℕ) → sets [] i xs ≡ []
+sets_nowhere [] i = refl
+sets_nowhere (x ∷ xs) i = sets_nowhere xs (suc i)
+
+pub stored_part : (l xs : List ℕ) (room : ℕ) → room ≡ min (length l) (length xs) → take room xs ++ drop room l ≡ sets l 0 xs
+stored_part [] xs room e = let z : room ≡ 0 = omega (arith, e) in rw z (sym (sets_nowhere xs 0))
+stored_part (y ∷ l) [] room e = let z : room ≡ 0 = omega (arith, e) in rw z refl
+stored_part (y ∷ l) (x ∷ xs) room e =
+    let z : room ≡ suc (min (length l) (length xs)) = omega (arith, e) in
+    rw z (ap (λ t. x ∷ t) (stored_part l xs (min (length l) (length xs)) refl) ∙ sym (sets_behind x l xs 0))
 
 pub added_all : (total n : ℕ) → total + n < numbers64 → added total n ≡ total + n
 unfolding added

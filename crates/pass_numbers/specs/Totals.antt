@@ -10,6 +10,21 @@ numbers64 = 18446744073709551616
 abbrev pub highest64 : ℕ
 highest64 = 18446744073709551615
 
+-- the counts of one run alone
+abbrev pub totals_of : Counts → Totals
+totals_of c =
+    record {
+      builds = c.builds;
+      extracts = c.extracts;
+      inserts = c.inserts;
+      assigns = c.assigns;
+      materializations = c.materializations;
+    }
+
+-- nothing is counted
+abbrev pub no_totals : Totals
+no_totals = record { builds = 0; extracts = 0; inserts = 0; assigns = 0; materializations = 0 }
+
 -- a sum that stays at the largest number
 unfoldable pub added : ℕ → ℕ → ℕ
 added total n = cond (ltb (total + n) numbers64) (total + n) highest64

@@ -1,39 +1,43 @@
 // The numbers that the entries of the pass take and give: the settings, the ten numbers of an answer, the totals.
 #![tactic(auto)]
 
-ghost use Rattle.std.specs.Prelude.{◌≡◌, List, ℕ, set};
+ghost use Rattle.std.specs.Prelude.{◌≡◌, List, ℕ};
 ghost use Rattle.std.proofs.lemmas.List.Edits.{sets};
 ghost use Rattle.rewrite.specs.Outcome.{settings_of};
 ghost use Rattle.shelf.specs.Answer.{answer as given};
 ghost use Rattle.pass_numbers.specs.Ten.{ten_numbers};
-ghost use Rattle.pass_numbers.specs.Totals.{with_counts};
+ghost use Rattle.pass_numbers.specs.Totals.{totals_of, with_counts};
 
 use fold::Settings;
 use rewrite::Counts;
 
-// A max_aggregate_size that is refused; all greater ones are refused alike.
-const TOO_LARGE: u64 = 17;
+// The largest max_aggregate_size that is not refused; all greater ones are refused alike.
+pub const LARGEST: u8 = 16;
 
-// The places of the ten numbers in a caller's answer.
-const NUMBER: usize = 0;
+// What all runs of one caller counted (sroa.rs, `Stats`, which `run(&mut self)` adds to); a total stays at the largest
+// number once it is there. Beside `Counts`, since a total has 64 bits and a run's count 32.
+#[derive(Clone, Copy, Default)]
+pub struct Totals {
+    pub builds: u64,
+    pub extracts: u64,
+    pub inserts: u64,
+    pub assigns: u64,
+    pub materializations: u64,
+}
 
-const OFFSET: usize = 1;
+impl From<Counts> for Totals {
+    ghost from_gives = { λ c t. t ≡ totals_of c };
 
-const RESULT: usize = 2;
-
-const BUILDS: usize = 3;
-
-const EXTRACTS: usize = 4;
-
-const INSERTS: usize = 5;
-
-const ASSIGNS: usize = 6;
-
-const MATERIALIZATIONS: usize = 7;
-
-const REASON: usize = 8;
-
-const SIZE: usize = 9;
+    fn from(c: Counts) -> Totals {
+        Totals {
+            builds: u64::from(c.builds),
+            extracts: u64::from(c.extracts),
+            inserts: u64::from(c.inserts),
+            assigns: u64::from(c.assigns),
+            materializations: u64::from(c.materializations),
+        }
+    }
+}
 
 // A refusal's number and offset, the result, the five counts, the shelf reason, and how many bytes the rewritten routine has.
 #[derive(Clone, Copy)]
@@ -41,24 +45,9 @@ pub struct Numbers {
     pub number: u64,
     pub offset: u64,
     pub result: u64,
-    pub builds: u64,
-    pub extracts: u64,
-    pub inserts: u64,
-    pub assigns: u64,
-    pub materializations: u64,
+    pub counts: Totals,
     pub reason: u64,
     pub size: u64,
-}
-
-// What all runs of one caller counted (sroa.rs, `Stats`, which `run(&mut self)` adds to); a total stays at the largest
-// number once it is there.
-#[derive(Clone, Copy)]
-pub struct Totals {
-    pub builds: u64,
-    pub extracts: u64,
-    pub inserts: u64,
-    pub assigns: u64,
-    pub materializations: u64,
 }
 
 // A flag is on when its number is not 0.
@@ -68,15 +57,7 @@ pub fn settings_of(tuples: u64, structs: u64, most: u64) -> Settings
     Settings {
         tuples: tuples != 0,
         structs: structs != 0,
-        most: most.min(TOO_LARGE) as u8,
-    }
-}
-
-fn put_number(answer: &mut [u64], k: usize, x: u64)
-    ensures { answer.new ≡ set answer.old k x }
-{
-    if k < answer.len() {
-        answer[k] = x;
+        most: most.min(LARGEST as u64 + 1) as u8,
     }
 }
 
@@ -84,29 +65,32 @@ fn put_number(answer: &mut [u64], k: usize, x: u64)
 pub fn put_numbers(answer: &mut [u64], n: Numbers)
     ensures { answer.new ≡ sets answer.old 0 (ten_numbers n) }
 {
-    put_number(answer, NUMBER, n.number);
-    put_number(answer, OFFSET, n.offset);
-    put_number(answer, RESULT, n.result);
-    put_number(answer, BUILDS, n.builds);
-    put_number(answer, EXTRACTS, n.extracts);
-    put_number(answer, INSERTS, n.inserts);
-    put_number(answer, ASSIGNS, n.assigns);
-    put_number(answer, MATERIALIZATIONS, n.materializations);
-    put_number(answer, REASON, n.reason);
-    put_number(answer, SIZE, n.size);
+    let numbers = [
+        n.number,
+        n.offset,
+        n.result,
+        n.counts.builds,
+        n.counts.extracts,
+        n.counts.inserts,
+        n.counts.assigns,
+        n.counts.materializations,
+        n.reason,
+        n.size,
+    ];
+    let room = answer.len().min(numbers.len());
+    answer[..room].copy_from_slice(&numbers[..room]);
 }
 
 // The totals with the counts of one more run.
 pub fn with_counts(t: Totals, c: Counts) -> Totals
     ensures { result ≡ with_counts t c }
 {
+    let run = Totals::from(c);
     Totals {
-        builds: t.builds.saturating_add(u64::from(c.builds)),
-        extracts: t.extracts.saturating_add(u64::from(c.extracts)),
-        inserts: t.inserts.saturating_add(u64::from(c.inserts)),
-        assigns: t.assigns.saturating_add(u64::from(c.assigns)),
-        materializations: t
-            .materializations
-            .saturating_add(u64::from(c.materializations)),
+        builds: t.builds.saturating_add(run.builds),
+        extracts: t.extracts.saturating_add(run.extracts),
+        inserts: t.inserts.saturating_add(run.inserts),
+        assigns: t.assigns.saturating_add(run.assigns),
+        materializations: t.materializations.saturating_add(run.materializations),
     }
 }

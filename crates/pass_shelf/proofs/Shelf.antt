@@ -2,7 +2,7 @@
 use Prim.Native.Nat.{ℕ, suc, ◌+◌, ◌≤◌}
 use mathlib.Core.Path.{◌≡◌, ap, ◌∙◌, sym, subst}
 use mathlib.Core.List.{List, [], ◌∷◌, ◌++◌, append_assoc}
-use mathlib.Core.Bool.{Bool, false}
+use mathlib.Core.Bool.{false}
 use native.Mathlib.Omega.{arith}
 use lib.ListN.{length, drop, replicate}
 use lib.Seq.{sets, sets-eq, drop-append_seam}
@@ -12,6 +12,7 @@ use Rattle.bytes_field.specs.Decode.{defineds_of}
 use Rattle.bytes_field.specs.Encode.{each_bytes, list_bytes, value_id_bytes}
 use Rattle.bytes_field.specs.declared.Bounds.{Bounds}
 use Rattle.bytes_laws.specs.WellFormed.{Wide}
+use Rattle.bytes_index.specs.declared.code.Code.{Code}
 use Rattle.bytes_laws.proofs.BackFields as B
 use Rattle.bytes_block.specs.Decode.{marks}
 use Rattle.bytes_block.specs.Encode.{block_bytes}
@@ -20,16 +21,16 @@ use Rattle.mir.specs.Routine.{Routine}
 use Rattle.bytes_sections.specs.Decode.{mosts, bounds_of}
 use Rattle.bytes_sections.specs.Encode.{recorded_bytes, encode}
 use Rattle.bytes_laws_whole.specs.WellFormed.{FitBlocks, bounds, unmarked}
-use Rattle.fold.specs.declared.Settings.{Settings}
 use Rattle.fold.specs.Family.{Marks}
 use Rattle.rewrite.specs.Run.{Rewritten, choice, rewritten_by, rewritten_blocks, rewrite_with}
 use Rattle.rewrite.proofs.Lowering.{lowers}
 use Rattle.rewrite_laws.specs.Lifted.{lifted}
 use Rattle.rewrite_laws.proofs.Whole.{well_formed}
 use Rattle.rewrite_progress.specs.Effect.{mark_all}
+use Rattle.rewrite_progress.specs.declared.Run.{Run}
 use Rattle.shelf_test.specs.Shelved.{output_bounds, Input, Shelved}
 use Rattle.rewrite_head.specs.Head.{head_bytes, widened}
-use Rattle.pass_input.specs.Accepted.{Accepted, Chosen}
+use Rattle.pass_input.specs.Accepted.{AcceptedCode, ChosenRun}
 use Rattle.pass_input.proofs.Accepted.{many_types, next_is, many_blocks, list_is, projections_is, next_few, canon, fit, types_end, code, coded, few_fresh}
 use Rattle.pass_shelf.proofs.Dropped.{marks_told, dropped_low}
 
@@ -56,56 +57,56 @@ defined_at l l' n n' t t' ds k e f g q = rw (e, f, g) q
 bounds_at : (b : Bounds) (T N K K' k : ℕ) → b ≡ bounds_of mosts T N K' → K ≡ K' → bounds_of lifted T (N + k) K ≡ output_bounds b (b.next + k)
 bounds_at b T N K K' k e f = rw (e, f)
 
-module _ {s facts : List ℕ} {b : Bounds} (a : Accepted s facts b) where
+module _ (input : Code) (a : AcceptedCode input) where
   abbrev r : Routine
   r = a.routine
 
-  given : defineds_of b.list b.next (replicate b.next false) (drop (length (types_bytes r.types) + 6) s) ≡ ok r.parameters (length (list_bytes value_id_bytes r.parameters))
+  given : defineds_of input.bounds.list input.bounds.next (replicate input.bounds.next false) (drop (length (types_bytes r.types) + 6) input.bytes.now) ≡ ok r.parameters (length (list_bytes value_id_bytes r.parameters))
   given =
-      let e : drop (length (types_bytes r.types) + 6) s ≡ list_bytes value_id_bytes r.parameters ++ (recorded_bytes r.recorded ++ each_bytes block_bytes r.blocks) = ap (drop (length (types_bytes r.types) + 6)) (sym (canon a)) ∙ past_types r in
+      let e : drop (length (types_bytes r.types) + 6) input.bytes.now ≡ list_bytes value_id_bytes r.parameters ++ (recorded_bytes r.recorded ++ each_bytes block_bytes r.blocks) = ap (drop (length (types_bytes r.types) + 6)) (sym (canon a)) ∙ past_types r in
       let g : defineds_of 16 r.next (replicate r.next false) (list_bytes value_id_bytes r.parameters ++ (recorded_bytes r.recorded ++ each_bytes block_bytes r.blocks)) ≡ ok r.parameters (length (list_bytes value_id_bytes r.parameters)) =
       (B.dests (bounds mosts r) (wide_input) (unmarked r) r.parameters ((fit a).many_parameters, (fit a).parameters)).says _ in
-      defined_at b.list 16 b.next r.next _ _ r.parameters _ (list_is a) (next_is a) e g
+      defined_at input.bounds.list 16 input.bounds.next r.next _ _ r.parameters _ (list_is a) (next_is a) e g
     where
       wide_input : Wide (bounds mosts r)
       wide_input = record { types = omega (arith, (fit a).many_types); next = omega (arith, (fit a).next); blocks = omega (arith, (fit a).many_blocks); list = omega arith; projections = omega arith }
 
   -- the shelf test sees it with its table
-  pub inputs : Input s b facts r
+  pub inputs : Input input r
   inputs = record { coded = coded a; used = length (list_bytes value_id_bytes r.parameters); given = rw (types_end a) given }
 
-module _ {σ : Settings} {s facts : List ℕ} {b : Bounds} {flags : List Bool} (h : Chosen σ s facts b flags) where
-  abbrev a : Accepted s facts b
+module _ (run : Run) (h : ChosenRun run) where
+  abbrev a : AcceptedCode run.code
   a = h.accepted
 
   abbrev x : Routine
   x = a.routine
 
   abbrev w : Rewritten
-  w = rewritten_blocks σ x
+  w = rewritten_blocks run.settings x
 
-  wide_output : (next : ℕ) → next ≤ 65535 → Wide (output_bounds b next)
+  wide_output : (next : ℕ) → next ≤ 65535 → Wide (output_bounds run.code.bounds next)
   wide_output next l =
       record { types = omega (arith, many_types a, (fit a).many_types); next = omega (arith, l); blocks = omega (arith, many_blocks a, (fit a).many_blocks); list = omega (arith, list_is a); projections = omega (arith, projections_is a) }
 
-  as_many : length w.blocks ≡ length x.blocks → length w.blocks ≡ b.blocks
+  as_many : length w.blocks ≡ length x.blocks → length w.blocks ≡ run.code.bounds.blocks
   as_many e = e ∙ sym (many_blocks a)
 
-  output_bounds_lem : length w.blocks ≡ length x.blocks → bounds lifted (rewrite_with w x) ≡ output_bounds b (b.next + length w.fresh)
+  output_bounds_lem : length w.blocks ≡ length x.blocks → bounds lifted (rewrite_with w x) ≡ output_bounds run.code.bounds (run.code.bounds.next + length w.fresh)
   unfolding rewrite_with
-  output_bounds_lem e = bounds_at b (length x.types) x.next (length w.blocks) (length x.blocks) (length w.fresh) a.facts_of.bounded e
+  output_bounds_lem e = bounds_at run.code.bounds (length x.types) x.next (length w.blocks) (length x.blocks) (length w.fresh) a.facts_of.bounded e
 
-  fits : length w.blocks ≡ length x.blocks → FitBlocks lifted (output_bounds b (b.next + length w.fresh)) 0 (marks (unmarked (rewrite_with w x)) x.parameters) w.blocks
+  fits : length w.blocks ≡ length x.blocks → FitBlocks lifted (output_bounds run.code.bounds (run.code.bounds.next + length w.fresh)) 0 (marks (unmarked (rewrite_with w x)) x.parameters) w.blocks
   unfolding rewrite_with rewritten_blocks rewritten_by
-  fits e = subst (λ (c : Bounds). FitBlocks lifted c 0 (marks (unmarked (rewrite_with w x)) x.parameters) w.blocks) (output_bounds_lem e) (well_formed σ (choice σ x) x (fit a)).blocks
+  fits e = subst (λ (c : Bounds). FitBlocks lifted c 0 (marks (unmarked (rewrite_with w x)) x.parameters) w.blocks) (output_bounds_lem e) (well_formed run.settings (choice run.settings x) x (fit a)).blocks
 
   -- all of it
-  pub shelved : (to next : ℕ) (out out' : List ℕ) (dropped dropped' : Marks) → to ≡ length (head_bytes (widened x w.fresh)) → next ≡ b.next + length w.fresh → length w.blocks ≡ length x.blocks
+  pub shelved : (to next : ℕ) (out out' : List ℕ) (dropped dropped' : Marks) → to ≡ length (head_bytes (widened x w.fresh)) → next ≡ run.code.bounds.next + length w.fresh → length w.blocks ≡ length x.blocks
       → length (head_bytes (widened x w.fresh) ++ each_bytes block_bytes w.blocks) ≤ length out → out' ≡ sets out 0 (head_bytes (widened x w.fresh) ++ each_bytes block_bytes w.blocks) → dropped ≡ replicate 256 false → dropped' ≡ mark_all dropped w.dropped
-      → Shelved s b facts out' to next dropped' x w
+      → Shelved run.code out' to next dropped' x w
   shelved to next out out' dropped dropped' et en em l eo ed em' =
       record {
-        input = inputs a;
+        input = inputs run.code a;
         rest = drop (length (head_bytes (widened x w.fresh) ++ each_bytes block_bytes w.blocks)) out;
         written = rw (et, eo) (behind_first out (head_bytes (widened x w.fresh)) (each_bytes block_bytes w.blocks) l);
         as_many = as_many em;
@@ -114,6 +115,6 @@ module _ {σ : Settings} {s facts : List ℕ} {b : Bounds} {flags : List Bool} (
         seen = marks (unmarked (rewrite_with w x)) x.parameters;
         fits = rw en (fits em);
         counted = omega arith;
-        wide = wide_output next (omega (arith, en, next_few a, few_fresh a σ));
-        marked = λ v. rw (em', ed) (marks_told b.next w.dropped (next_few a) (dropped_low mosts b 0 (marks (unmarked x) x.parameters) (lowers σ x) (code a)) v);
+        wide = wide_output next (omega (arith, en, next_few a, few_fresh a run.settings));
+        marked = λ v. rw (em', ed) (marks_told run.code.bounds.next w.dropped (next_few a) (dropped_low mosts run.code.bounds 0 (marks (unmarked x) x.parameters) (lowers run.settings x) (code a)) v);
       }

@@ -5,14 +5,15 @@ use mathlib.Core.List.{List, [], ◌++◌, append_assoc}
 use mathlib.Core.Bool.{Bool, true, false, not}
 use native.Mathlib.Nat.{zero-add}
 use native.Mathlib.Omega.{arith}
-use lib.ListN.{length, get_or, take, drop, replicate, length-append, get_or-append, length-drop}
-use lib.Seq.{sets, sets-eq, length-sets, take_all}
+use lib.ListN.{length, get_or, take, drop, replicate, length-append, length-drop}
+use lib.Seq.{sets, length-sets, take_all, get_or-take, length-take-le}
 use lib.Dec.{eqb}
 use Rattle.bytes_field.specs.declared.Bounds.{Bounds}
 use Rattle.bytes_index.specs.Table.{recorded_in}
 use Rattle.bytes_emit.proofs.Sets.{sets_append}
 use Rattle.mir.specs.Routine.{Routine}
 use Rattle.bytes_sections.specs.Encode.{encode}
+use Rattle.bytes_sections.specs.Index.{RecordedAt}
 use Rattle.fold.specs.declared.Settings.{Settings}
 use Rattle.fold.specs.Family.{Marks}
 use Rattle.rewrite.specs.declared.Counts.{Counts}
@@ -26,6 +27,7 @@ use Rattle.rewrite.proofs.Result.{result_count}
 use Rattle.bytes_emit.specs.Written.{Writes}
 use Rattle.rewrite_progress.specs.Effect.{type_numbers as fresh_numbers, Low, PutLow}
 use Rattle.rewrite_progress.specs.declared.Progress.{Progress}
+use Rattle.rewrite_progress.specs.declared.Run.{Run}
 use Rattle.rewrite_progress.proofs.Laws.{numbers_length}
 use Rattle.rewrite_head.specs.Head.{head_bytes, Tabled}
 use Rattle.rewrite_opening.specs.Opens.{Opens}
@@ -42,11 +44,13 @@ use Rattle.pass_answers.specs.declared.Lowered.{Lowered}
 use Rattle.pass_answers.specs.declared.Refused.{Refused}
 use Rattle.pass_answers.specs.Numbers.{acceptance, as_answer, Answers}
 use Rattle.pass_answers.proofs.Laws.{answers}
-use Rattle.pass_input.specs.Accepted.{Accepted, Chosen}
+use Rattle.pass_input.specs.Accepted.{AcceptedCode, Chosen, ChosenRun}
 use Rattle.pass_input.proofs.Accepted.{next_is, next_few, recorded_many, canon, types_end, few_fresh}
 use Rattle.pass_answers.proofs.Given.{given_lowered}
 use Rattle.pass_shelf.proofs.Shelf.{shelved}
 use Rattle.pass_blocks.specs.Runs.{body_of, Runs, Begun, row_places}
+use Rattle.pass_input.proofs.Copied.{take_sets}
+use Rattle.pass_write.specs.declared.Trial.{Trial}
 use Rattle.pass_write.specs.Written.{fresh_places, longest_head, head_of, Measured, Headed}
 
 -- the types of the fresh numbers are all that stands behind the rows
@@ -69,22 +73,24 @@ rewritten_bytes : (σ : Settings) (r : Routine) → encode (rewrite σ r) ≡ he
 unfolding rewrite
 rewritten_bytes σ r = encode_split (rewritten_blocks σ r) r (as_many σ r)
 
--- a run of stores from the first place on is what stands there
-sets_first : (zeros ns : List ℕ) (k : ℕ) → length ns ≤ length zeros → k < length ns → get_or (sets zeros 0 ns) k 0 ≡ get_or ns k 0
-sets_first zeros ns k l h =
-    ap (λ t. get_or t k 0) (sets-eq ns zeros 0 (omega arith) ∙ append_assoc [] ns (drop (0 + length ns) zeros)) ∙ get_or-append ns (drop (0 + length ns) zeros) 0 k h
+-- a run that went through takes few fresh numbers
+pub fresh_within : (run : Run) (h : ChosenRun run) {to : ℕ} {out fresh out' fresh' : List ℕ} {dropped dropped' : Marks} {r : Result Progress Clash} {p : Progress}
+    → Runs (rewritten_blocks run.settings h.accepted.routine) to out fresh dropped out' fresh' dropped' r
+    → r ≡ Ok p
+    → p.fresh ≤ fresh_places
+fresh_within run h {p = p} q e = omega (arith, (q.went p e).many, few_fresh h.accepted run.settings)
 
 -- a run into a buffer measures
-pub measured : {σ : Settings} {s facts : List ℕ} {b : Bounds} {flags : List Bool} (h : Chosen σ s facts b flags) (buffer zeros body fresh fresh' : List ℕ) (dropped : Marks) (r : Result Progress Clash) (p : Progress)
+pub measured : (run : Run) (trial : Trial) (h : ChosenRun run) (buffer zeros table : List ℕ) (r : Result Progress Clash)
     → fresh_places ≤ length zeros
     → PutLow 4300 r
-    → Runs (rewritten_blocks σ h.accepted.routine) 0 buffer zeros (replicate 256 false) body fresh dropped r
-    → r ≡ Ok p
-    → fresh' ≡ fresh
-    → Measured σ s facts b flags fresh' dropped body p
-measured h buffer zeros body fresh fresh' dropped r p l low q e f =
-    let k : Low 4300 p = rw e at low in
-    record { chosen = h; buffer = buffer; zeros = zeros; room = l; ran = rw f (q.went p e); low = omega (arith, k.to) }
+    → Runs (rewritten_blocks run.settings h.accepted.routine) 0 buffer zeros (replicate 256 false) trial.body.now table trial.dropped.now r
+    → r ≡ Ok trial.progress
+    → trial.fresh.now ≡ take trial.progress.fresh table
+    → Measured run trial
+measured run trial h buffer zeros table r l low q e f =
+    let k : Low 4300 trial.progress = rw e at low in
+    record { chosen = h; buffer = buffer; zeros = zeros; table = table; room = l; ran = q.went trial.progress e; fresh = f; low = omega (arith, k.to) }
 
 -- ## The answer
 
@@ -96,8 +102,23 @@ module _ {σ : Settings} {s facts : List ℕ} {b : Bounds} {flags : List Bool} (
 numbers_of : (r : Result Lowered Refused) (w : Bool) (c d : Counts) (k n m : ℕ) → as_answer r ≡ acceptance (not (eqb c.builds 0)) c k n → c ≡ d → w ≡ not (eqb d.builds 0) → n ≡ m → as_answer r ≡ acceptance w d k m
 numbers_of r w c d k n m z e f g = z ∙ rw (e, f, g)
 
-module _ {σ : Settings} {s facts : List ℕ} {b : Bounds} {flags : List Bool} {fresh : List ℕ} {dropped : Marks} {body : List ℕ} {p : Progress} (m : Measured σ s facts b flags fresh dropped body p) where
-  abbrev a : Accepted s facts b
+module _ {run : Run} {trial : Trial} (m : Measured run trial) where
+  abbrev σ : Settings
+  σ = run.settings
+
+  abbrev s : List ℕ
+  s = run.code.bytes.now
+
+  abbrev facts : List ℕ
+  facts = run.code.facts.now
+
+  abbrev b : Bounds
+  b = run.code.bounds
+
+  abbrev p : Progress
+  p = trial.progress
+
+  abbrev a : AcceptedCode run.code
   a = m.chosen.accepted
 
   abbrev x : Routine
@@ -112,28 +133,51 @@ module _ {σ : Settings} {s facts : List ℕ} {b : Bounds} {flags : List Bool} {
   pub many_few : b.next + p.fresh < 65536
   many_few = omega (arith, next_few a, few_fresh a σ, m.ran.many)
 
-  pub begun : Begun w body p.to
+  pub begun : Begun w trial.body.now p.to
   begun = record { calm = m.ran.calm; buffer = m.buffer; written = m.ran.written; place = m.ran.place ∙ zero-add (length (body_of w)) }
 
-  pub tabled : Tabled (recorded_in facts) fresh b.next p.fresh x.recorded w.fresh
-  tabled =
+  -- the table has the types of the fresh numbers, and nothing behind them is lent
+  pub types_taken : trial.fresh.now ≡ fresh_numbers w.fresh
+  types_taken =
       let n = fresh_numbers w.fresh in
       let l : length n ≤ length m.zeros = omega (arith, numbers_length w.fresh, few_fresh a σ, m.room) in
+      m.fresh ∙ ap (λ k. take k m.table) (m.ran.many ∙ sym (numbers_length w.fresh)) ∙ ap (take (length n)) m.ran.taken ∙ take_sets n m.zeros l
+
+  pub recorded_long : b.next ≤ length (recorded_in facts)
+  recorded_long = omega (arith, next_few a, a.facts_of.long, length-drop 65 facts)
+
+  recorded_there : RecordedAt (take b.next (recorded_in facts)) x.recorded
+  recorded_there v h k =
+      let l : v < b.next = omega (arith, h, recorded_many a) in
+      get_or-take b.next (recorded_in facts) v 0 l ∙ a.facts_of.recorded v h (omega (arith, recorded_long))
+
+  pub tabled : Tabled (take b.next (recorded_in facts)) trial.fresh.now x.recorded w.fresh
+  tabled =
       record {
-        old = recorded_many a;
-        new = sym m.ran.many;
-        known = a.facts_of.recorded;
-        long = omega (arith, next_few a, a.facts_of.long, length-drop 65 facts);
-        taken = λ k h. ap (λ t. get_or t k 0) m.ran.taken ∙ sets_first m.zeros n k l (omega (arith, m.ran.many, numbers_length w.fresh));
+        old = recorded_many a ∙ sym (length-take-le b.next (recorded_in facts) recorded_long);
+        known = recorded_there;
+        new = types_taken;
       }
 
   -- what the writer of the head asks for
-  abbrev pub opens : Opens s facts fresh b p.fresh p.to
-  opens = record { routine = x; types = w.fresh; reads = canon a; behind = types_end a; next = sym (next_is a); tabled = tabled; few = many_few; short = a.facts_of.short; low = m.low }
+  abbrev pub opens : Opens run.code trial.fresh.now p.to
+  opens =
+      record {
+        routine = x;
+        types = w.fresh;
+        reads = canon a;
+        behind = types_end a;
+        next = sym (next_is a);
+        long = recorded_long;
+        tabled = tabled;
+        few = omega (arith, next_few a, few_fresh a σ, ap length types_taken, numbers_length w.fresh);
+        short = a.facts_of.short;
+        low = m.low;
+      }
 
   -- the head is written
-  abbrev pub headed : (out out₁ : List ℕ) (to : ℕ) → (to ≤ longest_head) × ((length head + p.to ≤ length out) × Writes head out out₁ 0 to) → Headed σ s facts b flags dropped body p out₁ to
-  headed out out₁ to f = record { fresh = fresh; measured = m; before = out; near = f.0; room = f.1.0; written = f.1.1 }
+  abbrev pub headed : (out out₁ : List ℕ) (to : ℕ) → (to ≤ longest_head) × ((length head + p.to ≤ length out) × Writes head out out₁ 0 to) → Headed run trial out₁ to
+  headed out out₁ to f = record { measured = m; before = out; near = f.0; room = f.1.0; written = f.1.1 }
 
   whole_length : length (encode (rewrite σ x)) ≡ length head + length (body_of w)
   whole_length = ap length (rewritten_bytes σ x) ∙ length-append head (body_of w)
@@ -158,15 +202,13 @@ module _ {σ : Settings} {s facts : List ℕ} {b : Bounds} {flags : List Bool} {
           answers _ (lowered w.changed w.counts (number_of_reason k) (encode (rewrite σ x))) r out out₂ (given_lowered σ (length out) s x a.used (number_of_reason k) _ _ _ a.reads f o) (numbers_of r w.changed p.counts w.counts (number_of_reason k) (to + p.to) (length (encode (rewrite σ x))) z m.ran.counted (result_count σ x) i) j
 
       -- and the shelf test sees it so
-      pub shelved_written : (next : ℕ) → next ≡ b.next + p.fresh → Shelved s b facts out₂ to next dropped x w
+      pub shelved_written : (next : ℕ) → next ≡ b.next + p.fresh → Shelved run.code out₂ to next trial.dropped.now x w
       shelved_written next en =
           let i : length (head ++ body_of w) ≤ length out = omega (arith, length-append head (body_of w), begun.place) in
-          shelved m.chosen to next out out₂ (replicate 256 false) dropped (h.0 ∙ zero-add (length head)) (en ∙ ap (λ k. b.next + k) m.ran.many) (as_many σ x) i written_all refl m.ran.marks
+          shelved run m.chosen to next out out₂ (replicate 256 false) trial.dropped.now (h.0 ∙ zero-add (length head)) (en ∙ ap (λ k. b.next + k) m.ran.many) (as_many σ x) i written_all refl m.ran.marks
 
 -- behind the head there is room for the blocks
-pub room_behind : {σ : Settings} {s facts : List ℕ} {b : Bounds} {flags : List Bool} {dropped : Marks} {body : List ℕ} {p : Progress} {out : List ℕ} {to : ℕ}
-    → Headed σ s facts b flags dropped body p out to
-    → to + p.to ≤ length out
-room_behind {σ} h =
+pub room_behind : {run : Run} {trial : Trial} {out : List ℕ} {to : ℕ} → Headed run trial out to → to + trial.progress.to ≤ length out
+room_behind {run} h =
     let x = h.measured.chosen.accepted.routine in
-    omega (arith, h.room, h.written.0, ap length h.written.1, length-sets h.before 0 (head_of x (rewritten_blocks σ x)))
+    omega (arith, h.room, h.written.0, ap length h.written.1, length-sets h.before 0 (head_of x (rewritten_blocks run.settings x)))

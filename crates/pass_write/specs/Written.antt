@@ -1,15 +1,13 @@
 -- What has been done of the output at each stage.
-use Rattle.std.specs.Prelude.{ℕ, ◌+◌, ◌≤◌, List, Bool, false, length, replicate}
-use Rattle.bytes_field.specs.declared.Bounds.{Bounds}
-use Rattle.fold.specs.declared.Settings.{Settings}
-use Rattle.fold.specs.Family.{Marks}
+use Rattle.std.specs.Prelude.{ℕ, ◌+◌, ◌≤◌, ◌≡◌, List, false, length, replicate, take}
 use Rattle.rewrite.specs.Run.{Rewritten, rewritten_blocks}
 use Rattle.bytes_emit.specs.Written.{Writes}
 use Rattle.rewrite_head.specs.Head.{head_bytes, widened}
-use Rattle.rewrite_progress.specs.declared.Progress.{Progress}
+use Rattle.rewrite_progress.specs.declared.Run.{Run}
 use Rattle.mir.specs.Routine.{Routine}
-use Rattle.pass_input.specs.Accepted.{Chosen}
+use Rattle.pass_input.specs.Accepted.{ChosenRun}
 use Rattle.pass_blocks.specs.Runs.{Ran}
+use Rattle.pass_write.specs.declared.Trial.{Trial}
 
 -- the fresh numbers whose types the working table has places for
 abbrev pub fresh_places : ℕ
@@ -24,25 +22,24 @@ abbrev pub longest_head : ℕ
 longest_head = 204800
 
 -- what is chosen, and what a run into a buffer gave: the types of the fresh numbers, the marks, and how far it went
-pub record Measured (σ : Settings) (s facts : List ℕ) (b : Bounds) (flags : List Bool) (fresh : List ℕ) (dropped : Marks)
-    (body : List ℕ) (p : Progress) : Type 0 where
-  pub chosen : Chosen σ s facts b flags
+pub record Measured (run : Run) (trial : Trial) : Type 0 where
+  pub chosen : ChosenRun run
   pub buffer : List ℕ
   pub zeros : List ℕ
+  pub table : List ℕ
   pub room : fresh_places ≤ length zeros
-  pub ran : Ran (rewritten_blocks σ chosen.accepted.routine) 0 buffer zeros (replicate 256 false) body fresh dropped p
-  pub low : p.to ≤ longest_body
+  pub ran : Ran (rewritten_blocks run.settings chosen.accepted.routine) 0 buffer zeros (replicate 256 false) trial.body.now table trial.dropped.now trial.progress
+  pub fresh : trial.fresh.now ≡ take trial.progress.fresh table
+  pub low : trial.progress.to ≤ longest_body
 
 -- the bytes before the blocks
 abbrev pub head_of : Routine → Rewritten → List ℕ
 head_of x w = head_bytes (widened x w.fresh)
 
 -- and the head is written, from the first place of `before` on, with room for the blocks behind it
-pub record Headed (σ : Settings) (s facts : List ℕ) (b : Bounds) (flags : List Bool) (dropped : Marks) (body : List ℕ) (p : Progress)
-    (out : List ℕ) (to : ℕ) : Type 0 where
-  pub fresh : List ℕ
-  pub measured : Measured σ s facts b flags fresh dropped body p
+pub record Headed (run : Run) (trial : Trial) (out : List ℕ) (to : ℕ) : Type 0 where
+  pub measured : Measured run trial
   pub before : List ℕ
   pub near : to ≤ longest_head
-  pub room : length (head_of measured.chosen.accepted.routine (rewritten_blocks σ measured.chosen.accepted.routine)) + p.to ≤ length before
-  pub written : Writes (head_of measured.chosen.accepted.routine (rewritten_blocks σ measured.chosen.accepted.routine)) before out 0 to
+  pub room : length (head_of measured.chosen.accepted.routine (rewritten_blocks run.settings measured.chosen.accepted.routine)) + trial.progress.to ≤ length before
+  pub written : Writes (head_of measured.chosen.accepted.routine (rewritten_blocks run.settings measured.chosen.accepted.routine)) before out 0 to

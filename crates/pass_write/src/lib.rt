@@ -5,87 +5,65 @@
 ghost use Rattle.std.specs.Prelude.{length, Ok};
 ghost use Rattle.shelf.specs.Answer.{answer as given};
 ghost use Rattle.pass_answers.specs.Numbers.{Answers};
-ghost use Rattle.pass_input.specs.Accepted.{Chosen};
+ghost use Rattle.pass_input.specs.Accepted.{ChosenRun};
 ghost use Rattle.pass_write.specs.Written.{Measured, Headed};
 
 use mir::most;
 use pass_answers::{Lowered, Refused};
-use rewrite_progress::{Progress, Setup};
+use rewrite_progress::{Progress, Run};
 
 // The places of the buffer that the blocks are run into: nearly all routines fit; longer ones are run over again.
 const BODY: usize = 8192;
 
+// What a run over the blocks into a buffer gave: how far it went, the types of the fresh numbers, the marks of the values that
+// are left out, and the buffer.
+#[derive(Clone, Copy)]
+pub struct Trial<'a> {
+    pub progress: Progress,
+    pub fresh: &'a [u16],
+    pub dropped: &'a [bool],
+    pub body: &'a [u8],
+}
+
 // Writes the blocks behind the head, which ends at `to`, and answers.
-fn write_body(
-    s: &[u8],
-    setup: Setup,
-    facts: &[u16],
-    choice: &[bool],
-    p: Progress,
-    dropped: &[bool],
-    body: &[u8],
-    out: &mut [u8],
-    to: usize,
-) -> Lowered
-    requires { Headed setup.settings s.now facts.now setup.bounds choice.now dropped.now body.now p out.old to }
-    ensures { (h : Headed setup.settings s.now facts.now setup.bounds choice.now
-        dropped.now body.now p out.old to)
-        → Answers (given setup.settings (length h.before) s.now) (Ok result) h.before out.new }
+fn write_body(run: Run, trial: Trial, out: &mut [u8], to: usize) -> Lowered
+    requires { Headed run trial out.old to }
+    ensures { (h : Headed run.entry trial.entry out.old to)
+        → Answers (given run.entry.settings (length h.before) run.entry.code.bytes.now) (Ok result) h.before out.new }
 {
-    let b = setup.bounds;
-    pass_blocks::put_body(s, setup, facts, choice, body, p.to, out, to);
-    let next = (b.next as u32 + p.fresh) as u16;
-    let reason = shelf_test::reason(s, b, facts, out, to, next, dropped);
+    let p = trial.progress;
+    pass_blocks::put_body(run, trial.body, p.to, out, to);
+    let next = (run.code.bounds.next as u32 + p.fresh) as u16;
+    let reason = shelf_test::reason(run.code, out, to, next, trial.dropped);
     Lowered::new(p.counts, reason, to + p.to)
 }
 
-// Writes the output where it has room; `p`, `fresh`, `dropped` and `body` are what a run gave.
-fn write_measured(
-    s: &[u8],
-    setup: Setup,
-    facts: &[u16],
-    choice: &[bool],
-    p: Progress,
-    fresh: &[u16],
-    dropped: &[bool],
-    body: &[u8],
-    out: &mut [u8],
-) -> Result<Lowered, Refused>
-    requires { Measured setup.settings s.now facts.now setup.bounds choice.now fresh.now dropped.now body.now p }
-    ensures { Answers (given setup.settings (length out.old) s.now) result out.old out.new }
+// Writes the output where it has room.
+fn write_measured(run: Run, trial: Trial, out: &mut [u8]) -> Result<Lowered, Refused>
+    requires { Measured run trial }
+    ensures { Answers (given run.entry.settings (length out.old) run.entry.code.bytes.now) result out.old out.new }
 {
-    let b = setup.bounds;
-    let mut nothing: [u8; 0] = [0; 0];
-    match rewrite_opening::put_opening(s, b, facts, fresh, p.fresh, p.to, &mut nothing, out) {
+    match rewrite_opening::put_opening(run.code, trial.fresh, trial.progress.to, out) {
         None => Err(Refused::NoRoom),
-        Some(to) => Ok(write_body(s, setup, facts, choice, p, dropped, body, out, to)),
+        Some(to) => Ok(write_body(run, trial, out, to)),
     }
 }
 
 // Runs over the blocks, then writes the output.
-pub fn lower_folded(
-    s: &[u8],
-    setup: Setup,
-    facts: &[u16],
-    choice: &[bool],
-    out: &mut [u8],
-) -> Result<Lowered, Refused>
-    requires { Chosen setup.settings s.now facts.now setup.bounds choice.now }
-    ensures { Answers (given setup.settings (length out.old) s.now) result out.old out.new }
+pub fn lower_folded(run: Run, out: &mut [u8]) -> Result<Lowered, Refused>
+    requires { ChosenRun run }
+    ensures { Answers (given run.entry.settings (length out.old) run.entry.code.bytes.now) result out.old out.new }
 {
     let mut work: [u16; pass_blocks::WORK] = [0; pass_blocks::WORK];
     let mut dropped: [bool; most::VALUES] = [false; most::VALUES];
     let mut body: [u8; BODY] = [0; BODY];
-    let p = pass_blocks::run_blocks(
-        s,
-        setup,
-        facts,
-        choice,
-        0,
-        &mut dropped,
-        &mut work,
-        &mut body,
-    )?;
-    let fresh = &work[pass_blocks::FRESH..];
-    write_measured(s, setup, facts, choice, p, fresh, &dropped, &body, out)
+    let p = pass_blocks::run_blocks(run, 0, &mut dropped, &mut work, &mut body)?;
+    let types = &work[pass_blocks::FRESH..];
+    let trial = Trial {
+        progress: p,
+        fresh: &types[..p.fresh as usize],
+        dropped: &dropped,
+        body: &body,
+    };
+    write_measured(run, trial, out)
 }

@@ -11,12 +11,8 @@ pub fn part(s: &[u8], from: usize, n: usize) -> &[u8] {
 
 // The ten numbers of an answer are those that stand at the head of `told`.
 pub fn same_numbers(answer: &[u64; 10], told: &[u8]) -> bool {
-    for (i, x) in answer.iter().enumerate() {
-        if *x != bytes_wire::u32_at(told, 4 * i) as u64 {
-            return false;
-        }
-    }
-    true
+    let mut numbers = answer.iter().enumerate();
+    numbers.all(|(i, x)| *x == bytes_wire::u32_at(told, 4 * i) as u64)
 }
 
 // The output has these bytes, and what it was filled with behind them.

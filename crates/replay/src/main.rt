@@ -68,9 +68,9 @@ fn replay(s: &[u8]) -> Tally
         let n = bytes_wire::u32_at(rest, INPUT_LENGTH) as usize;
         let size = bytes_wire::u32_at(rest, INPUT + n + SIZE) as usize;
         if !answers_alike(rest, n, size) {
-            tally.others = tally.others + 1;
+            tally.others += 1;
         }
-        tally.rows = tally.rows + 1;
+        tally.rows += 1;
         rest = &rest[(INPUT + n + TOLD + size).min(rest.len())..];
     }
     tally

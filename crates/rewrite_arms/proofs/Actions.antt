@@ -1,12 +1,12 @@
 -- What the arms decide, from what they have found.
 use Prim.Native.Nat.{ℕ, ◌≤◌, ◌<◌}
-use mathlib.Core.Path.{◌≡◌, refl, sym}
+use mathlib.Core.Path.{◌≡◌, refl}
 use mathlib.Core.List.{List}
 use mathlib.Core.Bool.{true, false, cond}
 use mathlib.Core.Bool as B
 use mathlib.Core.Option.{Option, none, some}
 use native.Mathlib.Omega.{arith}
-use lib.ListN.{length, get_or, get_elem?, set}
+use lib.ListN.{length, set}
 use Rattle.mir.specs.declared.Value.{Value}
 use Rattle.mir.specs.declared.ValueId.{ValueId}
 use Rattle.mir.specs.declared.TypeId.{TypeId}
@@ -15,15 +15,14 @@ use Rattle.mir.specs.Lookup.{is_some, on_some}
 use Rattle.fold.specs.Family.{Marks}
 use Rattle.rewrite.specs.State.{AggStates, insert_state, state_of, replaced}
 use Rattle.rewrite.specs.Step.{Piece, kept, left, tracked, step_build, step_insert, hand_on, step_assign}
-use Rattle.rewrite_parts.specs.Rows.{ValueAt, Rep, There, given_parts}
-use Rattle.rewrite_parts.proofs.Tables.{element_some, replaced_set, replaced_past}
-use Rattle.bytes_operands.proofs.Places.{listed_past}
+use Rattle.rewrite_parts.specs.Rows.{ValueAt, Rep, given_parts}
+use Rattle.rewrite_parts.proofs.Tables.{replaced_set, replaced_past}
 use Rattle.rewrite_arms.specs.Decided.{counted_as, assigned_from, Decided, Planned, SourceOf, found, nothing, step_taken}
 use Rattle.std.specs.Prelude.{Some, None, Option as Answered}
 use Rattle.rewrite_arms.specs.declared.Counted.{Counted}
 use Rattle.rewrite_arms.specs.declared.Action.{Action}
 use Rattle.rewrite_arms.specs.declared.Plan.{Plan}
-use Rattle.rewrite_arms.specs.declared.Spot.{Spot}
+use Rattle.rewrite_arms.specs.declared.spot.Spot.{Spot}
 
 -- an untracked value has no parts
 pub no_parts : {S : AggStates} {o : Option (List Value)} {r : Answered ValueId} → SourceOf S o r → r ≡ None → o ≡ none
@@ -113,16 +112,3 @@ module _ {next : ℕ} {s facts : List ℕ} {S : AggStates} {i : Instruction} {p 
   pub take_stays : (whole : B.Bool) (t : TypeId) (o : Option Value) → o ≡ none → Planned next s facts S i p (step_taken whole S i p.dest t o) Plan.Keep
   unfolding step_taken
   take_stays whole t o e = plans_keep (rw e refl)
-
-module _ (S : AggStates) (x : Value) (k : ℕ) where
-  pub part_none : state_of S x ≡ none → on_some (state_of S x) (λ xs. get_elem? xs k) ≡ none
-  unfolding on_some
-  part_none e = rw e refl
-
-  pub part_past : (xs : List Value) → state_of S x ≡ some xs → length xs ≤ k → on_some (state_of S x) (λ xs. get_elem? xs k) ≡ none
-  unfolding on_some
-  part_past xs e h = rw e (sym (listed_past xs k h))
-
-  pub part_some : {next : ℕ} {s : List ℕ} {place : ℕ} (xs : List Value) → state_of S x ≡ some xs → k < length xs → ValueAt next s place (get_or xs k Value.Error) → There next s (on_some (state_of S x) (λ xs. get_elem? xs k)) place
-  unfolding on_some
-  part_some xs e h v = record { value = get_or xs k Value.Error; is = rw e (element_some xs k h); stands = v }

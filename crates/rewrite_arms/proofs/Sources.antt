@@ -1,24 +1,30 @@
 -- What is found of a value: the value itself, whether it is tracked, its type, and a part of it.
-use Prim.Native.Nat.{ℕ, zero, suc, ◌+◌, ◌<◌}
+use Prim.Native.Nat.{ℕ, ◌<◌}
 use mathlib.Core.Path.{◌≡◌, refl, ap, ◌∙◌, sym}
-use mathlib.Core.List.{List, [], ◌∷◌}
+use mathlib.Core.List.{List}
 use mathlib.Core.Bool.{not}
 use mathlib.Core.Bool as B
 use mathlib.Core.Option.{Option, none, some}
 use native.Mathlib.Omega.{arith}
 use lib.ListN.{length, get_or, get_elem?}
 use lib.Dec.{eqb}
+use denote.Enum.Bare.{sameb}
+use Rattle.mir.specs.contracts.shape.Shape.{the_type}
+use Rattle.mir.specs.declared.shape.Shape.{Shape}
+use Rattle.mir.specs.Shape.{number_of_shape}
 use Rattle.mir.specs.declared.Literal.{Literal}
 use Rattle.mir.specs.declared.Value.{Value}
 use Rattle.mir.specs.declared.ValueId.{ValueId}
 use Rattle.mir.specs.declared.TypeId.{TypeId}
 use Rattle.mir.specs.MirType.{MirType, Felt, Bool, U32, Tuple, Struct, FixedArray, Pointer, Function, Unit, Error, Unknown}
 use Rattle.bytes_field.specs.declared.Bounds.{Bounds}
-use Rattle.bytes_sections.specs.Index.{recorded_number, recorded_from}
+use Rattle.bytes_sections.specs.Index.{recorded_from}
 use Rattle.mir.specs.Lookup.{Types, row_of, recorded_type, value_row, shape, is_tuple, is_struct, is_array, is_aggregate, is_some}
 use Rattle.mir.specs.Parts.{or_else, struct_row}
 use Rattle.rewrite.specs.State.{AggStates, state_of}
 use Rattle.fold.specs.Tables.{Ground}
+use Rattle.table.proofs.Elements.{some_at}
+use Rattle.rewrite_chains.proofs.Fields.{recorded_of_lem}
 use Rattle.rewrite_arms.specs.Decided.{SourceOf, found, nothing}
 use Rattle.std.specs.Prelude.{Some, None, Option as Answered, unwrap_or}
 use Rattle.mir.specs.Option.{as_option}
@@ -51,6 +57,19 @@ pub operand_untracked : (S : AggStates) {x : Value} {v : ValueId} {m : B.Bool} �
 unfolding state_of
 operand_untracked S {x} {v} {m} e f h = rw e (clear_source S v (S v.0) refl (sym f ∙ h))
 
+-- a shape is Other, or is no Struct's, as its number says
+pub is_other : (k : Shape) → not (sameb the_type k Shape.Other) ≡ not (eqb (number_of_shape k) 0)
+is_other Shape.Other = refl
+is_other Shape.Tuple = refl
+is_other Shape.Struct = refl
+is_other Shape.FixedArray = refl
+
+pub not_struct : (k : Shape) → (k ≡ Shape.Struct → ⊥) → number_of_shape k ≡ 2 → ⊥
+not_struct Shape.Other h e = omega arith
+not_struct Shape.Tuple h e = omega arith
+not_struct Shape.Struct h e = h refl
+not_struct Shape.FixedArray h e = omega arith
+
 -- the type of an instruction, and the row of it
 shaped : (o : Option MirType) → not (eqb (shape o) 0) ≡ is_aggregate o
 unfolding shape is_aggregate is_tuple is_struct is_array
@@ -72,21 +91,9 @@ unfolding row_of
 aggregate_shape τ t n e = ap (λ m. not (eqb m 0)) e ∙ shaped (get_elem? τ.rows t.0)
 
 -- the type of a value, as the code's table has it
-number_back : (o : Option TypeId) → recorded_from (recorded_number o) ≡ o
-number_back none = refl
-number_back (some t) = let z : t.0 + 1 ≡ suc t.0 = omega arith in ap recorded_from z
-
--- an element that is there
-element_at : {A : Type 0} (xs : List A) (k : ℕ) (d : A) → k < length xs → get_elem? xs k ≡ some (get_or xs k d)
-element_at [] k d h = absurd (omega arith)
-element_at (x ∷ xs) zero d h = refl
-element_at (x ∷ xs) (suc k) d h = element_at xs k d (omega arith)
-
 module _ {b : Bounds} {s types recorded : List ℕ} {τ : Types} (g : Ground b s types recorded τ) (d : ValueId) (l : d.0 < b.next) {r : Option TypeId} (e : r ≡ recorded_from (get_or recorded d.0 0)) where
   recorded_is : r ≡ recorded_type τ d
-  unfolding recorded_type
-  recorded_is =
-      e ∙ ap recorded_from (g.known.recorded_types d.0 (omega (arith, g.values)) (omega (arith, g.values, g.known.long))) ∙ number_back (get_or τ.recorded d.0 none)
+  recorded_is = recorded_of_lem b.list s types recorded τ d e g.known (omega (arith, g.values))
 
   -- a struct goes by its recorded type
   pub row_recorded : (named : TypeId) {t : TypeId} → r ≡ some t → struct_row τ d named ≡ row_of τ (some t)
@@ -94,7 +101,7 @@ module _ {b : Bounds} {s types recorded : List ℕ} {τ : Types} (g : Ground b s
   row_recorded named {t} f =
       let z : recorded_type τ d ≡ some t = sym recorded_is ∙ f in
       let w : t.0 < length τ.rows = omega (arith, g.rows, g.typed d.0 t z) in
-      rw (z, element_at τ.rows t.0 MirType.Unit w)
+      rw (z, some_at τ.rows t.0 MirType.Unit w)
 
   -- and where none is recorded by the named one
   pub row_named : (named : TypeId) → r ≡ none → struct_row τ d named ≡ row_of τ (some named)

@@ -31,7 +31,7 @@ use Rattle.bytes_struct.proofs.Placed.{type_fields}
 use Rattle.fold.specs.Tables.{Ground}
 use Rattle.rewrite_arms.specs.Decided.{Planned}
 use Rattle.rewrite_arms.specs.declared.Plan.{Plan}
-use Rattle.rewrite_arms.specs.declared.Spot.{Spot}
+use Rattle.rewrite_arms.specs.declared.spot.Spot.{Spot}
 
 module _ (τ : Types) (x : Value) (f : NameId) (g : ℕ → Option Value) where
   -- only an operand has fields

@@ -8,26 +8,28 @@ use Rattle.mir.specs.declared.TypeId.{TypeId}
 use Rattle.mir.specs.declared.Value.{Value}
 use Rattle.mir.specs.declared.NameId.{NameId}
 use Rattle.mir.specs.Syntax.{Instruction, FieldInit}
-use Rattle.bytes_field.specs.declared.Bounds.{Bounds}
-use Rattle.bytes_index.specs.Table.{recorded_in, place_in, end_in}
+use Rattle.bytes_index.specs.declared.code.Code.{Code}
+use Rattle.bytes_index.specs.Table.{place_in, end_in}
 use Rattle.mir.specs.MirType.{StructField}
 use Rattle.bytes_operands.specs.Fields.{fields_place}
 use Rattle.mir.specs.Parts.{from_struct_fields, struct_parts}
 use Rattle.mir.specs.Lookup.{Types, on_some}
 use Rattle.fold.specs.Family.{Marks}
-use Rattle.fold.specs.Tables.{Ground}
+use Rattle.fold.specs.Tables.{CodeGround}
 use Rattle.rewrite.specs.declared.Counts.{Counts}
 use Rattle.rewrite.specs.State.{AggStates, state_of, replaced}
 use Rattle.rewrite.specs.Step.{Piece, kept, left, tracked, assigned, step_build, step_insert, step_assign, hand_on, extract_index}
 use Rattle.rewrite.specs.Step.{one_build, one_extract, one_insert, one_assign}
 use Rattle.mir.specs.Most.{most_values}
 use Rattle.rewrite_parts.specs.Rows.{most_parts, ValueAt, Rep, Room, Values, Inits, InitAt}
+use Rattle.rewrite_parts.specs.declared.Parts.{Parts}
+use Rattle.rewrite_parts.specs.declared.listed.Listed.{Listed}
 use Rattle.bytes_struct.specs.Fields.{Names}
 use Rattle.rewrite_arms.specs.declared.Counted.{Counted}
 use Rattle.rewrite_arms.specs.declared.Action.{Action}
 use Rattle.rewrite_arms.specs.declared.Decision.{Decision}
 use Rattle.rewrite_arms.specs.declared.Plan.{Plan}
-use Rattle.rewrite_arms.specs.declared.Spot.{Spot}
+use Rattle.rewrite_arms.specs.declared.spot.Spot.{Spot}
 
 -- what an instruction that is left out counts
 abbrev pub counted_as : Counted → Counts
@@ -120,13 +122,13 @@ pub record Planned (next : ℕ) (s facts : List ℕ) (S : AggStates) (i : Instru
   pub dest : (r ≡ Plan.Keep → ⊥) → p.dest.0 < next
 
 -- what is planned of a part that is taken
-abbrev pub TakePlanned : ℕ → List ℕ → Answered ℕ → TypeId → Bool → Marks → Plan → Type 0
-TakePlanned next s found_at t whole marks r =
+abbrev pub TakePlanned : Code → Answered ℕ → TypeId → Bool → Marks → Plan → Type 0
+TakePlanned code found_at t whole marks r =
     (facts rows : List ℕ) (used : ℕ) (S : AggStates) (i : Instruction) (p : Spot) (o : Option Value)
-    → Rep next s marks rows used S
-    → p.dest.0 < next
-    → InitAt next s o found_at
-    → Planned next s facts S i p (step_taken whole S i p.dest t o) r
+    → Rep code.bounds.next code.bytes.now marks rows used S
+    → p.dest.0 < code.bounds.next
+    → InitAt code.bounds.next code.bytes.now o found_at
+    → Planned code.bounds.next code.bytes.now facts S i p (step_taken whole S i p.dest t o) r
 
 -- of an Assign
 abbrev pub AssignPlanned : Value → Bool → Marks → Plan → Type 0
@@ -137,42 +139,48 @@ AssignPlanned x whole marks r =
     → Planned next s facts S i p (step_assign S i p.dest (cond whole (state_of S x) none)) r
 
 -- of an insert of the value at a place
-abbrev pub InsertPlanned : Value → ℕ → ℕ → Marks → List ℕ → Plan → Type 0
-InsertPlanned x k place marks rows r =
+abbrev pub InsertPlanned : Value → ℕ → ℕ → Parts → Plan → Type 0
+InsertPlanned x k place parts r =
     (next : ℕ) (s facts : List ℕ) (used : ℕ) (S : AggStates) (i : Instruction) (p : Spot) (y : Value)
-    → Rep next s marks rows used S
+    → Rep next s parts.marks.now parts.rows.now used S
     → p.dest.0 < next
     → ValueAt next s place y
     → Planned next s facts S i p (step_insert S i p.dest (on_some (state_of S x) (λ xs. replaced xs k y))) r
 
 -- of a build of a struct
-abbrev pub StructPlanned : Bounds → List ℕ → List ℕ → Spot → TypeId → Plan → Type 0
-StructPlanned b s facts p named r =
+abbrev pub StructPlanned : Code → Spot → TypeId → Plan → Type 0
+StructPlanned code p named r =
     (τ : Types) (S : AggStates) (i : Instruction) (fs : List FieldInit)
-    → Ground b s facts (recorded_in facts) τ
-    → p.dest.0 < b.next
-    → Inits b.next s (p.off + 3) fs
-    → length fs ≡ get_or s (p.off + 2) 0
-    → Planned b.next s facts S i p (step_build S i p.dest (struct_parts τ p.dest fs named)) r
+    → CodeGround code τ
+    → p.dest.0 < code.bounds.next
+    → Inits code.bounds.next code.bytes.now (p.off + 3) fs
+    → length fs ≡ get_or code.bytes.now (p.off + 2) 0
+    → Planned code.bounds.next code.bytes.now code.facts.now S i p (step_build S i p.dest (struct_parts τ p.dest fs named)) r
+
+-- the list of a build, behind the number of its parts
+pub record ListedAt (code : Code) (p : Spot) (l : Listed) : Type 0 where
+  pub bytes : l.bytes.now ≡ code.bytes.now
+  pub place : l.at ≡ p.off + 3
+  pub many : l.count ≡ get_or code.bytes.now (p.off + 2) 0
 
 -- a build of a struct by its type
-abbrev pub FieldsBuilt : List ℕ → List ℕ → Spot → TypeId → Marks → List ℕ → ℕ → Marks → List ℕ → Decision → Type 0
-FieldsBuilt s facts p t marks rows used marks' rows' r =
+abbrev pub FieldsBuilt : Code → Spot → TypeId → Marks → List ℕ → ℕ → Marks → List ℕ → Decision → Type 0
+FieldsBuilt code p t marks rows used marks' rows' r =
     (next : ℕ) (S : AggStates) (i : Instruction) (x : Piece)
-    → Rep next s marks rows used S
+    → Rep next code.bytes.now marks rows used S
     → Room rows used
     → p.dest.0 < most_values
-    → Fielding next s facts S i p x t
-    → Decided next s marks' rows' S i x r
+    → Fielding next code.bytes.now code.facts.now S i p x t
+    → Decided next code.bytes.now marks' rows' S i x r
 
 -- the part that a name stands for
-abbrev pub FieldPart : Bounds → List ℕ → List ℕ → Marks → List ℕ → Value → NameId → Answered ℕ → Type 0
-FieldPart b s facts marks rows x name r =
+abbrev pub FieldPart : Code → Parts → Value → NameId → Answered ℕ → Type 0
+FieldPart code parts x name r =
     (τ : Types) (used : ℕ) (S : AggStates)
-    → Ground b s facts (recorded_in facts) τ
-    → Below b.next x
-    → Rep b.next s marks rows used S
-    → InitAt b.next s (on_some (extract_index τ x name) (λ k. on_some (state_of S x) (λ xs. get_elem? xs k))) r
+    → CodeGround code τ
+    → Below code.bounds.next x
+    → Rep code.bounds.next code.bytes.now parts.marks.now parts.rows.now used S
+    → InitAt code.bounds.next code.bytes.now (on_some (extract_index τ x name) (λ k. on_some (state_of S x) (λ xs. get_elem? xs k))) r
 
 -- the numbers of the kinds that are rewritten, in the order of `InstructionKind`
 abbrev pub assign_kind : ℕ

@@ -1,23 +1,27 @@
 // What can be decided of an instruction: what is found of its source, and what is to be done with its dest.
 #![tactic(auto)]
 
+pub mod spot;
+
 ghost use Rattle.std.specs.Prelude.{◌≡◌, List, cond, ℕ, ◌+◌, ◌-◌, ◌≤◌, ◌<◌, length};
 ghost use Rattle.std.proofs.Math.Option.{some, none};
 ghost use Rattle.std.proofs.Math.ListN.{get_elem?};
 ghost use Rattle.bytes_wire.specs.Number.{at16};
-ghost use Rattle.bytes_field.specs.declared.Bounds.{Bounds as BoundsOf};
+ghost use Rattle.bytes_field.specs.declared.Bounds.{Bounds};
 ghost use Rattle.bytes_types.specs.Index.{TypesAt};
 ghost use Rattle.mir.specs.Lookup.{Types, row_of, is_aggregate, on_some};
 ghost use Rattle.fold.specs.Tables.{Ground};
 ghost use Rattle.mir.specs.Parts.{struct_row};
 ghost use Rattle.rewrite.specs.State.{AggStates, state_of};
 ghost use Rattle.rewrite_parts.specs.Rows.{row_most, used_below, Rep, InitAt};
-ghost use Rattle.rewrite_arms.specs.Decided.{SourceOf, FieldPart, TakePlanned, AssignPlanned, InsertPlanned, StructPlanned, FieldsBuilt};
-ghost use Rattle.bytes_operands.specs.Reach.{offset_reach};
+ghost use Rattle.rewrite_arms.specs.Decided.{SourceOf, FieldPart, TakePlanned, AssignPlanned, InsertPlanned, StructPlanned, ListedAt, FieldsBuilt};
 
-use bytes_field::Bounds;
+use bytes_index::{Code, Typing};
 use bytes_types::layout;
-use mir::{NameId, TypeId, Value, ValueId, shape};
+use mir::shape::Shape;
+use mir::{NameId, TypeId, Value, ValueId};
+use rewrite_parts::{Listed, Parts};
+pub use spot::Spot;
 
 // How many bytes the dest has that an instruction's own fields begin with; behind it a build has the number of its parts,
 // and then these.
@@ -60,7 +64,7 @@ pub struct Decision {
     pub used: usize,
 }
 
-// What is to be done with a dest, before any row is written.
+// What is to be done with a dest, before any row is written: what settles it only reads the tables, and what carries it out writes them.
 // Keep: nothing, the instruction stays.
 // Share: it takes the row of a tracked value; that value, and what the instruction counts as.
 // Assign: an Assign stands for the instruction; the place where the assigned value stands, and the type.
@@ -85,14 +89,6 @@ pub enum Plan {
     },
     Values,
     Fields(TypeId),
-}
-
-// An instruction: where its own fields begin, where it ends, what its first field defines.
-#[derive(Clone, Copy)]
-pub struct Spot {
-    pub off: usize,
-    pub end: usize,
-    pub dest: ValueId,
 }
 
 // The operand that a value is, where it is tracked and that is asked for.
@@ -126,62 +122,64 @@ pub fn last_type(s: &[u8], end: usize) -> TypeId
 }
 
 // The type is an aggregate.
-pub fn is_aggregate(s: &[u8], types: &[u16], many: u16, t: TypeId) -> bool
-    ensures { (most : ℕ) (τ : Types) → TypesAt most s.now types.now τ.rows → length τ.rows ≡ many
+pub fn is_aggregate(code: Code, t: TypeId) -> bool
+    ensures { (most : ℕ) (τ : Types) → TypesAt most code.entry.bytes.now code.entry.facts.now τ.rows → length τ.rows ≡ code.entry.bounds.types
         → result ≡ is_aggregate (row_of τ (some t)) }
 {
-    fold_shapes::type_shape(s, types, many, t) != shape::OTHER
+    fold_shapes::type_shape(code, t) != Shape::Other
 }
 
 // The type by which a struct's parts go: the recorded one of its dest, else the named one.
 fn struct_type(recorded: &[u16], d: ValueId, named: TypeId) -> TypeId
-    ensures { (b : BoundsOf) (s types : List ℕ) (τ : Types) → Ground b s types recorded.now τ → d.0 < b.next
+    ensures { (b : Bounds) (s types : List ℕ) (τ : Types) → Ground b s types recorded.now τ → d.0 < b.next
         → struct_row τ d named ≡ row_of τ (some result) }
 {
     bytes_lookup::recorded_type(recorded, d).unwrap_or(named)
 }
 
-// A build of a struct that is taken apart.
-pub fn plan_struct(s: &[u8], b: Bounds, facts: &[u16], p: Spot, named: TypeId) -> Plan
-    ensures { StructPlanned b s.now facts.now p named result }
+// A build of a struct that is taken apart, wherever it stands.
+pub fn plan_struct(code: Code, dest: ValueId, named: TypeId) -> Plan
+    ensures { (p : Spot) → p.dest ≡ dest → StructPlanned code.entry p named result }
 {
-    let t = struct_type(bytes_index::recorded(facts), p.dest, named);
-    if fold_shapes::type_shape(s, facts, b.types, t) != shape::STRUCT {
-        return Plan::Keep;
+    let t = struct_type(bytes_index::recorded(code.facts), dest, named);
+    match fold_shapes::type_shape(code, t) {
+        Shape::Struct => Plan::Fields(t),
+        _ => Plan::Keep,
     }
-    Plan::Fields(t)
+}
+
+// The values or the inits of the build at a spot.
+pub fn listed<'a>(code: Code<'a>, p: Spot) -> Listed<'a>
+    ensures { ListedAt code.entry p result }
+{
+    Listed {
+        bytes: code.bytes,
+        at: p.off + PARTS,
+        count: bytes_wire::byte_at(code.bytes, p.off + DEST_BYTES),
+    }
 }
 
 // A build of a struct by its type: its dest gets the values of its inits and it is left out, where all are given.
 pub fn build_fields(
-    s: &[u8],
-    facts: &[u16],
+    code: Code,
     p: Spot,
     t: TypeId,
     tracked: &mut [bool],
     rows: &mut [u16],
     used: usize,
 ) -> Decision
-    requires { (used < used_below) × (p.off < offset_reach) }
+    requires { used < used_below }
     ensures used_bound { result.used ≤ used + row_most }
-    ensures fields_built { FieldsBuilt s.now facts.now p t tracked.old rows.old used
+    ensures fields_built { FieldsBuilt code.entry p t tracked.old rows.old used
         tracked.new rows.new result }
 {
-    let row = bytes_field::tail(s, bytes_lookup::type_place(facts, t));
-    let n = bytes_wire::byte_at(s, p.off + DEST_BYTES);
-    let m = bytes_wire::byte_at(row, layout::STRUCT_COUNT);
-    match rewrite_parts::track_named(
-        s,
-        tracked,
-        rows,
-        used,
-        p.dest,
-        p.off + PARTS,
-        n,
-        row,
-        layout::STRUCT_NAMES,
-        m,
-    ) {
+    let row = bytes_field::tail(code.bytes, bytes_lookup::type_place(code.facts, t));
+    let names = Listed {
+        bytes: row,
+        at: layout::STRUCT_NAMES,
+        count: bytes_wire::byte_at(row, layout::STRUCT_COUNT),
+    };
+    match rewrite_parts::track_named(tracked, rows, used, p.dest, listed(code, p), names) {
         Some(end) => Decision {
             action: Action::Track {
                 dest: p.dest,
@@ -197,13 +195,13 @@ pub fn build_fields(
 }
 
 // An insert: where the source is tracked and has part `k`, the dest has its parts with the one at `place` there.
-pub fn plan_insert(x: Value, k: u32, place: usize, tracked: &[bool], rows: &[u16]) -> Plan
-    ensures { InsertPlanned x k place tracked.now rows.now result }
+pub fn plan_insert(x: Value, k: u32, place: usize, parts: Parts) -> Plan
+    ensures { InsertPlanned x k place parts.entry result }
 {
-    match tracked_source(tracked, x, true) {
+    match tracked_source(parts.marks, x, true) {
         None => Plan::Keep,
         Some(v) => {
-            if rewrite_parts::part_count(rows, v) as u32 <= k {
+            if rewrite_parts::part_count(parts.rows, v) as u32 <= k {
                 return Plan::Keep;
             }
             Plan::Replace {
@@ -216,55 +214,42 @@ pub fn plan_insert(x: Value, k: u32, place: usize, tracked: &[bool], rows: &[u16
 }
 
 // Where part `k` of a tracked value stands.
-pub fn part(tracked: &[bool], rows: &[u16], x: Value, k: u32) -> Option<usize>
-    ensures { (next : ℕ) (s : List ℕ) (used : ℕ) (S : AggStates) → Rep next s tracked.now rows.now used S
+#[tactic(auto, unfolding(rewrite::specs::State::state_of, mir::specs::Lookup::on_some))]
+pub fn part(parts: Parts, x: Value, k: u32) -> Option<usize>
+    ensures { (next : ℕ) (s : List ℕ) (used : ℕ) (S : AggStates)
+        → Rep next s parts.entry.marks.now parts.entry.rows.now used S
         → InitAt next s (on_some (state_of S x) (λ xs. get_elem? xs k)) result }
 {
-    let v = tracked_source(tracked, x, true)?;
-    if rewrite_parts::part_count(rows, v) as u32 <= k {
-        return None;
+    match x {
+        Value::Literal(_) => None,
+        Value::Error => None,
+        Value::Operand(v) => rewrite_parts::find_part(parts, v, k),
     }
-    Some(rewrite_parts::part_place(rows, v, k))
 }
 
 // Where the part of a tracked value stands that a name stands for, by the value's recorded type.
-pub fn field_part(
-    s: &[u8],
-    b: Bounds,
-    facts: &[u16],
-    tracked: &[bool],
-    rows: &[u16],
-    x: Value,
-    name: NameId,
-) -> Option<usize>
-    ensures { FieldPart b s.now facts.now tracked.now rows.now x name result }
+pub fn field_part(code: Code, parts: Parts, x: Value, name: NameId) -> Option<usize>
+    ensures { FieldPart code.entry parts.entry x name result }
 {
     match x {
         Value::Literal(_) => None,
         Value::Error => None,
         Value::Operand(v) => {
-            let recorded = bytes_index::recorded(facts);
-            let found = rewrite_chains::value_field(s, facts, b.types, recorded, v, name)?;
-            part(tracked, rows, x, found.position)
+            let recorded = bytes_index::recorded(code.facts);
+            let found = rewrite_chains::value_field(Typing { code, recorded }, v, name)?;
+            rewrite_parts::find_part(parts, v, found.position)
         }
     }
 }
 
 // A part that is taken: a tracked one hands its parts on, any other is assigned.
-pub fn plan_take(
-    s: &[u8],
-    next: u16,
-    found: Option<usize>,
-    t: TypeId,
-    whole: bool,
-    tracked: &[bool],
-) -> Plan
-    ensures { TakePlanned next s.now found t whole tracked.now result }
+pub fn plan_take(code: Code, found: Option<usize>, t: TypeId, whole: bool, tracked: &[bool]) -> Plan
+    ensures { TakePlanned code.entry found t whole tracked.now result }
 {
     let Some(place) = found else {
         return Plan::Keep;
     };
-    let x = bytes_operands::value_at(s, place, next);
+    let x = bytes_operands::value_at(code.bytes, place, code.bounds.next);
     match tracked_source(tracked, x, whole) {
         None => Plan::Assign { place, named: t },
         Some(v) => Plan::Share {

@@ -14,7 +14,6 @@ use Rattle.bytes_wire.proofs.Canon.{bytes_drop}
 use Rattle.mir.specs.Syntax.{Instruction, Call}
 use Rattle.bytes_field.specs.Decode.{instruction_of}
 use Rattle.bytes_field.specs.Encode.{instruction_bytes}
-use Rattle.bytes_field.specs.declared.Bounds.{Bounds}
 use Rattle.bytes_index.specs.Table.{place_in, end_in}
 use Rattle.bytes_operands.specs.Fields.{fields_place}
 use Rattle.bytes_laws.proofs.Instruction.{instruction_size}
@@ -30,87 +29,88 @@ use Rattle.std.specs.Prelude.{Result, Ok, Err}
 use Rattle.rewrite.specs.declared.Clash.{Clash}
 use Rattle.rewrite_progress.specs.Effect.{output_of, rebuilt_effect, piece_effect, Puts}
 use Rattle.rewrite_wanted.specs.Asked.{Setting, asked_list}
-use Rattle.rewrite_list.specs.declared.ValueList.{ValueList}
+use Rattle.rewrite_list.specs.declared.values.ValueList.{ValueList}
+use Rattle.rewrite_list.specs.declared.values.Values.{Values}
 use Rattle.rewrite_list.specs.Lists.{AllPut}
 use Rattle.rewrite_before.specs.Materialized.{onward, call_list, call_behind, with_values, Around, CallWritten, InstructionWritten, CallPut}
 use Rattle.rewrite_before.proofs.Standing.{CallKnown, call_known}
 use Rattle.rewrite_before.proofs.Effects.{Idle, idle, clash_put, went_put, spent, as_many, call_clash, call_fresh, call_kept, call_anew}
 
-module _ (b : Bounds) (s facts : List ℕ) (slot : ℕ) (tracked : Marks) (out work : List ℕ) (p : Progress) (at : ℕ) (t : List ℕ) (place : ℕ) (f : List ℕ) (l : ValueList)
-    (ha : at ≡ place_in facts slot) (ht : t ≡ drop at s) (hp : place ≡ fields_place t) (hf : f ≡ drop place t) (hl : l ≡ call_list f)
-    (r : Result Progress Clash) (out₁ work₁ : List ℕ) (u : AllPut b s facts f tracked l out work p out₁ work₁ r) where
+module _ (vs : Values) (slot : ℕ) (out work : List ℕ) (p : Progress) (at : ℕ) (t : List ℕ) (place : ℕ)
+    (ha : at ≡ place_in vs.code.facts.now slot) (ht : t ≡ drop at vs.code.bytes.now) (hp : place ≡ fields_place t) (hf : vs.fields.now ≡ drop place t) (hl : vs.list ≡ call_list vs.fields.now)
+    (r : Result Progress Clash) (out₁ work₁ : List ℕ) (u : AllPut vs out work p out₁ work₁ r) where
   -- what is known in each case
-  module _ (τ : Types) (S : AggStates) (used : ℕ) (i : Instruction) (ds : List ValueId) (g : ℕ) (xs : List Value) (ps rs : List TypeId) (dropped : Marks) (q : Piece) (a : Here b s facts slot tracked (rows_in work) used τ S i) (k : i.kind ≡ Call ds g xs ps rs)
-      (y : q ≡ step_call S i ds g ps rs (rebuild_all τ S (b.next + p.fresh) (wanted_arguments τ xs ps)) (rebuild_all τ S (b.next + p.fresh) (wanted_arguments τ xs ps)).fresh) (h : b.next + p.fresh + length q.fresh < 65536) where
+  module _ (τ : Types) (S : AggStates) (used : ℕ) (i : Instruction) (ds : List ValueId) (g : ℕ) (xs : List Value) (ps rs : List TypeId) (dropped : Marks) (q : Piece) (a : Here vs.code.bounds vs.code.bytes.now vs.code.facts.now slot vs.tracked.now (rows_in work) used τ S i) (k : i.kind ≡ Call ds g xs ps rs)
+      (y : q ≡ step_call S i ds g ps rs (rebuild_all τ S (vs.code.bounds.next + p.fresh) (wanted_arguments τ xs ps)) (rebuild_all τ S (vs.code.bounds.next + p.fresh) (wanted_arguments τ xs ps)).fresh) (h : vs.code.bounds.next + p.fresh + length q.fresh < 65536) where
     abbrev n : ℕ
-    n = end_in facts slot - place_in facts slot
+    n = end_in vs.code.facts.now slot - place_in vs.code.facts.now slot
 
     abbrev R : Rebuilt
-    R = rebuild_all τ S (b.next + p.fresh) (asked_list τ f (call_list f).asks 0 xs)
+    R = rebuild_all τ S (vs.code.bounds.next + p.fresh) (asked_list τ vs.fields.now (call_list vs.fields.now).asks 0 xs)
 
-    there : t ≡ drop (place_in facts slot) s
-    there = ht ∙ ap (λ j. drop j s) ha
+    there : t ≡ drop (place_in vs.code.facts.now slot) vs.code.bytes.now
+    there = ht ∙ ap (λ j. drop j vs.code.bytes.now) ha
 
     bs : Bytes t
-    bs = rw there (bytes_drop s (place_in facts slot) a.ground.bytes)
+    bs = rw there (bytes_drop vs.code.bytes.now (place_in vs.code.facts.now slot) a.ground.bytes)
 
-    te : instruction_of b [] false t ≡ ok i n
-    te = ap (instruction_of b [] false) there ∙ a.line.read
+    te : instruction_of vs.code.bounds [] false t ≡ ok i n
+    te = ap (instruction_of vs.code.bounds [] false) there ∙ a.line.read
 
-    known : CallKnown b.next n f (fields_place t) ds g xs ps rs (call_list f).first (call_list f).many (call_behind f)
-    known = let z : f ≡ drop (fields_place t) t = hf ∙ ap (λ j. drop j t) hp in rw z (call_known b t i n bs te ds g xs ps rs k)
+    known : CallKnown vs.code.bounds.next n vs.fields.now (fields_place t) ds g xs ps rs (call_list vs.fields.now).first (call_list vs.fields.now).many (call_behind vs.fields.now)
+    known = let z : vs.fields.now ≡ drop (fields_place t) t = hf ∙ ap (λ j. drop j t) hp in rw z (call_known vs.code.bounds t i n bs te ds g xs ps rs k)
 
     same : q ≡ step_call S i ds g ps rs R R.fresh
-    same = y ∙ ap (λ ws. step_call S i ds g ps rs (rebuild_all τ S (b.next + p.fresh) ws) (rebuild_all τ S (b.next + p.fresh) ws).fresh) (sym (known.asked τ))
+    same = y ∙ ap (λ ws. step_call S i ds g ps rs (rebuild_all τ S (vs.code.bounds.next + p.fresh) ws) (rebuild_all τ S (vs.code.bounds.next + p.fresh) ws).fresh) (sym (known.asked τ))
 
     fresh_same : length q.fresh ≡ length R.fresh
     fresh_same = ap (λ z. length z.fresh) same ∙ ap length (call_fresh S i ds g ps rs R)
 
     calm : R.fresh ≡ [] → Idle R
-    calm z = idle τ S (asked_list τ f (call_list f).asks 0 xs) (b.next + p.fresh) z
+    calm z = idle τ S (asked_list τ vs.fields.now (call_list vs.fields.now).asks 0 xs) (vs.code.bounds.next + p.fresh) z
 
     clash_same : q.clash ≡ R.clash
     clash_same = ap (λ z. z.clash) same ∙ call_clash S i ds g ps rs R calm
 
-    setting : Setting b s facts tracked (rows_in work) τ S
+    setting : Setting vs.code vs.tracked.now (rows_in work) τ S
     setting = record { used = used; ground = a.ground; rep = a.rep }
 
-    few : b.next + p.fresh + length R.fresh < 65536
+    few : vs.code.bounds.next + p.fresh + length R.fresh < 65536
     few = omega (arith, fresh_same)
 
     puts : Puts (output_of out (fresh_in work) dropped p) (rebuilt_effect R) R.clash out₁ (fresh_in work₁) dropped r
-    puts = subst (λ m. AllPut b s facts f tracked m out work p out₁ work₁ r) hl u τ S xs setting known.lies known.listed few dropped
+    puts = subst (λ m. AllPut (record { code = vs.code; fields = vs.fields; list = m; tracked = vs.tracked }) out work p out₁ work₁ r) hl u τ S xs setting known.lies known.listed few dropped
 
     short : n ≤ 268
-    short = instruction_size b [] false t bs te a.ground.listed a.ground.projected
+    short = instruction_size vs.code.bounds [] false t bs te a.ground.listed a.ground.projected
 
     -- no argument is rebuilt: the Call as it stands
-    kept_case : (q' s' : Progress) (out₂ : List ℕ) (to : ℕ) → r ≡ Ok q' → q'.fresh ≡ p.fresh → InstructionWritten s facts slot out₁ out₂ q'.to to → s' ≡ onward q' to 1 0 → Puts (output_of out (fresh_in work) dropped p) (piece_effect q) q.clash out₂ (fresh_in work₁) dropped (Ok s')
+    kept_case : (q' s' : Progress) (out₂ : List ℕ) (to : ℕ) → r ≡ Ok q' → q'.fresh ≡ p.fresh → InstructionWritten vs.code slot out₁ out₂ q'.to to → s' ≡ onward q' to 1 0 → Puts (output_of out (fresh_in work) dropped p) (piece_effect q) q.clash out₂ (fresh_in work₁) dropped (Ok s')
     kept_case q' s' out₂ to z c v o =
         let none : length R.fresh ≡ 0 = omega (arith, spent out (fresh_in work) dropped p R r out₁ (fresh_in work₁) puts q' z) in
-        went_put out (fresh_in work) dropped p R r out₁ (fresh_in work₁) puts q' (instruction_bytes i) out₂ to 1 0 _ _ s' z (v b τ i a.ground a.line) o (call_kept S i ds g ps rs R none calm ∙ ap piece_effect (sym same)) clash_same
+        went_put out (fresh_in work) dropped p R r out₁ (fresh_in work₁) puts q' (instruction_bytes i) out₂ to 1 0 _ _ s' z (v τ i a.ground a.line) o (call_kept S i ds g ps rs R none calm ∙ ap piece_effect (sym same)) clash_same
 
     -- else it is built anew
-    anew_case : (q' s' : Progress) (out₂ : List ℕ) (to end : ℕ) → r ≡ Ok q' → (q'.fresh ≡ p.fresh → ⊥) → end ≡ end_in facts slot - (at + place) → l.first ≤ 1024 → CallWritten b s facts f tracked l p.fresh end out₁ out₂ q'.to to → s' ≡ onward q' to 1 (q'.fresh - p.fresh)
+    anew_case : (q' s' : Progress) (out₂ : List ℕ) (to end : ℕ) → r ≡ Ok q' → (q'.fresh ≡ p.fresh → ⊥) → end ≡ end_in vs.code.facts.now slot - (at + place) → vs.list.first ≤ 1024 → CallWritten vs (record { to = q'.to; fresh = p.fresh }) end out₁ out₂ to → s' ≡ onward q' to 1 (q'.fresh - p.fresh)
         → Puts (output_of out (fresh_in work) dropped p) (piece_effect q) q.clash out₂ (fresh_in work₁) dropped (Ok s')
     anew_case q' s' out₂ to end z c he hs v o =
         let e : end ≡ n - fields_place t = omega (arith, he, ha, hp) in
-        let v' = subst (λ m. CallWritten b s facts f tracked m p.fresh (n - fields_place t) out₁ out₂ q'.to to) hl (subst (λ j. CallWritten b s facts f tracked l p.fresh j out₁ out₂ q'.to to) e v) in
-        let around : Around f (call_list f) (n - fields_place t) = record { before = omega (arith, ap (λ (m : ValueList). m.first) hl); front = known.front_long; behind = omega (arith, short); back = known.back_long } in
-        let W : List ℕ = 0 ∷ 3 ∷ with_values f (call_list f) (n - fields_place t) R.values in
+        let v' = subst (λ m. CallWritten (record { code = vs.code; fields = vs.fields; list = m; tracked = vs.tracked }) (record { to = q'.to; fresh = p.fresh }) (n - fields_place t) out₁ out₂ to) hl (subst (λ j. CallWritten vs (record { to = q'.to; fresh = p.fresh }) j out₁ out₂ to) e v) in
+        let around : Around vs.fields.now (call_list vs.fields.now) (n - fields_place t) = record { before = omega (arith, ap (λ (m : ValueList). m.first) hl); behind = omega (arith, short) } in
+        let W : List ℕ = 0 ∷ 3 ∷ with_values vs.fields.now (call_list vs.fields.now) (n - fields_place t) R.values in
         let made : q'.fresh ≡ p.fresh + length R.fresh = spent out (fresh_in work) dropped p R r out₁ (fresh_in work₁) puts q' z in
         let many : q'.fresh - p.fresh ≡ length R.fresh = omega (arith, made) in
         went_put out (fresh_in work) dropped p R r out₁ (fresh_in work₁) puts q' W out₂ to 1 (length R.fresh) _ _ s' z
         (v' (rows_in work) around τ S xs setting known.lies known.listed few)
         (o ∙ ap (onward q' to 1) many)
-        (call_anew S i ds g ps rs R W (λ m. c (omega (arith, made))) (known.bytes R.values (as_many τ S (b.next + p.fresh) f (call_list f).asks xs)) ∙ ap piece_effect (sym same))
+        (call_anew S i ds g ps rs R W (λ m. c (omega (arith, made))) (known.bytes R.values (as_many τ S (vs.code.bounds.next + p.fresh) vs.fields.now (call_list vs.fields.now).asks xs)) ∙ ap piece_effect (sym same))
         clash_same
 
-  pub call_clashed : (x y : Clash) → r ≡ Err x → CallPut b s facts slot tracked out work p out₁ work₁ (Err y)
+  pub call_clashed : (x y : Clash) → r ≡ Err x → CallPut vs.code slot vs.tracked.now out work p out₁ work₁ (Err y)
   call_clashed c c' z = λ τ S used i ds g xs ps rs dropped q a k y h. clash_put out (fresh_in work) dropped p _ r out₁ (fresh_in work₁) (puts τ S used i ds g xs ps rs dropped q a k y h) _ _ c c' z (clash_same τ S used i ds g xs ps rs dropped q a k y h)
 
-  pub call_stayed : (q' s' : Progress) (out₂ : List ℕ) (to : ℕ) → r ≡ Ok q' → q'.fresh ≡ p.fresh → InstructionWritten s facts slot out₁ out₂ q'.to to → s' ≡ onward q' to 1 0 → CallPut b s facts slot tracked out work p out₂ work₁ (Ok s')
+  pub call_stayed : (q' s' : Progress) (out₂ : List ℕ) (to : ℕ) → r ≡ Ok q' → q'.fresh ≡ p.fresh → InstructionWritten vs.code slot out₁ out₂ q'.to to → s' ≡ onward q' to 1 0 → CallPut vs.code slot vs.tracked.now out work p out₂ work₁ (Ok s')
   call_stayed q' s' out₂ to z c v o = λ τ S used i ds g xs ps rs dropped q a k y h. kept_case τ S used i ds g xs ps rs dropped q a k y h q' s' out₂ to z c v o
 
-  pub call_built : (q' s' : Progress) (out₂ : List ℕ) (to end : ℕ) → r ≡ Ok q' → (q'.fresh ≡ p.fresh → ⊥) → end ≡ end_in facts slot - (at + place) → l.first ≤ 1024 → CallWritten b s facts f tracked l p.fresh end out₁ out₂ q'.to to → s' ≡ onward q' to 1 (q'.fresh - p.fresh) → CallPut b s facts slot tracked out work p out₂ work₁ (Ok s')
+  pub call_built : (q' s' : Progress) (out₂ : List ℕ) (to end : ℕ) → r ≡ Ok q' → (q'.fresh ≡ p.fresh → ⊥) → end ≡ end_in vs.code.facts.now slot - (at + place) → vs.list.first ≤ 1024 → CallWritten vs (record { to = q'.to; fresh = p.fresh }) end out₁ out₂ to → s' ≡ onward q' to 1 (q'.fresh - p.fresh) → CallPut vs.code slot vs.tracked.now out work p out₂ work₁ (Ok s')
   call_built q' s' out₂ to end z c he hs v o = λ τ S used i ds g xs ps rs dropped q a k y h. anew_case τ S used i ds g xs ps rs dropped q a k y h q' s' out₂ to end z c he hs v o

@@ -1,5 +1,5 @@
 -- The builds, then the instruction or terminator that needs them, as one effect.
-use Prim.Native.Nat.{ℕ, suc, ◌+◌, ◌-◌, ◌≤◌, ◌<◌}
+use Prim.Native.Nat.{ℕ, suc, ◌+◌, ◌-◌, ◌≤◌}
 use mathlib.Core.Path.{◌≡◌, refl, ap, ◌∙◌, sym}
 use mathlib.Core.List.{List, [], ◌∷◌, ◌++◌, append-nil}
 use mathlib.Core.Bool.{Bool, true, false, cond}
@@ -213,17 +213,9 @@ low_on k p q s to lines made e l f t a m =
       materializations = omega (arith, l.materializations);
     })
 
--- what was taken, and that there is room
+-- what was taken
 pub made_few : (p q : Progress) → Few p 255 q → q.fresh - p.fresh ≤ 255
 made_few p q f = omega (arith, f.fresh)
-
-pub further_fits : (p q : Progress) (lines made : ℕ) → Low 8000 p → Few p 255 q → lines ≤ 1 → made ≤ 255 → (q.lines < 1073741824) × ((q.counts.materializations < 1073741824) × ((lines < 1024) × (made < 1024)))
-further_fits p q lines made l f a m =
-    let c5 : q.counts.materializations ≡ p.counts.materializations = ap (λ c. c.materializations) f.counts in
-    (omega (arith, l.lines, f.lines), (omega (arith, l.materializations), (omega arith, omega arith)))
-
-pub place_fits_lem : (p q : Progress) → Low 8000 p → Few p 255 q → q.to < 10737418240
-place_fits_lem p q l f = omega (arith, l.to, f.to)
 
 -- counts with none added but materializations
 pub onward_same : (p : Progress) (to lines made : ℕ) → record { to = to; lines = p.lines + lines; fresh = p.fresh; counts = record { builds = p.counts.builds; extracts = p.counts.extracts; inserts = p.counts.inserts; assigns = p.counts.assigns; materializations = p.counts.materializations + made } } ≡ onward p to lines made

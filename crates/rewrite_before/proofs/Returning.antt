@@ -42,7 +42,7 @@ module _ (b : Bounds) (t : List ℕ) (xs : List Value) (n : ℕ) (h : Bytes t) (
   return_many = ap (λ l. get_or l 1 0) shown
 
   pub return_around : Around t (return_list t) 0
-  return_around = record { before = omega arith; front = omega (arith, ap length shown); behind = omega arith; back = omega arith }
+  return_around = record { before = omega arith; behind = omega arith }
 
   pub return_bytes : (ys : List Value) → length ys ≡ length xs → with_values t (return_list t) 0 ys ≡ terminator_bytes (Return ys)
   unfolding terminator_bytes

@@ -39,18 +39,14 @@ use Rattle.rewrite_before.proofs.Fields.{CallAt, call_at, call_stands, StoreAt, 
 -- a run before, one in the middle and one behind it, with what follows
 pub record Cut (s h v c : List ℕ) (n m : ℕ) : Type 0 where
   pub front : take n s ≡ h
-  pub front_long : n ≤ length s
   pub back : take (length c) (drop m s) ≡ c
-  pub back_long : length c ≤ length (drop m s)
 
 cut : (s h v c d : List ℕ) (n m : ℕ) → s ≡ h ++ (v ++ (c ++ d)) → length h ≡ n → n + length v ≡ m → Cut s h v c n m
 cut s h v c d n m e p q =
     let a : drop m s ≡ c ++ d = ap (drop m) (e ∙ sym (append_assoc h v (c ++ d))) ∙ drop_at (h ++ v) (c ++ d) m (omega (arith, length-append h v)) in
     record {
       front = ap (take n) e ∙ take_at h (v ++ (c ++ d)) n p;
-      front_long = omega (arith, ap length e, length-append h (v ++ (c ++ d)));
       back = ap (take (length c)) a ∙ take_at c d (length c) refl;
-      back_long = omega (arith, ap length a, length-append c d);
     }
 
 -- bytes that were written as they stood, and the rest
@@ -72,8 +68,6 @@ pub record CallKnown (next n : ℕ) (f : List ℕ) (place : ℕ) (ds : List Valu
   pub lies : Lies next f first xs
   pub listed : length xs ≡ many
   pub asked : (τ : Types) → asked_list τ f (Asks.Types (behind + 1) (get_or f behind 0)) 0 xs ≡ wanted_arguments τ xs ps
-  pub front_long : first ≤ length f
-  pub back_long : n - place - behind ≤ length (drop behind f)
   pub bytes : (ys : List Value) → length ys ≡ length xs → 0 ∷ 3 ∷ (take first f ++ (each_bytes value_bytes ys ++ take (n - place - behind) (drop behind f))) ≡ instruction_bytes (plain (Call ds g ys ps rs))
 
 -- and of a Store of n bytes
@@ -81,8 +75,6 @@ pub record StoreKnown (next n : ℕ) (t : List ℕ) (i : Instruction) (l : Place
   pub lies : Lies next t first (x ∷ [])
   pub asked : (τ : Types) → asked_at τ t (Asks.Types behind 1) 0 x ≡ aggregate_type τ u
   pub near : first ≤ n
-  pub front_long : first ≤ length t
-  pub back_long : n - behind ≤ length (drop behind t)
   pub bytes : (y : Value) → take first t ++ (each_bytes value_bytes (y ∷ []) ++ take (n - behind) (drop behind t)) ≡ instruction_bytes (record { meta = i.meta; kind = Store l y u })
 
 -- a value that stands in the fields stands in the whole
@@ -109,9 +101,6 @@ module _ (b : Bounds) (t : List ℕ) (i : Instruction) (n : ℕ) (h : Bytes t) (
   -- as it stands
   pub whole_canon : Canon (instruction_bytes i) t n
   whole_canon = instruction_canon b [] false t h e
-
-  pub whole_long : n ≤ length t
-  whole_long = omega (arith, whole_canon.size, ap length (over (instruction_bytes i) t n whole_canon), length-append (instruction_bytes i) (drop n t))
 
   call_from : (ds : List ValueId) (g : ℕ) (xs : List Value) (ps rs : List TypeId) (first many behind : ℕ) → first ≡ 4 + 2 * get_or f 0 0 → many ≡ get_or f (first - 1) 0 → behind ≡ after (value_end f) many first → {k : InstructionKind} → CallAt b [] f k → k ≡ Call ds g xs ps rs → Canon (field_bytes k) f known.size → CallKnown b.next n f (fields_place t) ds g xs ps rs first many behind
   unfolding field_bytes instruction_bytes
@@ -141,8 +130,6 @@ module _ (b : Bounds) (t : List ℕ) (i : Instruction) (n : ℕ) (h : Bytes t) (
         lies = to_lies o';
         listed = u';
         asked = λ τ. asked_types τ f (behind + 1) (get_or f behind 0) 0 xs ps w' y';
-        front_long = x.front_long;
-        back_long = rw lc x.back_long;
         bytes = λ ys j. rw (lc, x.front, x.back, ← j) (ap (λ k. 0 ∷ 3 ∷ k) (ungroup A (to_bytes 2 g) (length ys) (each_bytes value_bytes ys) C));
       }
 
@@ -184,8 +171,6 @@ module _ (b : Bounds) (t : List ℕ) (i : Instruction) (n : ℕ) (h : Bytes t) (
         lies = lies.◌&◌ o' lies.empty;
         asked = λ τ. ap (λ y. aggregate_type τ (record { 0 = y })) (at16_drop t behind ∙ w');
         near = omega (arith, lh, whole_canon.size, ap length w0, length-append H (W ++ T));
-        front_long = r.front_long;
-        back_long = rw lt r.back_long;
         bytes = λ y. rw (lt, r.front, r.back, append-nil (value_bytes y)) (ap (λ z. bit_map (record { meta = i.meta; kind = Store l x u }) ∷ 6 ∷ z) (append_assoc M (place_bytes l) (value_bytes y ++ T)));
       }
 

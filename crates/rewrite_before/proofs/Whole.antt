@@ -10,8 +10,7 @@ use Rattle.mir.specs.declared.Value.{Value}
 use Rattle.bytes_wire.proofs.Canon.{bytes_drop}
 use Rattle.mir.specs.Syntax.{Return}
 use Rattle.bytes_field.specs.Decode.{terminator_of}
-use Rattle.bytes_field.specs.declared.Bounds.{Bounds}
-use Rattle.bytes_index.specs.Table.{recorded_in, place_in, end_in}
+use Rattle.bytes_index.specs.Table.{place_in, end_in}
 use Rattle.bytes_index.specs.Code.{TerminatorIn}
 use Rattle.mir.specs.Lookup.{Types}
 use Rattle.fold.specs.Family.{Marks}
@@ -22,25 +21,25 @@ use Rattle.rewrite_parts.specs.Rows.{Rep, rows_in, fresh_in}
 use Rattle.rewrite_progress.specs.declared.Progress.{Progress}
 use Rattle.std.specs.Prelude.{Result, Ok, Err}
 use Rattle.rewrite.specs.declared.Clash.{Clash}
-use Rattle.rewrite_progress.specs.Ground.{Ground}
+use Rattle.fold.specs.Tables.{CodeGround}
 use Rattle.rewrite_progress.specs.Effect.{output_of, rebuilt_effect, walked_effect, Puts}
 use Rattle.rewrite_wanted.specs.declared.Asks.{Asks}
 use Rattle.rewrite_wanted.specs.Asked.{Setting, asked_list}
-use Rattle.rewrite_list.specs.declared.ValueList.{ValueList}
+use Rattle.rewrite_list.specs.declared.values.Values.{Values}
 use Rattle.rewrite_list.specs.Lists.{Lies, AllPut}
 use Rattle.rewrite_before.specs.Materialized.{onward, return_list, with_values, AnewWritten, ReturnPut}
 use Rattle.rewrite_before.proofs.Returning.{asked_returns, return_many, return_around, return_bytes, return_lies}
 use Rattle.rewrite_before.proofs.Effects.{clash_put, went_put, spent, as_many, return_effect}
 
-module _ (b : Bounds) (s facts : List ℕ) (slot : ℕ) (tracked : Marks) (out work : List ℕ) (p : Progress) (at : ℕ) (t : List ℕ) (l : ValueList) (ha : at ≡ place_in facts slot) (ht : t ≡ drop at s) (hl : l ≡ return_list t) (r : Result Progress Clash) (out₁ work₁ : List ℕ) (u : AllPut b s facts t tracked l out work p out₁ work₁ r) where
+module _ (vs : Values) (slot : ℕ) (out work : List ℕ) (p : Progress) (at : ℕ) (ha : at ≡ place_in vs.code.facts.now slot) (ht : vs.fields.now ≡ drop at vs.code.bytes.now) (hl : vs.list ≡ return_list vs.fields.now) (r : Result Progress Clash) (out₁ work₁ : List ℕ) (u : AllPut vs out work p out₁ work₁ r) where
   -- what is known in each case
-  module _ (τ : Types) (S : AggStates) (used : ℕ) (xs : List Value) (dropped : Marks) (w : Walked) (g : Ground b s facts (recorded_in facts) τ) (a : Rep b.next s tracked (rows_in work) used S) (e : TerminatorIn b s facts slot (Return xs)) (k : w ≡ finish τ S (b.next + p.fresh) (Return xs)) (h : b.next + p.fresh + length w.fresh < 65536) where
+  module _ (τ : Types) (S : AggStates) (used : ℕ) (xs : List Value) (dropped : Marks) (w : Walked) (g : CodeGround vs.code τ) (a : Rep vs.code.bounds.next vs.code.bytes.now vs.tracked.now (rows_in work) used S) (e : TerminatorIn vs.code.bounds vs.code.bytes.now vs.code.facts.now slot (Return xs)) (k : w ≡ finish τ S (vs.code.bounds.next + p.fresh) (Return xs)) (h : vs.code.bounds.next + p.fresh + length w.fresh < 65536) where
     abbrev R : Rebuilt
-    R = rebuild_all τ S (b.next + p.fresh) (asked_list τ t Asks.Recorded 0 xs)
+    R = rebuild_all τ S (vs.code.bounds.next + p.fresh) (asked_list τ vs.fields.now Asks.Recorded 0 xs)
 
     same : w ≡ returned R
     unfolding finish
-    same = k ∙ ap (λ ws. returned (rebuild_all τ S (b.next + p.fresh) ws)) (sym (asked_returns τ t 0 xs))
+    same = k ∙ ap (λ ws. returned (rebuild_all τ S (vs.code.bounds.next + p.fresh) ws)) (sym (asked_returns τ vs.fields.now 0 xs))
 
     fresh_same : length w.fresh ≡ length R.fresh
     unfolding returned
@@ -50,43 +49,43 @@ module _ (b : Bounds) (s facts : List ℕ) (slot : ℕ) (tracked : Marks) (out w
     unfolding returned
     clash_same = ap (λ z. z.clash) same
 
-    there : t ≡ drop (place_in facts slot) s
-    there = ht ∙ ap (λ j. drop j s) ha
+    there : vs.fields.now ≡ drop (place_in vs.code.facts.now slot) vs.code.bytes.now
+    there = ht ∙ ap (λ j. drop j vs.code.bytes.now) ha
 
-    bs : Bytes t
-    bs = rw there (bytes_drop s (place_in facts slot) g.bytes)
+    bs : Bytes vs.fields.now
+    bs = rw there (bytes_drop vs.code.bytes.now (place_in vs.code.facts.now slot) g.bytes)
 
-    te : terminator_of b t ≡ ok (Return xs) (end_in facts slot - place_in facts slot)
-    te = ap (terminator_of b) there ∙ e.read
+    te : terminator_of vs.code.bounds vs.fields.now ≡ ok (Return xs) (end_in vs.code.facts.now slot - place_in vs.code.facts.now slot)
+    te = ap (terminator_of vs.code.bounds) there ∙ e.read
 
-    setting : Setting b s facts tracked (rows_in work) τ S
+    setting : Setting vs.code vs.tracked.now (rows_in work) τ S
     setting = record { used = used; ground = g; rep = a }
 
-    lie : Lies b.next t 2 xs
-    lie = return_lies b t xs _ bs te
+    lie : Lies vs.code.bounds.next vs.fields.now 2 xs
+    lie = return_lies vs.code.bounds vs.fields.now xs _ bs te
 
-    long : length xs ≡ (return_list t).many
-    long = sym (return_many b t xs _ bs te)
+    long : length xs ≡ (return_list vs.fields.now).many
+    long = sym (return_many vs.code.bounds vs.fields.now xs _ bs te)
 
-    few : b.next + p.fresh + length R.fresh < 65536
+    few : vs.code.bounds.next + p.fresh + length R.fresh < 65536
     few = omega (arith, fresh_same)
 
     puts : Puts (output_of out (fresh_in work) dropped p) (rebuilt_effect R) R.clash out₁ (fresh_in work₁) dropped r
-    puts = subst (λ m. AllPut b s facts t tracked m out work p out₁ work₁ r) hl u τ S xs setting lie long few dropped
+    puts = subst (λ m. AllPut (record { code = vs.code; fields = vs.fields; list = m; tracked = vs.tracked }) out work p out₁ work₁ r) hl u τ S xs setting lie long few dropped
 
-    went_case : (q s' : Progress) (out₂ : List ℕ) (to : ℕ) → r ≡ Ok q → AnewWritten b s facts t tracked l p.fresh 0 out₁ out₂ q.to to → s' ≡ onward q to 0 (q.fresh - p.fresh) → Puts (output_of out (fresh_in work) dropped p) (walked_effect w) w.clash out₂ (fresh_in work₁) dropped (Ok s')
+    went_case : (q s' : Progress) (out₂ : List ℕ) (to : ℕ) → r ≡ Ok q → AnewWritten vs (record { to = q.to; fresh = p.fresh }) 0 out₁ out₂ to → s' ≡ onward q to 0 (q.fresh - p.fresh) → Puts (output_of out (fresh_in work) dropped p) (walked_effect w) w.clash out₂ (fresh_in work₁) dropped (Ok s')
     went_case q s' out₂ to z v o =
-        let v' = subst (λ m. AnewWritten b s facts t tracked m p.fresh 0 out₁ out₂ q.to to) hl v in
+        let v' = subst (λ m. AnewWritten (record { code = vs.code; fields = vs.fields; list = m; tracked = vs.tracked }) (record { to = q.to; fresh = p.fresh }) 0 out₁ out₂ to) hl v in
         let made : q.fresh - p.fresh ≡ length R.fresh = omega (arith, spent out (fresh_in work) dropped p R r out₁ (fresh_in work₁) puts q z) in
-        let W = with_values t (return_list t) 0 R.values in
+        let W = with_values vs.fields.now (return_list vs.fields.now) 0 R.values in
         went_put out (fresh_in work) dropped p R r out₁ (fresh_in work₁) puts q W out₂ to 0 (length R.fresh) _ _ s' z
-        (v' (rows_in work) (return_around b t xs _ bs te) τ S xs setting lie long few)
+        (v' (rows_in work) (return_around vs.code.bounds vs.fields.now xs _ bs te) τ S xs setting lie long few)
         (o ∙ ap (onward q to 0) made)
-        (return_effect R W (return_bytes b t xs _ bs te R.values (as_many τ S (b.next + p.fresh) t Asks.Recorded xs)) ∙ ap walked_effect (sym same))
+        (return_effect R W (return_bytes vs.code.bounds vs.fields.now xs _ bs te R.values (as_many τ S (vs.code.bounds.next + p.fresh) vs.fields.now Asks.Recorded xs)) ∙ ap walked_effect (sym same))
         clash_same
 
-  pub return_clash : (x y : Clash) → r ≡ Err x → ReturnPut b s facts slot tracked out work p out₁ work₁ (Err y)
+  pub return_clash : (x y : Clash) → r ≡ Err x → ReturnPut vs.code slot vs.tracked.now out work p out₁ work₁ (Err y)
   return_clash c c' z = λ τ S used xs dropped w g a e k h. clash_put out (fresh_in work) dropped p _ r out₁ (fresh_in work₁) (puts τ S used xs dropped w g a e k h) _ _ c c' z (clash_same τ S used xs dropped w g a e k h)
 
-  pub return_went : (q s' : Progress) (out₂ : List ℕ) (to : ℕ) → r ≡ Ok q → AnewWritten b s facts t tracked l p.fresh 0 out₁ out₂ q.to to → s' ≡ onward q to 0 (q.fresh - p.fresh) → ReturnPut b s facts slot tracked out work p out₂ work₁ (Ok s')
+  pub return_went : (q s' : Progress) (out₂ : List ℕ) (to : ℕ) → r ≡ Ok q → AnewWritten vs (record { to = q.to; fresh = p.fresh }) 0 out₁ out₂ to → s' ≡ onward q to 0 (q.fresh - p.fresh) → ReturnPut vs.code slot vs.tracked.now out work p out₂ work₁ (Ok s')
   return_went q s' out₂ to z v o = λ τ S used xs dropped w g a e k h. went_case τ S used xs dropped w g a e k h q s' out₂ to z v o

@@ -1,13 +1,12 @@
 -- What the writers of a Call, a Store and a Return promise.
-use Rattle.std.specs.Prelude.{ℕ, ◌+◌, ◌*◌, ◌-◌, ◌≤◌, ◌≡◌, List, ◌∷◌, ◌++◌, length, get_or, take, drop, Result}
+use Rattle.std.specs.Prelude.{ℕ, ◌+◌, ◌*◌, ◌-◌, ◌≤◌, ◌≡◌, List, ◌∷◌, ◌++◌, get_or, take, drop, Result}
 use Rattle.bytes_wire.specs.Value.{value_bytes}
 use Rattle.mir.specs.declared.ValueId.{ValueId}
 use Rattle.mir.specs.declared.TypeId.{TypeId}
 use Rattle.mir.specs.declared.Value.{Value}
 use Rattle.mir.specs.Syntax.{Place, Instruction, Call, Store, Return}
 use Rattle.bytes_field.specs.Encode.{each_bytes, instruction_bytes}
-use Rattle.bytes_field.specs.declared.Bounds.{Bounds}
-use Rattle.bytes_index.specs.Table.{recorded_in}
+use Rattle.bytes_index.specs.declared.code.Code.{Code}
 use Rattle.bytes_index.specs.Code.{InstructionIn, TerminatorIn}
 use Rattle.bytes_operands.specs.Fields.{fields_place, value_end, projection_end, after}
 use Rattle.mir.specs.Lookup.{Types, on_some}
@@ -21,10 +20,12 @@ use Rattle.rewrite_parts.specs.Here.{Here}
 use Rattle.bytes_emit.specs.Written.{Writes}
 use Rattle.rewrite_progress.specs.declared.Progress.{Progress}
 use Rattle.rewrite.specs.declared.Clash.{Clash}
-use Rattle.rewrite_progress.specs.Ground.{Ground}
+use Rattle.fold.specs.Tables.{CodeGround}
 use Rattle.rewrite_progress.specs.Effect.{output_of, piece_effect, walked_effect, Puts, fresh_from, Enough}
 use Rattle.rewrite_wanted.specs.declared.Asks.{Asks}
-use Rattle.rewrite_list.specs.declared.ValueList.{ValueList}
+use Rattle.rewrite_list.specs.declared.values.ValueList.{ValueList}
+use Rattle.rewrite_list.specs.declared.values.Values.{Values}
+use Rattle.rewrite_list.specs.declared.Written.{Written}
 use Rattle.rewrite_list.specs.Lists.{most_copied, OfList}
 
 -- the kind of a Call
@@ -74,32 +75,30 @@ list_end t l = after (value_end t) l.many l.first
 abbrev pub with_values : List ℕ → ValueList → ℕ → List Value → List ℕ
 with_values t l end ys = take l.first t ++ (each_bytes value_bytes ys ++ take (end - list_end t l) (drop (list_end t l) t))
 
--- what stands before the values and behind them is short, and stands there
+-- what stands before the values and behind them is short
 pub record Around (t : List ℕ) (l : ValueList) (end : ℕ) : Type 0 where
   pub before : l.first ≤ most_copied
-  pub front : l.first ≤ length t
   pub behind : end - list_end t l ≤ most_copied
-  pub back : end - list_end t l ≤ length (drop (list_end t l) t)
 
--- with the fresh numbers put in, t is written, and behind two bytes a Call of the fields t
-abbrev pub AnewWritten : Bounds → List ℕ → List ℕ → List ℕ → Marks → ValueList → ℕ → ℕ → List ℕ → List ℕ → ℕ → ℕ → Type 0
-AnewWritten b s facts t tracked l taken end out out' to r =
+-- with the fresh numbers put in, the fields are written, and behind two bytes those of a Call
+abbrev pub AnewWritten : Values → Written → ℕ → List ℕ → List ℕ → ℕ → Type 0
+AnewWritten vs w end out out' r =
     (rows : List ℕ)
-    → Around t l end
-    → OfList b s facts t tracked rows l taken (λ τ S R. Writes (with_values t l end R.values) out out' to r)
+    → Around vs.fields.now vs.list end
+    → OfList vs rows w.fresh (λ τ S R. Writes (with_values vs.fields.now vs.list end R.values) out out' w.to r)
 
-abbrev pub CallWritten : Bounds → List ℕ → List ℕ → List ℕ → Marks → ValueList → ℕ → ℕ → List ℕ → List ℕ → ℕ → ℕ → Type 0
-CallWritten b s facts t tracked l taken end out out' to r =
+abbrev pub CallWritten : Values → Written → ℕ → List ℕ → List ℕ → ℕ → Type 0
+CallWritten vs w end out out' r =
     (rows : List ℕ)
-    → Around t l end
-    → OfList b s facts t tracked rows l taken (λ τ S R. Writes (0 ∷ call_kind ∷ with_values t l end R.values) out out' to r)
+    → Around vs.fields.now vs.list end
+    → OfList vs rows w.fresh (λ τ S R. Writes (0 ∷ call_kind ∷ with_values vs.fields.now vs.list end R.values) out out' w.to r)
 
 -- a slot's instruction is written as it stands
-abbrev pub InstructionWritten : List ℕ → List ℕ → ℕ → List ℕ → List ℕ → ℕ → ℕ → Type 0
-InstructionWritten s facts slot out out' to r =
-    (b : Bounds) (τ : Types) (i : Instruction)
-    → Ground b s facts (recorded_in facts) τ
-    → InstructionIn b s facts slot i
+abbrev pub InstructionWritten : Code → ℕ → List ℕ → List ℕ → ℕ → ℕ → Type 0
+InstructionWritten code slot out out' to r =
+    (τ : Types) (i : Instruction)
+    → CodeGround code τ
+    → InstructionIn code.bounds code.bytes.now code.facts.now slot i
     → Writes (instruction_bytes i) out out' to r
 
 -- a Call's arguments xs for parameters of the types ps, rebuilt from number n on
@@ -107,33 +106,33 @@ abbrev pub rebuilt_arguments : Types → AggStates → ℕ → List Value → Li
 rebuilt_arguments τ S n xs ps = rebuild_all τ S n (wanted_arguments τ xs ps)
 
 -- a Call is put out
-abbrev pub CallPut : Bounds → List ℕ → List ℕ → ℕ → Marks → List ℕ → List ℕ → Progress → List ℕ → List ℕ → Result Progress Clash → Type 0
-CallPut b s facts slot tracked out work p out' work' r =
+abbrev pub CallPut : Code → ℕ → Marks → List ℕ → List ℕ → Progress → List ℕ → List ℕ → Result Progress Clash → Type 0
+CallPut code slot tracked out work p out' work' r =
     (τ : Types) (S : AggStates) (used : ℕ) (i : Instruction)
     (ds : List ValueId) (g : ℕ) (xs : List Value) (ps rs : List TypeId) (dropped : Marks) (q : Piece)
-    → Here b s facts slot tracked (rows_in work) used τ S i
+    → Here code.bounds code.bytes.now code.facts.now slot tracked (rows_in work) used τ S i
     → i.kind ≡ Call ds g xs ps rs
-    → q ≡ step_call S i ds g ps rs (rebuilt_arguments τ S (fresh_from b p) xs ps) (rebuilt_arguments τ S (fresh_from b p) xs ps).fresh
-    → Enough b p q.fresh
+    → q ≡ step_call S i ds g ps rs (rebuilt_arguments τ S (fresh_from code.bounds p) xs ps) (rebuilt_arguments τ S (fresh_from code.bounds p) xs ps).fresh
+    → Enough code.bounds p q.fresh
     → Puts (output_of out (fresh_in work) dropped p) (piece_effect q) q.clash out' (fresh_in work') dropped r
 
 -- a Store that is not forwarded
-abbrev pub StorePut : Bounds → List ℕ → List ℕ → ℕ → Marks → List ℕ → List ℕ → Progress → List ℕ → List ℕ → Result Progress Clash → Type 0
-StorePut b s facts slot tracked out work p out' work' r =
+abbrev pub StorePut : Code → ℕ → Marks → List ℕ → List ℕ → Progress → List ℕ → List ℕ → Result Progress Clash → Type 0
+StorePut code slot tracked out work p out' work' r =
     (τ : Types) (S : AggStates) (used : ℕ) (i : Instruction) (l : Place) (x : Value) (t : TypeId) (dropped : Marks) (q : Piece)
-    → Here b s facts slot tracked (rows_in work) used τ S i
+    → Here code.bounds code.bytes.now code.facts.now slot tracked (rows_in work) used τ S i
     → i.kind ≡ Store l x t
-    → q ≡ store_kept τ S (fresh_from b p) i l x t (on_some (aggregate_type τ t) (λ u. state_of S x))
-    → Enough b p q.fresh
+    → q ≡ store_kept τ S (fresh_from code.bounds p) i l x t (on_some (aggregate_type τ t) (λ u. state_of S x))
+    → Enough code.bounds p q.fresh
     → Puts (output_of out (fresh_in work) dropped p) (piece_effect q) q.clash out' (fresh_in work') dropped r
 
 -- a Return
-abbrev pub ReturnPut : Bounds → List ℕ → List ℕ → ℕ → Marks → List ℕ → List ℕ → Progress → List ℕ → List ℕ → Result Progress Clash → Type 0
-ReturnPut b s facts slot tracked out work p out' work' r =
+abbrev pub ReturnPut : Code → ℕ → Marks → List ℕ → List ℕ → Progress → List ℕ → List ℕ → Result Progress Clash → Type 0
+ReturnPut code slot tracked out work p out' work' r =
     (τ : Types) (S : AggStates) (used : ℕ) (xs : List Value) (dropped : Marks) (w : Walked)
-    → Ground b s facts (recorded_in facts) τ
-    → Rep b.next s tracked (rows_in work) used S
-    → TerminatorIn b s facts slot (Return xs)
-    → w ≡ finish τ S (fresh_from b p) (Return xs)
-    → Enough b p w.fresh
+    → CodeGround code τ
+    → Rep code.bounds.next code.bytes.now tracked (rows_in work) used S
+    → TerminatorIn code.bounds code.bytes.now code.facts.now slot (Return xs)
+    → w ≡ finish τ S (fresh_from code.bounds p) (Return xs)
+    → Enough code.bounds p w.fresh
     → Puts (output_of out (fresh_in work) dropped p) (walked_effect w) w.clash out' (fresh_in work') dropped r

@@ -10,15 +10,12 @@ ghost use Rattle.rewrite_before.specs.Materialized.{onward, call_list, store_lis
 ghost use Rattle.rewrite_before.specs.Materialized.{AnewWritten, CallWritten, InstructionWritten, CallPut, StorePut, ReturnPut};
 ghost use Rattle.bytes_emit.specs.Written.{value_room, rebuilt_room, call_room};
 
-use bytes_field::Bounds;
-use mir::kind;
+use bytes_index::Code;
+use mir::kind::Kind;
 use rewrite::{Clash, Counts};
-use rewrite_list::ValueList;
+use rewrite_list::{ValueList, Values, Written};
 use rewrite_progress::Progress;
 use rewrite_wanted::Asks;
-
-// The kind of a Call.
-const CALL: u8 = kind::CALL as u8;
 
 // The values of a Return stand behind its kind and their number.
 const RETURN_COUNT: usize = 1;
@@ -47,47 +44,27 @@ fn put_further(p: Progress, to: usize, lines: u32, made: u32) -> Progress
 }
 
 // Writes a slot's instruction as it stands, and returns the place behind it.
-fn copy_instruction(out: &mut [u8], to: usize, s: &[u8], facts: &[u16], slot: u16) -> usize
+fn copy_instruction(out: &mut [u8], to: usize, code: Code, slot: u16) -> usize
     requires { to < value_room }
     ensures upper_bound { result ≤ to + most_copied }
-    ensures instruction_written { InstructionWritten s.now facts.now slot out.old out.new to result }
+    ensures instruction_written { InstructionWritten code.entry slot out.old out.new to result }
 {
-    let at = bytes_index::place(facts, slot);
-    rewrite_list::copy_bytes(
-        out,
-        to,
-        bytes_field::tail(s, at),
-        bytes_index::end(facts, slot).saturating_sub(at),
-    )
+    let at = bytes_index::place(code.facts, slot);
+    let end = bytes_index::end(code.facts, slot);
+    rewrite_list::copy_bytes(out, to, bytes_field::between(code.bytes, at, end))
 }
 
-// Writes t up to `end` with the fresh numbers put in from number `taken` on, and returns the place behind it.
-fn put_anew(
-    out: &mut [u8],
-    to: usize,
-    taken: u32,
-    s: &[u8],
-    b: Bounds,
-    facts: &[u16],
-    t: &[u8],
-    list: ValueList,
-    tracked: &[bool],
-    end: usize,
-) -> usize
-    requires { (to < rebuilt_room) × ((taken < counts_below) × (list.first < counts_below)) }
-    ensures upper_bound { result ≤ to + anew_most }
-    ensures anew_written { AnewWritten b s.now facts.now t.now tracked.now list taken end
-        out.old out.new to result }
+// Writes the fields up to `end` with the fresh numbers put in from number `from.fresh` on, and returns the place behind them.
+fn put_anew(out: &mut [u8], from: Written, values: Values, end: usize) -> usize
+    requires { (from.to < rebuilt_room) × ((from.fresh < counts_below) × (values.list.first < counts_below)) }
+    ensures upper_bound { result ≤ from.to + anew_most }
+    ensures anew_written { AnewWritten values.entry from end out.old out.new result }
 {
-    let front = rewrite_list::copy_bytes(out, to, t, list.first);
-    let back = rewrite_list::put_values(out, front, taken, s, b, facts, t, list, tracked);
-    let behind = bytes_operands::values_end(t, list.first, 0, 0, list.many);
-    rewrite_list::copy_bytes(
-        out,
-        back,
-        bytes_field::tail(t, behind),
-        end.saturating_sub(behind),
-    )
+    let Values { fields, list, .. } = values;
+    let front = rewrite_list::copy_bytes(out, from.to, bytes_field::between(fields, 0, list.first));
+    let back = rewrite_list::put_values(out, Written { to: front, ..from }, values);
+    let behind = bytes_operands::values_end(fields, list.first, 0, 0, list.many);
+    rewrite_list::copy_bytes(out, back, bytes_field::between(fields, behind, end))
 }
 
 // The arguments of the Call that has the fields f.
@@ -107,37 +84,34 @@ fn call_list(f: &[u8]) -> ValueList
     }
 }
 
-// Writes a Call without span, expression id and comment: the fields f up to `end` with the fresh numbers put in.
-fn put_call_anew(
-    out: &mut [u8],
-    to: usize,
-    taken: u32,
-    s: &[u8],
-    b: Bounds,
-    facts: &[u16],
-    f: &[u8],
-    list: ValueList,
-    tracked: &[bool],
-    end: usize,
-) -> usize
-    requires { (to < call_room) × ((taken < counts_below) × (list.first < counts_below)) }
-    ensures upper_bound { result ≤ to + call_most }
-    ensures call_written { CallWritten b s.now facts.now f.now tracked.now list taken end
-        out.old out.new to result }
+// Writes a Call without span, expression id and comment: its fields up to `end` with the fresh numbers put in.
+fn put_call_anew(out: &mut [u8], from: Written, values: Values, end: usize) -> usize
+    requires { (from.to < call_room) × ((from.fresh < counts_below) × (values.list.first < counts_below)) }
+    ensures upper_bound { result ≤ from.to + call_most }
+    ensures call_written { CallWritten values.entry from end out.old out.new result }
 {
-    bytes_emit::put_u8(out, to, 0);
-    bytes_emit::put_u8(out, to + 1, CALL);
-    put_anew(out, to + 2, taken, s, b, facts, f, list, tracked, end)
+    bytes_emit::put_u8(out, from.to, 0);
+    bytes_emit::put_u8(out, from.to + 1, Kind::Call as u8);
+    put_anew(
+        out,
+        Written {
+            to: from.to + 2,
+            ..from
+        },
+        values,
+        end,
+    )
 }
+
+// put_call, put_store and put_return stay three: where the list stands, what goes in front of it, what is counted and whether the
+// instruction may stay as it stands differ, and a function for all would take each of these and promise the three things it does.
 
 // A slot's Call: rebuilds of its tracked arguments at aggregate parameter types, then the Call anew; as it stands where
 // there are none.
 pub fn put_call(
     out: &mut [u8],
     p: Progress,
-    s: &[u8],
-    b: Bounds,
-    facts: &[u16],
+    code: Code,
     slot: u16,
     tracked: &[bool],
     work: &mut [u16],
@@ -145,21 +119,35 @@ pub fn put_call(
     requires { Low low_enough p }
     ensures by_index { (k : ℕ) → Low k p → PutLow (k + 1) result }
     ensures work_unchanged { rows_in work.new ≡ rows_in work.old }
-    ensures call_put { CallPut b s.now facts.now slot tracked.now
+    ensures call_put { CallPut code.entry slot tracked.now
         out.old work.old p out.new work.new result }
 {
-    let at = bytes_index::place(facts, slot);
-    let t = bytes_field::tail(s, at);
+    let at = bytes_index::place(code.facts, slot);
+    let t = bytes_field::tail(code.bytes, at);
     let place = bytes_operands::fields_place(t);
-    let f = bytes_field::tail(t, place);
-    let list = call_list(f);
-    let q = rewrite_list::put_builds(out, p, s, b, facts, f, list, tracked, work)?;
+    let fields = bytes_field::tail(t, place);
+    let list = call_list(fields);
+    let values = Values {
+        code,
+        fields,
+        list,
+        tracked,
+    };
+    let q = rewrite_list::put_builds(out, p, values, work)?;
     if q.fresh == p.fresh {
-        let kept = copy_instruction(out, q.to, s, facts, slot);
+        let kept = copy_instruction(out, q.to, code, slot);
         return Ok(put_further(q, kept, 1, 0));
     }
-    let end = bytes_index::end(facts, slot).saturating_sub(at + place);
-    let to = put_call_anew(out, q.to, p.fresh, s, b, facts, f, list, tracked, end);
+    let end = bytes_index::end(code.facts, slot).saturating_sub(at + place);
+    let to = put_call_anew(
+        out,
+        Written {
+            to: q.to,
+            fresh: p.fresh,
+        },
+        values,
+        end,
+    );
     Ok(put_further(q, to, 1, q.fresh - p.fresh))
 }
 
@@ -185,9 +173,7 @@ fn store_list(t: &[u8]) -> ValueList
 pub fn put_store(
     out: &mut [u8],
     p: Progress,
-    s: &[u8],
-    b: Bounds,
-    facts: &[u16],
+    code: Code,
     slot: u16,
     tracked: &[bool],
     work: &mut [u16],
@@ -195,19 +181,33 @@ pub fn put_store(
     requires { Low low_enough p }
     ensures by_index { (k : ℕ) → Low k p → PutLow (k + 1) result }
     ensures work_unchanged { rows_in work.new ≡ rows_in work.old }
-    ensures store_put { StorePut b s.now facts.now slot tracked.now
+    ensures store_put { StorePut code.entry slot tracked.now
         out.old work.old p out.new work.new result }
 {
-    let at = bytes_index::place(facts, slot);
-    let t = bytes_field::tail(s, at);
-    let list = store_list(t);
-    let q = rewrite_list::put_builds(out, p, s, b, facts, t, list, tracked, work)?;
+    let at = bytes_index::place(code.facts, slot);
+    let fields = bytes_field::tail(code.bytes, at);
+    let list = store_list(fields);
+    let values = Values {
+        code,
+        fields,
+        list,
+        tracked,
+    };
+    let q = rewrite_list::put_builds(out, p, values, work)?;
     if q.fresh == p.fresh {
-        let kept = copy_instruction(out, q.to, s, facts, slot);
+        let kept = copy_instruction(out, q.to, code, slot);
         return Ok(put_further(q, kept, 1, 0));
     }
-    let end = bytes_index::end(facts, slot).saturating_sub(at);
-    let to = put_anew(out, q.to, p.fresh, s, b, facts, t, list, tracked, end);
+    let end = bytes_index::end(code.facts, slot).saturating_sub(at);
+    let to = put_anew(
+        out,
+        Written {
+            to: q.to,
+            fresh: p.fresh,
+        },
+        values,
+        end,
+    );
     Ok(put_further(q, to, 1, 0))
 }
 
@@ -215,9 +215,7 @@ pub fn put_store(
 pub fn put_return(
     out: &mut [u8],
     p: Progress,
-    s: &[u8],
-    b: Bounds,
-    facts: &[u16],
+    code: Code,
     slot: u16,
     tracked: &[bool],
     work: &mut [u16],
@@ -225,16 +223,30 @@ pub fn put_return(
     requires { Low low_enough p }
     ensures by_index { (k : ℕ) → Low k p → PutLow (k + 1) result }
     ensures work_unchanged { rows_in work.new ≡ rows_in work.old }
-    ensures return_put { ReturnPut b s.now facts.now slot tracked.now
+    ensures return_put { ReturnPut code.entry slot tracked.now
         out.old work.old p out.new work.new result }
 {
-    let t = bytes_field::tail(s, bytes_index::place(facts, slot));
+    let fields = bytes_field::tail(code.bytes, bytes_index::place(code.facts, slot));
     let list = ValueList {
         first: RETURN_VALUES,
-        many: bytes_wire::byte_at(t, RETURN_COUNT),
+        many: bytes_wire::byte_at(fields, RETURN_COUNT),
         asks: Asks::Recorded,
     };
-    let q = rewrite_list::put_builds(out, p, s, b, facts, t, list, tracked, work)?;
-    let to = put_anew(out, q.to, p.fresh, s, b, facts, t, list, tracked, 0);
+    let values = Values {
+        code,
+        fields,
+        list,
+        tracked,
+    };
+    let q = rewrite_list::put_builds(out, p, values, work)?;
+    let to = put_anew(
+        out,
+        Written {
+            to: q.to,
+            fresh: p.fresh,
+        },
+        values,
+        0,
+    );
     Ok(put_further(q, to, 0, q.fresh - p.fresh))
 }

@@ -14,7 +14,7 @@ use Rattle.rewrite.specs.Run.{Rewritten, Choice, all_blocks}
 use Rattle.rewrite_progress.specs.declared.Progress.{Progress}
 use Rattle.std.specs.Prelude.{Result, Ok, Err}
 use Rattle.rewrite.specs.declared.Clash.{Clash}
-use Rattle.rewrite_progress.specs.declared.Setup.{Setup}
+use Rattle.rewrite_progress.specs.declared.Run.{Run}
 use Rattle.rewrite_progress.specs.Ground.{Coded}
 use Rattle.rewrite_progress.specs.Chosen.{Follows}
 use Rattle.rewrite_progress.specs.Effect.{Effect, Output, behind, further, rewritten_effect, Low, PutLow}
@@ -26,36 +26,36 @@ use Rattle.rewrite_blocks.specs.Blocks.{rewritten, OnePut, AllPut}
 use Rattle.rewrite_blocks.proofs.Whole.{cons_blocks}
 
 -- of blocks that give `whole` from the output o on, the blocks `rest` are left at the progress p
-pub record BlocksLeft (setup : Setup) (τ : Types) (c : Choice) (o : Output) (whole : Effect) (clash : Bool) (rest : List Block) (l : Lent) (p : Progress) : Type 0 where
-  pub same : behind (output_in l p) (rewritten_effect (rewritten setup τ c p rest)) ≡ behind o whole
-  pub safe : (rewritten setup τ c p rest).clash ≡ clash
-  pub bound : Enough setup.bounds p (rewritten setup τ c p rest).fresh
+pub record BlocksLeft (run : Run) (τ : Types) (c : Choice) (o : Output) (whole : Effect) (clash : Bool) (rest : List Block) (l : Lent) (p : Progress) : Type 0 where
+  pub same : behind (output_in l p) (rewritten_effect (rewritten run τ c p rest)) ≡ behind o whole
+  pub safe : (rewritten run τ c p rest).clash ≡ clash
+  pub bound : Enough run.code.bounds p (rewritten run τ c p rest).fresh
   pub first : p.lines ≡ 0
 
-module _ (setup : Setup) (τ : Types) (c : Choice) (o : Output) (whole : Effect) (clash : Bool) where
+module _ (run : Run) (τ : Types) (c : Choice) (o : Output) (whole : Effect) (clash : Bool) where
   -- no block is left
-  left_none : (l : Lent) (p : Progress) → BlocksLeft setup τ c o whole clash [] l p → (clash ≡ false) × (output_in l p ≡ behind o whole)
+  left_none : (l : Lent) (p : Progress) → BlocksLeft run τ c o whole clash [] l p → (clash ≡ false) × (output_in l p ≡ behind o whole)
   unfolding all_blocks rewritten_effect
   left_none l p left = (sym left.safe, sym (behind_none (output_in l p)) ∙ left.same)
 
-  module _ (x : Block) (rest : List Block) (l : Lent) (p : Progress) (left : BlocksLeft setup τ c o whole clash (x ∷ rest) l p) where
+  module _ (x : Block) (rest : List Block) (l : Lent) (p : Progress) (left : BlocksLeft run τ c o whole clash (x ∷ rest) l p) where
     abbrev at : ℕ
-    at = fresh_from setup.bounds p
+    at = fresh_from run.code.bounds p
 
     abbrev alone : Rewritten
-    alone = rewritten setup τ c p (x ∷ [])
+    alone = rewritten run τ c p (x ∷ [])
 
     abbrev others : Rewritten
-    others = all_blocks setup.settings τ c (at + length alone.fresh) rest
+    others = all_blocks run.settings τ c (at + length alone.fresh) rest
 
-    first_bound : Enough setup.bounds p alone.fresh
-    first_bound = omega (arith, left.bound, ap (λ w. length w) (cons_blocks setup.settings τ c at x rest).1.1, length-append alone.fresh others.fresh)
+    first_bound : Enough run.code.bounds p alone.fresh
+    first_bound = omega (arith, left.bound, ap (λ w. length w) (cons_blocks run.settings τ c at x rest).1.1, length-append alone.fresh others.fresh)
 
     first_clash : alone.clash ≡ true → clash ≡ true
-    first_clash h = sym left.safe ∙ (cons_blocks setup.settings τ c at x rest).1.0 ∙ ap (λ y. y || others.clash) h
+    first_clash h = sym left.safe ∙ (cons_blocks run.settings τ c at x rest).1.0 ∙ ap (λ y. y || others.clash) h
 
     module _ (l' : Lent) (q : Progress) (safe : alone.clash ≡ false) (out : output_in l' q ≡ behind (output_in l p) (rewritten_effect alone)) where
-      fresh_on : fresh_from setup.bounds q ≡ at + length alone.fresh
+      fresh_on : fresh_from run.code.bounds q ≡ at + length alone.fresh
       unfolding behind further rewritten_effect
       fresh_on =
           let z : q.fresh ≡ p.fresh + length alone.fresh = ap (λ y. y.progress.fresh) out in
@@ -67,29 +67,29 @@ module _ (setup : Setup) (τ : Types) (c : Choice) (o : Output) (whole : Effect)
           let z : q.lines ≡ p.lines + 0 = ap (λ y. y.progress.lines) out in
           omega (arith, z, left.first)
 
-      moved : rewritten setup τ c q rest ≡ others
-      moved = ap (λ n. all_blocks setup.settings τ c n rest) fresh_on
+      moved : rewritten run τ c q rest ≡ others
+      moved = ap (λ n. all_blocks run.settings τ c n rest) fresh_on
 
-      blocks_again : BlocksLeft setup τ c o whole clash rest l' q
+      blocks_again : BlocksLeft run τ c o whole clash rest l' q
       blocks_again =
           record {
-            same = ap (λ y. behind (output_in l' q) (rewritten_effect y)) moved ∙ ap (λ y. behind y (rewritten_effect others)) out ∙ behind_then (output_in l p) (rewritten_effect alone) (rewritten_effect others) ∙ ap (λ e. behind (output_in l p) e) (sym (cons_blocks setup.settings τ c at x rest).0) ∙ left.same;
-            safe = ap (λ y. y.clash) moved ∙ sym (ap (λ y. y || others.clash) safe) ∙ sym (cons_blocks setup.settings τ c at x rest).1.0 ∙ left.safe;
-            bound = omega (arith, left.bound, ap (λ w. length w) (cons_blocks setup.settings τ c at x rest).1.1, length-append alone.fresh others.fresh, ap (λ y. length y.fresh) moved, fresh_on);
+            same = ap (λ y. behind (output_in l' q) (rewritten_effect y)) moved ∙ ap (λ y. behind y (rewritten_effect others)) out ∙ behind_then (output_in l p) (rewritten_effect alone) (rewritten_effect others) ∙ ap (λ e. behind (output_in l p) e) (sym (cons_blocks run.settings τ c at x rest).0) ∙ left.same;
+            safe = ap (λ y. y.clash) moved ∙ sym (ap (λ y. y || others.clash) safe) ∙ sym (cons_blocks run.settings τ c at x rest).1.0 ∙ left.safe;
+            bound = omega (arith, left.bound, ap (λ w. length w) (cons_blocks run.settings τ c at x rest).1.1, length-append alone.fresh others.fresh, ap (λ y. length y.fresh) moved, fresh_on);
             first = no_lines;
           }
 
-pub record Laid (setup : Setup) (s facts : List ℕ) (choice : List Bool) (l₀ : Lent) (p : Progress) (l : Lent) (q : Progress) (k : ℕ) : Type 0 where
-  pub few : k ≤ setup.bounds.blocks
+pub record Laid (run : Run) (l₀ : Lent) (p : Progress) (l : Lent) (q : Progress) (k : ℕ) : Type 0 where
+  pub few : k ≤ run.code.bounds.blocks
   pub low : (n : ℕ) → Low n p → Low (n + 130 * k) q
   pub tracked_size : length l.tracked ≡ length l₀.tracked
   pub dropped_size : length l.dropped ≡ length l₀.dropped
   pub work_size : length l.work ≡ length l₀.work
   pub out_size : length l.out ≡ length l₀.out
-  pub left : (τ : Types) (c : Choice) (ks : List Block) → Coded setup.bounds s facts τ ks → Follows c facts choice ks → p.lines ≡ 0 → Enough setup.bounds p (rewritten setup τ c p ks).fresh → BlocksLeft setup τ c (output_in l₀ p) (rewritten_effect (rewritten setup τ c p ks)) (rewritten setup τ c p ks).clash (drop k ks) l q
+  pub left : (τ : Types) (c : Choice) (ks : List Block) → Coded run.code.bounds run.code.bytes.now run.code.facts.now τ ks → Follows c run.code.facts.now run.choice.now ks → p.lines ≡ 0 → Enough run.code.bounds p (rewritten run τ c p ks).fresh → BlocksLeft run τ c (output_in l₀ p) (rewritten_effect (rewritten run τ c p ks)) (rewritten run τ c p ks).clash (drop k ks) l q
 
-module _ (setup : Setup) (s facts : List ℕ) (choice : List Bool) (l₀ : Lent) (p : Progress) where
-  pub laid_none : Laid setup s facts choice l₀ p l₀ p 0
+module _ (run : Run) (l₀ : Lent) (p : Progress) where
+  pub laid_none : Laid run l₀ p l₀ p 0
   laid_none =
       record {
         few = omega arith;
@@ -101,19 +101,19 @@ module _ (setup : Setup) (s facts : List ℕ) (choice : List Bool) (l₀ : Lent)
         left = λ τ c ks co fo z en. record { same = refl; safe = refl; bound = en; first = z };
       }
 
-  module _ (l : Lent) (q : Progress) (k : ℕ) (inv : Laid setup s facts choice l₀ p l q k) where
+  module _ (l : Lent) (q : Progress) (k : ℕ) (inv : Laid run l₀ p l q k) where
     -- all blocks are behind
-    pub laid_all : setup.bounds.blocks ≤ k → AllPut setup s facts choice l₀ p l (Ok q)
+    pub laid_all : run.code.bounds.blocks ≤ k → AllPut run l₀ p l (Ok q)
     laid_all h τ c ks co fo z en =
         let y : k ≡ length ks = omega (arith, inv.few, co.many) in
         let d : drop k ks ≡ [] = ap (λ n. drop n ks) y ∙ drop-length ks in
-        let w = left_none setup τ c _ _ _ l q (rw d at (inv.left τ c ks co fo z en)) in
+        let w = left_none run τ c _ _ _ l q (rw d at (inv.left τ c ks co fo z en)) in
         puts_went _ _ _ _ _ _ q w.0 w.1
 
-    module _ (h : k < setup.bounds.blocks) (l' : Lent) (r : Result Progress Clash) (one : OnePut setup s facts choice k l q l' r) where
-      module _ (τ : Types) (c : Choice) (ks : List Block) (co : Coded setup.bounds s facts τ ks) (fo : Follows c facts choice ks) (z : p.lines ≡ 0) (en : Enough setup.bounds p (rewritten setup τ c p ks).fresh) where
+    module _ (h : k < run.code.bounds.blocks) (l' : Lent) (r : Result Progress Clash) (one : OnePut run k l q l' r) where
+      module _ (τ : Types) (c : Choice) (ks : List Block) (co : Coded run.code.bounds run.code.bytes.now run.code.facts.now τ ks) (fo : Follows c run.code.facts.now run.choice.now ks) (z : p.lines ≡ 0) (en : Enough run.code.bounds p (rewritten run τ c p ks).fresh) where
         abbrev all : Rewritten
-        all = rewritten setup τ c p ks
+        all = rewritten run τ c p ks
 
         abbrev this : Block
         this = get_or ks k no_block
@@ -121,21 +121,21 @@ module _ (setup : Setup) (s facts : List ℕ) (choice : List Bool) (l₀ : Lent)
         below : k < length ks
         below = omega (arith, co.many)
 
-        next_left : BlocksLeft setup τ c (output_in l₀ p) (rewritten_effect all) all.clash (this ∷ drop (suc k) ks) l q
+        next_left : BlocksLeft run τ c (output_in l₀ p) (rewritten_effect all) all.clash (this ∷ drop (suc k) ks) l q
         next_left = rw (← drop-cons ks k no_block below) (inv.left τ c ks co fo z en)
 
-        turned : PutsIn (output_in l q) (rewritten_effect (rewritten setup τ c q (this ∷ []))) (rewritten setup τ c q (this ∷ [])).clash l' r
-        turned = one τ c ks co fo below next_left.first (first_bound setup τ c (output_in l₀ p) (rewritten_effect all) all.clash this (drop (suc k) ks) l q next_left)
+        turned : PutsIn (output_in l q) (rewritten_effect (rewritten run τ c q (this ∷ []))) (rewritten run τ c q (this ∷ [])).clash l' r
+        turned = one τ c ks co fo below next_left.first (first_bound run τ c (output_in l₀ p) (rewritten_effect all) all.clash this (drop (suc k) ks) l q next_left)
 
         -- an array rebuild met another count
         pub laid_clash : (x y : Clash) → r ≡ Err x → PutsIn (output_in l₀ p) (rewritten_effect all) all.clash l' (Err y)
-        laid_clash x y v = puts_clash _ _ _ _ _ _ y (first_clash setup τ c (output_in l₀ p) (rewritten_effect all) all.clash this (drop (suc k) ks) l q next_left (turned.clashed x v))
+        laid_clash x y v = puts_clash _ _ _ _ _ _ y (first_clash run τ c (output_in l₀ p) (rewritten_effect all) all.clash this (drop (suc k) ks) l q next_left (turned.clashed x v))
 
-        went_on : (w : Progress) → r ≡ Ok w → BlocksLeft setup τ c (output_in l₀ p) (rewritten_effect all) all.clash (drop (suc k) ks) l' w
-        went_on w v = blocks_again setup τ c (output_in l₀ p) (rewritten_effect all) all.clash this (drop (suc k) ks) l q next_left l' w (turned.went w v).0 (turned.went w v).1
+        went_on : (w : Progress) → r ≡ Ok w → BlocksLeft run τ c (output_in l₀ p) (rewritten_effect all) all.clash (drop (suc k) ks) l' w
+        went_on w v = blocks_again run τ c (output_in l₀ p) (rewritten_effect all) all.clash this (drop (suc k) ks) l q next_left l' w (turned.went w v).0 (turned.went w v).1
 
       -- one more is behind
-      pub laid_again : (w : Progress) → r ≡ Ok w → ((n : ℕ) → Low n q → PutLow (n + 130) r) → length l'.tracked ≡ length l.tracked → length l'.dropped ≡ length l.dropped → length l'.work ≡ length l.work → length l'.out ≡ length l.out → Laid setup s facts choice l₀ p l' w (k + 1)
+      pub laid_again : (w : Progress) → r ≡ Ok w → ((n : ℕ) → Low n q → PutLow (n + 130) r) → length l'.tracked ≡ length l.tracked → length l'.dropped ≡ length l.dropped → length l'.work ≡ length l.work → length l'.out ≡ length l.out → Laid run l₀ p l' w (k + 1)
       laid_again w v lo lt ld lw lu =
           let lows : (n : ℕ) → Low n q → Low (n + 130) w = λ n y. rw v at (lo n y) in
           record {

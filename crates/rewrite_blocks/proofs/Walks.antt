@@ -15,7 +15,7 @@ use Rattle.rewrite.specs.State.{no_states}
 use Rattle.rewrite.specs.Step.{Piece, step}
 use Rattle.rewrite.specs.Run.{Walked, glue, walk}
 use Rattle.rewrite_parts.specs.Rows.{Room, row_most, rows_size, rows_in}
-use Rattle.rewrite_progress.specs.declared.Setup.{Setup}
+use Rattle.rewrite_progress.specs.declared.Run.{Run}
 use Rattle.rewrite_progress.specs.Effect.{Output, behind, further, piece_effect, walked_effect, Low}
 use Rattle.rewrite_progress.proofs.Laws.{behind_then, glue_effect}
 use Rattle.rewrite_step.specs.declared.Reached.{Reached}
@@ -23,25 +23,25 @@ use Rattle.std.specs.Prelude.{Result, Ok, Err}
 use Rattle.rewrite.specs.declared.Clash.{Clash}
 use Rattle.rewrite_step.specs.Stepping.{Lent, output_in, fresh_from, Enough, SteppedLow, Gone, Steps, StepsOn}
 use Rattle.rewrite_perform.proofs.Lows.{low_mono}
-use Rattle.rewrite_blocks.specs.declared.Slots.{Slots}
+use Rattle.bytes_index.specs.declared.slots.Slots.{Slots}
 use Rattle.rewrite_blocks.specs.Blocks.{walk_from, walk_of, Left, Begun, Ready, InstructionsPut}
 
-module _ (setup : Setup) (τ : Types) (folds : ValueId → Bool) (s : List ℕ) (t : Terminator) (o : Output) (whole : Walked) (i : Instruction) (rest : List Instruction) (l : Lent) (w : Reached) (left : Left setup τ folds s t o whole (i ∷ rest) l w) where
+module _ (run : Run) (τ : Types) (folds : ValueId → Bool) (t : Terminator) (o : Output) (whole : Walked) (i : Instruction) (rest : List Instruction) (l : Lent) (w : Reached) (left : Left run τ folds t o whole (i ∷ rest) l w) where
   abbrev at : ℕ
-  at = fresh_from setup.bounds w.progress
+  at = fresh_from run.code.bounds w.progress
 
   -- the next piece, and what comes behind it
   abbrev piece : Piece
-  piece = step setup.settings τ folds left.states at i
+  piece = step run.settings τ folds left.states at i
 
   abbrev behind_it : Walked
-  behind_it = walk setup.settings τ folds piece.states (at + length piece.fresh) rest t
+  behind_it = walk run.settings τ folds piece.states (at + length piece.fresh) rest t
 
-  glued : walk_from setup τ folds left.states w.progress (i ∷ rest) t ≡ glue piece behind_it
+  glued : walk_from run τ folds left.states w.progress (i ∷ rest) t ≡ glue piece behind_it
   unfolding walk
   glued = refl
 
-  pub left_bound : Enough setup.bounds w.progress piece.fresh
+  pub left_bound : Enough run.code.bounds w.progress piece.fresh
   unfolding glue
   left_bound = omega (arith, left.bound, ap (λ x. length x.fresh) glued, length-append piece.fresh behind_it.fresh)
 
@@ -49,18 +49,18 @@ module _ (setup : Setup) (τ : Types) (folds : ValueId → Bool) (s : List ℕ) 
   unfolding glue
   left_clash h = sym left.clash ∙ ap (λ x. x.clash) glued ∙ ap (λ x. x || behind_it.clash) h
 
-  module _ (l' : Lent) (v : Reached) (g : Gone setup.bounds.next s (output_in l w.progress) piece l' v) where
+  module _ (l' : Lent) (v : Reached) (g : Gone run.code.bounds.next run.code.bytes.now (output_in l w.progress) piece l' v) where
     -- as many fresh numbers as the piece took are taken
-    further_on : fresh_from setup.bounds v.progress ≡ at + length piece.fresh
+    further_on : fresh_from run.code.bounds v.progress ≡ at + length piece.fresh
     unfolding behind further piece_effect
     further_on =
         let z : v.progress.fresh ≡ w.progress.fresh + length piece.fresh = ap (λ x. x.progress.fresh) g.out in
         omega (arith, z)
 
-    moved : walk_from setup τ folds piece.states v.progress rest t ≡ behind_it
-    moved = ap (λ n. walk setup.settings τ folds piece.states n rest t) further_on
+    moved : walk_from run τ folds piece.states v.progress rest t ≡ behind_it
+    moved = ap (λ n. walk run.settings τ folds piece.states n rest t) further_on
 
-    pub left_again : Left setup τ folds s t o whole rest l' v
+    pub left_again : Left run τ folds t o whole rest l' v
     unfolding glue
     left_again =
         record {
@@ -72,7 +72,7 @@ module _ (setup : Setup) (τ : Types) (folds : ValueId → Bool) (s : List ℕ) 
         }
 
 -- the loop, from the tables l₀ and the progress w₀ on
-pub record Walking (setup : Setup) (s facts : List ℕ) (choice : List Bool) (at : Slots) (l₀ : Lent) (w₀ : Reached) (l : Lent) (w : Reached) (j : ℕ) : Type 0 where
+pub record Walking (run : Run) (at : Slots) (l₀ : Lent) (w₀ : Reached) (l : Lent) (w : Reached) (j : ℕ) : Type 0 where
   pub few : j ≤ at.count
   pub low : (n : ℕ) → Low n w₀.progress → Low (n + j) w.progress
   pub used : w.used ≤ w₀.used + row_most * j
@@ -80,11 +80,11 @@ pub record Walking (setup : Setup) (s facts : List ℕ) (choice : List Bool) (at
   pub dropped_size : length l.dropped ≡ length l₀.dropped
   pub work_size : length l.work ≡ length l₀.work
   pub out_size : length l.out ≡ length l₀.out
-  pub left : (τ : Types) (folds : ValueId → Bool) (x : Block) → Begun setup s facts choice at l₀ w₀ τ folds x
-      → Left setup τ folds s x.terminator (output_in l₀ w₀.progress) (walk_of setup τ folds w₀.progress x) (drop j x.instructions) l w
+  pub left : (τ : Types) (folds : ValueId → Bool) (x : Block) → Begun run at l₀ w₀ τ folds x
+      → Left run τ folds x.terminator (output_in l₀ w₀.progress) (walk_of run τ folds w₀.progress x) (drop j x.instructions) l w
 
-module _ (setup : Setup) (s facts : List ℕ) (choice : List Bool) (at : Slots) (l₀ : Lent) (w₀ : Reached) where
-  pub walking_start : Walking setup s facts choice at l₀ w₀ l₀ w₀ 0
+module _ (run : Run) (at : Slots) (l₀ : Lent) (w₀ : Reached) where
+  pub walking_start : Walking run at l₀ w₀ l₀ w₀ 0
   walking_start =
       record {
         few = omega arith;
@@ -97,9 +97,9 @@ module _ (setup : Setup) (s facts : List ℕ) (choice : List Bool) (at : Slots) 
         left = λ τ folds x a. record { states = no_states; rep = a.rep; same = refl; clash = refl; bound = a.bound };
       }
 
-  module _ (l : Lent) (w : Reached) (j : ℕ) (inv : Walking setup s facts choice at l₀ w₀ l w j) where
+  module _ (l : Lent) (w : Reached) (j : ℕ) (inv : Walking run at l₀ w₀ l w j) where
     -- all instructions are behind
-    pub walking_done : at.count ≤ j → InstructionsPut setup s facts choice at l₀ w₀ l (Ok w)
+    pub walking_done : at.count ≤ j → InstructionsPut run at l₀ w₀ l (Ok w)
     walking_done h τ folds x a =
         let z : j ≡ length x.instructions = omega (arith, inv.few, a.many) in
         let q : drop j x.instructions ≡ [] = ap (λ n. drop n x.instructions) z ∙ drop-length x.instructions in
@@ -111,14 +111,14 @@ module _ (setup : Setup) (s facts : List ℕ) (choice : List Bool) (at : Slots) 
       pub walking_long : rows_size ≤ length l.work
       walking_long = omega (arith, ready.long, inv.work_size)
 
-      module _ (h : j < at.count) (fold : Bool) (ef : fold ≡ get_or choice (at.first + j) false) (l' : Lent) (r : Result Reached Clash) (st : StepsOn setup s facts (at.first + j) fold l w l' r) where
+      module _ (h : j < at.count) (fold : Bool) (ef : fold ≡ get_or run.choice.now (at.first + j) false) (l' : Lent) (r : Result Reached Clash) (st : StepsOn run.code run.settings (at.first + j) fold l w l' r) where
         -- there is room for one more row
         room : Room (rows_in l.work) w.used
         room = omega (arith, length-take-le rows_size l.work walking_long, inv.used, ready.used, ready.most)
 
-        module _ (τ : Types) (folds : ValueId → Bool) (x : Block) (a : Begun setup s facts choice at l₀ w₀ τ folds x) where
+        module _ (τ : Types) (folds : ValueId → Bool) (x : Block) (a : Begun run at l₀ w₀ τ folds x) where
           abbrev whole : Walked
-          whole = walk_of setup τ folds w₀.progress x
+          whole = walk_of run τ folds w₀.progress x
 
           abbrev this : Instruction
           this = get_or x.instructions j no_instruction
@@ -129,25 +129,25 @@ module _ (setup : Setup) (s facts : List ℕ) (choice : List Bool) (at : Slots) 
           below : j < length x.instructions
           below = omega (arith, a.many)
 
-          next_left : Left setup τ folds s x.terminator (output_in l₀ w₀.progress) whole (this ∷ rest) l w
+          next_left : Left run τ folds x.terminator (output_in l₀ w₀.progress) whole (this ∷ rest) l w
           next_left = rw (← drop-cons x.instructions j no_instruction below) (inv.left τ folds x a)
 
-          turned : Steps setup.bounds.next s (output_in l w.progress) (step setup.settings τ folds next_left.states (fresh_from setup.bounds w.progress) this) l' r
+          turned : Steps run.code.bounds.next run.code.bytes.now (output_in l w.progress) (step run.settings τ folds next_left.states (fresh_from run.code.bounds w.progress) this) l' r
           turned =
               st τ next_left.states folds this
               (record { ground = a.ground; rep = next_left.rep; line = a.block.instructions j below })
               room
               (λ d e. ef ∙ a.flags j d below e)
-              (left_bound setup τ folds s x.terminator (output_in l₀ w₀.progress) whole this rest l w next_left)
+              (left_bound run τ folds x.terminator (output_in l₀ w₀.progress) whole this rest l w next_left)
 
-          went_turn : (v : Reached) → r ≡ Ok v → Left setup τ folds s x.terminator (output_in l₀ w₀.progress) whole rest l' v
-          went_turn v e = left_again setup τ folds s x.terminator (output_in l₀ w₀.progress) whole this rest l w next_left l' v (turned.went v e)
+          went_turn : (v : Reached) → r ≡ Ok v → Left run τ folds x.terminator (output_in l₀ w₀.progress) whole rest l' v
+          went_turn v e = left_again run τ folds x.terminator (output_in l₀ w₀.progress) whole this rest l w next_left l' v (turned.went v e)
 
         -- an array rebuild met another count
-        pub walking_clash : (y z : Clash) → r ≡ Err y → InstructionsPut setup s facts choice at l₀ w₀ l' (Err z)
+        pub walking_clash : (y z : Clash) → r ≡ Err y → InstructionsPut run at l₀ w₀ l' (Err z)
         walking_clash y z e τ folds x a =
             record {
-              clashed = λ _ _. left_clash setup τ folds s x.terminator (output_in l₀ w₀.progress) (whole τ folds x a) (this τ folds x a) (rest τ folds x a) l w (next_left τ folds x a) ((turned τ folds x a).clashed y e);
+              clashed = λ _ _. left_clash run τ folds x.terminator (output_in l₀ w₀.progress) (whole τ folds x a) (this τ folds x a) (rest τ folds x a) l w (next_left τ folds x a) ((turned τ folds x a).clashed y e);
               went = λ v z. absurd (let u : ◌≡◌ {A = ℕ} 0 1 = cc in omega arith);
             }
 
@@ -157,7 +157,7 @@ module _ (setup : Setup) (s facts : List ℕ) (choice : List Bool) (at : Slots) 
             → length l'.dropped ≡ length l.dropped
             → length l'.work ≡ length l.work
             → length l'.out ≡ length l.out
-            → Walking setup s facts choice at l₀ w₀ l' v (j + 1)
+            → Walking run at l₀ w₀ l' v (j + 1)
         walking_again v e lo lt ld lw lu =
             let lows : (n : ℕ) → Low n w.progress → Low (n + 1) v.progress × (v.used ≤ w.used + row_most) = λ n y. rw e at (lo n y) in
             record {

@@ -4,121 +4,121 @@ use Rattle.std.proofs.Math.Option.{some}
 use Rattle.mir.specs.declared.ValueId.{ValueId}
 use Rattle.mir.specs.Syntax.{Instruction, Terminator, Block}
 use Rattle.bytes_field.specs.declared.Bounds.{Bounds}
-use Rattle.bytes_index.specs.Table.{recorded_in, starts_in}
+use Rattle.bytes_index.specs.declared.code.Code.{Code}
+use Rattle.bytes_index.specs.Table.{starts_in}
 use Rattle.bytes_index.specs.Code.{no_instruction, no_block, TerminatorIn, BlockIn, CodeIn}
 use Rattle.mir.specs.Lookup.{Types}
 use Rattle.fold.specs.Family.{Marks, build_dest}
 use Rattle.rewrite.specs.State.{AggStates, no_states}
 use Rattle.rewrite.specs.Run.{Walked, Rewritten, Choice, finish, walk, all_blocks}
-use Rattle.mir.specs.Most.{most_values, most_instructions, most_slots}
+use Rattle.mir.specs.Most.{most_values, most_instructions}
 use Rattle.rewrite_parts.specs.Rows.{Rep, rows_from, rows_size, rows_in, fresh_in}
 use Rattle.rewrite_progress.specs.declared.Progress.{Progress}
 use Rattle.rewrite.specs.declared.Clash.{Clash}
-use Rattle.rewrite_progress.specs.declared.Setup.{Setup}
-use Rattle.rewrite_progress.specs.Ground.{Ground, Coded}
+use Rattle.rewrite_progress.specs.declared.Run.{Run}
+use Rattle.fold.specs.Tables.{CodeGround}
+use Rattle.rewrite_progress.specs.Ground.{Coded}
 use Rattle.rewrite_progress.specs.Chosen.{Follows}
 use Rattle.rewrite_progress.specs.Effect.{Output, output_of, behind, walked_effect, rewritten_effect, Puts, Low}
 use Rattle.rewrite_step.specs.declared.Reached.{Reached}
 use Rattle.rewrite_step.specs.Stepping.{Lent, output_in, PutsIn, fresh_from, Enough}
-use Rattle.rewrite_blocks.specs.declared.Slots.{Slots}
+use Rattle.bytes_index.specs.declared.slots.Slots.{Slots}
 
--- the slots of block k: those that the table of facts has
-pub record SlotsOf (facts : List ℕ) (k : ℕ) (at : Slots) : Type 0 where
-  pub early : at.first ≤ most_slots
+-- the slots of block k: those that the table of facts has, no more than a block can have
+pub record BlockSlots (facts : List ℕ) (k : ℕ) (at : Slots) : Type 0 where
   pub most : at.count ≤ most_instructions
   pub first : (b : Bounds) (s : List ℕ) (ks : List Block) → CodeIn b s facts ks → k < length ks → at.first ≡ get_or (starts_in facts) k 0
   pub count : (b : Bounds) (s : List ℕ) (ks : List Block) → CodeIn b s facts ks → k < length ks
       → length (get_or ks k no_block).instructions ≤ most_instructions → at.count ≡ length (get_or ks k no_block).instructions
 
 -- the terminator behind a block's instructions is put out
-abbrev pub EndPut : Bounds → List ℕ → List ℕ → ℕ → Marks → List ℕ → List ℕ → Progress → List ℕ → List ℕ → Result Progress Clash → Type 0
-EndPut b s facts slot tracked work out p work' out' r =
+abbrev pub EndPut : Code → ℕ → Marks → List ℕ → List ℕ → Progress → List ℕ → List ℕ → Result Progress Clash → Type 0
+EndPut code slot tracked work out p work' out' r =
     (τ : Types) (S : AggStates) (used : ℕ) (t : Terminator) (dropped : Marks) →
-    Ground b s facts (recorded_in facts) τ →
-    Rep b.next s tracked (rows_in work) used S →
-    TerminatorIn b s facts slot t →
-    let w = finish τ S (fresh_from b p) t in
-    Enough b p w.fresh →
+    CodeGround code τ →
+    Rep code.bounds.next code.bytes.now tracked (rows_in work) used S →
+    TerminatorIn code.bounds code.bytes.now code.facts.now slot t →
+    let w = finish τ S (fresh_from code.bounds p) t in
+    Enough code.bounds p w.fresh →
     Puts (output_of out (fresh_in work) dropped p) (walked_effect w) w.clash out' (fresh_in work') dropped r
 
 -- a block's walk from a progress on: the instructions `is` and the terminator t, where the states S are tracked
-abbrev pub walk_from : Setup → Types → (ValueId → Bool) → AggStates → Progress → List Instruction → Terminator → Walked
-walk_from setup τ folds S p is t = walk setup.settings τ folds S (fresh_from setup.bounds p) is t
+abbrev pub walk_from : Run → Types → (ValueId → Bool) → AggStates → Progress → List Instruction → Terminator → Walked
+walk_from run τ folds S p is t = walk run.settings τ folds S (fresh_from run.code.bounds p) is t
 
 -- all of it: nothing is tracked where a block begins
-abbrev pub walk_of : Setup → Types → (ValueId → Bool) → Progress → Block → Walked
-walk_of setup τ folds p x = walk_from setup τ folds no_states p x.instructions x.terminator
+abbrev pub walk_of : Run → Types → (ValueId → Bool) → Progress → Block → Walked
+walk_of run τ folds p x = walk_from run τ folds no_states p x.instructions x.terminator
 
 -- Of a block whose walk is `whole` from the output o on, the instructions `rest` and the terminator t are left at w: what
 -- they give from the states that the tables hold is what the whole walk gives.
-pub record Left (setup : Setup) (τ : Types) (folds : ValueId → Bool) (s : List ℕ) (t : Terminator) (o : Output) (whole : Walked)
+pub record Left (run : Run) (τ : Types) (folds : ValueId → Bool) (t : Terminator) (o : Output) (whole : Walked)
     (rest : List Instruction) (l : Lent) (w : Reached) : Type 0 where
   pub states : AggStates
-  pub rep : Rep setup.bounds.next s l.tracked (rows_in l.work) w.used states
-  pub same : behind (output_in l w.progress) (walked_effect (walk_from setup τ folds states w.progress rest t)) ≡ behind o (walked_effect whole)
-  pub clash : (walk_from setup τ folds states w.progress rest t).clash ≡ whole.clash
-  pub bound : Enough setup.bounds w.progress (walk_from setup τ folds states w.progress rest t).fresh
+  pub rep : Rep run.code.bounds.next run.code.bytes.now l.tracked (rows_in l.work) w.used states
+  pub same : behind (output_in l w.progress) (walked_effect (walk_from run τ folds states w.progress rest t)) ≡ behind o (walked_effect whole)
+  pub clash : (walk_from run τ folds states w.progress rest t).clash ≡ whole.clash
+  pub bound : Enough run.code.bounds w.progress (walk_from run τ folds states w.progress rest t).fresh
 
 -- the block x stands in the slots, its flags say which builds are folded, nothing is tracked, the fresh numbers are enough
-pub record Begun (setup : Setup) (s facts : List ℕ) (choice : List Bool) (at : Slots) (l : Lent) (w : Reached)
+pub record Begun (run : Run) (at : Slots) (l : Lent) (w : Reached)
     (τ : Types) (folds : ValueId → Bool) (x : Block) : Type 0 where
-  pub ground : Ground setup.bounds s facts (recorded_in facts) τ
-  pub block : BlockIn setup.bounds s facts at.first x
+  pub ground : CodeGround run.code τ
+  pub block : BlockIn run.code.bounds run.code.bytes.now run.code.facts.now at.first x
   pub many : length x.instructions ≡ at.count
   pub flags : (j : ℕ) (d : ValueId) → j < length x.instructions
-      → build_dest (get_or x.instructions j no_instruction).kind ≡ some d → get_or choice (at.first + j) false ≡ folds d
-  pub rep : Rep setup.bounds.next s l.tracked (rows_in l.work) w.used no_states
-  pub bound : Enough setup.bounds w.progress (walk_of setup τ folds w.progress x).fresh
+      → build_dest (get_or x.instructions j no_instruction).kind ≡ some d → get_or run.choice.now (at.first + j) false ≡ folds d
+  pub rep : Rep run.code.bounds.next run.code.bytes.now l.tracked (rows_in l.work) w.used no_states
+  pub bound : Enough run.code.bounds w.progress (walk_of run τ folds w.progress x).fresh
 
 -- the numbers that the loop over a block's instructions begins with
 pub record Ready (at : Slots) (w : Reached) (work : List ℕ) : Type 0 where
-  pub early : at.first ≤ most_slots
   pub most : at.count ≤ most_instructions
   pub low : Low 4801 w.progress
   pub used : w.used ≡ rows_from
   pub long : rows_size ≤ length work
 
 -- all instructions of x are behind, or an array rebuild met another count
-pub record Through (setup : Setup) (s : List ℕ) (τ : Types) (folds : ValueId → Bool) (x : Block)
+pub record Through (run : Run) (τ : Types) (folds : ValueId → Bool) (x : Block)
     (l : Lent) (w : Reached) (l' : Lent) (r : Result Reached Clash) : Type 0 where
-  pub clashed : (y : Clash) → r ≡ Err y → (walk_of setup τ folds w.progress x).clash ≡ true
+  pub clashed : (y : Clash) → r ≡ Err y → (walk_of run τ folds w.progress x).clash ≡ true
   pub went : (v : Reached) → r ≡ Ok v
-      → Left setup τ folds s x.terminator (output_in l w.progress) (walk_of setup τ folds w.progress x) [] l' v
+      → Left run τ folds x.terminator (output_in l w.progress) (walk_of run τ folds w.progress x) [] l' v
 
 -- the instructions of a block that begins in these slots are put out
-abbrev pub InstructionsPut : Setup → List ℕ → List ℕ → List Bool → Slots → Lent → Reached → Lent → Result Reached Clash → Type 0
-InstructionsPut setup s facts choice at l w l' r =
+abbrev pub InstructionsPut : Run → Slots → Lent → Reached → Lent → Result Reached Clash → Type 0
+InstructionsPut run at l w l' r =
     (τ : Types) (folds : ValueId → Bool) (x : Block) →
-    Begun setup s facts choice at l w τ folds x →
-    Through setup s τ folds x l w l' r
+    Begun run at l w τ folds x →
+    Through run τ folds x l w l' r
 
 -- a mark for each value is lent, and a working table with all rows
 abbrev pub Lendable : Marks → List ℕ → Type 0
 Lendable tracked work = (length tracked ≡ most_values) × (rows_size ≤ length work)
 
 -- the blocks ks, rewritten from a progress on
-abbrev pub rewritten : Setup → Types → Choice → Progress → List Block → Rewritten
-rewritten setup τ c p ks = all_blocks setup.settings τ c (fresh_from setup.bounds p) ks
+abbrev pub rewritten : Run → Types → Choice → Progress → List Block → Rewritten
+rewritten run τ c p ks = all_blocks run.settings τ c (fresh_from run.code.bounds p) ks
 
 -- they are put out, where the fresh numbers are enough
-abbrev pub BlocksPut : Setup → Types → Choice → Lent → Progress → List Block → Lent → Result Progress Clash → Type 0
-BlocksPut setup τ c l p ks l' r =
+abbrev pub BlocksPut : Run → Types → Choice → Lent → Progress → List Block → Lent → Result Progress Clash → Type 0
+BlocksPut run τ c l p ks l' r =
     p.lines ≡ 0 →
-    Enough setup.bounds p (rewritten setup τ c p ks).fresh →
-    PutsIn (output_in l p) (rewritten_effect (rewritten setup τ c p ks)) (rewritten setup τ c p ks).clash l' r
+    Enough run.code.bounds p (rewritten run τ c p ks).fresh →
+    PutsIn (output_in l p) (rewritten_effect (rewritten run τ c p ks)) (rewritten run τ c p ks).clash l' r
 
 -- block k of a routine is put out, and all blocks are
-abbrev pub OnePut : Setup → List ℕ → List ℕ → List Bool → ℕ → Lent → Progress → Lent → Result Progress Clash → Type 0
-OnePut setup s facts choice k l p l' r =
+abbrev pub OnePut : Run → ℕ → Lent → Progress → Lent → Result Progress Clash → Type 0
+OnePut run k l p l' r =
     (τ : Types) (c : Choice) (ks : List Block) →
-    Coded setup.bounds s facts τ ks →
-    Follows c facts choice ks →
+    Coded run.code.bounds run.code.bytes.now run.code.facts.now τ ks →
+    Follows c run.code.facts.now run.choice.now ks →
     k < length ks →
-    BlocksPut setup τ c l p (get_or ks k no_block ∷ []) l' r
+    BlocksPut run τ c l p (get_or ks k no_block ∷ []) l' r
 
-abbrev pub AllPut : Setup → List ℕ → List ℕ → List Bool → Lent → Progress → Lent → Result Progress Clash → Type 0
-AllPut setup s facts choice l p l' r =
+abbrev pub AllPut : Run → Lent → Progress → Lent → Result Progress Clash → Type 0
+AllPut run l p l' r =
     (τ : Types) (c : Choice) (ks : List Block) →
-    Coded setup.bounds s facts τ ks →
-    Follows c facts choice ks →
-    BlocksPut setup τ c l p ks l' r
+    Coded run.code.bounds run.code.bytes.now run.code.facts.now τ ks →
+    Follows c run.code.facts.now run.choice.now ks →
+    BlocksPut run τ c l p ks l' r

@@ -1,76 +1,72 @@
 // Blocks rewritten one after another: what is decided of each instruction is put out.
+// (The tables are lent one by one, as in rewrite_step.)
 #![tactic(auto)]
 
-ghost use Rattle.std.specs.Prelude.{◌≡◌, false, ℕ, ◌+◌, ◌*◌, ◌≤◌, ◌<◌, get_or};
+ghost use Rattle.std.specs.Prelude.{◌≡◌, false, ℕ, ◌+◌, ◌*◌, ◌≤◌, ◌<◌, eqb, get_or};
 ghost use Rattle.rewrite_parts.specs.Rows.{row_most};
 ghost use Rattle.rewrite_progress.specs.Chosen.{skips_from};
 ghost use Rattle.rewrite_progress.specs.Effect.{low_enough, Low, PutLow, start_low, block_low, block_rise, routine_low};
 ghost use Rattle.rewrite_step.specs.Stepping.{lent_as, SteppedLow};
-ghost use Rattle.rewrite_blocks.specs.Blocks.{EndPut, SlotsOf, Ready, InstructionsPut, Lendable, OnePut, AllPut};
+ghost use Rattle.rewrite_blocks.specs.Blocks.{EndPut, BlockSlots, Ready, InstructionsPut, Lendable, OnePut, AllPut};
 ghost use Rattle.mir.specs.Most.{most_blocks};
 
-use bytes_field::Bounds;
-use mir::{BlockId, most, terminator};
+use bytes_index::{Code, Slots};
+use mir::terminator::TerminatorKind;
+use mir::{BlockId, most};
 use rewrite::Clash;
 use rewrite_parts::ROWS_FROM;
-use rewrite_progress::{Progress, SKIPS, Setup};
+use rewrite_progress::{Progress, Run, SKIPS};
 use rewrite_step::Reached;
 
-// The most instructions of a block, and the most slots of a routine: its instructions and its terminators.
+// The most instructions of a block.
 const MOST_INSTRUCTIONS: u16 = most::INSTRUCTIONS as u16;
-
-const MOST_SLOTS: u16 = most::SLOTS as u16;
 
 // How many bytes the count in front of a block has.
 const COUNT_BYTES: usize = 2;
 
-// The slots of a block's instructions: the first, and how many there are. Its terminator's slot is the one behind them.
-#[derive(Clone, Copy)]
-pub struct Slots {
-    pub first: u16,
-    pub count: u16,
+// The slots of block k, no more than a block can have.
+fn block_slots(facts: &[u16], k: BlockId) -> Slots
+    ensures { BlockSlots facts.now k.0 result }
+{
+    let slots = bytes_index::block_slots(facts, k);
+    Slots {
+        first: slots.first,
+        count: slots.count.min(MOST_INSTRUCTIONS),
+    }
 }
 
-// The slots of block k.
-fn block_slots(facts: &[u16], k: BlockId) -> Slots
-    ensures { SlotsOf facts.now k.0 result }
+// Whether a terminator of this kind is a Return.
+fn is_return(kind: u8) -> bool
+    ensures { result ≡ eqb kind 3 }
 {
-    Slots {
-        first: bytes_index::first_slot(facts, k).min(MOST_SLOTS),
-        count: bytes_index::instruction_count(facts, k).min(MOST_INSTRUCTIONS),
-    }
+    matches!(TerminatorKind::try_from(kind), Ok(TerminatorKind::Return))
 }
 
 // The terminator of a slot: only a Return is written anew.
 fn put_end(
     out: &mut [u8],
     p: Progress,
-    s: &[u8],
-    b: Bounds,
-    facts: &[u16],
+    code: Code,
     slot: u16,
     tracked: &[bool],
     work: &mut [u16],
 ) -> Result<Progress, Clash>
     requires { Low low_enough p }
     ensures by_index { (k : ℕ) → Low k p → PutLow (k + 1) result }
-    ensures end_put { EndPut b s.now facts.now slot
+    ensures end_put { EndPut code.entry slot
         tracked.now work.old out.old p work.new out.new result }
 {
-    let at = bytes_index::place(facts, slot);
-    if bytes_wire::byte_at(s, at) == terminator::RETURN {
-        return rewrite_before::put_return(out, p, s, b, facts, slot, tracked, work);
+    let at = bytes_index::place(code.facts, slot);
+    if is_return(bytes_wire::byte_at(code.bytes, at)) {
+        return rewrite_before::put_return(out, p, code, slot, tracked, work);
     }
-    let part = bytes_field::between(s, at, bytes_index::end(facts, slot));
+    let part = bytes_field::between(code.bytes, at, bytes_index::end(code.facts, slot));
     Ok(rewrite_perform::put_part(out, p, part, 0))
 }
 
 // The instructions of a block's slots, one after another.
 fn put_instructions(
-    s: &[u8],
-    setup: Setup,
-    facts: &[u16],
-    choice: &[bool],
+    run: Run,
     at: Slots,
     tracked: &mut [bool],
     dropped: &mut [bool],
@@ -80,25 +76,32 @@ fn put_instructions(
 ) -> Result<Reached, Clash>
     requires { Ready at w work.old }
     ensures by_index { (n : ℕ) → Low n w.progress → SteppedLow (n + at.count) (w.used + row_most * at.count) result }
-    ensures instructions_put { InstructionsPut setup s.now facts.now choice.now at
+    ensures instructions_put { InstructionsPut run.entry at
         (lent_as tracked.old dropped.old work.old out.old) w
         (lent_as tracked.new dropped.new work.new out.new) result }
 {
     let mut v = w;
     for j in 0..at.count {
         let slot = at.first + j;
-        let fold = table::flag(choice, slot as usize);
-        v = rewrite_step::step(s, setup, facts, slot, fold, tracked, dropped, work, out, v)?;
+        let fold = table::flag(run.choice, slot as usize);
+        v = rewrite_step::step(
+            run.code,
+            run.settings,
+            slot,
+            fold,
+            tracked,
+            dropped,
+            work,
+            out,
+            v,
+        )?;
     }
     Ok(v)
 }
 
 // Block k, which is not skipped: nothing is tracked where it begins, and its body is written behind its count.
 fn put_rewritten(
-    s: &[u8],
-    setup: Setup,
-    facts: &[u16],
-    choice: &[bool],
+    run: Run,
     k: BlockId,
     tracked: &mut [bool],
     dropped: &mut [bool],
@@ -108,30 +111,27 @@ fn put_rewritten(
 ) -> Result<Progress, Clash>
     requires { Low block_low p × Lendable tracked.old work.old }
     ensures by_index { (n : ℕ) → Low n p → PutLow (n + block_rise) result }
-    ensures one_put { get_or choice.now (skips_from + k.0) false ≡ false
-        → OnePut setup s.now facts.now choice.now k.0
+    ensures one_put { get_or run.entry.choice.now (skips_from + k.0) false ≡ false
+        → OnePut run.entry k.0
         (lent_as tracked.old dropped.old work.old out.old) p
         (lent_as tracked.new dropped.new work.new out.new) result }
 {
     rewrite_parts::clear(tracked);
-    let at = block_slots(facts, k);
+    let at = block_slots(run.code.facts, k);
     let body = rewrite_perform::moved(p, p.to + COUNT_BYTES, 0);
     let w = Reached {
         progress: body,
         used: ROWS_FROM,
     };
-    let q = put_instructions(s, setup, facts, choice, at, tracked, dropped, work, out, w)?;
+    let q = put_instructions(run, at, tracked, dropped, work, out, w)?;
     let slot = at.first + at.count;
-    let done = put_end(out, q.progress, s, setup.bounds, facts, slot, tracked, work)?;
-    Ok(rewrite_perform::put_count(out, p, done))
+    let done = put_end(out, q.progress, run.code, slot, tracked, work);
+    rewrite_perform::put_count(out, p, done)
 }
 
 // Block k: copied where it is skipped, else rewritten.
 fn put_block(
-    s: &[u8],
-    setup: Setup,
-    facts: &[u16],
-    choice: &[bool],
+    run: Run,
     k: BlockId,
     tracked: &mut [bool],
     dropped: &mut [bool],
@@ -141,51 +141,40 @@ fn put_block(
 ) -> Result<Progress, Clash>
     requires { Low block_low p × Lendable tracked.old work.old }
     ensures by_index { (n : ℕ) → Low n p → PutLow (n + block_rise) result }
-    ensures one_put { OnePut setup s.now facts.now choice.now k.0
+    ensures one_put { OnePut run.entry k.0
         (lent_as tracked.old dropped.old work.old out.old) p
         (lent_as tracked.new dropped.new work.new out.new) result }
 {
-    if table::flag(choice, SKIPS + k.0 as usize) {
-        let part = bytes_lookup::block_bytes(s, bytes_index::blocks(facts), k);
+    if table::flag(run.choice, SKIPS + k.0 as usize) {
+        let part = bytes_lookup::block_bytes(
+            run.code.bytes,
+            bytes_index::blocks(run.code.facts),
+            k,
+        );
         return Ok(rewrite_perform::put_part(out, p, part, 0));
     }
-    put_rewritten(s, setup, facts, choice, k, tracked, dropped, work, out, p)
+    put_rewritten(run, k, tracked, dropped, work, out, p)
 }
 
-// All blocks. `facts` is the table of the routine's facts, `choice` says which builds are folded and which blocks are
-// skipped. `tracked` and the first numbers of `work` are for the parts of tracked values, the types of the fresh numbers
+// All blocks. `tracked` and the first numbers of `work` are for the parts of tracked values, the types of the fresh numbers
 // go behind them, and `dropped` gets the marks of the values that are left out.
 pub fn put_blocks(
-    s: &[u8],
-    setup: Setup,
-    facts: &[u16],
-    choice: &[bool],
+    run: Run,
     p: Progress,
     tracked: &mut [bool],
     dropped: &mut [bool],
     work: &mut [u16],
     out: &mut [u8],
 ) -> Result<Progress, Clash>
-    requires { Low start_low p × ((setup.bounds.blocks ≤ most_blocks) × Lendable tracked.old work.old) }
+    requires { Low start_low p × ((run.code.bounds.blocks ≤ most_blocks) × Lendable tracked.old work.old) }
     ensures put_low { PutLow routine_low result }
-    ensures all_put { AllPut setup s.now facts.now choice.now
+    ensures all_put { AllPut run.entry
         (lent_as tracked.old dropped.old work.old out.old) p
         (lent_as tracked.new dropped.new work.new out.new) result }
 {
     let mut q = p;
-    for k in 0..setup.bounds.blocks {
-        q = put_block(
-            s,
-            setup,
-            facts,
-            choice,
-            BlockId(k),
-            tracked,
-            dropped,
-            work,
-            out,
-            q,
-        )?;
+    for k in 0..run.code.bounds.blocks {
+        q = put_block(run, BlockId(k), tracked, dropped, work, out, q)?;
     }
     Ok(q)
 }

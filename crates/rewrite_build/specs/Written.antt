@@ -7,6 +7,7 @@ use Rattle.mir.specs.declared.ValueId.{ValueId}
 use Rattle.mir.specs.declared.TypeId.{TypeId}
 use Rattle.mir.specs.declared.Value.{Value}
 use Rattle.bytes_emit.specs.Written.{Writes}
+use Rattle.bytes_index.specs.declared.code.Code.{Code}
 use Rattle.bytes_field.specs.Encode.{each_bytes, instruction_bytes}
 use Rattle.mir.specs.MirType.{StructField, MirType}
 use Rattle.bytes_types.specs.Decode.{type_of}
@@ -17,17 +18,13 @@ use Rattle.rewrite_parts.specs.Rows.{RowAt}
 use Rattle.bytes_struct.specs.Fields.{first_name, Names}
 use Rattle.rewrite.specs.declared.Clash.{Clash}
 
--- a row of parts begins before this
-abbrev pub row_room : ℕ
-row_room = 1099511627776
-
 -- the most bytes of a rebuild
 abbrev pub rebuild_most : ℕ
 rebuild_most = 1792
 
--- P holds of the `have` parts whose places stand in the rows from `from` on
-abbrev pub OfParts : ℕ → List ℕ → List ℕ → ℕ → ℕ → (List Value → Type 0) → Type 0
-OfParts next s rows from have P = (xs : List Value) → RowAt next s rows from xs → length xs ≡ have → P xs
+-- P holds of the parts that stand at these places of the routine
+abbrev pub OfParts : Code → List ℕ → (List Value → Type 0) → Type 0
+OfParts code parts P = (xs : List Value) → RowAt code.bounds.next code.bytes.now parts 0 xs → length xs ≡ length parts → P xs
 
 -- P holds of the `want` fields whose names stand in a type's bytes
 abbrev pub OfFields : List ℕ → ℕ → (List StructField → Type 0) → Type 0
@@ -37,9 +34,14 @@ OfFields row want P = (fs : List StructField) → length fs ≡ want → Names r
 abbrev pub OfType : List ℕ → (MirType → Type 0) → Type 0
 OfType row P = (most own n : ℕ) (T : MirType) → Bytes row → type_of most own row ≡ ok T n → P T
 
--- P holds of types that stand at the places `types`, and have a type t
-abbrev pub OfTable : List ℕ → List ℕ → TypeId → (Types → Type 0) → Type 0
-OfTable s types t P = (most : ℕ) (τ : Types) → Bytes s → TypesAt most s types τ.rows → t.0 < length τ.rows → P τ
+-- P holds of the routine's types, which have a type t
+abbrev pub OfTable : Code → TypeId → (Types → Type 0) → Type 0
+OfTable code t P =
+    (most : ℕ) (τ : Types)
+    → Bytes code.bytes.now
+    → TypesAt most code.bytes.now code.facts.now τ.rows
+    → t.0 < length τ.rows
+    → P τ
 
 -- the bytes of the rebuild of d from the parts xs at type t
 abbrev pub rebuild_bytes : Types → ValueId → List Value → TypeId → List ℕ

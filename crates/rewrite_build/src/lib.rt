@@ -1,27 +1,25 @@
 // The rebuild of an aggregate from its parts: sroa.rs 1420, `materialize`. The parts are places of values in the input.
+// (Output and place stay parameters: the place moves with each thing written, and its bound, as in bytes_emit.)
 #![tactic(auto)]
 
 ghost use Rattle.std.specs.Prelude.{◌≡◌, List, [], ◌∷◌, ◌++◌, false, ◌+◌, ◌*◌, ◌≤◌, ◌<◌, length, get_or, IfOk};
 ghost use Rattle.std.proofs.Math.Option.{some};
 ghost use Rattle.std.proofs.lemmas.List.Edits.{sets};
 ghost use Rattle.bytes_wire.specs.Value.{value_bytes, unit};
+ghost use Rattle.mir.specs.Kind.{number_of_kind};
 ghost use Rattle.mir.specs.Syntax.{InstructionKind, plain};
 ghost use Rattle.bytes_field.specs.Encode.{each_bytes, value_id_bytes, field_init_bytes, instruction_bytes};
 ghost use Rattle.rewrite.specs.Rebuild.{fitted, named, rebuild_at, clashes};
 ghost use Rattle.rewrite_parts.specs.Rows.{most_parts, ValueAt};
 ghost use Rattle.bytes_emit.specs.Written.{Writes, value_room, instruction_room, build_room};
-ghost use Rattle.rewrite_build.specs.Written.{rebuild_most, OfParts, OfFields, OfType, OfTable, Rebuilds, row_room};
+ghost use Rattle.rewrite_build.specs.Written.{rebuild_most, OfParts, OfFields, OfType, OfTable, Rebuilds};
 
+use bytes_index::Code;
 use bytes_types::layout;
-use mir::{Literal, NameId, TypeId, Value, ValueId, kind, type_kind};
+use mir::kind::Kind;
+use mir::type_kind::TypeKind;
+use mir::{Literal, NameId, TypeId, Value, ValueId};
 use rewrite::Clash;
-
-// The kinds of the builds, as a byte.
-const MAKE_TUPLE: u8 = kind::MAKE_TUPLE as u8;
-
-const MAKE_STRUCT: u8 = kind::MAKE_STRUCT as u8;
-
-const MAKE_FIXED_ARRAY: u8 = kind::MAKE_FIXED_ARRAY as u8;
 
 // What a build begins with: no bits, its kind, what it defines and the number of its parts.
 const HEAD_BYTES: usize = 5;
@@ -35,67 +33,39 @@ pub fn put_value_at(out: &mut [u8], to: usize, s: &[u8], at: usize, next: u16) -
     bytes_emit::put_value(out, to, bytes_operands::value_at(s, at, next))
 }
 
-// Part k of the `have` parts whose places stand in the rows from `from` on; past them Unit.
-fn put_part(
-    out: &mut [u8],
-    to: usize,
-    s: &[u8],
-    next: u16,
-    rows: &[u16],
-    from: usize,
-    have: u16,
-    k: u8,
-) -> usize
-    requires { (to < value_room) × (from < row_room) }
+// Part k of the parts that stand at these places of the routine; past them Unit.
+fn put_part(out: &mut [u8], to: usize, code: Code, parts: &[u16], k: u8) -> usize
+    requires { to < value_room }
     ensures upper_bound { result ≤ to + 5 }
-    ensures of_parts { OfParts next s.now rows.now from have (λ xs.
+    ensures of_parts { OfParts code.entry parts.now (λ xs.
         Writes (value_bytes (get_or xs k unit)) out.old out.new to result) }
 {
-    if (k as u16) < have {
-        let at = table::place(rows, from + k as usize);
-        return put_value_at(out, to, s, at, next);
+    if (k as usize) < parts.len() {
+        let at = parts[k as usize] as usize;
+        return put_value_at(out, to, code.bytes, at, code.bounds.next);
     }
     bytes_emit::put_value(out, to, Value::Literal(Literal::Unit))
 }
 
-// `want` parts: those of the row, then Units.
-fn put_parts(
-    out: &mut [u8],
-    to: usize,
-    s: &[u8],
-    next: u16,
-    rows: &[u16],
-    from: usize,
-    have: u16,
-    want: u8,
-) -> usize
-    requires { (to < instruction_room) × (from < row_room) }
+// `want` parts: those there are, then Units.
+fn put_parts(out: &mut [u8], to: usize, code: Code, parts: &[u16], want: u8) -> usize
+    requires { to < instruction_room }
     ensures upper_bound { result ≤ to + 5 * want }
-    ensures of_parts { OfParts next s.now rows.now from have (λ xs.
+    ensures of_parts { OfParts code.entry parts.now (λ xs.
         Writes (each_bytes value_bytes (fitted want xs)) out.old out.new to result) }
 {
     let mut p = to;
     for i in 0..want {
-        p = put_part(out, p, s, next, rows, from, have, i);
+        p = put_part(out, p, code, parts, i);
     }
     p
 }
 
 // The parts of a struct, each behind its name; `row` is the struct's type, from its kind on.
-fn put_fields(
-    out: &mut [u8],
-    to: usize,
-    s: &[u8],
-    next: u16,
-    rows: &[u16],
-    from: usize,
-    have: u16,
-    row: &[u8],
-    want: u8,
-) -> usize
-    requires { (to < instruction_room) × (from < row_room) }
+fn put_fields(out: &mut [u8], to: usize, code: Code, parts: &[u16], row: &[u8], want: u8) -> usize
+    requires { to < instruction_room }
     ensures upper_bound { result ≤ to + 7 * want }
-    ensures of_parts { OfParts next s.now rows.now from have (λ xs. OfFields row.now want (λ fs.
+    ensures of_parts { OfParts code.entry parts.now (λ xs. OfFields row.now want (λ fs.
         Writes (each_bytes field_init_bytes (named fs xs)) out.old out.new to result)) }
 {
     let mut p = to;
@@ -105,157 +75,134 @@ fn put_fields(
             layout::STRUCT_NAMES + layout::STRUCT_APART * (i as usize),
         );
         bytes_emit::put_name_id(out, p, NameId(name));
-        p = put_part(out, p + 2, s, next, rows, from, have, i);
+        p = put_part(out, p + 2, code, parts, i);
     }
     p
 }
 
 // What a Make of n parts begins with: no bits, its kind, what it defines and the count.
-fn put_head(out: &mut [u8], to: usize, kind: u8, d: ValueId, n: u8)
+fn put_head(out: &mut [u8], to: usize, kind: Kind, d: ValueId, n: u8)
     requires { to < instruction_room }
-    ensures { out.new ≡ sets out.old to (0 ∷ kind ∷ (value_id_bytes d ++ (n ∷ []))) }
+    ensures { out.new ≡ sets out.old to (0 ∷ number_of_kind kind ∷ (value_id_bytes d ++ (n ∷ []))) }
 {
     bytes_emit::put_u8(out, to, 0);
-    bytes_emit::put_u8(out, to + 1, kind);
+    bytes_emit::put_u8(out, to + 1, kind as u8);
     bytes_emit::put_value_id(out, to + 2, d);
     bytes_emit::put_u8(out, to + 4, n);
 }
 
 // A tuple of `want` parts.
-fn put_tuple(
-    out: &mut [u8],
-    to: usize,
-    s: &[u8],
-    next: u16,
-    d: ValueId,
-    rows: &[u16],
-    from: usize,
-    have: u16,
-    want: u8,
-) -> usize
-    requires { (to < build_room) × (from < row_room) }
+fn put_tuple(out: &mut [u8], to: usize, code: Code, d: ValueId, parts: &[u16], want: u8) -> usize
+    requires { to < build_room }
     ensures upper_bound { result ≤ to + rebuild_most }
-    ensures of_parts { OfParts next s.now rows.now from have (λ xs.
+    ensures of_parts { OfParts code.entry parts.now (λ xs.
         Writes (instruction_bytes (plain (InstructionKind.MakeTuple d (fitted want xs)))) out.old out.new to result) }
 {
-    put_head(out, to, MAKE_TUPLE, d, want);
-    put_parts(out, to + HEAD_BYTES, s, next, rows, from, have, want)
+    put_head(out, to, Kind::MakeTuple, d, want);
+    put_parts(out, to + HEAD_BYTES, code, parts, want)
 }
 
 // A struct of the fields of type t; `row` is that type, from its kind on.
 fn put_struct(
     out: &mut [u8],
     to: usize,
-    s: &[u8],
-    next: u16,
+    code: Code,
     d: ValueId,
-    rows: &[u16],
-    from: usize,
-    have: u16,
+    parts: &[u16],
     row: &[u8],
     t: TypeId,
 ) -> usize
-    requires { (to < build_room) × (from < row_room) }
+    requires { to < build_room }
     ensures upper_bound { result ≤ to + rebuild_most }
-    ensures of_parts { OfParts next s.now rows.now from have (λ xs. OfFields row.now (get_or row.now 3 0) (λ fs.
+    ensures of_parts { OfParts code.entry parts.now (λ xs. OfFields row.now (get_or row.now 3 0) (λ fs.
         Writes (instruction_bytes (plain (InstructionKind.MakeStruct d (named fs xs) t))) out.old out.new to result)) }
 {
     let want = bytes_wire::byte_at(row, layout::STRUCT_COUNT);
-    put_head(out, to, MAKE_STRUCT, d, want);
-    let at = put_fields(out, to + HEAD_BYTES, s, next, rows, from, have, row, want);
+    put_head(out, to, Kind::MakeStruct, d, want);
+    let at = put_fields(out, to + HEAD_BYTES, code, parts, row, want);
     bytes_emit::put_type_id(out, at, t);
     at + 2
 }
 
 // An array of all the parts there are, at most 255.
-fn put_array(
-    out: &mut [u8],
-    to: usize,
-    s: &[u8],
-    next: u16,
-    d: ValueId,
-    rows: &[u16],
-    from: usize,
-    have: u16,
-    e: TypeId,
-) -> usize
-    requires { (to < build_room) × (from < row_room) }
+fn put_array(out: &mut [u8], to: usize, code: Code, d: ValueId, parts: &[u16], e: TypeId) -> usize
+    requires { to < build_room }
     ensures upper_bound { result ≤ to + rebuild_most }
-    ensures of_parts { OfParts next s.now rows.now from have (λ xs.
-        have < 256 → Writes (instruction_bytes (plain (InstructionKind.MakeFixedArray d xs e false))) out.old out.new to result) }
+    ensures of_parts { OfParts code.entry parts.now (λ xs. length parts.now < 256
+        → Writes (instruction_bytes (plain (InstructionKind.MakeFixedArray d xs e false))) out.old out.new to result) }
 {
-    let n = (have % 256) as u8;
-    put_head(out, to, MAKE_FIXED_ARRAY, d, n);
-    let at = put_parts(out, to + HEAD_BYTES, s, next, rows, from, have, n);
+    let n = (parts.len() % 256) as u8;
+    put_head(out, to, Kind::MakeFixedArray, d, n);
+    let at = put_parts(out, to + HEAD_BYTES, code, parts, n);
     bytes_emit::put_type_id(out, at, e);
     at + 2
 }
 
-// Type `row`, from its kind on, is an array of another count than `have`.
-fn array_clashes(row: &[u8], have: u16) -> bool
-    ensures { OfType row.now (λ T. (xs : List Value) → length xs ≡ have → result ≡ clashes xs (some T)) }
+// Type `row`, from its kind on, is an array of another count than there are parts.
+fn array_clashes(row: &[u8], parts: &[u16]) -> bool
+    ensures { OfType row.now (λ T. (xs : List Value) → length xs ≡ length parts.now → result ≡ clashes xs (some T)) }
 {
-    if bytes_wire::byte_at(row, 0) != type_kind::FIXED_ARRAY {
+    let Some(kind) = bytes_types::kind_of(row) else {
         return false;
+    };
+    match kind {
+        TypeKind::FixedArray => {
+            parts.len() != bytes_wire::u32_at(row, layout::ARRAY_SIZE) as usize
+        }
+        _ => false,
     }
-    (have as u32) != bytes_wire::u32_at(row, layout::ARRAY_SIZE)
 }
 
 // Writes the rebuild of d at type t; `row` is the type, from its kind on.
 fn put_make(
     out: &mut [u8],
     to: usize,
-    s: &[u8],
-    next: u16,
+    code: Code,
     row: &[u8],
     t: TypeId,
     d: ValueId,
-    rows: &[u16],
-    from: usize,
-    have: u16,
+    parts: &[u16],
 ) -> usize
-    requires { (to < build_room) × (from < row_room) }
+    requires { to < build_room }
     ensures upper_bound { result ≤ to + rebuild_most }
-    ensures of_type { OfType row.now (λ T. OfParts next s.now rows.now from have (λ xs.
-        have ≤ most_parts → Writes (each_bytes instruction_bytes (rebuild_at d xs t (some T))) out.old out.new to result)) }
+    ensures of_type { OfType row.now (λ T. OfParts code.entry parts.now (λ xs. length parts.now ≤ most_parts
+        → Writes (each_bytes instruction_bytes (rebuild_at d xs t (some T))) out.old out.new to result)) }
 {
-    let kind = bytes_wire::byte_at(row, 0);
-    if kind == type_kind::TUPLE {
-        let want = bytes_wire::byte_at(row, layout::TUPLE_COUNT);
-        return put_tuple(out, to, s, next, d, rows, from, have, want);
+    let Some(kind) = bytes_types::kind_of(row) else {
+        return to;
+    };
+    match kind {
+        TypeKind::Tuple => {
+            let want = bytes_wire::byte_at(row, layout::TUPLE_COUNT);
+            put_tuple(out, to, code, d, parts, want)
+        }
+        TypeKind::Struct => put_struct(out, to, code, d, parts, row, t),
+        TypeKind::FixedArray => {
+            let e = TypeId(bytes_wire::u16_at(row, layout::ARRAY_ELEMENT));
+            put_array(out, to, code, d, parts, e)
+        }
+        _ => to,
     }
-    if kind == type_kind::STRUCT {
-        return put_struct(out, to, s, next, d, rows, from, have, row, t);
-    }
-    if kind == type_kind::FIXED_ARRAY {
-        let e = TypeId(bytes_wire::u16_at(row, layout::ARRAY_ELEMENT));
-        return put_array(out, to, s, next, d, rows, from, have, e);
-    }
-    to
 }
 
-// Writes the rebuild of d at type t from `have` parts whose places stand in the rows from `from` on. A type that is no
-// aggregate has none; an array of another count clashes. Returns the place behind it. `types` has the types' places.
+// Writes the rebuild of d at type t from the parts that stand at these places of the routine. A type that is no aggregate has
+// none; an array of another count clashes. Returns the place behind it.
 pub fn put_rebuild(
     out: &mut [u8],
     to: usize,
-    s: &[u8],
-    next: u16,
-    types: &[u16],
+    code: Code,
     t: TypeId,
     d: ValueId,
-    rows: &[u16],
-    from: usize,
-    have: u16,
+    parts: &[u16],
 ) -> Result<usize, Clash>
-    requires { (to < build_room) × (from < row_room) }
+    requires { to < build_room }
     ensures to_bound { IfOk result (λ end. end ≤ to + rebuild_most) }
-    ensures of_table { OfTable s.now types.now t (λ τ. OfParts next s.now rows.now from have (λ xs.
-        have ≤ most_parts → Rebuilds τ d xs t out.old out.new to result)) }
+    ensures of_table { OfTable code.entry t (λ τ. OfParts code.entry parts.now (λ xs.
+        length parts.now ≤ most_parts → Rebuilds τ d xs t out.old out.new to result)) }
 {
-    let row = bytes_field::tail(s, bytes_lookup::type_place(types, t));
-    if array_clashes(row, have) {
+    let row = bytes_field::tail(code.bytes, bytes_lookup::type_place(code.facts, t));
+    if array_clashes(row, parts) {
         return Err(Clash);
     }
-    Ok(put_make(out, to, s, next, row, t, d, rows, from, have))
+    Ok(put_make(out, to, code, row, t, d, parts))
 }

@@ -119,12 +119,12 @@ pub record PlaceRead (b : Bounds) (t : List ℕ) (p : Place) (at many : ℕ) : T
   pub below : at < b.next
   pub long : length p.projections ≡ many
 
-module _ {b : Bounds} {s facts : List ℕ} {slot : ℕ} {tracked : Marks} {rows : List ℕ} {used : ℕ} {τ : Types} {S : AggStates} {i : Instruction} (o : Here b s facts slot tracked rows used τ S i) (few_types : b.types < 65536) (few_blocks : b.blocks < 65536) {t u : List ℕ} {f : ℕ} (p : Place) (et : t ≡ drop (place_in facts slot) s) (eu : u ≡ drop f t) (ef : f ≡ fields_place t) where
+module _ {b : Bounds} {s facts : List ℕ} {slot : ℕ} {tracked : Marks} {rows : List ℕ} {used : ℕ} {τ : Types} {S : AggStates} {i : Instruction} (o : Here b s facts slot tracked rows used τ S i) (few_types : b.types < 65536) (few_blocks : b.blocks < 65536) {t u : List ℕ} {from f : ℕ} (p : Place) (et : t ≡ drop from s) (ep : from ≡ place_in facts slot) (eu : u ≡ drop f t) (ef : f ≡ fields_place t) where
   abbrev size : ℕ
   size = end_in facts slot - place_in facts slot
 
   e : instruction_of b [] false t ≡ ok i size
-  e = ap (instruction_of b [] false) et ∙ o.line.read
+  e = ap (instruction_of b [] false) (et ∙ ap (λ a. drop a s) ep) ∙ o.line.read
 
   fits : FitKind b [] i.kind
   fits = (((instruction b [] false).each (drop (place_in facts slot) s) i size (bytes_drop s (place_in facts slot) o.ground.bytes) o.line.read).good wide).1

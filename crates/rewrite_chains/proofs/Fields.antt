@@ -21,7 +21,7 @@ recorded_back (some t) = let z : t.0 + 1 ≡ suc t.0 = omega arith in rw z
 
 module _ (most : ℕ) (s types recorded : List ℕ) (τ : Types) (v : ValueId) {r : Option TypeId} (e : r ≡ recorded_from (get_or recorded v.0 0)) (k : Known most s types recorded τ) (h : v.0 < length τ.recorded) where
   -- what the table says of a value
-  recorded_of_lem : r ≡ recorded_type τ v
+  pub recorded_of_lem : r ≡ recorded_type τ v
   unfolding recorded_type
   recorded_of_lem = e ∙ ap recorded_from (k.recorded_types v.0 h (omega (arith, k.long))) ∙ recorded_back (get_or τ.recorded v.0 none)
 

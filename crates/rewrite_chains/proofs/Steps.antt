@@ -5,9 +5,9 @@ use mathlib.Core.List.{List}
 use mathlib.Core.Bool.{Bool, true, false}
 use mathlib.Core.Option.{Option, none, some}
 use native.Mathlib.Omega.{arith}
-use borrow.Author.Tests.{ltb-true, ltb-false}
+use borrow.Author.Tests.{ltb-true}
 use mir.Val.{bool_byte}
-use lib.ListN.{length, get_or, get_elem?, drop}
+use lib.ListN.{length, get_elem?, drop}
 use lib.Dec.{ltb}
 use Rattle.bytes_wire.specs.WellFormed.{Bytes, FitValue}
 use Rattle.mir.specs.declared.Literal.{Literal}
@@ -24,7 +24,6 @@ use Rattle.rewrite.specs.State.{AggStates, step_index, step_part}
 use Rattle.rewrite_parts.specs.Rows.{ValueAt, stands, There}
 use Rattle.std.specs.Prelude.{Some, None, Option as Answered}
 use Rattle.rewrite_chains.specs.Chained.{operand_in, LeadsTo, has_part}
-use Rattle.table.proofs.Elements.{some_at, none_at}
 
 -- a Boolean as a number
 pub boolean_integer : (b : Bool) → some (bool_byte b) ≡ as_const_integer (Value.Literal (Literal.Boolean b))
@@ -56,12 +55,6 @@ pub has_part_lem : (o : Option (List Value)) (k : ℕ) → has_part o k ≡ true
 has_part_lem none k e = absurd (let z : ◌≡◌ {A = ℕ} 0 1 = cc in omega arith)
 has_part_lem (some xs) k e = has xs refl (ltb-true k (length xs) e)
 
--- there is no part where there is none
-no_part : (o : Option (List Value)) (k : ℕ) → has_part o k ≡ false → on_some o (λ xs. get_elem? xs k) ≡ none
-unfolding on_some
-no_part none k e = refl
-no_part (some xs) k e = none_at xs k (ltb-false k (length xs) e)
-
 -- the part that a projection names
 module _ (τ : Types) (S : AggStates) (v : ValueId) (q : Projection) where
   -- no position
@@ -69,24 +62,10 @@ module _ (τ : Types) (S : AggStates) (v : ValueId) (q : Projection) where
   unfolding step_part on_some
   step_nowhere e = rw (← e) refl
 
-  module _ (k : ℕ) (e : some k ≡ step_index τ v q) {h : Bool} (f : h ≡ has_part (S v.0) k) where
-    -- no such part
-    pub step_missing : h ≡ false → step_part τ S (Value.Operand v) q ≡ none
-    unfolding step_part on_some
-    step_missing g = rw (← e) (no_part (S v.0) k (sym f ∙ g))
-
-    -- the part
-    pub step_there : {next : ℕ} {s : List ℕ} (place : ℕ) → h ≡ true → ((xs : List Value) → S v.0 ≡ some xs → k < length xs → ValueAt next s place (get_or xs k Value.Error)) → There next s (step_part τ S (Value.Operand v) q) place
-    unfolding step_part on_some
-    step_there place g w =
-        elim (has_part_lem (S v.0) k (sym f ∙ g)) [
-          | has xs y l ↦
-              record {
-                value = get_or xs k Value.Error;
-                is = rw (← e, y) (some_at xs k Value.Error l);
-                stands = w xs y l;
-              }
-        ]
+  -- the part of its position
+  pub step_at : (k : ℕ) → some k ≡ step_index τ v q → step_part τ S (Value.Operand v) q ≡ on_some (S v.0) (λ xs. get_elem? xs k)
+  unfolding step_part on_some
+  step_at k e = rw (← e) refl
 
 -- what stands at a place
 module _ (next : ℕ) {x y : Value} (e : y ≡ x) where

@@ -19,7 +19,9 @@ use Rattle.bytes_field.specs.Decode.{instruction_of}
 use Rattle.bytes_field.specs.declared.Bounds.{Bounds}
 use Rattle.bytes_operands.specs.Fields.{place_steps}
 use Rattle.mir.specs.Lookup.{is_some, Types, on_some}
-use Rattle.fold.specs.Family.{Marks}
+use Rattle.bytes_index.specs.declared.code.Code.{Code}
+use Rattle.rewrite_parts.specs.declared.Parts.{Parts}
+use Rattle.rewrite_parts.specs.Here.{Here}
 use Rattle.rewrite.specs.State.{AggStates, step_part, chain, first_integer}
 use Rattle.mir.specs.Option.{as_option}
 use Rattle.rewrite_chains.specs.Chained.{operand_in, LeadsTo, Walking, StepsAt, steps_at, held, integer_step}
@@ -82,24 +84,24 @@ pub no_next : {A : Type 0} (ps : List Projection) (i : ℕ) → i < length ps �
 no_next ps i h e = absurd (let z : none ≡ some (get_or ps i (Tuple 0)) = e ∙ some_at ps i (Tuple 0) h in let y : ◌≡◌ {A = ℕ} 0 1 = cc in omega arith)
 
 -- i of k projections are behind, and v is the operand that they lead to
-pub record Going (b : Bounds) (s t facts : List ℕ) (tracked : Marks) (rows : List ℕ) (base : ValueId) (k : ℕ) (v : ValueId) (i : ℕ) : Type 0 where
+pub record Going (code : Code) (t : List ℕ) (parts : Parts) (base : ValueId) (k : ℕ) (v : ValueId) (i : ℕ) : Type 0 where
   pub under : i ≤ k
-  pub below : (τ : Types) (S : AggStates) (ps : List Projection) → Walking b s facts tracked rows τ S → StepsAt b t ps → base.0 < b.next → k ≤ length ps → v.0 < b.next
-  pub left : (τ : Types) (S : AggStates) (ps : List Projection) → Walking b s facts tracked rows τ S → StepsAt b t ps → base.0 < b.next → k ≤ length ps → chain τ S (Value.Operand base) (take k ps) ≡ chain τ S (Value.Operand v) (take (k - i) (drop i ps))
+  pub below : (τ : Types) (S : AggStates) (ps : List Projection) → Walking code parts τ S → StepsAt code.bounds t ps → base.0 < code.bounds.next → k ≤ length ps → v.0 < code.bounds.next
+  pub left : (τ : Types) (S : AggStates) (ps : List Projection) → Walking code parts τ S → StepsAt code.bounds t ps → base.0 < code.bounds.next → k ≤ length ps → chain τ S (Value.Operand base) (take k ps) ≡ chain τ S (Value.Operand v) (take (k - i) (drop i ps))
 
-module _ {b : Bounds} {s t facts : List ℕ} {tracked : Marks} {rows : List ℕ} {base : ValueId} {k : ℕ} where
+module _ {code : Code} {t : List ℕ} {parts : Parts} {base : ValueId} {k : ℕ} where
   -- none is yet
-  pub going : Going b s t facts tracked rows base k base 0
+  pub going : Going code t parts base k base 0
   going = record { under = zero-le; below = λ τ S ps w a h l. h; left = λ τ S ps w a h l. rw sub-zero }
 
-  module _ {v : ValueId} {i : ℕ} (o : Going b s t facts tracked rows base k v i) (h : i < k) where
+  module _ {v : ValueId} {i : ℕ} (o : Going code t parts base k v i) (h : i < k) where
     -- there is a next projection
-    pub going_nowhere : ((ps : List Projection) → StepsAt b t ps → none ≡ get_elem? ps i) → {A : Type 0} (ps : List Projection) → StepsAt b t ps → k ≤ length ps → A
+    pub going_nowhere : ((ps : List Projection) → StepsAt code.bounds t ps → none ≡ get_elem? ps i) → {A : Type 0} (ps : List Projection) → StepsAt code.bounds t ps → k ≤ length ps → A
     going_nowhere look ps c l = no_next ps i (omega arith) (look ps c)
 
-    module _ (p : Projection) (look : (ps : List Projection) → StepsAt b t ps → some p ≡ get_elem? ps i) where
+    module _ (p : Projection) (look : (ps : List Projection) → StepsAt code.bounds t ps → some p ≡ get_elem? ps i) where
       -- one more
-      pub going_more : (w : ValueId) → ((τ : Types) (S : AggStates) → Walking b s facts tracked rows τ S → v.0 < b.next → LeadsTo b.next (step_part τ S (Value.Operand v) p) (Some w)) → Going b s t facts tracked rows base k w (i + 1)
+      pub going_more : (w : ValueId) → ((τ : Types) (S : AggStates) → Walking code parts τ S → v.0 < code.bounds.next → LeadsTo code.bounds.next (step_part τ S (Value.Operand v) p) (Some w)) → Going code t parts base k w (i + 1)
       unfolding chain on_some
       going_more w step =
           record {
@@ -111,7 +113,7 @@ module _ {b : Bounds} {s t facts : List ℕ} {tracked : Marks} {rows : List ℕ}
           }
 
       -- no operand
-      pub going_ends : ((τ : Types) (S : AggStates) → Walking b s facts tracked rows τ S → v.0 < b.next → LeadsTo b.next (step_part τ S (Value.Operand v) p) None) → (τ : Types) (S : AggStates) (ps : List Projection) → Walking b s facts tracked rows τ S → StepsAt b t ps → base.0 < b.next → k ≤ length ps → LeadsTo b.next (chain τ S (Value.Operand base) (take k ps)) None
+      pub going_ends : ((τ : Types) (S : AggStates) → Walking code parts τ S → v.0 < code.bounds.next → LeadsTo code.bounds.next (step_part τ S (Value.Operand v) p) None) → (τ : Types) (S : AggStates) (ps : List Projection) → Walking code parts τ S → StepsAt code.bounds t ps → base.0 < code.bounds.next → k ≤ length ps → LeadsTo code.bounds.next (chain τ S (Value.Operand base) (take k ps)) None
       unfolding chain
       going_ends step τ S ps a c d l =
           let to = step τ S a (o.below τ S ps a c d l) in
@@ -122,7 +124,7 @@ module _ {b : Bounds} {s t facts : List ℕ} {tracked : Marks} {rows : List ℕ}
           }
 
   -- all are behind
-  pub going_done : {v : ValueId} {i : ℕ} → Going b s t facts tracked rows base k v i → k ≤ i → (τ : Types) (S : AggStates) (ps : List Projection) → Walking b s facts tracked rows τ S → StepsAt b t ps → base.0 < b.next → k ≤ length ps → LeadsTo b.next (chain τ S (Value.Operand base) (take k ps)) (Some v)
+  pub going_done : {v : ValueId} {i : ℕ} → Going code t parts base k v i → k ≤ i → (τ : Types) (S : AggStates) (ps : List Projection) → Walking code parts τ S → StepsAt code.bounds t ps → base.0 < code.bounds.next → k ≤ length ps → LeadsTo code.bounds.next (chain τ S (Value.Operand base) (take k ps)) (Some v)
   unfolding chain
   going_done {v} {i} o h τ S ps a c d l =
       let n : k - i ≡ 0 = omega arith in
@@ -165,6 +167,10 @@ module _ (τ : Types) (S : AggStates) (v : ValueId) (ps : List Projection) (last
       go : (o : Option ℕ) → first_integer ps ≡ o → LeadsTo next (held τ S v ps last) r
       go none g = absurd (let z : true ≡ false = sym f ∙ told_first ∙ rw g in let n : ◌≡◌ {A = ℕ} 0 1 = cc in omega arith)
       go (some k) g = rw g w
+
+-- the walks of an instruction look at what stands before it
+pub here_walks : {code : Code} {parts : Parts} {slot used : ℕ} {τ : Types} {S : AggStates} {i : Instruction} → Here code.bounds code.bytes.now code.facts.now slot parts.marks.now parts.rows.now used τ S i → Walking code parts τ S
+here_walks {used} o = record { ground = o.ground; used = used; rep = o.rep }
 
 -- what a lookup finds
 pub looked : (b : Bounds) (t : List ℕ) (i : ℕ) (p : Option Projection) → ((seen : List Bool) (late : Bool) (j : Instruction) (n : ℕ) → instruction_of b seen late t ≡ ok j n → p ≡ get_elem? (place_steps j.kind) i) → (ps : List Projection) → StepsAt b t ps → p ≡ get_elem? ps i

@@ -13,25 +13,27 @@ use Rattle.mir.specs.declared.Projection.TheVariants.{Index, Field, Tuple}
 use Rattle.mir.specs.Syntax.{Place, Instruction, InstructionKind}
 use Rattle.bytes_field.specs.Decode.{instruction_of}
 use Rattle.bytes_field.specs.declared.Bounds.{Bounds}
-use Rattle.bytes_index.specs.Table.{recorded_in}
+use Rattle.bytes_index.specs.declared.code.Code.{Code}
+use Rattle.bytes_index.specs.declared.code.Typing.{Typing}
 use Rattle.bytes_operands.specs.Fields.{place_steps}
 use Rattle.mir.specs.Lookup.{is_some, Types, on_some, value_row}
 use Rattle.mir.specs.Option.{as_option}
 use Rattle.bytes_struct.specs.FindField.{find_field}
 use Rattle.bytes_struct.specs.declared.FoundField.{FoundField}
 use Rattle.fold.specs.Family.{Marks}
-use Rattle.fold.specs.Tables.{Known, Ground}
+use Rattle.fold.specs.Tables.{Known, CodeGround}
 use Rattle.rewrite.specs.State.{AggStates, chain, first_integer, step_part, store_part, store_last, forward_store}
 use Rattle.mir.specs.Most.{most_values}
 use Rattle.rewrite_parts.specs.Rows.{ValueAt, Rep, Room, InitAt, told, used_after}
+use Rattle.rewrite_parts.specs.declared.Parts.{Parts}
 use Rattle.rewrite_parts.specs.Here.{Here}
 
 -- a field by its name in the recorded type of v
-abbrev pub FoundInType : List ℕ → List ℕ → ℕ → List ℕ → ValueId → NameId → Answered FoundField → Type 0
-FoundInType s types many recorded v name r =
+abbrev pub FoundInType : Typing → ValueId → NameId → Answered FoundField → Type 0
+FoundInType typing v name r =
     (most : ℕ) (τ : Types)
-    → Known most s types recorded τ
-    → length τ.rows ≡ many
+    → Known most typing.code.bytes.now typing.code.facts.now typing.recorded.now τ
+    → length τ.rows ≡ typing.code.bounds.types
     → v.0 < length τ.recorded
     → as_option r ≡ find_field (value_row τ v) name
 
@@ -56,36 +58,36 @@ abbrev pub has_part : Option (List Value) → ℕ → Bool
 has_part none k = false
 has_part (some xs) k = ltb k (length xs)
 
--- what a walk looks at: the bytes, the table of facts and the tables of tracked values
-pub record Walking (b : Bounds) (s facts : List ℕ) (tracked : Marks) (rows : List ℕ) (τ : Types) (S : AggStates) : Type 0 where
-  pub ground : Ground b s facts (recorded_in facts) τ
+-- what a walk looks at: the routine and the tables of tracked values
+pub record Walking (code : Code) (parts : Parts) (τ : Types) (S : AggStates) : Type 0 where
+  pub ground : CodeGround code τ
   pub used : ℕ
-  pub rep : Rep b.next s tracked rows used S
+  pub rep : Rep code.bounds.next code.bytes.now parts.marks.now parts.rows.now used S
 
 -- an accepted instruction stands at the head of t, and ps are its projections
 pub data StepsAt (b : Bounds) (t : List ℕ) (ps : List Projection) : Type 0 where
   steps_at : (i : Instruction) (n : ℕ) → instruction_of b [] false t ≡ ok i n → place_steps i.kind ≡ ps → StepsAt b t ps
 
 -- so it is with the part of v that a projection names
-abbrev pub OfStep : Bounds → List ℕ → List ℕ → Marks → List ℕ → ValueId → Projection → (Option Value → Type 0) → Type 0
-OfStep b s facts tracked rows v p So =
+abbrev pub OfStep : Code → Parts → ValueId → Projection → (Option Value → Type 0) → Type 0
+OfStep code parts v p So =
     (τ : Types) (S : AggStates)
-    → Walking b s facts tracked rows τ S
-    → v.0 < b.next
+    → Walking code parts τ S
+    → v.0 < code.bounds.next
     → So (step_part τ S (Value.Operand v) p)
 
 -- a walk from `base` on, by the projections ps of the instruction t, of which there are enough, comes to `end`
-abbrev pub OfSteps : Bounds → List ℕ → List ℕ → List ℕ → Marks → List ℕ → ValueId → Answered ValueId
+abbrev pub OfSteps : Code → List ℕ → Parts → ValueId → Answered ValueId
     → (List Projection → Type 0)
     → (Types → AggStates → List Projection → Option Value)
     → Type 0
-OfSteps b s facts t tracked rows base r Enough end =
+OfSteps code t parts base r Enough end =
     (τ : Types) (S : AggStates) (ps : List Projection)
-    → Walking b s facts tracked rows τ S
-    → StepsAt b t ps
-    → base.0 < b.next
+    → Walking code parts τ S
+    → StepsAt code.bounds t ps
+    → base.0 < code.bounds.next
     → Enough ps
-    → LeadsTo b.next (end τ S ps) r
+    → LeadsTo code.bounds.next (end τ S ps) r
 
 -- an Index by an Integer literal
 abbrev pub integer_step : Option Projection → Bool
@@ -119,12 +121,12 @@ pub record Forwards (next : ℕ) (s : List ℕ) (S : AggStates) (o : Option AggS
   pub rep : Rep next s tracked rows (used_after used r) (states_after S o)
 
 -- the Load in a slot: the part that it takes
-abbrev pub PartLoaded : Bounds → List ℕ → List ℕ → ℕ → Marks → List ℕ → Answered ℕ → Type 0
-PartLoaded b s facts slot tracked rows r =
+abbrev pub PartLoaded : Code → ℕ → Parts → Answered ℕ → Type 0
+PartLoaded code slot parts r =
     (τ : Types) (S : AggStates) (used : ℕ) (i : Instruction) (d : ValueId) (p : Place) (y : TypeId)
-    → Here b s facts slot tracked rows used τ S i
+    → Here code.bounds code.bytes.now code.facts.now slot parts.marks.now parts.rows.now used τ S i
     → i.kind ≡ InstructionKind.Load d p y
-    → InitAt b.next s (loaded_part τ S p) r
+    → InitAt code.bounds.next code.bytes.now (loaded_part τ S p) r
 
 -- part k of v is the value at a place
 abbrev pub PartStored : ValueId → ℕ → ℕ → Marks → List ℕ → ℕ → Marks → List ℕ → Answered ℕ → Type 0
@@ -137,22 +139,22 @@ PartStored v k place tracked rows used tracked' rows' r =
     → Forwards next s S (store_part S v k y) tracked' rows' used r
 
 -- the part of v that a projection names is the value at a place
-abbrev pub LastStored : Bounds → List ℕ → List ℕ → ValueId → Projection → ℕ → Marks → List ℕ → ℕ → Marks → List ℕ → Answered ℕ → Type 0
-LastStored b s facts v p place tracked rows used tracked' rows' r =
+abbrev pub LastStored : Code → ValueId → Projection → ℕ → Marks → List ℕ → ℕ → Marks → List ℕ → Answered ℕ → Type 0
+LastStored code v p place tracked rows used tracked' rows' r =
     (τ : Types) (S : AggStates) (y : Value)
-    → Ground b s facts (recorded_in facts) τ
-    → Rep b.next s tracked rows used S
+    → CodeGround code τ
+    → Rep code.bounds.next code.bytes.now tracked rows used S
     → Room rows used
-    → v.0 < b.next
-    → ValueAt b.next s place y
-    → Forwards b.next s S (store_last τ S (Value.Operand v) p y) tracked' rows' used r
+    → v.0 < code.bounds.next
+    → ValueAt code.bounds.next code.bytes.now place y
+    → Forwards code.bounds.next code.bytes.now S (store_last τ S (Value.Operand v) p y) tracked' rows' used r
 
 -- the Store in a slot: whether it is forwarded, and the states behind it
-abbrev pub StoreForwarded : Bounds → List ℕ → List ℕ → ℕ → Marks → List ℕ → ℕ → Marks → List ℕ → Answered ℕ → Type 0
-StoreForwarded b s facts slot tracked rows used tracked' rows' r =
+abbrev pub StoreForwarded : Code → ℕ → Marks → List ℕ → ℕ → Marks → List ℕ → Answered ℕ → Type 0
+StoreForwarded code slot tracked rows used tracked' rows' r =
     (τ : Types) (S : AggStates) (i : Instruction) (p : Place) (x : Value) (y : TypeId)
-    → Here b s facts slot tracked rows used τ S i
+    → Here code.bounds code.bytes.now code.facts.now slot tracked rows used τ S i
     → Room rows used
     → i.kind ≡ InstructionKind.Store p x y
     → (told r ≡ is_some (forward_store τ S p x))
-    × Rep b.next s tracked' rows' (used_after used r) (states_after S (forward_store τ S p x))
+    × Rep code.bounds.next code.bytes.now tracked' rows' (used_after used r) (states_after S (forward_store τ S p x))

@@ -4,17 +4,19 @@ ghost use Rattle.std.proofs.Math.Option.{some};
 ghost use Rattle.mir.specs.declared.Value.{Value as AnyValue};
 ghost use Rattle.mir.specs.Option.{as_option};
 ghost use Rattle.mir.specs.Lookup.{Types, as_const_integer};
-ghost use Rattle.fold.specs.Tables.{Ground};
+ghost use Rattle.fold.specs.Tables.{CodeGround};
 ghost use Rattle.rewrite.specs.State.{AggStates, step_index, chain};
 ghost use Rattle.rewrite_parts.specs.Rows.{ValueAt, Rep, InitAt};
 ghost use Rattle.rewrite_chains.specs.Chained.{LeadsTo, has_part, OfStep, OfSteps, integer_step, held};
 ghost use Rattle.bytes_wire.specs.WellFormed.{Bytes};
 ghost use Rattle.table.specs.Number.{numbers_below};
 
-use bytes_field::Bounds;
+use bytes_index::{Code, Typing};
 use mir::{Literal, Projection, Value, ValueId};
+use rewrite_parts::Parts;
 
 // value.rs, `as_const_integer`.
+#[tactic(auto, unfolding(mir::specs::Lookup::as_const_integer))]
 fn const_integer(x: Value) -> Option<u32>
     ensures { as_option result ≡ as_const_integer x }
 {
@@ -28,21 +30,15 @@ fn const_integer(x: Value) -> Option<u32>
 }
 
 // Which part of `v` a projection names.
-pub fn step_index(
-    s: &[u8],
-    b: Bounds,
-    types: &[u16],
-    recorded: &[u16],
-    v: ValueId,
-    p: Projection,
-) -> Option<u32>
-    ensures { (τ : Types) → Ground b s.now types.now recorded.now τ → v.0 < b.next
+pub fn step_index(code: Code, v: ValueId, p: Projection) -> Option<u32>
+    ensures { (τ : Types) → CodeGround code.entry τ → v.0 < code.entry.bounds.next
         → as_option result ≡ step_index τ v p }
 {
     match p {
         Projection::Index(x) => const_integer(x),
         Projection::Field(name) => {
-            let found = crate::value_field(s, types, b.types, recorded, v, name)?;
+            let recorded = bytes_index::recorded(code.facts);
+            let found = crate::value_field(Typing { code, recorded }, v, name)?;
             Some(found.position)
         }
         Projection::Tuple(k) => Some(k),
@@ -50,34 +46,20 @@ pub fn step_index(
 }
 
 // A value is tracked and has part `k`.
-pub fn has_part(tracked: &[bool], rows: &[u16], v: ValueId, k: u32) -> bool
-    ensures { (next : ℕ) (s : List ℕ) (used : ℕ) (S : AggStates) → Rep next s tracked.now rows.now used S
+pub fn has_part(parts: Parts, v: ValueId, k: u32) -> bool
+    ensures { (next : ℕ) (s : List ℕ) (used : ℕ) (S : AggStates)
+        → Rep next s parts.entry.marks.now parts.entry.rows.now used S
         → result ≡ has_part (S v.0) k }
 {
-    if !rewrite_parts::tracked(tracked, v) {
-        return false;
-    }
-    k < rewrite_parts::part_count(rows, v) as u32
+    rewrite_parts::tracked(parts.marks, v) && k < rewrite_parts::part_count(parts.rows, v) as u32
 }
 
 // One step of a chain: where the part of `v` that a projection names stands, where `v` is tracked and has that part.
-pub fn step_part(
-    s: &[u8],
-    b: Bounds,
-    facts: &[u16],
-    tracked: &[bool],
-    rows: &[u16],
-    v: ValueId,
-    p: Projection,
-) -> Option<usize>
-    ensures { OfStep b s.now facts.now tracked.now rows.now v p
-        (λ x. InitAt b.next s.now x result) }
+pub fn step_part(code: Code, parts: Parts, v: ValueId, p: Projection) -> Option<usize>
+    ensures { OfStep code.entry parts.entry v p (λ x. InitAt code.entry.bounds.next code.entry.bytes.now x result) }
 {
-    let k = step_index(s, b, facts, bytes_index::recorded(facts), v, p)?;
-    if !has_part(tracked, rows, v, k) {
-        return None;
-    }
-    Some(rewrite_parts::part_place(rows, v, k))
+    let k = step_index(code, v, p)?;
+    rewrite_parts::find_part(parts, v, k)
 }
 
 // The value that stands at a place, where it is an operand.
@@ -93,39 +75,22 @@ fn operand_at(s: &[u8], at: usize, next: u16) -> Option<ValueId>
 }
 
 // The operand that one step leads to.
-fn step_operand(
-    s: &[u8],
-    b: Bounds,
-    facts: &[u16],
-    tracked: &[bool],
-    rows: &[u16],
-    v: ValueId,
-    p: Projection,
-) -> Option<ValueId>
-    ensures { OfStep b s.now facts.now tracked.now rows.now v p (λ x. LeadsTo b.next x result) }
+fn step_operand(code: Code, parts: Parts, v: ValueId, p: Projection) -> Option<ValueId>
+    ensures { OfStep code.entry parts.entry v p (λ x. LeadsTo code.entry.bounds.next x result) }
 {
-    let place = step_part(s, b, facts, tracked, rows, v, p)?;
-    operand_at(s, place, b.next)
+    let place = step_part(code, parts, v, p)?;
+    operand_at(code.bytes, place, code.bounds.next)
 }
 
 // The operand that the first `k` projections of the instruction `t` lead to, from `base` on.
-fn walk(
-    s: &[u8],
-    t: &[u8],
-    b: Bounds,
-    facts: &[u16],
-    tracked: &[bool],
-    rows: &[u16],
-    base: ValueId,
-    k: u8,
-) -> Option<ValueId>
-    ensures { OfSteps b s.now facts.now t.now tracked.now rows.now base result
+fn walk(code: Code, t: &[u8], parts: Parts, base: ValueId, k: u8) -> Option<ValueId>
+    ensures { OfSteps code.entry t.now parts.entry base result
         (λ ps. k ≤ length ps) (λ τ S ps. chain τ S (AnyValue.Operand base) (take k ps)) }
 {
     let mut v = base;
     for i in 0..k {
-        let p = bytes_operands::projection(t, b, i)?;
-        v = step_operand(s, b, facts, tracked, rows, v, p)?;
+        let p = bytes_operands::projection(t, code.bounds, i)?;
+        v = step_operand(code, parts, v, p)?;
     }
     Some(v)
 }
@@ -141,21 +106,12 @@ fn is_integer(p: Option<Projection>) -> bool
 }
 
 // The value of which the last projection, number `last`, names a part. The first one is an Integer literal.
-pub fn holder(
-    s: &[u8],
-    t: &[u8],
-    b: Bounds,
-    facts: &[u16],
-    tracked: &[bool],
-    rows: &[u16],
-    base: ValueId,
-    last: u8,
-) -> Option<ValueId>
-    ensures { OfSteps b s.now facts.now t.now tracked.now rows.now base result
+pub fn holder(code: Code, t: &[u8], parts: Parts, base: ValueId, last: u8) -> Option<ValueId>
+    ensures { OfSteps code.entry t.now parts.entry base result
         (λ ps. length ps ≡ last + 1) (λ τ S ps. held τ S base ps last) }
 {
-    if !is_integer(bytes_operands::projection(t, b, 0)) {
+    if !is_integer(bytes_operands::projection(t, code.bounds, 0)) {
         return None;
     }
-    walk(s, t, b, facts, tracked, rows, base, last)
+    walk(code, t, parts, base, last)
 }

@@ -1,9 +1,8 @@
 -- A plan that is carried out: what it does is the piece that it leads to.
-use Prim.Native.Nat.{ℕ, ◌+◌, ◌≤◌, ◌<◌}
+use Prim.Native.Nat.{ℕ, ◌≤◌, ◌<◌}
 use mathlib.Core.Path.{◌≡◌, ◌∙◌, sym}
 use mathlib.Core.List.{List}
 use native.Mathlib.Omega.{arith}
-use lib.ListN.{get_or}
 use Rattle.mir.specs.declared.TypeId.{TypeId}
 use Rattle.mir.specs.declared.ValueId.{ValueId}
 use Rattle.mir.specs.Syntax.{Instruction}
@@ -11,63 +10,65 @@ use Rattle.fold.specs.Family.{Marks}
 use Rattle.rewrite.specs.State.{AggStates}
 use Rattle.rewrite.specs.Step.{Piece, assigned}
 use Rattle.mir.specs.Most.{most_values}
+use Rattle.bytes_index.specs.declared.code.Code.{Code}
+use Rattle.rewrite_parts.specs.declared.listed.Listed.{Listed}
 use Rattle.rewrite_parts.specs.Rows.{Rep, Room}
 use Rattle.rewrite_parts.specs.Filled.{Shared, ValuesTracked, Replaced}
-use Rattle.rewrite_arms.specs.Decided.{Assigned, assigned_from, Decided, Listing, Planned, FieldsBuilt}
+use Rattle.rewrite_arms.specs.Decided.{Assigned, assigned_from, Decided, Listing, ListedAt, Planned, FieldsBuilt}
 use Rattle.rewrite_arms.specs.declared.Action.{Action}
 use Rattle.rewrite_arms.specs.declared.Counted.{Counted}
 use Rattle.rewrite_arms.specs.declared.Decision.{Decision}
 use Rattle.rewrite_arms.specs.declared.Plan.{Plan}
-use Rattle.rewrite_arms.specs.declared.Spot.{Spot}
+use Rattle.rewrite_arms.specs.declared.spot.Spot.{Spot}
 use Rattle.rewrite_arms.proofs.Actions.{stays, tracks}
 use Rattle.rewrite_decide.specs.Stepped.{ValuesBuilt}
 
 -- the values of a build's list are tracked
-pub list_tracked : (next : ℕ) (s : List ℕ) (S : AggStates) (i : Instruction) (p : Spot) (x : Piece) (marks marks' : Marks) (rows rows' : List ℕ) (used to n : ℕ)
-    → n ≡ get_or s (p.off + 2) 0
-    → ValuesTracked s p.dest (p.off + 3) n 0 marks rows used marks' rows' to
-    → Rep next s marks rows used S
+pub list_tracked : (next : ℕ) (code : Code) (S : AggStates) (i : Instruction) (p : Spot) (x : Piece) (marks marks' : Marks) (rows rows' : List ℕ) (used to : ℕ) (l : Listed)
+    → ListedAt code p l
+    → ValuesTracked p.dest l 0 marks rows used marks' rows' to
+    → Rep next code.bytes.now marks rows used S
     → Room rows used
     → p.dest.0 < most_values
-    → Listing next s S p x
-    → Decided next s marks' rows' S i x (record { action = Action.Track p.dest Counted.Build; used = to })
-list_tracked next s S i p x marks marks' rows rows' used to n many f rep room d g =
+    → Listing next code.bytes.now S p x
+    → Decided next code.bytes.now marks' rows' S i x (record { action = Action.Track p.dest Counted.Build; used = to })
+list_tracked next code S i p x marks marks' rows rows' used to l e f rep room d g =
     tracks Counted.Build p.dest g.parts g.piece
-    (f next S g.parts rep room d g.stand (g.many ∙ sym many) (omega (arith, many, g.many, g.few)))
+    (rw e.bytes at (f next S g.parts (rw e.bytes rep) room d (rw (e.bytes, e.place) g.stand) (g.many ∙ sym e.many) (omega (arith, e.many, g.many, g.few))))
 
-module _ {next : ℕ} {s facts : List ℕ} {S : AggStates} {i : Instruction} {p : Spot} {x : Piece} {r : Plan} (g : Planned next s facts S i p x r) {marks : Marks} {rows : List ℕ} {used : ℕ} (rep : Rep next s marks rows used S) where
-  pub carry_keep : r ≡ Plan.Keep → Decided next s marks rows S i x (record { action = Action.Keep; used = used })
+module _ (code : Code) {next : ℕ} {S : AggStates} {i : Instruction} {p : Spot} {x : Piece} {r : Plan} (g : Planned next code.bytes.now code.facts.now S i p x r) {marks : Marks} {rows : List ℕ} {used : ℕ} (rep : Rep next code.bytes.now marks rows used S) where
+  pub carry_keep : r ≡ Plan.Keep → Decided next code.bytes.now marks rows S i x (record { action = Action.Keep; used = used })
   carry_keep e = stays (rw e at g).goes rep
 
-  assigns : {d : ValueId} {place : ℕ} {t : TypeId} → Assigned next s S x d place t → Decided next s marks rows S i x (record { action = Action.Assign d place t; used = used })
+  assigns : {d : ValueId} {place : ℕ} {t : TypeId} → Assigned next code.bytes.now S x d place t → Decided next code.bytes.now marks rows S i x (record { action = Action.Assign d place t; used = used })
   unfolding assigned
   assigns (assigned_from y v e) = record { rep = rw e rep; does = assigned_from y v e }
 
-  pub carry_assign : {place : ℕ} {t : TypeId} → r ≡ Plan.Assign place t → Decided next s marks rows S i x (record { action = Action.Assign p.dest place t; used = used })
+  pub carry_assign : {place : ℕ} {t : TypeId} → r ≡ Plan.Assign place t → Decided next code.bytes.now marks rows S i x (record { action = Action.Assign p.dest place t; used = used })
   carry_assign e = assigns (rw e at g).goes
 
   -- the tables are changed
   module _ (few : next ≤ 256) {marks' : Marks} {rows' : List ℕ} where
-    pub carry_share : {v : ValueId} {k : Counted} → r ≡ Plan.Share v k → Shared p.dest v marks rows marks' rows' → Decided next s marks' rows' S i x (record { action = Action.Track p.dest k; used = used })
+    pub carry_share : {v : ValueId} {k : Counted} → r ≡ Plan.Share v k → Shared p.dest v marks rows marks' rows' → Decided next code.bytes.now marks' rows' S i x (record { action = Action.Track p.dest k; used = used })
     carry_share {v} {k} e f =
         let w = rw e at g in
         let d = w.dest (λ z. let u : ◌≡◌ {A = ℕ} 0 1 = cc in omega arith) in
-        tracks k p.dest w.goes.parts w.goes.piece (f next s used S w.goes.parts rep w.goes.own (omega arith))
+        tracks k p.dest w.goes.parts w.goes.piece (f next code.bytes.now used S w.goes.parts rep w.goes.own (omega arith))
 
     module _ (room : Room rows used) where
-      pub carry_replace : {v : ValueId} {k place to : ℕ} → r ≡ Plan.Replace v k place → Replaced p.dest v k place marks rows used marks' rows' to → Decided next s marks' rows' S i x (record { action = Action.Track p.dest Counted.Insert; used = to })
+      pub carry_replace : {v : ValueId} {k place to : ℕ} → r ≡ Plan.Replace v k place → Replaced p.dest v k place marks rows used marks' rows' to → Decided next code.bytes.now marks' rows' S i x (record { action = Action.Track p.dest Counted.Insert; used = to })
       carry_replace e f =
           let w = rw e at g in
           let d = w.dest (λ z. let u : ◌≡◌ {A = ℕ} 0 1 = cc in omega arith) in
-          tracks Counted.Insert p.dest w.goes.new w.goes.piece (f next s S w.goes.parts w.goes.new w.goes.part rep room (omega arith) w.goes.own w.goes.changed w.goes.stands)
+          tracks Counted.Insert p.dest w.goes.new w.goes.piece (f next code.bytes.now S w.goes.parts w.goes.new w.goes.part rep room (omega arith) w.goes.own w.goes.changed w.goes.stands)
 
-      pub carry_values : {q : Decision} → r ≡ Plan.Values → ValuesBuilt s p marks rows used marks' rows' q → Decided next s marks' rows' S i x q
+      pub carry_values : {q : Decision} → r ≡ Plan.Values → ValuesBuilt code p marks rows used marks' rows' q → Decided next code.bytes.now marks' rows' S i x q
       carry_values e f =
           let w = rw e at g in
           let d = w.dest (λ z. let u : ◌≡◌ {A = ℕ} 0 1 = cc in omega arith) in
           f next S i x rep room (omega arith) w.goes
 
-      pub carry_fields : {t : TypeId} {q : Decision} → r ≡ Plan.Fields t → FieldsBuilt s facts p t marks rows used marks' rows' q → Decided next s marks' rows' S i x q
+      pub carry_fields : {t : TypeId} {q : Decision} → r ≡ Plan.Fields t → FieldsBuilt code p t marks rows used marks' rows' q → Decided next code.bytes.now marks' rows' S i x q
       carry_fields e f =
           let w = rw e at g in
           let d = w.dest (λ z. let u : ◌≡◌ {A = ℕ} 0 1 = cc in omega arith) in

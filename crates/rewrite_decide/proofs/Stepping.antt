@@ -39,7 +39,7 @@ use Rattle.rewrite_parts.proofs.Builds.{build_values, build_inits}
 use Rattle.rewrite_chains.specs.Chained.{loaded_part}
 use Rattle.rewrite_arms.specs.Decided.{Planned, SpotAt, Below, step_taken, acts}
 use Rattle.rewrite_arms.specs.declared.Plan.{Plan}
-use Rattle.rewrite_arms.specs.declared.Spot.{Spot}
+use Rattle.rewrite_arms.specs.declared.spot.Spot.{Spot}
 use Rattle.rewrite_arms.proofs.Arms.{behind_16, behind_32, behind_value, value_below, taken_extract, whole_aggregate, load_taken}
 use Rattle.rewrite_arms.proofs.Own.{Named, Dest, IsAssign, is_assign, assign_stands, IsLoad, is_load, load_stands, IsTuple, is_tuple_lem, tuple_stands, IsArray, is_array_lem, array_stands, IsStruct, is_struct_lem, struct_stands}
 use Rattle.rewrite_arms.proofs.Own.{IsElement, is_element, element_stands, IsField, is_field, field_stands, IsInsertField, is_insert_field, insert_field_stands, IsInsertElement, is_insert_element, insert_element_stands}

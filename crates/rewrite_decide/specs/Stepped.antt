@@ -1,26 +1,34 @@
 -- What is planned and decided of the instruction in a slot: what `step` makes of it.
-use Rattle.std.specs.Prelude.{ℕ, ◌≤◌, ◌<◌, ◌≡◌, List, Bool, true}
+use Rattle.std.specs.Prelude.{ℕ, ◌+◌, ◌-◌, ◌≤◌, ◌<◌, ◌≡◌, List, Bool, true}
 use Rattle.std.proofs.Math.Option.{some}
+use Rattle.mir.specs.declared.Value.{Value}
 use Rattle.mir.specs.declared.ValueId.{ValueId}
 use Rattle.mir.specs.Syntax.{Instruction}
 use Rattle.mir.specs.Reads.{kind_number}
-use Rattle.bytes_field.specs.declared.Bounds.{Bounds}
+use Rattle.bytes_wire.specs.Number.{at16}
+use Rattle.bytes_index.specs.declared.code.Code.{Code}
+use Rattle.bytes_operands.specs.Fields.{value_end}
 use Rattle.fold.specs.declared.Settings.{Settings}
 use Rattle.mir.specs.Lookup.{Types}
 use Rattle.fold.specs.Family.{Marks, build_dest}
 use Rattle.rewrite.specs.State.{AggStates}
 use Rattle.rewrite.specs.Step.{Piece, step}
 use Rattle.mir.specs.Most.{most_values}
-use Rattle.rewrite_parts.specs.Rows.{Rep, Room}
+use Rattle.rewrite_parts.specs.Rows.{ValueAt, Rep, Room}
+use Rattle.rewrite_parts.specs.declared.Parts.{Parts}
 use Rattle.rewrite_parts.specs.Here.{Here}
 use Rattle.rewrite_arms.specs.Decided.{call_kind, store_kind, Decided, SpotAt, Listing, Planned}
 use Rattle.rewrite_arms.specs.declared.Decision.{Decision}
 use Rattle.rewrite_arms.specs.declared.Plan.{Plan}
-use Rattle.rewrite_arms.specs.declared.Spot.{Spot}
+use Rattle.rewrite_arms.specs.declared.spot.Spot.{Spot}
+use Rattle.rewrite_decide.specs.declared.Source.{Source}
 
--- the fields of the instruction are near enough for sums of their places
-abbrev pub Near : Spot → Type 0
-Near p = p.off < 1048576
+-- the source of the extract or the insert at a spot: the value behind the dest, the place behind that, the type that stands last
+pub record SourceAt (code : Code) (p : Spot) (r : Source) : Type 0 where
+  pub value : (y : Value) → ValueAt code.bounds.next code.bytes.now (p.off + 2) y → r.value ≡ y
+  pub end : r.end ≡ value_end code.bytes.now (p.off + 2)
+  pub near : r.end ≤ p.off + 7
+  pub named : 2 ≤ p.end → r.named.0 ≡ at16 code.bytes.now (p.end - 2)
 
 -- under which setting a kind is looked at
 abbrev pub always : Settings → Bool
@@ -33,53 +41,53 @@ abbrev pub of_structs : Settings → Bool
 of_structs σ = σ.structs
 
 -- the plan of an instruction of kind k, which is looked at under a setting that is on
-abbrev pub KindPlanned : ℕ → (Settings → Bool) → List ℕ → Bounds → List ℕ → ℕ → Spot → Marks → List ℕ → Plan → Type 0
-KindPlanned k on s b facts slot p tracked rows r =
+abbrev pub KindPlanned : ℕ → (Settings → Bool) → Code → ℕ → Spot → Parts → Plan → Type 0
+KindPlanned k on code slot p parts r =
     (σ : Settings) (τ : Types) (S : AggStates) (folds : ValueId → Bool) (m : ℕ) (i : Instruction) (used : ℕ)
-    → Here b s facts slot tracked rows used τ S i
-    → SpotAt s facts slot p
+    → Here code.bounds code.bytes.now code.facts.now slot parts.marks.now parts.rows.now used τ S i
+    → SpotAt code.bytes.now code.facts.now slot p
     → kind_number i.kind ≡ k
     → on σ ≡ true
-    → Planned b.next s facts S i p (step σ τ folds S m i) r
+    → Planned code.bounds.next code.bytes.now code.facts.now S i p (step σ τ folds S m i) r
 
 -- the plan of the instruction in a slot, which is no Call and no Store; `fold` says of a build whether it is folded
-abbrev pub StepPlanned : List ℕ → Bounds → Settings → List ℕ → ℕ → Bool → Spot → Marks → List ℕ → Plan → Type 0
-StepPlanned s b σ facts slot fold p tracked rows r =
+abbrev pub StepPlanned : Code → Settings → ℕ → Bool → Spot → Parts → Plan → Type 0
+StepPlanned code σ slot fold p parts r =
     (τ : Types) (S : AggStates) (folds : ValueId → Bool) (m : ℕ) (i : Instruction) (used : ℕ)
-    → Here b s facts slot tracked rows used τ S i
-    → SpotAt s facts slot p
+    → Here code.bounds code.bytes.now code.facts.now slot parts.marks.now parts.rows.now used τ S i
+    → SpotAt code.bytes.now code.facts.now slot p
     → (kind_number i.kind ≡ call_kind → ⊥)
     → (kind_number i.kind ≡ store_kind → ⊥)
     → ((d : ValueId) → build_dest i.kind ≡ some d → fold ≡ folds d)
-    → Planned b.next s facts S i p (step σ τ folds S m i) r
+    → Planned code.bounds.next code.bytes.now code.facts.now S i p (step σ τ folds S m i) r
 
 -- a build of a tuple or an array: the dest gets the values of its list
-abbrev pub ValuesBuilt : List ℕ → Spot → Marks → List ℕ → ℕ → Marks → List ℕ → Decision → Type 0
-ValuesBuilt s p tracked rows used tracked' rows' r =
+abbrev pub ValuesBuilt : Code → Spot → Marks → List ℕ → ℕ → Marks → List ℕ → Decision → Type 0
+ValuesBuilt code p tracked rows used tracked' rows' r =
     (next : ℕ) (S : AggStates) (i : Instruction) (x : Piece)
-    → Rep next s tracked rows used S
+    → Rep next code.bytes.now tracked rows used S
     → Room rows used
     → p.dest.0 < most_values
-    → Listing next s S p x
-    → Decided next s tracked' rows' S i x r
+    → Listing next code.bytes.now S p x
+    → Decided next code.bytes.now tracked' rows' S i x r
 
 -- a plan that leads to the piece x is carried out: what it does is the piece
-abbrev pub CarriedOut : Plan → List ℕ → List ℕ → Spot → Marks → List ℕ → ℕ → Marks → List ℕ → Decision → Type 0
-CarriedOut plan s facts p tracked rows used tracked' rows' r =
+abbrev pub CarriedOut : Plan → Code → Spot → Marks → List ℕ → ℕ → Marks → List ℕ → Decision → Type 0
+CarriedOut plan code p tracked rows used tracked' rows' r =
     (next : ℕ) (S : AggStates) (i : Instruction) (x : Piece)
-    → Planned next s facts S i p x plan
-    → Rep next s tracked rows used S
+    → Planned next code.bytes.now code.facts.now S i p x plan
+    → Rep next code.bytes.now tracked rows used S
     → next ≤ most_values
     → Room rows used
-    → Decided next s tracked' rows' S i x r
+    → Decided next code.bytes.now tracked' rows' S i x r
 
 -- what is decided of the instruction in a slot, which is no Call and no Store
-abbrev pub StepDecided : List ℕ → Bounds → Settings → List ℕ → ℕ → Bool → Marks → List ℕ → ℕ → Marks → List ℕ → Decision → Type 0
-StepDecided s b σ facts slot fold tracked rows used tracked' rows' r =
+abbrev pub StepDecided : Code → Settings → ℕ → Bool → Marks → List ℕ → ℕ → Marks → List ℕ → Decision → Type 0
+StepDecided code σ slot fold tracked rows used tracked' rows' r =
     (τ : Types) (S : AggStates) (folds : ValueId → Bool) (m : ℕ) (i : Instruction)
-    → Here b s facts slot tracked rows used τ S i
+    → Here code.bounds code.bytes.now code.facts.now slot tracked rows used τ S i
     → Room rows used
     → (kind_number i.kind ≡ call_kind → ⊥)
     → (kind_number i.kind ≡ store_kind → ⊥)
     → ((d : ValueId) → build_dest i.kind ≡ some d → fold ≡ folds d)
-    → Decided b.next s tracked' rows' S i (step σ τ folds S m i) r
+    → Decided code.bounds.next code.bytes.now tracked' rows' S i (step σ τ folds S m i) r

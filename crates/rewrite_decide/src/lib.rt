@@ -1,200 +1,188 @@
 // What becomes of one instruction, all kinds but Call and Store: sroa.rs 805 to 1304. The parts of what it defines, if
 // they are tracked then, go into the rows.
+// (Routine, spot and tables stay three parameters: what finds a source takes no tables, what follows a chain no spot.)
 #![tactic(auto)]
 
-ghost use Rattle.std.specs.Prelude.{◌≡◌, List, ℕ, ◌+◌, ◌≤◌, ◌<◌};
+ghost use Rattle.std.specs.Prelude.{◌≡◌, ℕ, ◌+◌, ◌≤◌, ◌<◌};
+ghost use Rattle.mir.specs.Kind.{number_of_kind};
 ghost use Rattle.rewrite_parts.specs.Rows.{row_most, used_below};
 ghost use Rattle.rewrite_arms.specs.Decided.{acts, SpotAt};
 ghost use Rattle.rewrite_arms.specs.Decided.{assign_kind, load_kind, extract_element_kind, extract_field_kind, insert_field_kind, insert_element_kind};
-ghost use Rattle.rewrite_decide.specs.Stepped.{Near, always, of_tuples, of_structs, KindPlanned, StepPlanned};
+ghost use Rattle.rewrite_decide.specs.Stepped.{always, of_tuples, of_structs, SourceAt, KindPlanned, StepPlanned};
 ghost use Rattle.rewrite_decide.specs.Stepped.{ValuesBuilt, CarriedOut, StepDecided};
 
-use bytes_field::Bounds;
+use bytes_index::Code;
 use fold::Settings;
-use mir::{NameId, ValueId, kind};
-use rewrite_arms::{Action, Counted, DEST_BYTES, Decision, PARTS, Plan, Spot};
+use mir::kind::Kind;
+use mir::{NameId, TypeId, Value, ValueId};
+use rewrite_arms::{Action, Counted, DEST_BYTES, Decision, Plan, Spot};
+use rewrite_parts::Parts;
 
 // How many bytes the name and the index have that stand behind the first value of an insert.
 const NAME_BYTES: usize = 2;
 
 const INDEX_BYTES: usize = 4;
 
+// What an extract or an insert says of its source: the value, the place behind it, where the name or the index of the part stands, and
+// the type that it names.
+#[derive(Clone, Copy)]
+pub struct Source {
+    pub value: Value,
+    pub end: usize,
+    pub named: TypeId,
+}
+
 // The instruction in a slot.
-fn find_spot(s: &[u8], facts: &[u16], slot: u16) -> Spot
-    ensures { Near result × SpotAt s.now facts.now slot result }
+fn find_spot(code: Code, slot: u16) -> Spot
+    ensures { SpotAt code.entry.bytes.now code.entry.facts.now slot result }
 {
-    let at = bytes_index::place(facts, slot);
-    let off = at + bytes_operands::fields_place(bytes_field::tail(s, at));
+    let at = bytes_index::place(code.facts, slot);
+    let off = at + bytes_operands::fields_place(bytes_field::tail(code.bytes, at));
     Spot {
         off,
-        end: bytes_index::end(facts, slot),
-        dest: ValueId(bytes_wire::u16_at(s, off)),
+        end: bytes_index::end(code.facts, slot),
+        dest: ValueId(bytes_wire::u16_at(code.bytes, off)),
+    }
+}
+
+// The source of the extract or the insert at a spot: what extracts and inserts, by a name and by an index, have in common.
+fn find_source(code: Code, p: Spot) -> Source
+    ensures { SourceAt code.entry p result }
+{
+    let at = p.off + DEST_BYTES;
+    Source {
+        value: bytes_operands::value_at(code.bytes, at, code.bounds.next),
+        end: bytes_operands::value_end(code.bytes, at),
+        named: rewrite_arms::last_type(code.bytes, p.end),
     }
 }
 
 // Whether a kind is looked at: under the settings for tuples and structs, and a build where it is taken apart.
-fn active(tuples: bool, structs: bool, fold: bool, kind: u16) -> bool
-    ensures { result ≡ acts tuples structs fold kind }
+fn active(settings: Settings, fold: bool, kind: Kind) -> bool
+    ensures { result ≡ acts settings.tuples settings.structs fold (number_of_kind kind) }
 {
     match kind {
-        kind::ASSIGN => true,
-        kind::LOAD => tuples,
-        kind::MAKE_TUPLE => fold,
-        kind::EXTRACT_TUPLE_ELEMENT => tuples,
-        kind::MAKE_STRUCT => fold,
-        kind::EXTRACT_STRUCT_FIELD => structs,
-        kind::INSERT_FIELD => structs,
-        kind::INSERT_TUPLE => tuples,
-        kind::MAKE_FIXED_ARRAY => fold,
+        Kind::Assign => true,
+        Kind::Load => settings.tuples,
+        Kind::MakeTuple => fold,
+        Kind::ExtractTupleElement => settings.tuples,
+        Kind::MakeStruct => fold,
+        Kind::ExtractStructField => settings.structs,
+        Kind::InsertField => settings.structs,
+        Kind::InsertTuple => settings.tuples,
+        Kind::MakeFixedArray => fold,
         _ => false,
     }
 }
 
 // An Assign: sroa.rs 805.
-fn assign(s: &[u8], b: Bounds, facts: &[u16], p: Spot, tracked: &[bool]) -> Plan
-    requires { Near p }
-    ensures { (slot : ℕ) (rows : List ℕ) → KindPlanned assign_kind always s.now b facts.now slot p
-        tracked.now rows result }
+fn assign(code: Code, p: Spot, parts: Parts) -> Plan
+    ensures { (slot : ℕ) → KindPlanned assign_kind always code.entry slot p parts.entry result }
 {
-    let x = bytes_operands::value_at(s, p.off + DEST_BYTES, b.next);
-    let t = rewrite_arms::last_type(s, p.end);
-    let whole = rewrite_arms::is_aggregate(s, facts, b.types, t);
-    rewrite_arms::plan_assign(x, whole, tracked)
+    let x = bytes_operands::value_at(code.bytes, p.off + DEST_BYTES, code.bounds.next);
+    let t = rewrite_arms::last_type(code.bytes, p.end);
+    let whole = rewrite_arms::is_aggregate(code, t);
+    rewrite_arms::plan_assign(x, whole, parts.marks)
 }
 
 // A Load takes the part that its place leads to.
-fn load(
-    s: &[u8],
-    b: Bounds,
-    facts: &[u16],
-    slot: u16,
-    p: Spot,
-    tracked: &[bool],
-    rows: &[u16],
-) -> Plan
-    ensures { KindPlanned load_kind of_tuples s.now b facts.now slot p
-        tracked.now rows.now result }
+fn load(code: Code, slot: u16, p: Spot, parts: Parts) -> Plan
+    ensures { KindPlanned load_kind of_tuples code.entry slot p parts.entry result }
 {
-    let t = rewrite_arms::last_type(s, p.end);
-    let found = rewrite_chains::load_part(s, b, facts, slot, tracked, rows);
-    let whole = rewrite_arms::is_aggregate(s, facts, b.types, t);
-    rewrite_arms::plan_take(s, b.next, found, t, whole, tracked)
+    let t = rewrite_arms::last_type(code.bytes, p.end);
+    let found = rewrite_chains::load_part(code, slot, parts);
+    let whole = rewrite_arms::is_aggregate(code, t);
+    rewrite_arms::plan_take(code, found, t, whole, parts.marks)
 }
 
 // An extract takes the tuple's element of its index.
-fn extract_element(s: &[u8], b: Bounds, p: Spot, tracked: &[bool], rows: &[u16]) -> Plan
-    requires { Near p }
-    ensures { (facts : List ℕ) (slot : ℕ) → KindPlanned extract_element_kind of_tuples s.now b facts slot p
-        tracked.now rows.now result }
+fn extract_element(code: Code, p: Spot, parts: Parts) -> Plan
+    ensures { (slot : ℕ) → KindPlanned extract_element_kind of_tuples code.entry slot p parts.entry result }
 {
-    let x = bytes_operands::value_at(s, p.off + DEST_BYTES, b.next);
-    let end = bytes_operands::value_end(s, p.off + DEST_BYTES);
-    let t = rewrite_arms::last_type(s, p.end);
-    let found = rewrite_arms::part(tracked, rows, x, bytes_wire::u32_at(s, end));
-    rewrite_arms::plan_take(s, b.next, found, t, true, tracked)
+    let from = find_source(code, p);
+    let k = bytes_wire::u32_at(code.bytes, from.end);
+    let found = rewrite_arms::part(parts, from.value, k);
+    rewrite_arms::plan_take(code, found, from.named, true, parts.marks)
 }
 
 // An extract takes the struct's field of its name.
-fn extract_field(
-    s: &[u8],
-    b: Bounds,
-    facts: &[u16],
-    p: Spot,
-    tracked: &[bool],
-    rows: &[u16],
-) -> Plan
-    requires { Near p }
-    ensures { (slot : ℕ) → KindPlanned extract_field_kind of_structs s.now b facts.now slot p
-        tracked.now rows.now result }
+fn extract_field(code: Code, p: Spot, parts: Parts) -> Plan
+    ensures { (slot : ℕ) → KindPlanned extract_field_kind of_structs code.entry slot p parts.entry result }
 {
-    let x = bytes_operands::value_at(s, p.off + DEST_BYTES, b.next);
-    let end = bytes_operands::value_end(s, p.off + DEST_BYTES);
-    let t = rewrite_arms::last_type(s, p.end);
-    let name = NameId(bytes_wire::u16_at(s, end));
-    let found = rewrite_arms::field_part(s, b, facts, tracked, rows, x, name);
-    rewrite_arms::plan_take(s, b.next, found, t, true, tracked)
+    let from = find_source(code, p);
+    let name = NameId(bytes_wire::u16_at(code.bytes, from.end));
+    let found = rewrite_arms::field_part(code, parts, from.value, name);
+    rewrite_arms::plan_take(code, found, from.named, true, parts.marks)
 }
 
 // An insert replaces the struct's field of its name, which its type has.
-fn insert_field(s: &[u8], b: Bounds, facts: &[u16], p: Spot, tracked: &[bool], rows: &[u16]) -> Plan
-    requires { Near p }
-    ensures { (slot : ℕ) → KindPlanned insert_field_kind of_structs s.now b facts.now slot p
-        tracked.now rows.now result }
+fn insert_field(code: Code, p: Spot, parts: Parts) -> Plan
+    ensures { (slot : ℕ) → KindPlanned insert_field_kind of_structs code.entry slot p parts.entry result }
 {
-    let x = bytes_operands::value_at(s, p.off + DEST_BYTES, b.next);
-    let end = bytes_operands::value_end(s, p.off + DEST_BYTES);
-    let t = rewrite_arms::last_type(s, p.end);
-    let name = NameId(bytes_wire::u16_at(s, end));
-    match bytes_struct::find_field(s, facts, b.types, t, name) {
+    let from = find_source(code, p);
+    let name = NameId(bytes_wire::u16_at(code.bytes, from.end));
+    let many = code.bounds.types;
+    match bytes_struct::find_field(code.bytes, code.facts, many, from.named, name) {
         None => Plan::Keep,
-        Some(found) => {
-            rewrite_arms::plan_insert(x, found.position, end + NAME_BYTES, tracked, rows)
-        }
+        Some(found) => rewrite_arms::plan_insert(
+            from.value,
+            found.position,
+            from.end + NAME_BYTES,
+            parts,
+        ),
     }
 }
 
 // An insert replaces the tuple's element of its index.
-fn insert_element(s: &[u8], b: Bounds, p: Spot, tracked: &[bool], rows: &[u16]) -> Plan
-    requires { Near p }
-    ensures { (facts : List ℕ) (slot : ℕ) → KindPlanned insert_element_kind of_tuples s.now b facts slot p
-        tracked.now rows.now result }
+fn insert_element(code: Code, p: Spot, parts: Parts) -> Plan
+    ensures { (slot : ℕ) → KindPlanned insert_element_kind of_tuples code.entry slot p parts.entry result }
 {
-    let x = bytes_operands::value_at(s, p.off + DEST_BYTES, b.next);
-    let end = bytes_operands::value_end(s, p.off + DEST_BYTES);
-    let k = bytes_wire::u32_at(s, end);
-    rewrite_arms::plan_insert(x, k, end + INDEX_BYTES, tracked, rows)
+    let from = find_source(code, p);
+    let k = bytes_wire::u32_at(code.bytes, from.end);
+    rewrite_arms::plan_insert(from.value, k, from.end + INDEX_BYTES, parts)
 }
 
 // What is to be done with the dest of the instruction in a slot. `fold`: it is a build that is taken apart.
-fn plan(
-    s: &[u8],
-    b: Bounds,
-    settings: Settings,
-    facts: &[u16],
-    slot: u16,
-    fold: bool,
-    p: Spot,
-    tracked: &[bool],
-    rows: &[u16],
-) -> Plan
-    requires { Near p }
-    ensures { StepPlanned s.now b settings facts.now slot fold p
-        tracked.now rows.now result }
+fn plan(code: Code, settings: Settings, slot: u16, fold: bool, p: Spot, parts: Parts) -> Plan
+    ensures { StepPlanned code.entry settings slot fold p parts.entry result }
 {
-    let kind = bytes_index::kind(facts, slot);
-    if !active(settings.tuples, settings.structs, fold, kind) {
+    let Some(kind) = bytes_index::instruction_kind(code.facts, slot) else {
+        return Plan::Keep;
+    };
+    if !active(settings, fold, kind) {
         return Plan::Keep;
     }
     match kind {
-        kind::ASSIGN => assign(s, b, facts, p, tracked),
-        kind::LOAD => load(s, b, facts, slot, p, tracked, rows),
-        kind::MAKE_TUPLE => Plan::Values,
-        kind::EXTRACT_TUPLE_ELEMENT => extract_element(s, b, p, tracked, rows),
-        kind::MAKE_STRUCT => rewrite_arms::plan_struct(
-            s,
-            b,
-            facts,
-            p,
-            rewrite_arms::last_type(s, p.end),
-        ),
-        kind::EXTRACT_STRUCT_FIELD => extract_field(s, b, facts, p, tracked, rows),
-        kind::INSERT_FIELD => insert_field(s, b, facts, p, tracked, rows),
-        kind::INSERT_TUPLE => insert_element(s, b, p, tracked, rows),
-        kind::MAKE_FIXED_ARRAY => Plan::Values,
+        Kind::Assign => assign(code, p, parts),
+        Kind::Load => load(code, slot, p, parts),
+        Kind::MakeTuple => Plan::Values,
+        Kind::ExtractTupleElement => extract_element(code, p, parts),
+        Kind::MakeStruct => {
+            rewrite_arms::plan_struct(code, p.dest, rewrite_arms::last_type(code.bytes, p.end))
+        }
+        Kind::ExtractStructField => extract_field(code, p, parts),
+        Kind::InsertField => insert_field(code, p, parts),
+        Kind::InsertTuple => insert_element(code, p, parts),
+        Kind::MakeFixedArray => Plan::Values,
         _ => Plan::Keep,
     }
 }
 
 // A build of a tuple or an array: its dest gets the values of its list.
-fn build_values(s: &[u8], p: Spot, tracked: &mut [bool], rows: &mut [u16], used: usize) -> Decision
-    requires { (used < used_below) × Near p }
+fn build_values(
+    code: Code,
+    p: Spot,
+    tracked: &mut [bool],
+    rows: &mut [u16],
+    used: usize,
+) -> Decision
+    requires { used < used_below }
     ensures used_bound { result.used ≤ used + row_most }
-    ensures values_built { ValuesBuilt s.now p tracked.old rows.old used
+    ensures values_built { ValuesBuilt code.entry p tracked.old rows.old used
         tracked.new rows.new result }
 {
     let d = p.dest;
-    let n = bytes_wire::byte_at(s, p.off + DEST_BYTES);
-    let to = rewrite_parts::track_values(s, tracked, rows, used, d, p.off + PARTS, n, 0);
+    let to = rewrite_parts::track_values(tracked, rows, used, d, rewrite_arms::listed(code, p), 0);
     Decision {
         action: Action::Track {
             dest: d,
@@ -207,16 +195,15 @@ fn build_values(s: &[u8], p: Spot, tracked: &mut [bool], rows: &mut [u16], used:
 // Carries a plan out: what it gives the dest goes into the rows.
 fn carry_out(
     plan: Plan,
-    s: &[u8],
-    facts: &[u16],
+    code: Code,
     p: Spot,
     tracked: &mut [bool],
     rows: &mut [u16],
     used: usize,
 ) -> Decision
-    requires { (used < used_below) × Near p }
+    requires { used < used_below }
     ensures used_bound { result.used ≤ used + row_most }
-    ensures carried_out { CarriedOut plan s.now facts.now p tracked.old rows.old used
+    ensures carried_out { CarriedOut plan code.entry p tracked.old rows.old used
         tracked.new rows.new result }
 {
     let d = p.dest;
@@ -254,17 +241,15 @@ fn carry_out(
                 used: to,
             }
         }
-        Plan::Values => build_values(s, p, tracked, rows, used),
-        Plan::Fields(t) => rewrite_arms::build_fields(s, facts, p, t, tracked, rows, used),
+        Plan::Values => build_values(code, p, tracked, rows, used),
+        Plan::Fields(t) => rewrite_arms::build_fields(code, p, t, tracked, rows, used),
     }
 }
 
 // What becomes of the instruction in a slot, where it is no Call and no Store.
 pub fn decide(
-    s: &[u8],
-    b: Bounds,
+    code: Code,
     settings: Settings,
-    facts: &[u16],
     slot: u16,
     fold: bool,
     tracked: &mut [bool],
@@ -273,10 +258,14 @@ pub fn decide(
 ) -> Decision
     requires { used < used_below }
     ensures used_bound { result.used ≤ used + row_most }
-    ensures step_decided { StepDecided s.now b settings facts.now slot fold
+    ensures step_decided { StepDecided code.entry settings slot fold
         tracked.old rows.old used tracked.new rows.new result }
 {
-    let p = find_spot(s, facts, slot);
-    let what = plan(s, b, settings, facts, slot, fold, p, tracked, rows);
-    carry_out(what, s, facts, p, tracked, rows, used)
+    let p = find_spot(code, slot);
+    let parts = Parts {
+        marks: tracked,
+        rows,
+    };
+    let what = plan(code, settings, slot, fold, p, parts);
+    carry_out(what, code, p, tracked, rows, used)
 }

@@ -9,47 +9,49 @@ use lib.Seq.{get_or-append-add, drop-nil}
 use Rattle.mir.specs.declared.TypeId.{TypeId}
 use Rattle.bytes_field.specs.Encode.{stands}
 use Rattle.bytes_sections.specs.Encode.{map_number}
-use Rattle.bytes_sections.specs.Index.{recorded_number}
+use Rattle.bytes_sections.specs.Index.{recorded_number, recorded_from}
 use Rattle.rewrite_progress.specs.Effect.{type_numbers}
+use Rattle.rewrite_progress.proofs.Laws.{numbers_length}
 use Rattle.rewrite_head.specs.Head.{with_fresh, Tabled}
 
 -- how many values there are
 pub length_fresh : (rs : List (Option TypeId)) (ts : List TypeId) → length (with_fresh rs ts) ≡ length rs + length ts
 length_fresh rs ts = rw (length-append, length-map)
 
--- a fresh value has a recorded type
-fresh_number : (ts : List TypeId) (k : ℕ) → k < length ts → recorded_number (get_or (map some ts) k none) ≡ get_or (type_numbers ts) k 0 + 1
-unfolding type_numbers
-fresh_number [] k h = absurd (omega arith)
-fresh_number (t ∷ ts) zero h = refl
-fresh_number (t ∷ ts) (suc k) h = fresh_number ts k (omega arith)
+-- a recorded type's number, taken apart again
+recorded_back : (o : Option TypeId) → recorded_from (recorded_number o) ≡ o
+recorded_back none = refl
+recorded_back (some t) = let z : t.0 + 1 ≡ suc t.0 = omega arith in ap recorded_from z
 
-module _ (recorded fresh : List ℕ) (next many : ℕ) (rs : List (Option TypeId)) (ts : List TypeId) (h : Tabled recorded fresh next many rs ts) where
-  -- of a value there was
-  pub old_number : (v r : ℕ) → v < next → r ≡ get_or recorded v 0 → r ≡ recorded_number (get_or (with_fresh rs ts) v none)
-  old_number v r l e =
+-- a fresh value has a recorded type
+fresh_type : (ts : List TypeId) (k : ℕ) → k < length ts → some (record { 0 = get_or (type_numbers ts) k 0 }) ≡ get_or (map some ts) k none
+unfolding type_numbers
+fresh_type [] k h = absurd (omega arith)
+fresh_type (t ∷ ts) zero h = refl
+fresh_type (t ∷ ts) (suc k) h = fresh_type ts k (omega arith)
+
+module _ {recorded fresh : List ℕ} {rs : List (Option TypeId)} {ts : List TypeId} (h : Tabled recorded fresh rs ts) where
+  -- how many fresh ones there are
+  pub fresh_many : length ts ≡ length fresh
+  fresh_many = sym (ap length h.new ∙ numbers_length ts)
+
+  -- the recorded type of a value there was
+  pub old_type : (v : ℕ) (o : Option TypeId) → v < length recorded → o ≡ recorded_from (get_or recorded v 0) → o ≡ get_or (with_fresh rs ts) v none
+  old_type v o l e =
       let i : v < length rs = omega (arith, h.old) in
-      e ∙ h.known v i (omega (arith, h.long)) ∙ ap recorded_number (sym (get_or-append rs (map some ts) none v i))
+      e ∙ ap recorded_from (h.known v i l) ∙ recorded_back _ ∙ sym (get_or-append rs (map some ts) none v i)
 
   -- of a fresh one
-  pub new_number : (v r : ℕ) → next ≤ v → v - next < many → r ≡ get_or fresh (v - next) 0 → r + 1 ≡ recorded_number (get_or (with_fresh rs ts) v none)
-  new_number v r l k e =
-      let p : length rs + (v - next) ≡ v = omega (arith, h.old) in
-      let q : get_or (with_fresh rs ts) v none ≡ get_or (map some ts) (v - next) none = ap (λ n. get_or (with_fresh rs ts) n none) (sym p) ∙ get_or-append-add rs (map some ts) (v - next) none in
-      ap (λ n. n + 1) (e ∙ h.taken (v - next) k) ∙ sym (fresh_number ts (v - next) (omega (arith, h.new))) ∙ ap recorded_number (sym q)
+  pub new_type : (v : ℕ) → length recorded ≤ v → v - length recorded < length fresh → some (record { 0 = get_or fresh (v - length recorded) 0 }) ≡ get_or (with_fresh rs ts) v none
+  new_type v l k =
+      let n = v - length recorded in
+      let p : length rs + n ≡ v = omega (arith, h.old) in
+      let q : get_or (with_fresh rs ts) v none ≡ get_or (map some ts) n none = ap (λ n. get_or (with_fresh rs ts) n none) (sym p) ∙ get_or-append-add rs (map some ts) n none in
+      ap (λ l. some (record { 0 = get_or l n 0 })) h.new ∙ fresh_type ts n (omega (arith, fresh_many)) ∙ sym q
 
   -- past all of them there is none
-  pub no_number : (v : ℕ) → next ≤ v → many ≤ v - next → 0 ≡ recorded_number (get_or (with_fresh rs ts) v none)
-  no_number v l k = ap recorded_number (sym (get_or-eq_default (with_fresh rs ts) none {n = v} (omega (arith, h.old, h.new, length_fresh rs ts))))
-
--- a bit stands where the number is not 0
-pub bit_clear : (o : Option TypeId) (n : ℕ) → n ≡ recorded_number o → n ≡ 0 → 0 ≡ stands o
-bit_clear none n e z = refl
-bit_clear (some t) n e z = absurd (omega arith)
-
-pub bit_set : (o : Option TypeId) (n : ℕ) → n ≡ recorded_number o → (n ≡ 0 → ⊥) → 1 ≡ stands o
-bit_set none n e z = absurd (z e)
-bit_set (some t) n e z = refl
+  pub no_type : (v : ℕ) → length recorded ≤ v → length fresh ≤ v - length recorded → none ≡ get_or (with_fresh rs ts) v none
+  no_type v l k = sym (get_or-eq_default (with_fresh rs ts) none {n = v} (omega (arith, h.old, fresh_many, length_fresh rs ts)))
 
 -- the lowest bit, and those above it
 pub low_bit : (rs : List (Option TypeId)) (v : ℕ) → map_number (drop v rs) ≡ stands (get_or rs v none) + 2 * map_number (drop (v + 1) rs)

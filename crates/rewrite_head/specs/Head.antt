@@ -1,5 +1,5 @@
 -- Everything before the blocks of a rewritten routine.
-use Rattle.std.specs.Prelude.{ℕ, ◌+◌, ◌*◌, ◌≤◌, ◌<◌, ◌≡◌, List, ◌++◌, map, length, get_or}
+use Rattle.std.specs.Prelude.{ℕ, ◌+◌, ◌*◌, ◌≡◌, List, ◌++◌, map, length, get_or}
 use Rattle.std.proofs.Math.Option.{Option, some}
 use Rattle.std.proofs.Math.Seq.{slice}
 use Rattle.bytes_wire.specs.Number.{to_bytes}
@@ -11,6 +11,7 @@ use Rattle.bytes_sections.specs.Encode.{encode, recorded_bytes}
 use Rattle.bytes_sections.specs.Index.{RecordedAt}
 use Rattle.bytes_emit.specs.Written.{Writes}
 use Rattle.rewrite_progress.specs.Effect.{type_numbers}
+use Rattle.rewrite_head.specs.declared.values.Values.{Values}
 
 -- the bytes of a routine before those of its blocks
 unfoldable pub head_bytes : Routine → List ℕ
@@ -38,12 +39,14 @@ widened r ts =
     }
 
 -- what the code keeps of recorded types: a table by value, and one of the fresh values by number
-pub record Tabled (recorded fresh : List ℕ) (next many : ℕ) (rs : List (Option TypeId)) (ts : List TypeId) : Type 0 where
-  pub old : length rs ≡ next
-  pub new : length ts ≡ many
+pub record Tabled (recorded fresh : List ℕ) (rs : List (Option TypeId)) (ts : List TypeId) : Type 0 where
+  pub old : length rs ≡ length recorded
   pub known : RecordedAt recorded rs
-  pub long : next ≤ length recorded
-  pub taken : (k : ℕ) → k < many → get_or fresh k 0 ≡ get_or (type_numbers ts) k 0
+  pub new : fresh ≡ type_numbers ts
+
+-- how many values there are
+abbrev pub all_values : Values → ℕ
+all_values values = length values.old.now + length values.fresh.now
 
 -- the place behind the parameters, where the types end at `at`
 abbrev pub front_end : List ℕ → ℕ → ℕ
@@ -54,20 +57,20 @@ abbrev pub front_bytes : List ℕ → ℕ → ℕ → List ℕ
 front_bytes s at next = slice 0 at s ++ (to_bytes 2 next ++ slice (at + 2) (front_end s at) s)
 
 -- P holds of the recorded types of all values, the fresh ones behind the others
-abbrev pub OfRecorded : List ℕ → List ℕ → ℕ → ℕ → (List (Option TypeId) → Type 0) → Type 0
-OfRecorded recorded fresh next many P =
+abbrev pub OfRecorded : Values → (List (Option TypeId) → Type 0) → Type 0
+OfRecorded values P =
     (rs : List (Option TypeId)) (ts : List TypeId)
-    → Tabled recorded fresh next many rs ts
+    → Tabled values.old.now values.fresh.now rs ts
     → P (with_fresh rs ts)
 
 -- of the routine that s is, whose types end at `at`, the head with the fresh values is written
-abbrev pub HeadPut : List ℕ → ℕ → List ℕ → ℕ → List ℕ → ℕ → List ℕ → List ℕ → ℕ → Type 0
-HeadPut s at recorded next fresh many out out' r =
+abbrev pub HeadPut : List ℕ → ℕ → Values → List ℕ → List ℕ → ℕ → Type 0
+HeadPut s at values out out' r =
     (x : Routine) (ts : List TypeId)
     → encode x ≡ s
     → length (types_bytes x.types) ≡ at
-    → x.next ≡ next
-    → Tabled recorded fresh next many x.recorded ts
+    → x.next ≡ length values.old.now
+    → Tabled values.old.now values.fresh.now x.recorded ts
     → Writes (head_bytes (widened x ts)) out out' 0 r
 
 -- the places of the map's bits are below this

@@ -2,17 +2,21 @@
 // but for the next value, then the recorded types of the values there were and of the fresh ones.
 #![tactic(auto)]
 
-ghost use Rattle.std.specs.Prelude.{◌≡◌, ◌+◌, ◌*◌, ◌/◌, ◌%◌, ◌≤◌, ◌<◌, length, get_or, drop};
+pub mod values;
+
+ghost use Rattle.std.specs.Prelude.{◌≡◌, ◌+◌, ◌/◌, ◌%◌, ◌≤◌, ◌<◌, length, get_or, drop};
 ghost use Rattle.std.proofs.Math.Option.{none};
 ghost use Rattle.std.proofs.lemmas.List.Edits.{sets};
 ghost use Rattle.bytes_wire.specs.Number.{to_bytes};
 ghost use Rattle.bytes_field.specs.Encode.{each_bytes, option_bytes, type_id_bytes, stands};
 ghost use Rattle.bytes_sections.specs.Encode.{map_number};
-ghost use Rattle.bytes_sections.specs.Index.{recorded_number};
 ghost use Rattle.bytes_emit.specs.Written.{Writes, word_room, value_room};
-ghost use Rattle.table.specs.Number.{numbers_below};
-ghost use Rattle.rewrite_head.specs.Head.{OfRecorded, front_end, front_bytes, HeadPut, bits_below, recorded_most, head_most};
+ghost use Rattle.mir.specs.Option.{as_option};
+ghost use Rattle.rewrite_head.specs.Head.{OfRecorded, all_values, front_end, front_bytes, HeadPut, bits_below, recorded_most, head_most};
 ghost use Rattle.rewrite_progress.specs.Effect.{counts_below};
+
+use mir::{TypeId, ValueId};
+pub use values::Values;
 
 // In the routine's bytes, from the end of the types on: the next value, then the counts of blocks and the entry, then the
 // number of parameters, then these.
@@ -25,128 +29,109 @@ const PARAMETERS: usize = 7;
 const PARAMETER_BYTES: usize = 2;
 
 // How many bits of the map a byte has.
-const BYTE_BITS: u32 = 8;
+const BYTE_BITS: usize = 8;
 
 // In what follows `v` is a place in the map: that of value v. The map's last byte may have places past the last value.
 
-// The recorded type of value v, of `next` values and `many` fresh ones, as the table has it: 0 for none, else one more than
-// its number.
-fn number_of(recorded: &[u16], next: u16, fresh: &[u16], many: u32, v: u32) -> u32
-    ensures upper_bound { result ≤ numbers_below }
-    ensures of_recorded { OfRecorded recorded.now fresh.now next many (λ all. result ≡ recorded_number (get_or all v none)) }
+// How many values there are.
+fn count(values: Values) -> usize
+    ensures { result ≡ all_values values.entry }
 {
-    let old = next as u32;
+    values.old.len() + values.fresh.len()
+}
+
+// The recorded type of value v.
+fn type_of(values: Values, v: usize) -> Option<TypeId>
+    ensures { OfRecorded values.entry (λ all. as_option result ≡ get_or all v none) }
+{
+    let old = values.old.len();
     if v < old {
-        return table::number(recorded, v as usize) as u32;
+        return bytes_lookup::recorded_type(values.old, ValueId(v as u16));
     }
     let k = v - old;
-    if k < many {
-        return table::number(fresh, k as usize) as u32 + 1;
+    if k < values.fresh.len() {
+        return Some(TypeId(values.fresh[k]));
     }
-    0
+    None
 }
 
 // Value v's bit of the map.
-fn bit_of(recorded: &[u16], next: u16, fresh: &[u16], many: u32, v: u32) -> u8
+fn bit_of(values: Values, v: usize) -> u8
     ensures upper_bound { result ≤ 1 }
-    ensures of_recorded { OfRecorded recorded.now fresh.now next many (λ all. result ≡ stands (get_or all v none)) }
+    ensures of_recorded { OfRecorded values.entry (λ all. result ≡ stands (get_or all v none)) }
 {
-    if number_of(recorded, next, fresh, many, v) == 0 {
-        return 0;
-    }
-    1
+    type_of(values, v).is_some() as u8
 }
 
 // The eight bits from value v on, the lowest first.
 // No fold: eight names and one sum are no longer, and the proof goes bit by bit.
-fn map_byte(recorded: &[u16], next: u16, fresh: &[u16], many: u32, v: u32) -> u8
+fn map_byte(values: Values, v: usize) -> u8
     requires { v < bits_below }
-    ensures { OfRecorded recorded.now fresh.now next many (λ all.
+    ensures { OfRecorded values.entry (λ all.
         (result ≡ map_number (drop v all) % 256) × (map_number (drop v all) / 256 ≡ map_number (drop (v + 8) all))) }
 {
-    let a = bit_of(recorded, next, fresh, many, v);
-    let b = bit_of(recorded, next, fresh, many, v + 1);
-    let c = bit_of(recorded, next, fresh, many, v + 2);
-    let d = bit_of(recorded, next, fresh, many, v + 3);
-    let e = bit_of(recorded, next, fresh, many, v + 4);
-    let f = bit_of(recorded, next, fresh, many, v + 5);
-    let g = bit_of(recorded, next, fresh, many, v + 6);
-    let h = bit_of(recorded, next, fresh, many, v + 7);
+    let a = bit_of(values, v);
+    let b = bit_of(values, v + 1);
+    let c = bit_of(values, v + 2);
+    let d = bit_of(values, v + 3);
+    let e = bit_of(values, v + 4);
+    let f = bit_of(values, v + 5);
+    let g = bit_of(values, v + 6);
+    let h = bit_of(values, v + 7);
     let low = a + 2 * b + 4 * c + 8 * d;
     let high = e + 2 * f + 4 * g + 8 * h;
     low + 16 * high
 }
 
 // The map, from `to` on; returns the place behind it.
-fn put_map(
-    out: &mut [u8],
-    to: usize,
-    recorded: &[u16],
-    next: u16,
-    fresh: &[u16],
-    many: u32,
-) -> usize
-    requires { (to < value_room) × (next + many < numbers_below) }
-    ensures value { result ≡ to + (next + many + 7) / 8 }
-    ensures of_recorded { OfRecorded recorded.now fresh.now next many (λ all.
-        out.new ≡ sets out.old to (to_bytes ((next + many + 7) / 8) (map_number all))) }
+fn put_map(out: &mut [u8], to: usize, values: Values) -> usize
+    requires { to < value_room }
+    ensures value { result ≡ to + (all_values values.entry + 7) / 8 }
+    ensures of_recorded { OfRecorded values.entry (λ all.
+        out.new ≡ sets out.old to (to_bytes ((all_values values.entry + 7) / 8) (map_number all))) }
 {
-    let bytes = (next as u32 + many + 7) / BYTE_BITS;
+    let bytes = (count(values) + 7) / BYTE_BITS;
     for k in 0..bytes {
-        let byte = map_byte(recorded, next, fresh, many, BYTE_BITS * k);
-        bytes_emit::put_u8(out, to + k as usize, byte);
+        let byte = map_byte(values, BYTE_BITS * k);
+        bytes_emit::put_u8(out, to + k, byte);
     }
-    to + bytes as usize
+    to + bytes
 }
 
 // The recorded type of value v, where it has one; returns the place behind it.
-fn put_type(
-    out: &mut [u8],
-    to: usize,
-    recorded: &[u16],
-    next: u16,
-    fresh: &[u16],
-    many: u32,
-    v: u32,
-) -> usize
+fn put_type(out: &mut [u8], to: usize, values: Values, v: usize) -> usize
     requires { to < word_room }
     ensures upper_bound { result ≤ to + 2 }
-    ensures of_recorded { OfRecorded recorded.now fresh.now next many (λ all.
+    ensures of_recorded { OfRecorded values.entry (λ all.
         Writes (option_bytes type_id_bytes (get_or all v none)) out.old out.new to result) }
 {
-    let number = number_of(recorded, next, fresh, many, v);
-    if number == 0 {
-        return to;
+    match type_of(values, v) {
+        Some(t) => {
+            bytes_emit::put_type_id(out, to, t);
+            to + 2
+        }
+        None => to,
     }
-    bytes_emit::put_u16(out, to, (number - 1) as u16);
-    to + 2
 }
 
 // The recorded types of all values that have one, rising; returns the place behind them.
-fn put_types(
-    out: &mut [u8],
-    to: usize,
-    recorded: &[u16],
-    next: u16,
-    fresh: &[u16],
-    many: u32,
-) -> usize
-    requires { (to < value_room) × (next + many < numbers_below) }
+fn put_types(out: &mut [u8], to: usize, values: Values) -> usize
+    requires { to < value_room }
     ensures upper_bound { result ≤ to + recorded_most }
-    ensures of_recorded { OfRecorded recorded.now fresh.now next many (λ all.
+    ensures of_recorded { OfRecorded values.entry (λ all.
         Writes (each_bytes (option_bytes type_id_bytes) all) out.old out.new to result) }
 {
-    let all = next as u32 + many;
     let mut p = to;
-    for v in 0..all {
-        p = put_type(out, p, recorded, next, fresh, many, v);
+    for v in 0..count(values) {
+        p = put_type(out, p, values, v);
     }
     p
 }
 
 // What stands before the map: as in the input, whose types end at `at`, but for the next value.
 fn put_front(out: &mut [u8], s: &[u8], at: usize, next: u16) -> usize
-    requires { (front_end s.now at ≤ length s.now) × (length s.now < counts_below) }
+    requires within { front_end s.now at ≤ length s.now }
+    requires short { length s.now < counts_below }
     ensures { (result ≡ front_end s.now at)
         × (out.new ≡ sets out.old 0 (front_bytes s.now at next)) }
 {
@@ -157,24 +142,15 @@ fn put_front(out: &mut [u8], s: &[u8], at: usize, next: u16) -> usize
     bytes_emit::copy(out, p + NEXT_BYTES, s, at + NEXT_BYTES, end)
 }
 
-// Writes all of it, from the first byte of the output on; returns the place behind it. The types of the input end at
-// `at`; `recorded` has the recorded types of its `next` values, `fresh` the types of the `many` fresh ones.
-pub fn put_head(
-    out: &mut [u8],
-    s: &[u8],
-    at: usize,
-    recorded: &[u16],
-    next: u16,
-    fresh: &[u16],
-    many: u32,
-) -> usize
-    requires { (front_end s.now at ≤ length s.now) × (length s.now < counts_below) × (next + many < numbers_below) }
+// Writes all of it, from the first byte of the output on; returns the place behind it. The types of the input end at `at`.
+pub fn put_head(out: &mut [u8], s: &[u8], at: usize, values: Values) -> usize
+    requires within { front_end s.now at ≤ length s.now }
+    requires short { length s.now < counts_below }
     ensures upper_bound { result ≤ length s.now + head_most }
-    ensures head_put { HeadPut s.now at recorded.now next fresh.now many
-        out.old out.new result }
+    ensures head_put { HeadPut s.now at values.entry out.old out.new result }
 {
-    let all = (next as u32 + many) as u16;
+    let all = count(values) as u16;
     let p = put_front(out, s, at, all);
-    let q = put_map(out, p, recorded, next, fresh, many);
-    put_types(out, q, recorded, next, fresh, many)
+    let q = put_map(out, p, values);
+    put_types(out, q, values)
 }

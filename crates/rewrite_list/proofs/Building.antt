@@ -7,34 +7,33 @@ use mathlib.Core.Option.{Option, none, some}
 use native.Mathlib.Nat.{add-zero, add_assoc}
 use native.Mathlib.Numerals.{add-one}
 use native.Mathlib.Omega.{arith}
-use lib.ListN.{length, get_or, length-append, set}
+use lib.ListN.{length, length-append, set}
 use lib.Seq.{drop-set-add}
 use Rattle.mir.specs.declared.ValueId.{ValueId}
 use Rattle.mir.specs.declared.TypeId.{TypeId}
 use Rattle.mir.specs.declared.Value.{Value}
 use Rattle.mir.specs.Syntax.{Instruction}
 use Rattle.bytes_field.specs.Encode.{each_bytes, instruction_bytes}
-use Rattle.bytes_field.specs.declared.Bounds.{Bounds}
+use Rattle.bytes_index.specs.declared.code.Code.{Code}
 use Rattle.mir.specs.MirType.{MirType, Felt, Bool as TBool, U32, Tuple, Struct, FixedArray, Pointer, Function, Unit, Error, Unknown}
 use Rattle.bytes_operands.specs.Fields.{value_end}
 use Rattle.mir.specs.Lookup.{Types, row_of}
 use Rattle.fold.specs.Family.{Marks}
 use Rattle.rewrite.specs.State.{AggStates}
 use Rattle.rewrite.specs.Rebuild.{Rebuilt, untouched, rebuild_at, clashes, rebuild_value, rebuild_all}
-use Rattle.rewrite_parts.specs.Rows.{ValueAt, RowAt, Rep, rows_in, fresh_in}
-use Rattle.rewrite_parts.proofs.Tables.{found_row}
+use Rattle.rewrite_parts.specs.Rows.{ValueAt, Rep, rows_in, fresh_in}
 use Rattle.rewrite.specs.declared.Clash.{Clash}
 use Rattle.bytes_emit.specs.Written.{Writes}
 use Rattle.rewrite_build.specs.Written.{rebuild_bytes, Clashes, Written}
 use Rattle.rewrite_progress.specs.declared.Progress.{Progress}
-use Rattle.std.specs.Prelude.{Some, None, Option as Answered, Result, Ok, Err}
+use Rattle.std.specs.Prelude.{Some, Option as Answered, Result, Ok, Err}
 use Rattle.rewrite_progress.specs.Effect.{Output, output_of, rebuilt_effect, behind, further, mark_all, type_numbers, Puts, Low}
 use Rattle.rewrite_progress.proofs.Laws.{behind_then, behind_none}
 use Rattle.rewrite_wanted.specs.declared.Asks.{Asks}
 use Rattle.rewrite_wanted.specs.declared.Build.{Build}
 use Rattle.rewrite_wanted.specs.Asked.{Setting, asked_at, asked_list, Told}
-use Rattle.rewrite_list.specs.declared.ValueList.{ValueList}
-use Rattle.rewrite_list.specs.Lists.{Few, PutFew, Roomy, Lies, ◌&◌, line_count, one_wanted, OfList, BuildsPut, TrackedPut, WantedPut, AllPut}
+use Rattle.rewrite_list.specs.declared.values.Values.{Values}
+use Rattle.rewrite_list.specs.Lists.{Few, Roomy, Lies, ◌&◌, line_count, one_wanted, OfList, BuildsPut, TrackedPut, WantedPut, AllPut}
 use Rattle.rewrite_list.proofs.Copying.{line_none, line_one}
 use Rattle.rewrite_list.proofs.Joining.{joined, join_first, join_effect, built, one_built}
 
@@ -59,12 +58,9 @@ lines_of d xs t (some Unit) a b e = line_none a b (omega arith)
 lines_of d xs t (some Error) a b e = line_none a b (omega arith)
 lines_of d xs t (some Unknown) a b e = line_none a b (omega arith)
 
--- the rows under another name, and the row of a tracked value
+-- the rows under another name
 pub rep_held : {next : ℕ} {s : List ℕ} {tracked : Marks} {rows held : List ℕ} {used : ℕ} {S : AggStates} → held ≡ rows → Rep next s tracked rows used S → Rep next s tracked held used S
 rep_held e r = rw e r
-
-pub row_from : {next : ℕ} {s : List ℕ} {tracked : Marks} {rows : List ℕ} {used : ℕ} {S : AggStates} {from : ℕ} {xs : List Value} (v : ValueId) → Rep next s tracked rows used S → S v.0 ≡ some xs → from ≡ get_or rows v.0 0 → RowAt next s rows (from + 1) xs
-row_from v r e f = rw f (found_row r v.0 e).parts
 
 -- one rebuild, under the number n
 module _ (τ : Types) (n : ℕ) (t : TypeId) (xs : List Value) (out out' : List ℕ) (p : Progress) where
@@ -165,14 +161,14 @@ module _ (next : ℕ) (t : List ℕ) (asks : Asks) (τ : Types) (S : AggStates) 
         go (x ∷ ys) m k b = absurd (omega arith)
 
 -- the loop over the values
-pub record Building (b : Bounds) (s facts t : List ℕ) (tracked : Marks) (l : ValueList) (out₀ work₀ : List ℕ) (p₀ : Progress) (out work : List ℕ) (p : Progress) (here i : ℕ) : Type 0 where
-  pub under : i ≤ l.many
+pub record Building (vs : Values) (out₀ work₀ : List ℕ) (p₀ : Progress) (out work : List ℕ) (p : Progress) (here i : ℕ) : Type 0 where
+  pub under : i ≤ vs.list.many
   pub few : Few p₀ i p
-  pub near : here ≤ l.first + 5 * i
+  pub near : here ≤ vs.list.first + 5 * i
   pub len : length out ≡ length out₀
   pub len_work : length work ≡ length work₀
   pub rows : rows_in work ≡ rows_in work₀
-  pub left : (dropped : Marks) → OfList b s facts t tracked (rows_in work₀) l p₀.fresh (λ τ S R. Left b.next t l.asks τ S l.many (output_of out₀ (fresh_in work₀) dropped p₀) R (output_of out (fresh_in work) dropped p) here i)
+  pub left : (dropped : Marks) → OfList vs (rows_in work₀) p₀.fresh (λ τ S R. Left vs.code.bounds.next vs.fields.now vs.list.asks τ S vs.list.many (output_of out₀ (fresh_in work₀) dropped p₀) R (output_of out (fresh_in work) dropped p) here i)
 
 -- one more, behind some
 few_more : (p q r : Progress) (i : ℕ) → Few p i q → Few q 1 r → Few p (i + 1) r
@@ -188,8 +184,8 @@ roomy_on p q i l f h = record { to = omega (arith, l.to, f.to); lines = omega (a
 pub few_none : (p : Progress) (k : ℕ) → Few p k p
 few_none p k = record { to = omega arith; lines = omega arith; fresh = omega arith; taken = omega arith; counts = refl }
 
-module _ (b : Bounds) (s facts t : List ℕ) (tracked : Marks) (l : ValueList) (out₀ work₀ : List ℕ) (p₀ : Progress) where
-  pub building : Building b s facts t tracked l out₀ work₀ p₀ out₀ work₀ p₀ l.first 0
+module _ (vs : Values) (out₀ work₀ : List ℕ) (p₀ : Progress) where
+  pub building : Building vs out₀ work₀ p₀ out₀ work₀ p₀ vs.list.first 0
   building =
       record {
         under = omega arith;
@@ -198,18 +194,18 @@ module _ (b : Bounds) (s facts t : List ℕ) (tracked : Marks) (l : ValueList) (
         len = refl;
         len_work = refl;
         rows = refl;
-        left = λ dropped τ S xs e y m h. left_start b.next t l.asks τ S l.many (output_of out₀ (fresh_in work₀) dropped p₀) _ l.first xs y m refl;
+        left = λ dropped τ S xs e y m h. left_start vs.code.bounds.next vs.fields.now vs.list.asks τ S vs.list.many (output_of out₀ (fresh_in work₀) dropped p₀) _ vs.list.first xs y m refl;
       }
 
-  module _ (out work : List ℕ) (p : Progress) (here i : ℕ) (c : Building b s facts t tracked l out₀ work₀ p₀ out work p here i) (wants : Answered Build) (out' work' : List ℕ) (r : Result Progress Clash) (h : i < l.many)
-      (d : (τ : Types) (S : AggStates) (rows : List ℕ) (x : Value) → Setting b s facts tracked rows τ S → ValueAt b.next t here x → Told τ S x (asked_at τ t l.asks i x) wants) (f : WantedPut b s facts wants out work p out' work' r) where
+  module _ (out work : List ℕ) (p : Progress) (here i : ℕ) (c : Building vs out₀ work₀ p₀ out work p here i) (wants : Answered Build) (out' work' : List ℕ) (r : Result Progress Clash) (h : i < vs.list.many)
+      (d : (τ : Types) (S : AggStates) (rows : List ℕ) (x : Value) → Setting vs.code vs.tracked.now rows τ S → ValueAt vs.code.bounds.next vs.fields.now here x → Told τ S x (asked_at τ vs.fields.now vs.list.asks i x) wants) (f : WantedPut vs.code wants out work p out' work' r) where
     -- of the value that stands here
-    one : (dropped : Marks) (τ : Types) (S : AggStates) → Setting b s facts tracked (rows_in work₀) τ S → (x : Value) → ValueAt b.next t here x → b.next + p.fresh + length (one_wanted τ S (b.next + p.fresh) x (asked_at τ t l.asks i x)).fresh < 65536
-        → Puts (output_of out (fresh_in work) dropped p) (rebuilt_effect (one_wanted τ S (b.next + p.fresh) x (asked_at τ t l.asks i x))) (one_wanted τ S (b.next + p.fresh) x (asked_at τ t l.asks i x)).clash out' (fresh_in work') dropped r
-    one dropped τ S g x y w = f tracked τ S x (asked_at τ t l.asks i x) (d τ S (rows_in work₀) x g y) w (rw c.rows g) dropped
+    one : (dropped : Marks) (τ : Types) (S : AggStates) → Setting vs.code vs.tracked.now (rows_in work₀) τ S → (x : Value) → ValueAt vs.code.bounds.next vs.fields.now here x → vs.code.bounds.next + p.fresh + length (one_wanted τ S (vs.code.bounds.next + p.fresh) x (asked_at τ vs.fields.now vs.list.asks i x)).fresh < 65536
+        → Puts (output_of out (fresh_in work) dropped p) (rebuilt_effect (one_wanted τ S (vs.code.bounds.next + p.fresh) x (asked_at τ vs.fields.now vs.list.asks i x))) (one_wanted τ S (vs.code.bounds.next + p.fresh) x (asked_at τ vs.fields.now vs.list.asks i x)).clash out' (fresh_in work') dropped r
+    one dropped τ S g x y w = f vs.tracked.now τ S x (asked_at τ vs.fields.now vs.list.asks i x) (d τ S (rows_in work₀) x g y) w (rw c.rows g) dropped
 
-    pub building_again : (q : Progress) (there : ℕ) → r ≡ Ok q → Few p 1 q → length out' ≡ length out → length work' ≡ length work → rows_in work' ≡ rows_in work → there ≡ value_end t here → there ≤ here + 5
-        → Building b s facts t tracked l out₀ work₀ p₀ out' work' q there (i + 1)
+    pub building_again : (q : Progress) (there : ℕ) → r ≡ Ok q → Few p 1 q → length out' ≡ length out → length work' ≡ length work → rows_in work' ≡ rows_in work → there ≡ value_end vs.fields.now here → there ≤ here + 5
+        → Building vs out₀ work₀ p₀ out' work' q there (i + 1)
     building_again q there e few k j u v n = record {
       under = omega arith;
       few = few_more p₀ p q i c.few few;
@@ -217,23 +213,23 @@ module _ (b : Bounds) (s facts t : List ℕ) (tracked : Marks) (l : ValueList) (
       len = k ∙ c.len;
       len_work = j ∙ c.len_work;
       rows = u ∙ c.rows;
-      left = λ dropped τ S xs g a m small. left_again b.next t l.asks τ S l.many (output_of out₀ (fresh_in work₀) dropped p₀) _ (output_of out (fresh_in work) dropped p) here i (c.left dropped τ S xs g a m small) (output_of out' (fresh_in work') dropped q) there h v small (λ x y w. (one dropped τ S g x y w).went q e);
+      left = λ dropped τ S xs g a m small. left_again vs.code.bounds.next vs.fields.now vs.list.asks τ S vs.list.many (output_of out₀ (fresh_in work₀) dropped p₀) _ (output_of out (fresh_in work) dropped p) here i (c.left dropped τ S xs g a m small) (output_of out' (fresh_in work') dropped q) there h v small (λ x y w. (one dropped τ S g x y w).went q e);
     }
 
-    pub building_clash : (y z : Clash) → r ≡ Err y → AllPut b s facts t tracked l out₀ work₀ p₀ out' work' (Err z)
+    pub building_clash : (y z : Clash) → r ≡ Err y → AllPut vs out₀ work₀ p₀ out' work' (Err z)
     building_clash y z e = λ τ S xs g a m small dropped.
         record {
-          clashed = λ _ _. left_clash b.next t l.asks τ S l.many (output_of out₀ (fresh_in work₀) dropped p₀) _ (output_of out (fresh_in work) dropped p) here i (c.left dropped τ S xs g a m small) h small (λ x y w. (one dropped τ S g x y w).clashed _ e);
+          clashed = λ _ _. left_clash vs.code.bounds.next vs.fields.now vs.list.asks τ S vs.list.many (output_of out₀ (fresh_in work₀) dropped p₀) _ (output_of out (fresh_in work) dropped p) here i (c.left dropped τ S xs g a m small) h small (λ x y w. (one dropped τ S g x y w).clashed _ e);
           went = λ q n. absurd (let u : ◌≡◌ {A = ℕ} 0 1 = cc in omega arith);
         }
 
-  pub building_done : (out work : List ℕ) (p : Progress) (here i : ℕ) (c : Building b s facts t tracked l out₀ work₀ p₀ out work p here i) → l.many ≤ i → AllPut b s facts t tracked l out₀ work₀ p₀ out work (Ok p)
+  pub building_done : (out work : List ℕ) (p : Progress) (here i : ℕ) (c : Building vs out₀ work₀ p₀ out work p here i) → vs.list.many ≤ i → AllPut vs out₀ work₀ p₀ out work (Ok p)
   building_done out work p here i c h = λ τ S xs g a m small dropped.
       record {
         clashed = λ x z. absurd (let y : ◌≡◌ {A = ℕ} 0 1 = cc in omega arith);
         went = λ q z.
             let y : q ≡ p = cc in
-            rw y (left_done b.next t l.asks τ S l.many (output_of out₀ (fresh_in work₀) dropped p₀) _ (output_of out (fresh_in work) dropped p) here i (c.left dropped τ S xs g a m small) h);
+            rw y (left_done vs.code.bounds.next vs.fields.now vs.list.asks τ S vs.list.many (output_of out₀ (fresh_in work₀) dropped p₀) _ (output_of out (fresh_in work) dropped p) here i (c.left dropped τ S xs g a m small) h);
       }
 
 -- a value that stays puts nothing out
@@ -243,13 +239,13 @@ none_put R x out work p e dropped =
     record { clashed = λ x z. absurd (let y : ◌≡◌ {A = ℕ} 0 1 = cc in omega arith); went = λ q z. let y : q ≡ p = cc in rw (e, y) (refl, sym (behind_none (output_of out (fresh_in work) dropped p))) }
 
 -- one that is rebuilt puts its build out, or clashes
-module _ (b : Bounds) (s facts work : List ℕ) (z : Build) (out out' : List ℕ) (p : Progress) (d : ValueId) (w : Answered Build) (e : w ≡ Some z) where
-  pub wanted_clash : (x y : Clash) → TrackedPut b s facts work z.value z.named d out out' p.to (Err x) → WantedPut b s facts w out work p out' work (Err y)
+module _ (code : Code) (work : List ℕ) (z : Build) (out out' : List ℕ) (p : Progress) (d : ValueId) (w : Answered Build) (e : w ≡ Some z) where
+  pub wanted_clash : (x y : Clash) → TrackedPut code work z d out out' p.to (Err x) → WantedPut code w out work p out' work (Err y)
   wanted_clash _ c g = λ tracked τ S x o k h y dropped.
-      elim (one_built τ S (b.next + p.fresh) x o z k e) [ built xs i l a ↦ rw a (build_clash τ _ z.named xs out out' p (g τ S tracked xs y i l) c _ _ dropped) ]
+      elim (one_built τ S (code.bounds.next + p.fresh) x o z k e) [ built xs i l a ↦ rw a (build_clash τ _ z.named xs out out' p (g τ S tracked xs y i l) c _ _ dropped) ]
 
-  pub wanted_made : (to : ℕ) (work' : List ℕ) (lines : ℕ) → (b.next + p.fresh < 65536 → d.0 ≡ b.next + p.fresh) → TrackedPut b s facts work z.value z.named d out out' p.to (Ok to) → work' ≡ set work (2432 + p.fresh) z.named.0 → lines ≡ line_count p.to to
-      → WantedPut b s facts w out work p out' work' (Ok (record { to = to; lines = p.lines + lines; fresh = p.fresh + 1; counts = p.counts }))
+  pub wanted_made : (to : ℕ) (work' : List ℕ) (lines : ℕ) → (code.bounds.next + p.fresh < 65536 → d.0 ≡ code.bounds.next + p.fresh) → TrackedPut code work z d out out' p.to (Ok to) → work' ≡ set work (2432 + p.fresh) z.named.0 → lines ≡ line_count p.to to
+      → WantedPut code w out work p out' work' (Ok (record { to = to; lines = p.lines + lines; fresh = p.fresh + 1; counts = p.counts }))
   wanted_made to work' lines hd g f n = λ tracked τ S x o k h y dropped.
       let f' : fresh_in work' ≡ set (fresh_in work) p.fresh z.named.0 = ap fresh_in f ∙ drop-set-add 2432 work p.fresh z.named.0 in
-      elim (one_built τ S (b.next + p.fresh) x o z k e) [ built xs i l a ↦ rw a (build_made τ _ z.named xs out out' p to d.0 (hd (omega arith)) (g τ S tracked xs y i l) _ _ dropped lines f' n) ]
+      elim (one_built τ S (code.bounds.next + p.fresh) x o z k e) [ built xs i l a ↦ rw a (build_made τ _ z.named xs out out' p to d.0 (hd (omega arith)) (g τ S tracked xs y i l) _ _ dropped lines f' n) ]

@@ -1,20 +1,17 @@
 -- Bytes that are copied.
-use Prim.Native.Nat.{ℕ, ◌+◌, ◌-◌, ◌≤◌}
+use Prim.Native.Nat.{ℕ}
 use mathlib.Core.Path.{◌≡◌, refl, ap, ◌∙◌, sym}
 use mathlib.Core.List.{List, ◌++◌}
-use mathlib.Core.Bool.{Bool, true, false, cond}
+use mathlib.Core.Bool.{Bool, true, false, cond, not}
+use mir.Val.{bool_byte}
 use native.Mathlib.Omega.{arith}
 use borrow.Author.Tests.{eqb-true, eq-eqb}
-use lib.ListN.{length, take, length-append}
-use lib.Seq.{sets, slice, length-take-le}
+use lib.ListN.{length-append}
+use lib.Seq.{sets}
 use lib.Dec.{eqb}
 use Rattle.bytes_emit.proofs.Sets.{sets_append}
 use Rattle.bytes_emit.specs.Written.{Writes}
 use Rattle.rewrite_list.specs.Lists.{line_count}
-
--- the first bytes
-pub copied : (s out out' : List ℕ) (to n r : ℕ) → n ≤ length s → r ≡ to + (n - 0) → out' ≡ sets out to (slice 0 n s) → Writes (take n s) out out' to r
-copied s out out' to n r h e f = (omega (arith, e, length-take-le n s h), f)
 
 -- one run behind another
 pub writes_and : (a b out out₁ out₂ : List ℕ) (to p q : ℕ) → Writes a out out₁ to p → Writes b out₁ out₂ p q → Writes (a ++ b) out out₂ to q
@@ -31,3 +28,11 @@ line_one a b f = go (eqb a b) refl
     go : (c : Bool) → eqb a b ≡ c → ◌≡◌ {A = ℕ} (cond c 0 1) 1
     go true e = absurd (f (eqb-true a b e))
     go false e = refl
+
+-- where a place moved is 1 as a number
+pub moved : (a b : ℕ) → bool_byte (not (eqb a b)) ≡ line_count a b
+moved a b = go (eqb a b)
+  where
+    go : (c : Bool) → bool_byte (not c) ≡ cond c 0 1
+    go true = refl
+    go false = refl

@@ -13,11 +13,9 @@ use Rattle.mir.specs.declared.ValueId.{ValueId}
 use Rattle.mir.specs.declared.TypeId.{TypeId}
 use Rattle.mir.specs.declared.Value.{Value}
 use Rattle.bytes_field.specs.Encode.{each_bytes}
-use Rattle.bytes_field.specs.declared.Bounds.{Bounds}
 use Rattle.bytes_operands.specs.Fields.{value_end}
 use Rattle.bytes_emit.proofs.Sets.{sets_append}
 use Rattle.mir.specs.Lookup.{Types}
-use Rattle.fold.specs.Family.{Marks}
 use Rattle.rewrite.specs.State.{AggStates}
 use Rattle.rewrite.specs.Rebuild.{Rebuilt, untouched, rebuild_value, rebuild_all}
 use Rattle.rewrite_parts.specs.Rows.{ValueAt}
@@ -27,7 +25,7 @@ use Rattle.rewrite_wanted.specs.declared.Asks.{Asks}
 use Rattle.rewrite_wanted.specs.declared.Build.{Build}
 use Rattle.std.specs.Prelude.{Some, Option as Answered}
 use Rattle.rewrite_wanted.specs.Asked.{Setting, asked_at, asked_list, Told}
-use Rattle.rewrite_list.specs.declared.ValueList.{ValueList}
+use Rattle.rewrite_list.specs.declared.values.Values.{Values}
 use Rattle.rewrite_list.specs.declared.Written.{Written}
 use Rattle.rewrite_list.specs.Lists.{Lies, ◌&◌, one_wanted, OfList, WantedWritten, AllWritten}
 use Rattle.rewrite_list.proofs.Joining.{joined, join_first, built, one_built}
@@ -94,33 +92,33 @@ module _ (next : ℕ) (t : List ℕ) (asks : Asks) (τ : Types) (S : AggStates) 
         go (x ∷ ys) m k b = absurd (omega arith)
 
 -- the loop over the values
-pub record Valuing (b : Bounds) (s facts t : List ℕ) (tracked : Marks) (l : ValueList) (out₀ : List ℕ) (w₀ : Written) (out : List ℕ) (w : Written) (here i : ℕ) : Type 0 where
-  pub under : i ≤ l.many
+pub record Valuing (vs : Values) (out₀ : List ℕ) (w₀ : Written) (out : List ℕ) (w : Written) (here i : ℕ) : Type 0 where
+  pub under : i ≤ vs.list.many
   pub bound : w.to ≤ w₀.to + 5 * i
   pub spent : w.fresh ≤ w₀.fresh + i
-  pub near : here ≤ l.first + 5 * i
+  pub near : here ≤ vs.list.first + 5 * i
   pub len : length out ≡ length out₀
-  pub left : (rows : List ℕ) → OfList b s facts t tracked rows l w₀.fresh (λ τ S R. Unwritten b.next t l.asks τ S l.many out₀ w₀.to w₀.fresh R out w.to w.fresh here i)
+  pub left : (rows : List ℕ) → OfList vs rows w₀.fresh (λ τ S R. Unwritten vs.code.bounds.next vs.fields.now vs.list.asks τ S vs.list.many out₀ w₀.to w₀.fresh R out w.to w.fresh here i)
 
-module _ (b : Bounds) (s facts t : List ℕ) (tracked : Marks) (l : ValueList) (out₀ : List ℕ) (w₀ : Written) where
-  pub valuing : Valuing b s facts t tracked l out₀ w₀ out₀ w₀ l.first 0
-  valuing = record { under = zero-le; bound = omega arith; spent = omega arith; near = omega arith; len = refl; left = λ rows τ S xs e y m h. unwritten_start b.next t l.asks τ S l.many out₀ w₀.to w₀.fresh _ l.first xs y m refl }
+module _ (vs : Values) (out₀ : List ℕ) (w₀ : Written) where
+  pub valuing : Valuing vs out₀ w₀ out₀ w₀ vs.list.first 0
+  valuing = record { under = zero-le; bound = omega arith; spent = omega arith; near = omega arith; len = refl; left = λ rows τ S xs e y m h. unwritten_start vs.code.bounds.next vs.fields.now vs.list.asks τ S vs.list.many out₀ w₀.to w₀.fresh _ vs.list.first xs y m refl }
 
-  module _ (out : List ℕ) (w : Written) (here i : ℕ) (c : Valuing b s facts t tracked l out₀ w₀ out w here i) where
-    pub valuing_again : (wants : Answered Build) (out' : List ℕ) (w' : Written) (there : ℕ) → i < l.many → length out' ≡ length out → (w'.to ≤ w.to + 5) × (w'.fresh ≤ w.fresh + 1) → there ≡ value_end t here → there ≤ here + 5
-        → ((τ : Types) (S : AggStates) (rows : List ℕ) (x : Value) → Setting b s facts tracked rows τ S → ValueAt b.next t here x → Told τ S x (asked_at τ t l.asks i x) wants) → WantedWritten b.next t here wants out w out' w'
-        → Valuing b s facts t tracked l out₀ w₀ out' w' there (i + 1)
+  module _ (out : List ℕ) (w : Written) (here i : ℕ) (c : Valuing vs out₀ w₀ out w here i) where
+    pub valuing_again : (wants : Answered Build) (out' : List ℕ) (w' : Written) (there : ℕ) → i < vs.list.many → length out' ≡ length out → (w'.to ≤ w.to + 5) × (w'.fresh ≤ w.fresh + 1) → there ≡ value_end vs.fields.now here → there ≤ here + 5
+        → ((τ : Types) (S : AggStates) (rows : List ℕ) (x : Value) → Setting vs.code vs.tracked.now rows τ S → ValueAt vs.code.bounds.next vs.fields.now here x → Told τ S x (asked_at τ vs.fields.now vs.list.asks i x) wants) → WantedWritten vs.code.bounds.next vs.fields.now here wants out w out' w'
+        → Valuing vs out₀ w₀ out' w' there (i + 1)
     valuing_again wants out' w' there h k p e r d f = record {
       under = omega arith;
       bound = omega (arith, c.bound, p.0);
       spent = omega (arith, c.spent, p.1);
       near = omega (arith, c.near);
       len = k ∙ c.len;
-      left = λ rows τ S xs g y m small. unwritten_again b.next t l.asks τ S l.many out₀ w₀.to w₀.fresh _ out w.to w.fresh here i (c.left rows τ S xs g y m small) out' w'.to w'.fresh there h e small (λ x v n. f τ S x (asked_at τ t l.asks i x) (d τ S rows x g v) n v);
+      left = λ rows τ S xs g y m small. unwritten_again vs.code.bounds.next vs.fields.now vs.list.asks τ S vs.list.many out₀ w₀.to w₀.fresh _ out w.to w.fresh here i (c.left rows τ S xs g y m small) out' w'.to w'.fresh there h e small (λ x v n. f τ S x (asked_at τ vs.fields.now vs.list.asks i x) (d τ S rows x g v) n v);
     }
 
-    pub valuing_done : l.many ≤ i → AllWritten b s facts t tracked l w₀.fresh out₀ out w₀.to w.to
-    valuing_done h rows τ S xs g y m small = unwritten_done b.next t l.asks τ S l.many out₀ w₀.to w₀.fresh _ out w.to w.fresh here i (c.left rows τ S xs g y m small) h
+    pub valuing_done : vs.list.many ≤ i → AllWritten vs w₀ out₀ out w.to
+    valuing_done h rows τ S xs g y m small = unwritten_done vs.code.bounds.next vs.fields.now vs.list.asks τ S vs.list.many out₀ w₀.to w₀.fresh _ out w.to w.fresh here i (c.left rows τ S xs g y m small) h
 
 -- one value as it stands, and one under a fresh number
 pub value_stays : (R : Rebuilt) (x : Value) (out out' : List ℕ) (to to' taken : ℕ) → R ≡ untouched (x ∷ []) → Writes (value_bytes x) out out' to to' → Writes (each_bytes value_bytes R.values) out out' to to' × (taken ≡ taken + length R.fresh)

@@ -6,7 +6,7 @@ use Rattle.mir.specs.declared.ValueId.{ValueId}
 use Rattle.mir.specs.declared.TypeId.{TypeId}
 use Rattle.mir.specs.declared.Value.{Value}
 use Rattle.bytes_field.specs.Encode.{each_bytes}
-use Rattle.bytes_field.specs.declared.Bounds.{Bounds}
+use Rattle.bytes_index.specs.declared.code.Code.{Code}
 use Rattle.bytes_operands.specs.Fields.{value_end}
 use Rattle.mir.specs.Lookup.{Types}
 use Rattle.fold.specs.Family.{Marks}
@@ -21,7 +21,8 @@ use Rattle.table.specs.Number.{numbers_below}
 use Rattle.rewrite_progress.specs.Effect.{output_of, rebuilt_effect, Puts}
 use Rattle.rewrite_wanted.specs.declared.Build.{Build}
 use Rattle.rewrite_wanted.specs.Asked.{Setting, asked_list, Told}
-use Rattle.rewrite_list.specs.declared.ValueList.{ValueList}
+use Rattle.rewrite_list.specs.declared.values.ValueList.{ValueList}
+use Rattle.rewrite_list.specs.declared.values.Values.{Values}
 use Rattle.rewrite_list.specs.declared.Written.{Written}
 
 -- the most bytes that are copied at once
@@ -84,15 +85,15 @@ OfValue next taken wants P =
     → EnoughFor (next + taken) (one_wanted τ S (next + taken) x o)
     → P τ S x (one_wanted τ S (next + taken) x o)
 
--- and of what becomes of the values of a list that stands in t
-abbrev pub OfList : Bounds → List ℕ → List ℕ → List ℕ → Marks → List ℕ → ValueList → ℕ → (Types → AggStates → Rebuilt → Type 0) → Type 0
-OfList b s facts t tracked rows l taken P =
+-- and of what becomes of the values of a list
+abbrev pub OfList : Values → List ℕ → ℕ → (Types → AggStates → Rebuilt → Type 0) → Type 0
+OfList vs rows taken P =
     (τ : Types) (S : AggStates) (xs : List Value)
-    → Setting b s facts tracked rows τ S
-    → Lies b.next t l.first xs
-    → length xs ≡ l.many
-    → EnoughFor (b.next + taken) (rebuild_all τ S (b.next + taken) (list_wanted τ t l xs))
-    → P τ S (rebuild_all τ S (b.next + taken) (list_wanted τ t l xs))
+    → Setting vs.code vs.tracked.now rows τ S
+    → Lies vs.code.bounds.next vs.fields.now vs.list.first xs
+    → length xs ≡ vs.list.many
+    → EnoughFor (vs.code.bounds.next + taken) (rebuild_all τ S (vs.code.bounds.next + taken) (list_wanted τ vs.fields.now vs.list xs))
+    → P τ S (rebuild_all τ S (vs.code.bounds.next + taken) (list_wanted τ vs.fields.now vs.list xs))
 
 -- the builds of R are put out; their types stand behind the rows of the working table
 abbrev pub BuildsPut : Rebuilt → List ℕ → List ℕ → Progress → List ℕ → List ℕ → Result Progress Clash → Type 0
@@ -103,25 +104,24 @@ BuildsPut R out work p out' work' r =
 abbrev pub ValuesWritten : Rebuilt → List ℕ → List ℕ → ℕ → ℕ → Type 0
 ValuesWritten R out out' to r = Writes (each_bytes value_bytes R.values) out out' to r
 
--- the rebuild of the tracked value v at type t, under the number d
-abbrev pub TrackedPut : Bounds → List ℕ → List ℕ → List ℕ → ValueId → TypeId → ValueId → List ℕ → List ℕ → ℕ → Result ℕ Clash → Type 0
-TrackedPut b s facts work v t d out out' to r =
+-- a tracked value's rebuild, under the number d
+abbrev pub TrackedPut : Code → List ℕ → Build → ValueId → List ℕ → List ℕ → ℕ → Result ℕ Clash → Type 0
+TrackedPut code work z d out out' to r =
     (τ : Types) (S : AggStates) (tracked : Marks) (xs : List Value)
-    → Setting b s facts tracked (rows_in work) τ S
-    → S v.0 ≡ some xs
-    → t.0 < length τ.rows
-    → Rebuilds τ d xs t out out' to r
+    → Setting code tracked (rows_in work) τ S
+    → S z.value.0 ≡ some xs
+    → z.named.0 < length τ.rows
+    → Rebuilds τ d xs z.named out out' to r
 
 -- what is wanted of one value
-abbrev pub WantedPut : Bounds → List ℕ → List ℕ → Answered Build → List ℕ → List ℕ → Progress → List ℕ → List ℕ → Result Progress Clash → Type 0
-WantedPut b s facts wants out work p out' work' r =
-    (tracked : Marks) → OfValue b.next p.fresh wants (λ τ S x R.
-    Setting b s facts tracked (rows_in work) τ S → BuildsPut R out work p out' work' r)
+abbrev pub WantedPut : Code → Answered Build → List ℕ → List ℕ → Progress → List ℕ → List ℕ → Result Progress Clash → Type 0
+WantedPut code wants out work p out' work' r =
+    (tracked : Marks) → OfValue code.bounds.next p.fresh wants (λ τ S x R.
+    Setting code tracked (rows_in work) τ S → BuildsPut R out work p out' work' r)
 
 -- what is wanted of the values of a list
-abbrev pub AllPut : Bounds → List ℕ → List ℕ → List ℕ → Marks → ValueList → List ℕ → List ℕ → Progress → List ℕ → List ℕ → Result Progress Clash → Type 0
-AllPut b s facts t tracked l out work p out' work' r =
-    OfList b s facts t tracked (rows_in work) l p.fresh (λ τ S R. BuildsPut R out work p out' work' r)
+abbrev pub AllPut : Values → List ℕ → List ℕ → Progress → List ℕ → List ℕ → Result Progress Clash → Type 0
+AllPut vs out work p out' work' r = OfList vs (rows_in work) p.fresh (λ τ S R. BuildsPut R out work p out' work' r)
 
 -- one value, as it stands or under its fresh number
 abbrev pub WantedWritten : ℕ → List ℕ → ℕ → Answered Build → List ℕ → Written → List ℕ → Written → Type 0
@@ -130,6 +130,5 @@ WantedWritten next t at wants out w out' r =
     ValueAt next t at x → ValuesWritten R out out' w.to r.to × (r.fresh ≡ w.fresh + length R.fresh))
 
 -- the values of a list
-abbrev pub AllWritten : Bounds → List ℕ → List ℕ → List ℕ → Marks → ValueList → ℕ → List ℕ → List ℕ → ℕ → ℕ → Type 0
-AllWritten b s facts t tracked l taken out out' to r =
-    (rows : List ℕ) → OfList b s facts t tracked rows l taken (λ τ S R. ValuesWritten R out out' to r)
+abbrev pub AllWritten : Values → Written → List ℕ → List ℕ → ℕ → Type 0
+AllWritten vs w out out' r = (rows : List ℕ) → OfList vs rows w.fresh (λ τ S R. ValuesWritten R out out' w.to r)

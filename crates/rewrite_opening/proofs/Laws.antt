@@ -1,19 +1,34 @@
 -- The writer of the head meets what it is told.
 use Prim.Native.Nat.{ℕ, ◌+◌, ◌≤◌, ◌<◌}
-use mathlib.Core.Path.{◌≡◌, refl, ◌∙◌, sym}
+use mathlib.Core.Path.{◌≡◌, refl, ap, ◌∙◌, sym}
 use mathlib.Core.List.{List}
 use native.Mathlib.Omega.{arith}
-use lib.ListN.{length, get_or}
-use Rattle.bytes_field.specs.declared.Bounds.{Bounds}
+use lib.ListN.{length, get_or, take}
+use lib.Seq.{length-take-le}
+use Rattle.bytes_index.specs.declared.code.Code.{Code}
+use Rattle.bytes_index.specs.Table.{recorded_in}
 use Rattle.bytes_emit.specs.Written.{Writes}
-use Rattle.rewrite_head.specs.Head.{front_end}
+use Rattle.mir.specs.declared.TypeId.{TypeId}
+use Rattle.mir.specs.Routine.{Routine}
+use Rattle.bytes_types.specs.Encode.{types_bytes}
+use Rattle.bytes_sections.specs.Encode.{encode}
+use Rattle.rewrite_head.specs.Head.{front_end, head_bytes, widened, Tabled}
 use Rattle.rewrite_head.proofs.Front.{front_within}
 use Rattle.rewrite_opening.specs.Opens.{Opens, Opening}
 use Rattle.std.specs.Prelude.{Some, None}
 
--- what the head's writer asks for
-pub head_asks : {s facts fresh : List ℕ} {b : Bounds} {many size : ℕ} (h : Opens s facts fresh b many size) (at : ℕ) → at ≡ get_or facts b.types 0 → (front_end s at ≤ length s) × (length s < 1073741824) × (b.next + many < 65536)
-head_asks {s = s} h at e = (front_within h.routine s at h.reads (sym (e ∙ h.behind)), omega (arith, h.short), h.few)
+module _ {code : Code} {fresh : List ℕ} {size : ℕ} (h : Opens code fresh size) where
+  -- the types end, and the parameters stand, within the bytes
+  pub head_within : (at : ℕ) → at ≡ get_or code.facts.now code.bounds.types 0 → front_end code.bytes.now at ≤ length code.bytes.now
+  head_within at e = front_within h.routine code.bytes.now at h.reads (sym (e ∙ h.behind))
+
+  -- the head that is written is that of the routine
+  pub head_opened : (at : ℕ) (old out out' : List ℕ) (to : ℕ) → at ≡ get_or code.facts.now code.bounds.types 0 → old ≡ take code.bounds.next (recorded_in code.facts.now)
+      → ((x : Routine) (ts : List TypeId) → encode x ≡ code.bytes.now → length (types_bytes x.types) ≡ at → x.next ≡ length old → Tabled old fresh x.recorded ts → Writes (head_bytes (widened x ts)) out out' 0 to)
+      → Writes (head_bytes (widened h.routine h.types)) out out' 0 to
+  head_opened at old out out' to e f put =
+      let many : length old ≡ code.bounds.next = ap length f ∙ length-take-le code.bounds.next (recorded_in code.facts.now) h.long in
+      put h.routine h.types h.reads (sym (e ∙ h.behind)) (h.next ∙ sym many) (rw f h.tabled)
 
 module _ (head : List ℕ) (size n : ℕ) (out : List ℕ) (e : n ≡ 0 + length head) where
   pub opening_long : length out < n + size → Opening head size out out None

@@ -6,15 +6,16 @@ use mathlib.Core.Bool.{Bool, true, false}
 use mathlib.Core.Option.{Option, none, some}
 use native.Mathlib.Omega.{arith}
 use borrow.Author.Tests.{eqb-true, eqb-false, ltb-true, ltb-false}
-use lib.ListN.{length, get_or, get_elem?, set, length-set, get_or-eq_default}
-use lib.Seq.{get_or-set_same, get_or-set_other}
+use lib.ListN.{length, get_or, get_elem?, set, take, drop, length-set, length-drop, get_or-eq_default}
+use lib.Seq.{get_or-set_same, get_or-set_other, get_or-take, get_or-drop, length-take-le}
 use lib.Dec.{eqb, ltb}
 use Rattle.mir.specs.declared.Value.{Value}
 use Rattle.mir.specs.declared.ValueId.{ValueId}
-use Rattle.mir.specs.Lookup.{is_some}
+use Rattle.mir.specs.Lookup.{is_some, on_some}
 use Rattle.fold.specs.Family.{Marks}
 use Rattle.rewrite.specs.State.{AggStates, no_states, insert_state, replaced, cons_some}
-use Rattle.rewrite_parts.specs.Rows.{RowAt, Entry, untracked, row, Rep, Room}
+use Rattle.table.proofs.Elements.{some_at, none_at}
+use Rattle.rewrite_parts.specs.Rows.{RowAt, Entry, untracked, row, Rep, Room, There}
 use Rattle.rewrite_parts.specs.Filled.{Grown, Filled}
 
 -- what is known of a tracked value with the parts xs
@@ -46,11 +47,41 @@ found_mark r v = entry_marked (r.entries v)
 pub found_row : {next : ℕ} {s : List ℕ} {tracked : Marks} {rows : List ℕ} {used : ℕ} {S : AggStates} {xs : List Value} → Rep next s tracked rows used S → (v : ℕ) → S v ≡ some xs → Held next s rows (get_or rows v 0) used xs
 found_row r v e = entry_held (r.entries v) e
 
--- part k of a list
-pub element_some : (xs : List Value) (k : ℕ) → k < length xs → get_elem? xs k ≡ some (get_or xs k Value.Error)
-element_some [] k h = absurd (omega arith)
-element_some (x ∷ xs) zero h = refl
-element_some (x ∷ xs) (suc k) h = element_some xs k (omega arith)
+-- and its row is a slice of the table
+pub row_stands : {next : ℕ} {s rows : List ℕ} {from used : ℕ} {xs : List Value} → Held next s rows from used xs → used ≤ length rows → (m : ℕ) → m ≡ length xs → RowAt next s (take m (drop (from + 1) rows)) 0 xs × (length xs ≡ length (take m (drop (from + 1) rows)))
+row_stands {next} {s} {rows} {from} {used} {xs} h r m e =
+    let l : m ≤ length (drop (from + 1) rows) = omega (arith, length-drop (from + 1) rows, h.below) in (
+      record { each = λ k b. let z : 0 + k ≡ k = omega arith in rw (z, get_or-take m (drop (from + 1) rows) k 0 (omega arith), get_or-drop (from + 1) rows k 0) (h.parts.each k b) },
+      sym (length-take-le m (drop (from + 1) rows) l ∙ e),
+    )
+
+-- part k of a value, by its mark and the places of its parts: it has none,
+pub part_nowhere : (o : Option (List Value)) (k : ℕ) → is_some o ≡ false → on_some o (λ xs. get_elem? xs k) ≡ none
+unfolding on_some is_some
+part_nowhere none k e = refl
+part_nowhere (some xs) k e = absurd (let z : ◌≡◌ {A = ℕ} 0 1 = cc in omega arith)
+
+module _ {next : ℕ} {s places : List ℕ} (o : Option (List Value)) (k : ℕ) (f : (xs : List Value) → o ≡ some xs → RowAt next s places 0 xs × (length xs ≡ length places)) where
+  -- or fewer,
+  pub part_past : length places ≤ k → on_some o (λ xs. get_elem? xs k) ≡ none
+  unfolding on_some
+  part_past h = go o refl
+    where
+      go : (p : Option (List Value)) → o ≡ p → on_some p (λ xs. get_elem? xs k) ≡ none
+      go none e = refl
+      go (some xs) e = none_at xs k (omega (arith, (f xs e).1))
+
+  -- or it stands there
+  pub part_there : is_some o ≡ true → k < length places → There next s (on_some o (λ xs. get_elem? xs k)) (get_or places k 0)
+  unfolding on_some is_some
+  part_there m h = go o refl
+    where
+      go : (p : Option (List Value)) → o ≡ p → There next s (on_some p (λ xs. get_elem? xs k)) (get_or places k 0)
+      go none e = absurd (let y = rw e at m in let z : ◌≡◌ {A = ℕ} 0 1 = cc in omega arith)
+      go (some xs) e =
+          let l : k < length xs = omega (arith, (f xs e).1) in
+          let z : 0 + k ≡ k = omega arith in
+          record { value = get_or xs k Value.Error; is = some_at xs k Value.Error l; stands = rw z at ((f xs e).0.each k l) }
 
 -- nothing moves among the rows
 abbrev Still : List ℕ → ℕ → List ℕ → Type 0

@@ -1,20 +1,18 @@
 // The parts of tracked values: rows of places of the input, in tables that the caller lends. `tracked` has a mark for
 // each value that is tracked; `rows` says at its number where its row begins, behind these: the number of its parts, then
-// the place of each. No row changes: a changed value gets a new one.
+// the place of each. No row changes: a changed value gets a new one. (Rows in one table and no list for each value: there is no heap.)
 #![tactic(auto)]
 
-ghost use Rattle.std.specs.Prelude.{◌≡◌, List, ℕ, ◌+◌, ◌≤◌, ◌<◌, length, get_or, IfSome};
-ghost use Rattle.std.proofs.Math.Option.{some};
-ghost use Rattle.mir.specs.declared.Value.{Value};
-ghost use Rattle.mir.specs.Syntax.{FieldInit};
-ghost use Rattle.mir.specs.Parts.{given};
-ghost use Rattle.mir.specs.Lookup.{is_some};
-ghost use Rattle.fold.specs.Family.{Marks};
-ghost use Rattle.rewrite.specs.State.{AggStates};
-ghost use Rattle.rewrite_parts.specs.Rows.{most_parts, row_most, used_below, Addressable, Rep, Inits, InitAt};
-ghost use Rattle.rewrite_parts.specs.Filled.{PartsCounted, PartPlaced, Cleared, Grown, PlacesPut, RowCopied};
-ghost use Rattle.rewrite_parts.specs.Filled.{Shared, ValuesTracked, Replaced, NamesPut, NamesTracked};
+pub mod listed;
 
+ghost use Rattle.std.specs.Prelude.{◌≡◌, List, ℕ, ◌+◌, ◌≤◌, ◌<◌, length, IfSome};
+ghost use Rattle.mir.specs.Lookup.{is_some};
+ghost use Rattle.rewrite.specs.State.{AggStates};
+ghost use Rattle.rewrite_parts.specs.Rows.{most_parts, row_most, used_below, Addressable, Rep};
+ghost use Rattle.rewrite_parts.specs.Filled.{PartsStand, PartsCounted, FindsPart, Cleared, Grown, PlacesPut, RowCopied};
+ghost use Rattle.rewrite_parts.specs.Filled.{Shared, ValuesTracked, Replaced, FindsInit, NamesPut, NamesTracked};
+
+pub use listed::Listed;
 use mir::{NameId, ValueId};
 
 // The first place of a row, and how many numbers of a working table are for the rows.
@@ -25,6 +23,15 @@ pub const ROWS: usize = 2432;
 // The most parts of a value.
 const MOST_PARTS: u16 = 16;
 
+// Both tables, where they are only read. Where they are changed they are parameters of their own: of a struct with a `&mut` to each,
+// every function would promise by two clauses more that it still has both. So is how much of the rows is used, below a bound: a new
+// row may end past it, so that a type of its own would be made anew at each step.
+#[derive(Clone, Copy)]
+pub struct Parts<'a> {
+    pub marks: &'a [bool],
+    pub rows: &'a [u16],
+}
+
 // Whether a value is tracked.
 pub fn tracked(tracked: &[bool], v: ValueId) -> bool
     ensures { (next : ℕ) (s rows : List ℕ) (used : ℕ) (S : AggStates)
@@ -33,26 +40,37 @@ pub fn tracked(tracked: &[bool], v: ValueId) -> bool
     table::flag(tracked, v.0 as usize)
 }
 
+// The places of the parts of a tracked value.
+pub fn row(rows: &[u16], v: ValueId) -> &[u16]
+    ensures upper_bound { length result.now ≤ most_parts }
+    ensures parts_stand { PartsStand rows.now v result.now }
+{
+    let at = table::number(rows, v.0 as usize) as usize;
+    let n = table::number(rows, at);
+    let end = at + 1 + n as usize;
+    if MOST_PARTS < n || rows.len() < end {
+        return &[];
+    }
+    &rows[at + 1..end]
+}
+
 // The number of parts of a tracked value.
 pub fn part_count(rows: &[u16], v: ValueId) -> u16
     ensures upper_bound { result ≤ most_parts }
     ensures parts_counted { PartsCounted rows.now v result }
 {
-    let n = table::number(rows, table::number(rows, v.0 as usize) as usize);
-    if MOST_PARTS < n {
-        return 0;
-    }
-    n
+    row(rows, v).len() as u16
 }
 
-// The place of part `k` of a tracked value.
-pub fn part_place(rows: &[u16], v: ValueId, k: u32) -> usize
-    ensures { PartPlaced rows.now v k result }
+// Where part `k` of a value stands, if the value is tracked and has that part.
+pub fn find_part(parts: Parts, v: ValueId, k: u32) -> Option<usize>
+    ensures { FindsPart parts.entry v k result }
 {
-    table::place(
-        rows,
-        table::number(rows, v.0 as usize) as usize + 1 + k as usize,
-    )
+    if !tracked(parts.marks, v) {
+        return None;
+    }
+    let place = row(parts.rows, v).get(k as usize)?;
+    Some(*place as usize)
 }
 
 // Nothing is tracked.
@@ -71,41 +89,40 @@ pub fn share(tracked: &mut [bool], rows: &mut [u16], d: ValueId, v: ValueId)
     table::set_number(rows, d.0 as usize, first);
 }
 
-// Gives the rows, from `to` on, the places of `n` values that stand one behind another, `before` bytes before each.
-fn put_places(s: &[u8], rows: &mut [u16], to: usize, at: usize, n: u8, before: u8)
-    requires { Addressable to × Addressable at }
+// Gives the rows, from `to` on, the places of values, `before` bytes before each.
+fn put_places(values: Listed, before: u8, rows: &mut [u16], to: usize)
+    requires { Addressable to }
     ensures grown { Grown rows.old to rows.new }
-    ensures places_put { PlacesPut s.now at n before rows.old to rows.new }
+    ensures places_put { PlacesPut values.entry before rows.old to rows.new }
 {
-    let mut here = at;
-    for i in 0..n {
+    let mut here = values.at;
+    for i in 0..values.count {
         let place = here + before as usize;
         table::set_place(rows, to + i as usize, place);
-        here = bytes_operands::value_end(s, place);
+        here = bytes_operands::value_end(values.bytes, place);
     }
 }
 
-// The dest has a new row: `n` values that stand one behind another from `at` on, `before` bytes before each.
+// The dest has a new row: values, `before` bytes before each.
 pub fn track_values(
-    s: &[u8],
     tracked: &mut [bool],
     rows: &mut [u16],
     used: usize,
     d: ValueId,
-    at: usize,
-    n: u8,
+    values: Listed,
     before: u8,
 ) -> usize
-    requires { (used < used_below) × Addressable at }
+    requires { used < used_below }
     ensures upper_bound { result ≤ used + row_most }
-    ensures values_tracked { ValuesTracked s.now d at n before tracked.old rows.old used
+    ensures values_tracked { ValuesTracked d values.entry before tracked.old rows.old used
         tracked.new rows.new result }
 {
+    let n = values.count;
     if MOST_PARTS < n as u16 {
         return used;
     }
     table::set_number(rows, used, n as u16);
-    put_places(s, rows, used + 1, at, n, before);
+    put_places(values, before, rows, used + 1);
     table::set_flag(tracked, d.0 as usize, true);
     table::set_number(rows, d.0 as usize, used as u16);
     used + 1 + n as usize
@@ -153,41 +170,30 @@ pub fn replace(
     used + 1 + n as usize
 }
 
-// The place of the value of a name's first init, among the `n` that stand one behind another from `at` on.
-pub fn find_init(s: &[u8], at: usize, n: u8, name: NameId) -> Option<usize>
-    requires { Addressable at }
-    ensures { (next : ℕ) (fs : List FieldInit) → Inits next s.now at fs → length fs ≡ n
-        → InitAt next s.now (given name fs) result }
+// The place of the value of a name's first init.
+pub fn find_init(inits: Listed, name: NameId) -> Option<usize>
+    ensures { FindsInit inits.entry name result }
 {
-    let mut here = at;
-    for i in 0..n {
+    let mut here = inits.at;
+    for i in 0..inits.count {
         let place = here + 2;
-        if bytes_wire::u16_at(s, here) == name.0 {
+        if bytes_wire::u16_at(inits.bytes, here) == name.0 {
             return Some(place);
         }
-        here = bytes_operands::value_end(s, place);
+        here = bytes_operands::value_end(inits.bytes, place);
     }
     None
 }
 
-// Gives the rows, from `to` on, the places of the values of `m` names, which stand four bytes apart from `names` on.
-fn put_named(
-    s: &[u8],
-    at: usize,
-    n: u8,
-    types: &[u8],
-    names: usize,
-    m: u8,
-    rows: &mut [u16],
-    to: usize,
-) -> bool
-    requires { Addressable at × (Addressable names × Addressable to) }
+// Gives the rows, from `to` on, the places of the values of a type's names, which stand four bytes apart.
+fn put_named(inits: Listed, names: Listed, rows: &mut [u16], to: usize) -> bool
+    requires { Addressable to }
     ensures grown { Grown rows.old to rows.new }
-    ensures names_put { NamesPut s.now at n types.now names m rows.old to rows.new result }
+    ensures names_put { NamesPut inits.entry names.entry rows.old to rows.new result }
 {
-    for i in 0..m {
-        let name = NameId(bytes_wire::u16_at(types, names + 4 * i as usize));
-        match find_init(s, at, n, name) {
+    for i in 0..names.count {
+        let name = NameId(bytes_wire::u16_at(names.bytes, names.at + 4 * i as usize));
+        match find_init(inits, name) {
             None => return false,
             Some(place) => table::set_place(rows, to + i as usize, place),
         }
@@ -195,30 +201,27 @@ fn put_named(
     true
 }
 
-// The dest has a new row: the values of a struct build's `n` inits in the order of its type's `m` names, where each is
-// given; how much of the table is used then. Else nothing is tracked, and as much is used as before.
+// The dest has a new row: the values of a struct build's inits in the order of its type's names, where each is given; how
+// much of the table is used then. Else nothing is tracked, and as much is used as before.
 pub fn track_named(
-    s: &[u8],
     tracked: &mut [bool],
     rows: &mut [u16],
     used: usize,
     d: ValueId,
-    at: usize,
-    n: u8,
-    types: &[u8],
-    names: usize,
-    m: u8,
+    inits: Listed,
+    names: Listed,
 ) -> Option<usize>
-    requires { (used < used_below) × (Addressable at × Addressable names) }
+    requires { used < used_below }
     ensures used_bound { IfSome result (λ end. end ≤ used + row_most) }
-    ensures names_tracked { NamesTracked s.now d at n types.now names m tracked.old rows.old used
+    ensures names_tracked { NamesTracked d inits.entry names.entry tracked.old rows.old used
         tracked.new rows.new result }
 {
+    let m = names.count;
     if MOST_PARTS < m as u16 {
         return None;
     }
     table::set_number(rows, used, m as u16);
-    if !put_named(s, at, n, types, names, m, rows, used + 1) {
+    if !put_named(inits, names, rows, used + 1) {
         return None;
     }
     table::set_flag(tracked, d.0 as usize, true);

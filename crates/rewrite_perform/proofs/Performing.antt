@@ -14,9 +14,9 @@ use Rattle.mir.specs.declared.Value.{Value}
 use Rattle.bytes_wire.proofs.Canon.{bytes_drop, value_short}
 use Rattle.mir.specs.Syntax.{Instruction, Assign, plain}
 use Rattle.bytes_field.specs.Encode.{instruction_bytes, field_bytes, value_id_bytes, type_id_bytes}
-use Rattle.bytes_field.specs.declared.Bounds.{Bounds}
+use Rattle.bytes_index.specs.declared.code.Code.{Code}
 use Rattle.bytes_laws.proofs.Instruction.{instruction_canon}
-use Rattle.bytes_index.specs.Table.{recorded_in, place_in, end_in}
+use Rattle.bytes_index.specs.Table.{place_in, end_in}
 use Rattle.bytes_index.specs.Code.{InstructionIn}
 use Rattle.mir.specs.Lookup.{Types}
 use Rattle.fold.specs.Family.{Marks, mark}
@@ -26,7 +26,7 @@ use Rattle.rewrite.specs.Step.{Piece, kept, left, assigned, one_extract}
 use Rattle.rewrite.specs.Run.{add_counts}
 use Rattle.rewrite_parts.specs.Rows.{ValueAt}
 use Rattle.rewrite_progress.specs.declared.Progress.{Progress}
-use Rattle.rewrite_progress.specs.Ground.{Ground}
+use Rattle.fold.specs.Tables.{CodeGround}
 use Rattle.rewrite_progress.specs.Effect.{output_of, behind, further, piece_effect, mark_all, type_numbers}
 use Rattle.rewrite_arms.specs.declared.Counted.{Counted}
 use Rattle.rewrite_arms.specs.declared.Action.{Action}
@@ -41,14 +41,14 @@ copied_all part out out' p r to lines w e =
     (e ∙ ap (λ n. moved_to p n lines) (w.0 ∙ ap (λ n. p.to + n) z), w.1 ∙ ap (λ v. sets out p.to v) q)
 
 -- a kept instruction: its bytes as they stand
-kept_out : (b : Bounds) (τ : Types) (S : AggStates) (i : Instruction) (s facts : List ℕ) (slot : ℕ) (out out' types : List ℕ) (dropped : Marks) (p r : Progress) (at end : ℕ) (part : List ℕ)
-    → Ground b s facts (recorded_in facts) τ → InstructionIn b s facts slot i → at ≡ place_in facts slot → (end ≡ end_in facts slot) × (end < 65536)
-    → part ≡ take (end - at) (drop at s) → (length part ≤ 65536 → (r ≡ moved_to p (p.to + length part) (p.lines + 1)) × (out' ≡ sets out p.to part))
+kept_out : (code : Code) (τ : Types) (S : AggStates) (i : Instruction) (slot : ℕ) (out out' types : List ℕ) (dropped : Marks) (p r : Progress) (at end : ℕ) (part : List ℕ)
+    → CodeGround code τ → InstructionIn code.bounds code.bytes.now code.facts.now slot i → at ≡ place_in code.facts.now slot → (end ≡ end_in code.facts.now slot) × (end < 65536)
+    → part ≡ take (end - at) (drop at code.bytes.now) → (length part ≤ 65536 → (r ≡ moved_to p (p.to + length part) (p.lines + 1)) × (out' ≡ sets out p.to part))
     → output_of out' types dropped r ≡ behind (output_of out types dropped p) (piece_effect (kept S i))
 unfolding behind further piece_effect kept mark_all type_numbers
-kept_out b τ S i s facts slot out out' types dropped p r at end part g line ea ee f w =
-    let c = instruction_canon b [] false (drop (place_in facts slot) s) (bytes_drop s (place_in facts slot) g.bytes) line.read in
-    let own : part ≡ instruction_bytes i = f ∙ ap (λ n. take (end - n) (drop n s)) ea ∙ ap (λ n. take (n - place_in facts slot) (drop (place_in facts slot) s)) ee.0 ∙ sym c.same in
+kept_out code τ S i slot out out' types dropped p r at end part g line ea ee f w =
+    let c = instruction_canon code.bounds [] false (drop (place_in code.facts.now slot) code.bytes.now) (bytes_drop code.bytes.now (place_in code.facts.now slot) g.bytes) line.read in
+    let own : part ≡ instruction_bytes i = f ∙ ap (λ n. take (end - n) (drop n code.bytes.now)) ea ∙ ap (λ n. take (n - place_in code.facts.now slot) (drop (place_in code.facts.now slot) code.bytes.now)) ee.0 ∙ sym c.same in
     let z = w (omega (arith, ap length own, c.size, ee.0, ee.1)) in
     rw (z.0, z.1, own) (simp (append-nil, add-zero))
 
@@ -81,21 +81,21 @@ pub assign_low : (d : ValueId) (x : Value) (t : TypeId) (from to : ℕ) → to �
 assign_low d x t from to e = omega (arith, e, assign_short d x t)
 
 -- the three actions: what each does is the piece q
-module _ (b : Bounds) (s : List ℕ) (S : AggStates) (i : Instruction) (q : Piece) (act : Action) (does : Does b.next s S i q act) (out out' types : List ℕ) (dropped dropped' : Marks) (p r : Progress) where
+module _ (code : Code) (S : AggStates) (i : Instruction) (q : Piece) (act : Action) (does : Does code.bounds.next code.bytes.now S i q act) (out out' types : List ℕ) (dropped dropped' : Marks) (p r : Progress) where
   abbrev Done : Type 0
   Done = (q.clash ≡ false) × (output_of out' types dropped' r ≡ behind (output_of out types dropped p) (piece_effect q))
 
   as_piece : (q' : Piece) → q ≡ q' → q'.clash ≡ false → output_of out' types dropped' r ≡ behind (output_of out types dropped p) (piece_effect q') → Done
   as_piece q' e c f = (ap (λ x. x.clash) e ∙ c, f ∙ sym (ap (λ x. behind (output_of out types dropped p) (piece_effect x)) e))
 
-  pub does_keep : (τ : Types) (facts : List ℕ) (slot at end : ℕ) (part : List ℕ) → act ≡ Action.Keep → dropped' ≡ dropped
-      → Ground b s facts (recorded_in facts) τ → InstructionIn b s facts slot i → at ≡ place_in facts slot → (end ≡ end_in facts slot) × (end < 65536)
-      → part ≡ take (end - at) (drop at s) → (length part ≤ 65536 → (r ≡ moved_to p (p.to + length part) (p.lines + 1)) × (out' ≡ sets out p.to part))
+  pub does_keep : (τ : Types) (slot at end : ℕ) (part : List ℕ) → act ≡ Action.Keep → dropped' ≡ dropped
+      → CodeGround code τ → InstructionIn code.bounds code.bytes.now code.facts.now slot i → at ≡ place_in code.facts.now slot → (end ≡ end_in code.facts.now slot) × (end < 65536)
+      → part ≡ take (end - at) (drop at code.bytes.now) → (length part ≤ 65536 → (r ≡ moved_to p (p.to + length part) (p.lines + 1)) × (out' ≡ sets out p.to part))
       → Done
   unfolding kept
-  does_keep τ facts slot at end part z m g line ea ee f w =
+  does_keep τ slot at end part z m g line ea ee f w =
       let e : q ≡ kept S i = rw z at does in
-      as_piece (kept S i) e refl (rw m (kept_out b τ S i s facts slot out out' types dropped p r at end part g line ea ee f w))
+      as_piece (kept S i) e refl (rw m (kept_out code τ S i slot out out' types dropped p r at end part g line ea ee f w))
 
   pub does_track : (c : Counted) (d : ValueId) → act ≡ Action.Track d c → out' ≡ out → dropped' ≡ mark dropped d → r ≡ raised_by p (counted_as c) → Done
   unfolding left
@@ -103,17 +103,17 @@ module _ (b : Bounds) (s : List ℕ) (S : AggStates) (i : Instruction) (q : Piec
       let e : q ≡ left (counted_as c) (d ∷ []) q.states = rw z at does in
       as_piece (left (counted_as c) (d ∷ []) q.states) e refl (rw o (left_out (counted_as c) d q.states out types dropped dropped' p r m f))
 
-  assigned_does : (d : ValueId) (place : ℕ) (t : TypeId) (y : Value) (v : Progress) (to : ℕ) → Assigned b.next s S q d place t → dropped' ≡ dropped
-      → ((x : Value) → ValueAt b.next s place x → y ≡ x)
+  assigned_does : (d : ValueId) (place : ℕ) (t : TypeId) (y : Value) (v : Progress) (to : ℕ) → Assigned code.bounds.next code.bytes.now S q d place t → dropped' ≡ dropped
+      → ((x : Value) → ValueAt code.bounds.next code.bytes.now place x → y ≡ x)
       → (to ≡ p.to + length (instruction_bytes (plain (Assign d y t)))) × (out' ≡ sets out p.to (instruction_bytes (plain (Assign d y t))))
       → v ≡ raised_by p one_extract → r ≡ moved_to v to (v.lines + 1) → Done
   unfolding assigned
   assigned_does d place t y v to (assigned_from x h e) m f w k n = as_piece (assigned one_extract S d x t) e refl (rw m (assigned_out S d x y t out out' types dropped p v r to (f x h) w k n))
 
   pub does_assign : (d : ValueId) (place : ℕ) (t : TypeId) (y : Value) (v : Progress) (to : ℕ) → act ≡ Action.Assign d place t → dropped' ≡ dropped
-      → ((x : Value) → ValueAt b.next s place x → y ≡ x)
+      → ((x : Value) → ValueAt code.bounds.next code.bytes.now place x → y ≡ x)
       → (to ≡ p.to + length (instruction_bytes (plain (Assign d y t)))) × (out' ≡ sets out p.to (instruction_bytes (plain (Assign d y t))))
       → v ≡ raised_by p one_extract → r ≡ moved_to v to (v.lines + 1) → Done
   does_assign d place t y v to z m f w k n =
-      let e : Assigned b.next s S q d place t = rw z at does in
+      let e : Assigned code.bounds.next code.bytes.now S q d place t = rw z at does in
       assigned_does d place t y v to e m f w k n

@@ -2,9 +2,8 @@
 use Rattle.std.specs.Prelude.{ℕ, ◌+◌, ◌≤◌, ◌<◌, ◌≡◌, List, false, length}
 use Rattle.std.proofs.lemmas.List.Edits.{sets}
 use Rattle.mir.specs.Syntax.{Instruction}
-use Rattle.bytes_field.specs.declared.Bounds.{Bounds}
+use Rattle.bytes_index.specs.declared.code.Code.{Code}
 use Rattle.bytes_block.specs.Encode.{block_bytes}
-use Rattle.bytes_index.specs.Table.{recorded_in}
 use Rattle.bytes_index.specs.Code.{InstructionIn}
 use Rattle.mir.specs.Lookup.{Types}
 use Rattle.fold.specs.Family.{Marks}
@@ -14,8 +13,9 @@ use Rattle.rewrite.specs.Step.{Piece}
 use Rattle.rewrite.specs.Run.{Walked, add_counts}
 use Rattle.rewrite_parts.specs.Rows.{most_bytes}
 use Rattle.rewrite_progress.specs.declared.Progress.{Progress}
-use Rattle.std.specs.Prelude.{Ok}
-use Rattle.rewrite_progress.specs.Ground.{Ground}
+use Rattle.std.specs.Prelude.{Result}
+use Rattle.rewrite.specs.declared.Clash.{Clash}
+use Rattle.fold.specs.Tables.{CodeGround}
 use Rattle.rewrite_progress.specs.Effect.{Effect, Output, output_of, behind, piece_effect, walked_effect, Puts}
 use Rattle.rewrite_arms.specs.declared.Action.{Action}
 use Rattle.rewrite_arms.specs.Decided.{Does}
@@ -42,12 +42,12 @@ pub record CountsLow (c : Counts) : Type 0 where
   pub assigns : c.assigns < 2147483648
 
 -- an action is done: nothing clashes, and the piece is put out
-abbrev pub Performs : Bounds → List ℕ → List ℕ → ℕ → Action → (List ℕ → Output) → (List ℕ → Output) → Type 0
-Performs b s facts slot action before after =
+abbrev pub Performs : Code → ℕ → Action → (List ℕ → Output) → (List ℕ → Output) → Type 0
+Performs code slot action before after =
     (τ : Types) (S : AggStates) (i : Instruction) (q : Piece) (types : List ℕ) →
-    Ground b s facts (recorded_in facts) τ →
-    InstructionIn b s facts slot i →
-    Does b.next s S i q action →
+    CodeGround code τ →
+    InstructionIn code.bounds code.bytes.now code.facts.now slot i →
+    Does code.bounds.next code.bytes.now S i q action →
     (q.clash ≡ false) × (after types ≡ behind (before types) (piece_effect q))
 
 -- a walked block: its count in front, no instruction of the next block yet
@@ -62,9 +62,9 @@ block_effect w =
     }
 
 -- a block whose body begins two bytes behind p gets its count in front
-abbrev pub CountPut : Progress → List ℕ → Progress → List ℕ → Progress → Type 0
-CountPut p out q out' q' =
+abbrev pub CountPut : Progress → List ℕ → Result Progress Clash → List ℕ → Result Progress Clash → Type 0
+CountPut p out r out' r' =
     (out₀ types₀ types : List ℕ) (dropped₀ dropped : Marks) (w : Walked) →
     p.lines ≡ 0 →
-    Puts (output_of out₀ types₀ dropped₀ (moved_to p (p.to + 2) 0)) (walked_effect w) w.clash out types dropped (Ok q) →
-    Puts (output_of out₀ types₀ dropped₀ p) (block_effect w) w.clash out' types dropped (Ok q')
+    Puts (output_of out₀ types₀ dropped₀ (moved_to p (p.to + 2) 0)) (walked_effect w) w.clash out types dropped r →
+    Puts (output_of out₀ types₀ dropped₀ p) (block_effect w) w.clash out' types dropped r'

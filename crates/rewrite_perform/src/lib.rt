@@ -3,12 +3,12 @@
 
 ghost use Rattle.std.specs.Prelude.{◌≡◌, ℕ, ◌+◌, ◌≤◌};
 ghost use Rattle.rewrite.specs.Run.{add_counts};
-ghost use Rattle.rewrite_progress.specs.Effect.{output_of, low_enough, Low, most_lines};
+ghost use Rattle.rewrite_progress.specs.Effect.{output_of, low_enough, Low, PutLow, most_lines};
 ghost use Rattle.rewrite_arms.specs.Decided.{counted_as};
 ghost use Rattle.rewrite_perform.specs.Performed.{moved_to, raised_by, PartPut, CountsLow, Performs, CountPut};
 
-use bytes_field::Bounds;
-use rewrite::Counts;
+use bytes_index::Code;
+use rewrite::{Clash, Counts};
 use rewrite_arms::{Action, Counted};
 use rewrite_progress::Progress;
 
@@ -72,12 +72,11 @@ pub fn left_out(p: Progress, what: Counted) -> Progress
     }
 }
 
-// Puts out what is decided of a slot's instruction.
+// Puts out what is decided of a slot's instruction. An action is a value and no closure: it is decided from tables that are not
+// lent here.
 pub fn perform(
     action: Action,
-    s: &[u8],
-    b: Bounds,
-    facts: &[u16],
+    code: Code,
     slot: u16,
     out: &mut [u8],
     p: Progress,
@@ -85,16 +84,16 @@ pub fn perform(
 ) -> Progress
     requires { Low low_enough p }
     ensures by_index { (k : ℕ) → Low k p → Low (k + 1) result }
-    ensures performs { Performs b s.now facts.now slot action
+    ensures performs { Performs code.entry slot action
         (λ types. output_of out.old types dropped.old p)
         (λ types. output_of out.new types dropped.new result) }
 {
     match action {
         Action::Keep => {
             let part = bytes_field::between(
-                s,
-                bytes_index::place(facts, slot),
-                bytes_index::end(facts, slot),
+                code.bytes,
+                bytes_index::place(code.facts, slot),
+                bytes_index::end(code.facts, slot),
             );
             put_part(out, p, part, 1)
         }
@@ -111,7 +110,7 @@ pub fn perform(
                 out,
                 p.to,
                 d,
-                bytes_operands::value_at(s, place, b.next),
+                bytes_operands::value_at(code.bytes, place, code.bounds.next),
                 t,
             );
             let q = left_out(p, Counted::Extract);
@@ -123,12 +122,13 @@ pub fn perform(
 // How many numbers two bytes have.
 const NUMBERS: u32 = 65536;
 
-// A block that begins at `p` is written from two bytes behind it up to `q`: its count of instructions goes in front.
-pub fn put_count(out: &mut [u8], p: Progress, q: Progress) -> Progress
+// A block that begins at `p` is written from two bytes behind it on: its count of instructions goes in front. A clash is handed on.
+pub fn put_count(out: &mut [u8], p: Progress, r: Result<Progress, Clash>) -> Result<Progress, Clash>
     requires { Low low_enough p }
-    ensures by_index { (k : ℕ) → Low k q → Low k result }
-    ensures count_put { CountPut p out.old q out.new result }
+    ensures by_index { (k : ℕ) → PutLow k r → PutLow k result }
+    ensures count_put { CountPut p out.old r out.new result }
 {
+    let q = r?;
     bytes_emit::put_u16(out, p.to, (q.lines % NUMBERS) as u16);
-    moved(q, q.to, 0)
+    Ok(moved(q, q.to, 0))
 }

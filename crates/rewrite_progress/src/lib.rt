@@ -1,7 +1,7 @@
 // How far the output of a run is written.
 #![tactic(auto)]
 
-use bytes_field::Bounds;
+use bytes_index::Code;
 use fold::Settings;
 use mir::most;
 use rewrite::Counts;
@@ -12,7 +12,8 @@ pub const SKIPS: usize = most::SLOTS;
 
 pub const FLAGS: usize = SKIPS + most::BLOCKS;
 
-// The place behind what is written, the instructions put out in the present block, the fresh numbers taken, the counts.
+// The place behind what is written, the instructions put out in the present block, the fresh numbers taken, the counts. How low
+// they are (`Low` of specs/Effect) is no fact of the type: each writer takes low ones and answers higher ones.
 #[derive(Clone, Copy, Default)]
 pub struct Progress {
     pub to: usize,
@@ -21,9 +22,10 @@ pub struct Progress {
     pub counts: Counts,
 }
 
-// What the numbers of a routine stay below, and the settings of the pass.
+// A run of the pass over an accepted routine: the routine, the settings, and which builds are folded and which blocks are skipped.
 #[derive(Clone, Copy)]
-pub struct Setup {
-    pub bounds: Bounds,
+pub struct Run<'a> {
+    pub code: Code<'a>,
     pub settings: Settings,
+    pub choice: &'a [bool],
 }

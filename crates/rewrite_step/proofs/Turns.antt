@@ -14,7 +14,7 @@ use Rattle.mir.specs.Syntax.{Place, Instruction, InstructionKind, Meta}
 use Rattle.mir.specs.Syntax.{Assign, UnaryOp, BinaryOp, Call, Cast, Load, Store, Debug, Nop, Phi}
 use Rattle.mir.specs.Syntax.{MakeTuple, ExtractTupleElement, MakeStruct, ExtractStructField, InsertField, InsertTuple, MakeFixedArray, AssertEq, HeapAllocCells}
 use Rattle.mir.specs.Reads.{kind_number}
-use Rattle.bytes_field.specs.declared.Bounds.{Bounds}
+use Rattle.bytes_index.specs.declared.code.Code.{Code}
 use Rattle.fold.specs.declared.Settings.{Settings}
 use Rattle.mir.specs.Lookup.{Types, is_some, on_some}
 use Rattle.fold.specs.Family.{Marks}
@@ -24,17 +24,16 @@ use Rattle.rewrite.specs.Step.{Piece, kept, left, one_insert, step, step_kind, s
 use Rattle.rewrite_parts.specs.Rows.{Rep, rows_in, fresh_in}
 use Rattle.rewrite_parts.specs.Here.{Here}
 use Rattle.rewrite_progress.specs.declared.Progress.{Progress}
-use Rattle.std.specs.Prelude.{Some, None, Option as Answered, Result, Ok, Err}
+use Rattle.std.specs.Prelude.{Result, Ok, Err}
 use Rattle.rewrite.specs.declared.Clash.{Clash}
-use Rattle.rewrite_progress.specs.declared.Setup.{Setup}
-use Rattle.rewrite_progress.specs.Effect.{Output, output_of, behind, piece_effect, PutLow}
+use Rattle.rewrite_progress.specs.Effect.{Output, output_of, behind, piece_effect}
 use Rattle.rewrite_chains.specs.Chained.{states_after}
 use Rattle.rewrite_arms.specs.declared.Action.{Action}
 use Rattle.rewrite_arms.specs.Decided.{Does}
 use Rattle.rewrite_step.specs.declared.Rewrite.{Rewrite}
 use Rattle.rewrite_step.specs.declared.Reached.{Reached}
 use Rattle.rewrite_step.specs.declared.Settled.{Settled}
-use Rattle.rewrite_step.specs.Stepping.{Lent, lent_as, output_in, PutsIn, CallPiece, call_piece, StorePiece, store_piece, Becomes, Settles, Steps, fresh_from, SettlesAll, PutsPiece, StepsOn, SteppedLow}
+use Rattle.rewrite_step.specs.Stepping.{Lent, lent_as, output_in, PutsIn, CallPiece, call_piece, StorePiece, store_piece, Becomes, Settles, Steps, fresh_from, SettlesAll, PutsPiece, StepsOn}
 use Rattle.rewrite_perform.specs.Performed.{raised_by, Performs}
 use Rattle.rewrite_perform.proofs.Performing.{left_none}
 use Rattle.rewrite_perform.proofs.Counting.{puts_went}
@@ -193,14 +192,14 @@ module _ (σ : Settings) (τ : Types) (folds : ValueId → Bool) (S : AggStates)
         ]
 
 -- what was settled is put out
-module _ (b : Bounds) (s facts : List ℕ) (slot : ℕ) (τ : Types) (S : AggStates) (used : ℕ) (i : Instruction) (q : Piece) (l : Lent) (p : Progress) (rewrite : Rewrite) (h : Here b s facts slot l.tracked (rows_in l.work) used τ q.states i) (becomes : Becomes τ b.next s S (fresh_from b p) i q rewrite) where
+module _ (code : Code) (slot : ℕ) (τ : Types) (S : AggStates) (used : ℕ) (i : Instruction) (q : Piece) (l : Lent) (p : Progress) (rewrite : Rewrite) (h : Here code.bounds code.bytes.now code.facts.now slot l.tracked (rows_in l.work) used τ q.states i) (becomes : Becomes τ code.bounds.next code.bytes.now S (fresh_from code.bounds p) i q rewrite) where
   abbrev Out : Lent → Result Progress Clash → Type 0
   Out l' r = PutsIn (output_in l p) (piece_effect q) q.clash l' r
 
   -- an action
-  pub put_does : (action : Action) (out' : List ℕ) (dropped' : Marks) (r : Progress) → rewrite ≡ Rewrite.Does action → Performs b s facts slot action (λ types. output_of l.out types l.dropped p) (λ types. output_of out' types dropped' r) → Out (lent_as l.tracked dropped' l.work out') (Ok r)
+  pub put_does : (action : Action) (out' : List ℕ) (dropped' : Marks) (r : Progress) → rewrite ≡ Rewrite.Does action → Performs code slot action (λ types. output_of l.out types l.dropped p) (λ types. output_of out' types dropped' r) → Out (lent_as l.tracked dropped' l.work out') (Ok r)
   put_does action out' dropped' r e f =
-      let d : Does b.next s S i q action = rw e at becomes in
+      let d : Does code.bounds.next code.bytes.now S i q action = rw e at becomes in
       let w = f τ S i q (fresh_in l.work) h.ground h.line d in
       puts_went _ _ _ out' _ dropped' r w.0 w.1
 
@@ -212,40 +211,40 @@ module _ (b : Bounds) (s facts : List ℕ) (slot : ℕ) (τ : Types) (S : AggSta
       puts_went _ _ _ l.out _ l.dropped r (ap (λ x. x.clash) d) (left_none one_insert q.states l.out (fresh_in l.work) l.dropped p r f ∙ sym (ap (λ x. behind (output_in l p) (piece_effect x)) d))
 
   abbrev Before : Type 0
-  Before = Here b s facts slot l.tracked (rows_in l.work) used τ S i
+  Before = Here code.bounds code.bytes.now code.facts.now slot l.tracked (rows_in l.work) used τ S i
 
   same_here : q.states ≡ S → Before
   same_here e = record { ground = h.ground; rep = (rw e at h).rep; line = h.line }
 
   -- a Call
-  pub put_called : (l' : Lent) (r : Result Progress Clash) → rewrite ≡ Rewrite.Call → ((ds : List ValueId) (f : ℕ) (xs : List Value) (ps rs : List TypeId) → Before → i.kind ≡ Call ds f xs ps rs → q ≡ step_call S i ds f ps rs (rebuild_all τ S (fresh_from b p) (wanted_arguments τ xs ps)) (rebuild_all τ S (fresh_from b p) (wanted_arguments τ xs ps)).fresh → Out l' r) → Out l' r
+  pub put_called : (l' : Lent) (r : Result Progress Clash) → rewrite ≡ Rewrite.Call → ((ds : List ValueId) (f : ℕ) (xs : List Value) (ps rs : List TypeId) → Before → i.kind ≡ Call ds f xs ps rs → q ≡ step_call S i ds f ps rs (rebuild_all τ S (fresh_from code.bounds p) (wanted_arguments τ xs ps)) (rebuild_all τ S (fresh_from code.bounds p) (wanted_arguments τ xs ps)).fresh → Out l' r) → Out l' r
   put_called l' r e f =
-      let d : CallPiece τ S (fresh_from b p) i q = rw e at becomes in
+      let d : CallPiece τ S (fresh_from code.bounds p) i q = rw e at becomes in
       elim d [
         | call_piece ds g xs ps rs z y ↦ f ds g xs ps rs (same_here (ap (λ x. x.states) y ∙ call_states S i ds g ps rs _ _)) z y
       ]
 
   -- a Store
-  pub put_stored : (l' : Lent) (r : Result Progress Clash) → rewrite ≡ Rewrite.Store → ((v : Place) (x : Value) (t : TypeId) → Before → i.kind ≡ Store v x t → q ≡ store_kept τ S (fresh_from b p) i v x t (on_some (aggregate_type τ t) (λ u. state_of S x)) → Out l' r) → Out l' r
+  pub put_stored : (l' : Lent) (r : Result Progress Clash) → rewrite ≡ Rewrite.Store → ((v : Place) (x : Value) (t : TypeId) → Before → i.kind ≡ Store v x t → q ≡ store_kept τ S (fresh_from code.bounds p) i v x t (on_some (aggregate_type τ t) (λ u. state_of S x)) → Out l' r) → Out l' r
   put_stored l' r e f =
-      let d : StorePiece τ S (fresh_from b p) i q = rw e at becomes in
+      let d : StorePiece τ S (fresh_from code.bounds p) i q = rw e at becomes in
       elim d [
         | store_piece v x t z y ↦ f v x t (same_here (ap (λ u. u.states) y ∙ store_states τ S _ i v x t _)) z y
       ]
 
 -- a whole step: the rows are settled, then all is put out
-pub step_turn : (setup : Setup) (s facts : List ℕ) (slot : ℕ) (fold : Bool) (l : Lent) (w : Reached) (tracked dropped : Marks) (rows work out : List ℕ) (d : Settled) (r : Result Progress Clash) (t : Result Reached Clash)
+pub step_turn : (code : Code) (σ : Settings) (slot : ℕ) (fold : Bool) (l : Lent) (w : Reached) (tracked dropped : Marks) (rows work out : List ℕ) (d : Settled) (r : Result Progress Clash) (t : Result Reached Clash)
     → 2432 ≤ length l.work → length rows ≡ length (rows_in l.work)
-    → SettlesAll setup s facts slot fold l.tracked (rows_in l.work) w.used tracked rows d
-    → PutsPiece setup.bounds s facts slot d.rewrite (lent_as tracked l.dropped (rows ++ fresh_in l.work) l.out) w.progress (lent_as tracked dropped work out) r
+    → SettlesAll code σ slot fold l.tracked (rows_in l.work) w.used tracked rows d
+    → PutsPiece code slot d.rewrite (lent_as tracked l.dropped (rows ++ fresh_in l.work) l.out) w.progress (lent_as tracked dropped work out) r
     → rows_in work ≡ rows_in (rows ++ fresh_in l.work) → WithUsed d.used r t
-    → StepsOn setup s facts slot fold l w (lent_as tracked dropped work out) t
-step_turn setup s facts slot fold l w tracked dropped rows work out d r t long same settles puts stays e τ S folds i h room f bd =
-    let q = step setup.settings τ folds S (fresh_from setup.bounds w.progress) i in
-    let z = settles τ S folds (fresh_from setup.bounds w.progress) i h room f in
+    → StepsOn code σ slot fold l w (lent_as tracked dropped work out) t
+step_turn code σ slot fold l w tracked dropped rows work out d r t long same settles puts stays e τ S folds i h room f bd =
+    let q = step σ τ folds S (fresh_from code.bounds w.progress) i in
+    let z = settles τ S folds (fresh_from code.bounds w.progress) i h room f in
     let size : length rows ≡ 2432 = same ∙ length-take-le 2432 l.work long in
     let front : rows_in (rows ++ fresh_in l.work) ≡ rows = take_at rows (fresh_in l.work) 2432 size in
     let back : fresh_in (rows ++ fresh_in l.work) ≡ fresh_in l.work = drop_at rows (fresh_in l.work) 2432 size in
-    let rep : Rep setup.bounds.next s tracked (rows_in (rows ++ fresh_in l.work)) d.used q.states = rw front z.rep in
+    let rep : Rep code.bounds.next code.bytes.now tracked (rows_in (rows ++ fresh_in l.work)) d.used q.states = rw front z.rep in
     let p = puts τ S d.used i q (record { ground = h.ground; rep = rep; line = h.line }) z.becomes bd in
-    steps_put setup.bounds.next s _ q (lent_as tracked dropped work out) r t d.used e (rw stays rep) (rw back at p)
+    steps_put code.bounds.next code.bytes.now _ q (lent_as tracked dropped work out) r t d.used e (rw stays rep) (rw back at p)

@@ -5,7 +5,8 @@ use Rattle.mir.specs.declared.TypeId.{TypeId}
 use Rattle.mir.specs.declared.Value.{Value}
 use Rattle.mir.specs.declared.ValueId.{ValueId}
 use Rattle.mir.specs.Syntax.{Place, Instruction, Call, Store}
-use Rattle.bytes_field.specs.declared.Bounds.{Bounds}
+use Rattle.bytes_index.specs.declared.code.Code.{Code}
+use Rattle.fold.specs.declared.Settings.{Settings}
 use Rattle.mir.specs.Lookup.{Types, on_some}
 use Rattle.fold.specs.Family.{Marks, build_dest}
 use Rattle.rewrite.specs.State.{AggStates, state_of}
@@ -15,7 +16,6 @@ use Rattle.rewrite_parts.specs.Rows.{Rep, Room, rows_in, fresh_in}
 use Rattle.rewrite_parts.specs.Here.{Here}
 use Rattle.rewrite_progress.specs.declared.Progress.{Progress}
 use Rattle.rewrite.specs.declared.Clash.{Clash}
-use Rattle.rewrite_progress.specs.declared.Setup.{Setup}
 use Rattle.rewrite_progress.specs.Effect.{Effect, Output, output_of, behind, piece_effect, Puts, Low}
 pub use Rattle.rewrite_progress.specs.Effect.{fresh_from, Enough}
 use Rattle.rewrite_arms.specs.Decided.{Does}
@@ -88,30 +88,30 @@ pub record Steps (next : ℕ) (s : List ℕ) (o : Output) (q : Piece) (l : Lent)
   pub went : (w : Reached) → r ≡ Ok w → Gone next s o q l w
 
 -- what is settled of an instruction, whatever its kind
-abbrev pub SettlesAll : Setup → List ℕ → List ℕ → ℕ → Bool → Marks → List ℕ → ℕ → Marks → List ℕ → Settled → Type 0
-SettlesAll setup s facts slot fold tracked rows used tracked' rows' r =
+abbrev pub SettlesAll : Code → Settings → ℕ → Bool → Marks → List ℕ → ℕ → Marks → List ℕ → Settled → Type 0
+SettlesAll code σ slot fold tracked rows used tracked' rows' r =
     (τ : Types) (S : AggStates) (folds : ValueId → Bool) (n : ℕ) (i : Instruction) →
-    Here setup.bounds s facts slot tracked rows used τ S i →
+    Here code.bounds code.bytes.now code.facts.now slot tracked rows used τ S i →
     Room rows used →
     FoldsAs fold folds i →
-    Settles τ setup.bounds.next s tracked' rows' S n i (step setup.settings τ folds S n i) r
+    Settles τ code.bounds.next code.bytes.now tracked' rows' S n i (step σ τ folds S n i) r
 
 -- what was settled is put out
-abbrev pub PutsPiece : Bounds → List ℕ → List ℕ → ℕ → Rewrite → Lent → Progress → Lent → Result Progress Clash → Type 0
-PutsPiece b s facts slot rewrite l p l' r =
+abbrev pub PutsPiece : Code → ℕ → Rewrite → Lent → Progress → Lent → Result Progress Clash → Type 0
+PutsPiece code slot rewrite l p l' r =
     (τ : Types) (S : AggStates) (used : ℕ) (i : Instruction) (q : Piece) →
-    Here b s facts slot l.tracked (rows_in l.work) used τ q.states i →
-    Becomes τ b.next s S (fresh_from b p) i q rewrite →
-    Enough b p q.fresh →
+    Here code.bounds code.bytes.now code.facts.now slot l.tracked (rows_in l.work) used τ q.states i →
+    Becomes τ code.bounds.next code.bytes.now S (fresh_from code.bounds p) i q rewrite →
+    Enough code.bounds p q.fresh →
     PutsIn (output_in l p) (piece_effect q) q.clash l' r
 
 -- a whole step: one instruction is settled and put out
-abbrev pub StepsOn : Setup → List ℕ → List ℕ → ℕ → Bool → Lent → Reached → Lent → Result Reached Clash → Type 0
-StepsOn setup s facts slot fold l w l' r =
+abbrev pub StepsOn : Code → Settings → ℕ → Bool → Lent → Reached → Lent → Result Reached Clash → Type 0
+StepsOn code σ slot fold l w l' r =
     (τ : Types) (S : AggStates) (folds : ValueId → Bool) (i : Instruction) →
-    Here setup.bounds s facts slot l.tracked (rows_in l.work) w.used τ S i →
+    Here code.bounds code.bytes.now code.facts.now slot l.tracked (rows_in l.work) w.used τ S i →
     Room (rows_in l.work) w.used →
     FoldsAs fold folds i →
-    let q = step setup.settings τ folds S (fresh_from setup.bounds w.progress) i in
-    Enough setup.bounds w.progress q.fresh →
-    Steps setup.bounds.next s (output_in l w.progress) q l' r
+    let q = step σ τ folds S (fresh_from code.bounds w.progress) i in
+    Enough code.bounds w.progress q.fresh →
+    Steps code.bounds.next code.bytes.now (output_in l w.progress) q l' r

@@ -6,14 +6,16 @@ ghost use Rattle.rewrite_parts.specs.Rows.{row_most, rows_size, used_below, rows
 ghost use Rattle.rewrite_progress.specs.Effect.{low_enough, Low, PutLow};
 ghost use Rattle.rewrite_step.specs.Stepping.{lent_as, SteppedLow, SettlesAll, PutsPiece, StepsOn};
 
-use bytes_field::Bounds;
-use mir::kind;
+use bytes_index::Code;
+use fold::Settings;
+use mir::kind::Kind;
 use rewrite::Clash;
 use rewrite_arms::{Action, Counted};
 use rewrite_parts::ROWS;
-use rewrite_progress::{Progress, Setup};
+use rewrite_progress::Progress;
 
-// What becomes of an instruction.
+// What becomes of an instruction. It is a value and no closure: it is settled while the rows are lent, and carried out when the
+// whole working table is.
 // Does: what is decided of it.
 // Forwarded: a Store that goes into the parts of a tracked value.
 // Call, Store: a Call, or any other Store, whose tracked values are rebuilt before it.
@@ -41,9 +43,8 @@ pub struct Reached {
 
 // Settles what becomes of a slot's instruction; `fold` is whether a build is left out.
 fn settle(
-    s: &[u8],
-    setup: Setup,
-    facts: &[u16],
+    code: Code,
+    settings: Settings,
     slot: u16,
     fold: bool,
     tracked: &mut [bool],
@@ -52,20 +53,18 @@ fn settle(
 ) -> Settled
     requires { used < used_below }
     ensures used_bound { result.used ≤ used + row_most }
-    ensures settles_all { SettlesAll setup s.now facts.now slot fold
+    ensures settles_all { SettlesAll code.entry settings slot fold
         tracked.old rows.old used tracked.new rows.new result }
 {
-    let b = setup.bounds;
-    let settings = setup.settings;
-    let kind = bytes_index::kind(facts, slot);
-    if kind == kind::CALL {
+    let kind = bytes_index::instruction_kind(code.facts, slot);
+    if kind == Some(Kind::Call) {
         return Settled {
             rewrite: Rewrite::Call,
             used,
         };
     }
-    if kind != kind::STORE {
-        let d = rewrite_decide::decide(s, b, settings, facts, slot, fold, tracked, rows, used);
+    if kind != Some(Kind::Store) {
+        let d = rewrite_decide::decide(code, settings, slot, fold, tracked, rows, used);
         return Settled {
             rewrite: Rewrite::Does(d.action),
             used: d.used,
@@ -77,7 +76,7 @@ fn settle(
             used,
         };
     }
-    match rewrite_chains::forward_store(s, b, facts, slot, tracked, rows, used) {
+    match rewrite_chains::forward_store(code, slot, tracked, rows, used) {
         Some(end) => Settled {
             rewrite: Rewrite::Forwarded,
             used: end,
@@ -92,9 +91,7 @@ fn settle(
 // Puts out what is settled of a slot's instruction.
 fn carry_out(
     rewrite: Rewrite,
-    s: &[u8],
-    b: Bounds,
-    facts: &[u16],
+    code: Code,
     slot: u16,
     tracked: &[bool],
     dropped: &mut [bool],
@@ -105,26 +102,26 @@ fn carry_out(
     requires { Low low_enough p }
     ensures by_index { (k : ℕ) → Low k p → PutLow (k + 1) result }
     ensures work_unchanged { rows_in work.new ≡ rows_in work.old }
-    ensures puts_piece { PutsPiece b s.now facts.now slot rewrite
+    ensures puts_piece { PutsPiece code.entry slot rewrite
         (lent_as tracked.now dropped.old work.old out.old) p
         (lent_as tracked.now dropped.new work.new out.new) result }
 {
     match rewrite {
         Rewrite::Does(action) => {
-            let q = rewrite_perform::perform(action, s, b, facts, slot, out, p, dropped);
+            let q = rewrite_perform::perform(action, code, slot, out, p, dropped);
             Ok(q)
         }
         Rewrite::Forwarded => Ok(rewrite_perform::left_out(p, Counted::Insert)),
-        Rewrite::Call => rewrite_before::put_call(out, p, s, b, facts, slot, tracked, work),
-        Rewrite::Store => rewrite_before::put_store(out, p, s, b, facts, slot, tracked, work),
+        Rewrite::Call => rewrite_before::put_call(out, p, code, slot, tracked, work),
+        Rewrite::Store => rewrite_before::put_store(out, p, code, slot, tracked, work),
     }
 }
 
-// One step: a slot's instruction; `fold` is whether a build is left out.
+// One step: a slot's instruction; `fold` is whether a build is left out. The tables are lent one by one: through a struct that
+// holds them a caller would not know any more that their lengths stay.
 pub fn step(
-    s: &[u8],
-    setup: Setup,
-    facts: &[u16],
+    code: Code,
+    settings: Settings,
     slot: u16,
     fold: bool,
     tracked: &mut [bool],
@@ -135,23 +132,21 @@ pub fn step(
 ) -> Result<Reached, Clash>
     requires { Low low_enough w.progress × ((w.used < used_below) × (rows_size ≤ length work.old)) }
     ensures by_index { (k : ℕ) → Low k w.progress → SteppedLow (k + 1) (w.used + row_most) result }
-    ensures steps_on { StepsOn setup s.now facts.now slot fold
+    ensures steps_on { StepsOn code.entry settings slot fold
         (lent_as tracked.old dropped.old work.old out.old) w
         (lent_as tracked.new dropped.new work.new out.new) result }
 {
-    let b = setup.bounds;
-    let p = w.progress;
     let d = settle(
-        s,
-        setup,
-        facts,
+        code,
+        settings,
         slot,
         fold,
         tracked,
         &mut work[..ROWS],
         w.used,
     );
-    let progress = carry_out(d.rewrite, s, b, facts, slot, tracked, dropped, work, out, p)?;
+    let p = w.progress;
+    let progress = carry_out(d.rewrite, code, slot, tracked, dropped, work, out, p)?;
     Ok(Reached {
         progress,
         used: d.used,

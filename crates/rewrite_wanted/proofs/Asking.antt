@@ -10,6 +10,8 @@ use borrow.Author.Tests.{lt-ltb, ltb-true}
 use lib.ListN.{length, get_or, get_elem?, drop}
 use lib.Dec.{ltb}
 use Rattle.bytes_wire.specs.Number.{at16}
+use Rattle.mir.specs.declared.shape.Shape.{Shape}
+use Rattle.mir.specs.Shape.{number_of_shape}
 use Rattle.mir.specs.declared.ValueId.{ValueId}
 use Rattle.mir.specs.declared.TypeId.{TypeId}
 use Rattle.mir.specs.declared.Literal.{Literal}
@@ -26,8 +28,7 @@ use Rattle.bytes_wire.proofs.Canon.{value_fit, bytes_drop}
 use Rattle.rewrite_parts.specs.Rows.{ValueAt, stands}
 use Rattle.rewrite_progress.specs.Ground.{Ground}
 use Rattle.rewrite_wanted.specs.declared.Asks.{Asks}
-use Rattle.rewrite_wanted.specs.declared.Build.{Build}
-use Rattle.std.specs.Prelude.{Some, None, Option as Answered}
+use Rattle.std.specs.Prelude.{Some, None}
 use Rattle.rewrite_wanted.specs.Asked.{asked_at, Told, stays, build}
 
 -- an aggregate has a shape
@@ -50,6 +51,13 @@ agg_none : (o : Option MirType) → shape o ≡ 0 → is_aggregate o ≡ false
 unfolding is_aggregate is_tuple is_struct is_array
 agg_none o h = rw h refl
 
+-- only the other types have the shape of none
+other_shape : (k : Shape) → number_of_shape k ≡ 0 → k ≡ Shape.Other
+other_shape Shape.Other e = refl
+other_shape Shape.Tuple e = absurd (omega arith)
+other_shape Shape.Struct e = absurd (omega arith)
+other_shape Shape.FixedArray e = absurd (omega arith)
+
 not_below : (i n : ℕ) → n ≤ i → ltb i n ≡ false
 not_below i n h = go (ltb i n) refl
   where
@@ -63,14 +71,14 @@ module _ (τ : Types) (i n w : ℕ) where
   none_past h = rw (not_below i n h) refl
 
   -- of a type that is no aggregate neither
-  pub none_other : i < n → shape (get_elem? τ.rows w) ≡ 0 → none ≡ cond (ltb i n) (aggregate_type τ (record { 0 = w })) none
+  pub none_other : {k : Shape} → i < n → k ≡ Shape.Other → number_of_shape k ≡ shape (get_elem? τ.rows w) → none ≡ cond (ltb i n) (aggregate_type τ (record { 0 = w })) none
   unfolding aggregate_type row_of
-  none_other h e = rw (lt-ltb i n h, agg_none (get_elem? τ.rows w) e) refl
+  none_other h o e = let z : shape (get_elem? τ.rows w) ≡ 0 = sym e ∙ ap number_of_shape o in rw (lt-ltb i n h, agg_none (get_elem? τ.rows w) z) refl
 
   -- an aggregate is
-  pub some_type : i < n → (shape (get_elem? τ.rows w) ≡ 0 → ⊥) → some (record { 0 = w }) ≡ cond (ltb i n) (aggregate_type τ (record { 0 = w })) none
+  pub some_type : {k : Shape} → i < n → (k ≡ Shape.Other → ⊥) → number_of_shape k ≡ shape (get_elem? τ.rows w) → some (record { 0 = w }) ≡ cond (ltb i n) (aggregate_type τ (record { 0 = w })) none
   unfolding aggregate_type row_of
-  some_type h e = rw (lt-ltb i n h, agg_some (get_elem? τ.rows w) e) refl
+  some_type {k} h o e = rw (lt-ltb i n h, agg_some (get_elem? τ.rows w) (λ z. o (other_shape k (e ∙ z)))) refl
 
 -- the number of a recorded type tells it
 from_number : (n : ℕ) (o : Option TypeId) → n ≡ recorded_number o → recorded_from n ≡ o

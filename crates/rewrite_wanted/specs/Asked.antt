@@ -5,23 +5,22 @@ use Rattle.bytes_wire.specs.Number.{at16}
 use Rattle.mir.specs.declared.ValueId.{ValueId}
 use Rattle.mir.specs.declared.TypeId.{TypeId}
 use Rattle.mir.specs.declared.Value.{Value}
-use Rattle.bytes_field.specs.declared.Bounds.{Bounds}
-use Rattle.bytes_index.specs.Table.{recorded_in}
+use Rattle.bytes_index.specs.declared.code.Code.{Code}
 use Rattle.mir.specs.Option.{as_option}
 use Rattle.fold.specs.Family.{Marks}
 use Rattle.mir.specs.Lookup.{Types}
 use Rattle.rewrite.specs.State.{AggStates, state_of}
 use Rattle.rewrite.specs.Rebuild.{Rebuilt, Wanted, keep_value, one_value, aggregate_type, return_type}
 use Rattle.rewrite_parts.specs.Rows.{ValueAt, Rep}
-use Rattle.rewrite_progress.specs.Ground.{Ground}
+use Rattle.fold.specs.Tables.{CodeGround}
 use Rattle.rewrite_wanted.specs.declared.Asks.{Asks}
 use Rattle.rewrite_wanted.specs.declared.Build.{Build}
 
 -- the tables say what is tracked, and which types there are and which are recorded
-pub record Setting (b : Bounds) (s facts : List ℕ) (tracked : Marks) (rows : List ℕ) (τ : Types) (S : AggStates) : Type 0 where
+pub record Setting (code : Code) (tracked : Marks) (rows : List ℕ) (τ : Types) (S : AggStates) : Type 0 where
   pub used : ℕ
-  pub ground : Ground b s facts (recorded_in facts) τ
-  pub rep : Rep b.next s tracked rows used S
+  pub ground : CodeGround code τ
+  pub rep : Rep code.bounds.next code.bytes.now tracked rows used S
 
 -- the type asked of value i, which is x: the i-th of the types that stand in t, or its recorded type
 abbrev pub asked_at : Types → List ℕ → Asks → ℕ → Value → Option TypeId
@@ -44,17 +43,17 @@ pub data Told (τ : Types) (S : AggStates) (x : Value) (o : Option TypeId) : Ans
       → Told τ S x o (Some (record { value = v; named = t }))
 
 -- what is told of value i of a list, which stands at place `at` of t
-abbrev pub WantedAt : Bounds → List ℕ → List ℕ → List ℕ → ℕ → Marks → Asks → ℕ → Answered Build → Type 0
-WantedAt b s facts t at tracked asks i r =
+abbrev pub WantedAt : Code → List ℕ → ℕ → Marks → Asks → ℕ → Answered Build → Type 0
+WantedAt code t at tracked asks i r =
     (τ : Types) (S : AggStates) (rows : List ℕ) (x : Value)
-    → Setting b s facts tracked rows τ S
-    → ValueAt b.next t at x
+    → Setting code tracked rows τ S
+    → ValueAt code.bounds.next t at x
     → Told τ S x (asked_at τ t asks i x) r
 
 -- the type asked of value i, the operand v
-abbrev pub TypeAsked : Bounds → List ℕ → List ℕ → List ℕ → Asks → ValueId → ℕ → Answered TypeId → Type 0
-TypeAsked b s facts t asks v i r =
+abbrev pub TypeAsked : Code → List ℕ → Asks → ValueId → ℕ → Answered TypeId → Type 0
+TypeAsked code t asks v i r =
     (τ : Types)
-    → Ground b s facts (recorded_in facts) τ
-    → v.0 < b.next
+    → CodeGround code τ
+    → v.0 < code.bounds.next
     → as_option r ≡ asked_at τ t asks i (Value.Operand v)

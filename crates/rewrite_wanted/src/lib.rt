@@ -4,8 +4,9 @@
 
 ghost use Rattle.rewrite_wanted.specs.Asked.{WantedAt, TypeAsked};
 
-use bytes_field::Bounds;
-use mir::{TypeId, Value, ValueId, shape};
+use bytes_index::Code;
+use mir::shape::Shape;
+use mir::{TypeId, Value, ValueId};
 
 // How many bytes a type's number has.
 const TYPE_BYTES: usize = 2;
@@ -26,16 +27,8 @@ pub struct Build {
 }
 
 // The type asked of value `i`, the operand v.
-fn asked_type(
-    s: &[u8],
-    b: Bounds,
-    facts: &[u16],
-    t: &[u8],
-    asks: Asks,
-    v: ValueId,
-    i: u8,
-) -> Option<TypeId>
-    ensures { TypeAsked b s.now facts.now t.now asks v i result }
+fn asked_type(code: Code, t: &[u8], asks: Asks, v: ValueId, i: u8) -> Option<TypeId>
+    ensures { TypeAsked code.entry t.now asks v i result }
 {
     match asks {
         Asks::Types { first: at, many: n } => {
@@ -43,35 +36,33 @@ fn asked_type(
                 return None;
             }
             let u = bytes_wire::u16_at(bytes_field::tail(t, at), TYPE_BYTES * i as usize);
-            if fold_shapes::type_shape(s, facts, b.types, TypeId(u)) == shape::OTHER {
-                return None;
+            match fold_shapes::type_shape(code, TypeId(u)) {
+                Shape::Other => None,
+                _ => Some(TypeId(u)),
             }
-            Some(TypeId(u))
         }
-        Asks::Recorded => bytes_lookup::recorded_type(bytes_index::recorded(facts), v),
+        Asks::Recorded => bytes_lookup::recorded_type(bytes_index::recorded(code.facts), v),
     }
 }
 
 // What is wanted of value `i` of a list, which stands at place `at` of t: its rebuild, or nothing.
 pub fn wanted_at(
-    s: &[u8],
-    b: Bounds,
-    facts: &[u16],
+    code: Code,
     t: &[u8],
     at: usize,
     tracked: &[bool],
     asks: Asks,
     i: u8,
 ) -> Option<Build>
-    ensures { WantedAt b s.now facts.now t.now at tracked.now asks i result }
+    ensures { WantedAt code.entry t.now at tracked.now asks i result }
 {
-    match bytes_operands::value_at(t, at, b.next) {
+    match bytes_operands::value_at(t, at, code.bounds.next) {
         Value::Literal(_) => None,
         Value::Operand(v) => {
             if !rewrite_parts::tracked(tracked, v) {
                 return None;
             }
-            let named = asked_type(s, b, facts, t, asks, v, i)?;
+            let named = asked_type(code, t, asks, v, i)?;
             Some(Build { value: v, named })
         }
         Value::Error => None,

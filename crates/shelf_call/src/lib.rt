@@ -1,11 +1,12 @@
 // Call, Phi and Debug; `t` are the own fields of an instruction.
 #![tactic(auto)]
 
-ghost use Rattle.std.specs.Prelude.{List, ℕ};
 ghost use Rattle.bytes_field.specs.Decode.{call_of, phi_of, debug_of};
 ghost use Rattle.shelf_field.specs.Asked.{Judged};
+ghost use Rattle.shelf_call.specs.Shown.{JudgedByAny};
 
-use bytes_field::Bounds;
+use bytes_index::Typing;
+use rewrite_parts::Listed;
 
 // Where a Call's dests stand, behind their count; and how long a number of a value or a type, and the callee's, is.
 const DESTS_COUNT: usize = 0;
@@ -31,8 +32,8 @@ const SHOWN_COUNT: usize = 4;
 const SHOWN: usize = 5;
 
 // A Call has as many arguments as parameter types, each of its type, and its dests have the return types.
-pub fn call(s: &[u8], b: Bounds, types: &[u16], recorded: &[u16], t: &[u8]) -> bool
-    ensures { Judged call_of b s.now types.now recorded.now t.now result }
+pub fn call(typing: Typing, t: &[u8]) -> bool
+    ensures { Judged call_of typing.entry t.now result }
 {
     let dests = bytes_wire::byte_at(t, DESTS_COUNT);
     let at = DESTS + APART * dests as usize + CALLEE;
@@ -41,27 +42,58 @@ pub fn call(s: &[u8], b: Bounds, types: &[u16], recorded: &[u16], t: &[u8]) -> b
     if bytes_wire::byte_at(t, e) != n {
         return false;
     }
-    let given = shelf_list::arguments_fit(s, b, types, recorded, t, at + 1, n, e + 1);
+    let given = shelf_list::arguments_fit(
+        typing,
+        Listed {
+            bytes: t,
+            at: at + 1,
+            count: n,
+        },
+        e + 1,
+    );
     let back = e + 1 + APART * n as usize + 1;
-    let had = shelf_list::dests_fit(b, recorded, t, DESTS, dests, back);
-    shelf_field::both(given, had)
+    let had = shelf_list::dests_fit(
+        typing,
+        Listed {
+            bytes: t,
+            at: DESTS,
+            count: dests,
+        },
+        back,
+    );
+    given & had
 }
 
 // A Phi: the dest and each source have the type that is named.
-pub fn phi(s: &[u8], b: Bounds, types: &[u16], recorded: &[u16], t: &[u8]) -> bool
-    ensures { Judged phi_of b s.now types.now recorded.now t.now result }
+pub fn phi(typing: Typing, t: &[u8]) -> bool
+    ensures { Judged phi_of typing.entry t.now result }
 {
-    let y = shelf_field::type_at(t, b, TYPE);
-    let dest = shelf_field::id_has(b, recorded, t, DEST, y);
+    let y = shelf_field::type_at(t, typing.code.bounds, TYPE);
+    let dest = shelf_field::id_has(typing, t, DEST, y);
     let n = bytes_wire::byte_at(t, SOURCES_COUNT);
-    let sources = shelf_list::sources_fit(s, b, types, recorded, t, SOURCES, n, y);
-    shelf_field::both(dest, sources)
+    let sources = shelf_list::sources_fit(
+        typing,
+        Listed {
+            bytes: t,
+            at: SOURCES,
+            count: n,
+        },
+        y,
+    );
+    dest & sources
 }
 
 // Each value of a Debug has a recorded type or is a literal.
-pub fn debug(b: Bounds, recorded: &[u16], t: &[u8]) -> bool
-    ensures { (s types : List ℕ) → Judged debug_of b s types recorded.now t.now result }
+pub fn debug(typing: Typing, t: &[u8]) -> bool
+    ensures { JudgedByAny debug_of typing.entry t.now result }
 {
-    let n = bytes_wire::byte_at(t, SHOWN_COUNT);
-    shelf_list::all_known(b, recorded, t, SHOWN, n)
+    let shown = bytes_wire::byte_at(t, SHOWN_COUNT);
+    shelf_list::all_known(
+        typing,
+        Listed {
+            bytes: t,
+            at: SHOWN,
+            count: shown,
+        },
+    )
 }

@@ -1,3 +1,4 @@
 pub mod Lines
 pub mod Single
 pub mod Standing
+pub mod Passing

@@ -1,7 +1,9 @@
-// Single fields of an instruction: what is read at a place, and tests on it.
+// Single fields of an instruction: what is read at a place, and tests on it. (The own fields `t` and a place in them stay two parameters:
+// nearly every call has another place, and would build a struct of the two anew. The types stay beside them: they go with other bytes too,
+// a list's, a projection's, a terminator's.)
 #![tactic(auto)]
 
-ghost use Rattle.std.specs.Prelude.{◌≡◌, ◌&&◌, List, ℕ};
+ghost use Rattle.std.specs.Prelude.{◌≡◌, ◌<◌, ◌≤◌, ◌+◌, List, ℕ};
 ghost use Rattle.std.proofs.Math.Option.{some};
 ghost use Rattle.bytes_wire.specs.WellFormed.{FitValue};
 ghost use Rattle.mir.specs.declared.TypeId.{TypeId as AnyType};
@@ -9,22 +11,20 @@ ghost use Rattle.mir.specs.declared.Value.{Value as AnyValue};
 ghost use Rattle.mir.specs.declared.Projection.{Projection};
 ghost use Rattle.rewrite_parts.specs.Rows.{ValueAt};
 ghost use Rattle.mir.specs.Lookup.{Types, recorded_type};
+ghost use Rattle.mir.specs.Shape.{number_of_shape};
 ghost use Rattle.rewrite.specs.Rebuild.{return_type};
 ghost use Rattle.rewrite_progress.specs.Ground.{Ground};
 ghost use Rattle.shelf.specs.Agrees.{is_scalar_type, is_scalar};
 ghost use Rattle.shelf_rows.specs.Rows.{Is};
 ghost use Rattle.shelf_field.specs.Fields.{TypeAt, StepAt};
-ghost use Rattle.shelf_field.specs.Asked.{OfId, IdHas, OfValueAt, ValueFits, HasShape};
+ghost use Rattle.shelf_field.specs.Passes.{Among, Passes};
+ghost use Rattle.shelf_field.specs.Asked.{OfId, IdType, IdHas, OfValueAt, OperandType, ValueFits, HasShape};
 
 use bytes_field::Bounds;
+use bytes_index::{Code, Typing};
+use mir::shape::Shape;
 use mir::{Projection, TypeId, Value, ValueId};
-
-// Two tests of which both pass.
-pub fn both(a: bool, c: bool) -> bool
-    ensures { result ≡ (a && c) }
-{
-    if a { c } else { false }
-}
+use rewrite_parts::Listed;
 
 // The value at a place.
 pub fn value_at(t: &[u8], at: usize, next: u16) -> Value
@@ -42,26 +42,25 @@ pub fn type_at(t: &[u8], b: Bounds, at: usize) -> Option<TypeId>
 }
 
 // The recorded type of the value whose number stands at a place.
-pub fn id_type(b: Bounds, recorded: &[u16], t: &[u8], at: usize) -> Option<TypeId>
-    ensures { (s types : List ℕ)
-        → OfId b s types recorded.now t.now at (λ τ d. Is result (recorded_type τ d)) }
+pub fn id_type(typing: Typing, t: &[u8], at: usize) -> Option<TypeId>
+    ensures { IdType typing.entry t.now at result }
 {
-    shelf_types::recorded_type(recorded, ValueId(bytes_wire::u16_at(t, at)))
+    shelf_types::recorded_type(typing.recorded, ValueId(bytes_wire::u16_at(t, at)))
 }
 
 // The recorded type of the value whose number stands at a place is that type.
-pub fn id_has(b: Bounds, recorded: &[u16], t: &[u8], at: usize, number: Option<TypeId>) -> bool
-    ensures { IdHas b recorded.now t.now at number result }
+pub fn id_has(typing: Typing, t: &[u8], at: usize, number: Option<TypeId>) -> bool
+    ensures { IdHas typing.entry t.now at number result }
 {
-    shelf_types::same_type(id_type(b, recorded, t, at), number)
+    shelf_types::same_type(id_type(typing, t, at), number)
 }
 
 // The value whose number stands at a place is recorded as a scalar.
-pub fn id_scalar(s: &[u8], b: Bounds, types: &[u16], recorded: &[u16], t: &[u8], at: usize) -> bool
-    ensures { OfId b s.now types.now recorded.now t.now at
+pub fn id_scalar(typing: Typing, t: &[u8], at: usize) -> bool
+    ensures { OfId typing.entry t.now at
         (λ τ d. result ≡ is_scalar_type τ (recorded_type τ d)) }
 {
-    shelf_types::is_scalar_type(s, b, types, id_type(b, recorded, t, at))
+    shelf_types::is_scalar_type(typing.code, id_type(typing, t, at))
 }
 
 // The recorded type of an operand; none of any other value.
@@ -77,48 +76,32 @@ fn value_type(recorded: &[u16], x: Value) -> Option<TypeId>
 }
 
 // The recorded type of the operand at a place; none of any other value.
-pub fn operand_type(b: Bounds, recorded: &[u16], t: &[u8], at: usize) -> Option<TypeId>
-    ensures { (s types : List ℕ)
-        → OfValueAt b s types recorded.now t.now at (λ τ x. Is result (return_type τ x)) }
+pub fn operand_type(typing: Typing, t: &[u8], at: usize) -> Option<TypeId>
+    ensures { OperandType typing.entry t.now at result }
 {
-    value_type(recorded, value_at(t, at, b.next))
+    value_type(typing.recorded, value_at(t, at, typing.code.bounds.next))
 }
 
 // The value at a place fits a type.
-pub fn value_fits(
-    s: &[u8],
-    b: Bounds,
-    types: &[u16],
-    recorded: &[u16],
-    t: &[u8],
-    at: usize,
-    number: Option<TypeId>,
-) -> bool
-    ensures { ValueFits b s.now types.now recorded.now t.now at number result }
+pub fn value_fits(typing: Typing, t: &[u8], at: usize, number: Option<TypeId>) -> bool
+    ensures { ValueFits typing.entry t.now at number result }
 {
-    shelf_types::fits(s, b, types, recorded, value_at(t, at, b.next), number)
+    shelf_types::fits(typing, value_at(t, at, typing.code.bounds.next), number)
 }
 
 // The value at a place is a scalar.
-pub fn value_scalar(
-    s: &[u8],
-    b: Bounds,
-    types: &[u16],
-    recorded: &[u16],
-    t: &[u8],
-    at: usize,
-) -> bool
-    ensures { OfValueAt b s.now types.now recorded.now t.now at
+pub fn value_scalar(typing: Typing, t: &[u8], at: usize) -> bool
+    ensures { OfValueAt typing.entry t.now at
         (λ τ x. result ≡ is_scalar τ x) }
 {
-    shelf_types::is_scalar(s, b, types, recorded, value_at(t, at, b.next))
+    shelf_types::is_scalar(typing, value_at(t, at, typing.code.bounds.next))
 }
 
 // The type is of that shape.
-pub fn has_shape(s: &[u8], b: Bounds, types: &[u16], number: Option<TypeId>, k: u8) -> bool
-    ensures { HasShape b s.now types.now number k result }
+pub fn has_shape(code: Code, number: Option<TypeId>, shape: Shape) -> bool
+    ensures { HasShape code.entry number (number_of_shape shape) result }
 {
-    shelf_rows::shape_of(s, b, types, number) == k
+    shelf_rows::shape_of(code, number) == shape
 }
 
 // The projection at a place.
@@ -126,4 +109,25 @@ pub fn step_at(t: &[u8], at: usize, next: u16) -> Option<Projection>
     ensures { (q : Projection) → StepAt next t.now at q → result ≡ Some q }
 {
     bytes_operands::step_at(t, at, next)
+}
+
+// Each thing of a list passes its test, the first as number 0; `end` gives the place behind a thing.
+pub fn each_passes<E: Fn(usize) -> usize, T: Fn(u8, usize) -> bool>(
+    list: Listed,
+    end: E,
+    test: T,
+) -> bool
+    requires ends { (p : ℕ) → Among list.at p → E.pre end p }
+    requires short { (p q : ℕ) → Among list.at p → E.post end p q → q ≤ p + 16 }
+    requires tests { (i p : ℕ) → i < list.count → Among list.at p → T.pre test i p }
+    ensures { Passes (λ i p r. T.post test i p r) (λ p q. E.post end p q) list.entry.count 0 list.entry.at result }
+{
+    let mut here = list.at;
+    for i in 0..list.count {
+        if !test(i, here) {
+            return false;
+        }
+        here = end(here);
+    }
+    true
 }

@@ -1,10 +1,9 @@
 -- The tests on lists, as tests on each thing.
 use Prim.Native.Nat.{ℕ, suc, ◌+◌, ◌*◌}
-use mathlib.Core.Path.{◌≡◌, refl, ap, ◌∙◌, sym}
+use mathlib.Core.Path.{◌≡◌, refl, ap, ◌∙◌}
 use mathlib.Core.List.{List, [], ◌∷◌}
-use mathlib.Core.Bool.{true, false, ◌&&◌, true≢false}
-use mathlib.Core.Bool as B
-use mathlib.Core.Option.{Option, none, some}
+use mathlib.Core.Bool.{◌&&◌}
+use mathlib.Core.Option.{Option, some}
 use native.Mathlib.Nat.{add-zero}
 use native.Mathlib.Omega.{arith}
 use lib.ListN.{length, get_or}
@@ -14,8 +13,7 @@ use Rattle.mir.specs.declared.TypeId.{TypeId}
 use Rattle.mir.specs.declared.Value.{Value}
 use Rattle.mir.specs.MirType.{StructField}
 use Rattle.mir.specs.Syntax.{FieldInit}
-use Rattle.rewrite_parts.specs.Rows.{ValueAt, InitAt}
-use Rattle.mir.specs.Lookup.{is_some, Types, row_of, recorded_type}
+use Rattle.mir.specs.Lookup.{Types, row_of, recorded_type}
 use Rattle.mir.specs.Parts.{given, part_type}
 use Rattle.shelf.specs.Fits.{fits, same_type, all_fit, given_fits, fields_fit, arguments_fit}
 use Rattle.shelf.specs.Agrees.{dests_fit}

@@ -1,185 +1,131 @@
 // Lists of an instruction: a build's parts, a Phi's sources, a Call's arguments and dests, a struct build's fields, a Debug's values.
 #![tactic(auto)]
 
-ghost use Rattle.std.specs.Prelude.{◌≡◌, List, ℕ};
+ghost use Rattle.std.specs.Prelude.{◌≡◌, ◌<◌, ◌≤◌, ◌+◌, ◌*◌, List, ℕ};
 ghost use Rattle.mir.specs.Lookup.{is_some, row_of, recorded_type};
 ghost use Rattle.mir.specs.Parts.{part_type};
+ghost use Rattle.bytes_operands.specs.Reach.{value_reach};
 ghost use Rattle.shelf.specs.Lists.{every};
 ghost use Rattle.shelf.specs.Fits.{fits, all_fit, parts_fit, arguments_fit};
 ghost use Rattle.shelf.specs.Agrees.{dests_fit, is_known};
-ghost use Rattle.shelf_field.specs.Fields.{Inner, Later, Late};
-ghost use Rattle.shelf_field.specs.Asked.{OfId, OfValueAt};
+ghost use Rattle.shelf_field.specs.Asked.{ValueFits};
+ghost use Rattle.shelf_field.specs.Fields.{Later, Late};
 ghost use Rattle.shelf_list.specs.Lists.{ValuesAt, SourcesAt, IdsAt};
-ghost use Rattle.shelf_list.specs.Asked.{OfEach, AgainstType, AgainstTypes, GivenFits, FieldsFit};
+ghost use Rattle.shelf_list.specs.Asked.{OfAnyValue, IdTyped, OfEach, PartFits, AgainstType};
+ghost use Rattle.shelf_list.specs.Asked.{ArgumentFits, AgainstTypes, DestFits, DestsFit, GivenFits, FieldsFit};
 
-use bytes_field::Bounds;
+use bytes_index::Typing;
 use bytes_types::layout;
 use mir::{NameId, TypeId};
+use rewrite_parts::Listed;
 
 // How far a source's value stands behind its block, and how far apart numbers of values and types stand.
 const SOURCE_VALUE: usize = 2;
 
 const APART: usize = 2;
 
-// Each of `n` values fits its part of a type.
-fn all_fit(
-    s: &[u8],
-    b: Bounds,
-    types: &[u16],
-    recorded: &[u16],
-    t: &[u8],
-    at: usize,
-    n: u8,
-    number: Option<TypeId>,
-) -> bool
-    requires { Inner at }
-    ensures { AgainstType b s.now types.now recorded.now (ValuesAt b.next t.now at) n number
+// Each value of a list fits its part of a type.
+fn all_fit(typing: Typing, list: Listed, number: Option<TypeId>) -> bool
+    ensures { AgainstType typing.entry list.entry ValuesAt number
         (λ τ o xs. all_fit τ (part_type (row_of τ o)) xs) result }
 {
-    let mut here = at;
-    for i in 0..n {
-        let part = shelf_rows::part_type(s, b, types, number, i as u32);
-        if !shelf_field::value_fits(s, b, types, recorded, t, here, part) {
-            return false;
-        }
-        here = bytes_operands::value_end(t, here);
-    }
-    true
+    shelf_field::each_passes(
+        list,
+        |at| bytes_operands::value_end(list.bytes, at),
+        |i, at|
+            ensures { PartFits typing.entry list.entry.bytes.now at number i result }
+        {
+            let part = shelf_rows::part_type(typing.code, number, i as u32);
+            shelf_field::value_fits(typing, list.bytes, at, part)
+        },
+    )
 }
 
-// The `n` values are the parts of a type.
-pub fn parts_fit(
-    s: &[u8],
-    b: Bounds,
-    types: &[u16],
-    recorded: &[u16],
-    t: &[u8],
-    at: usize,
-    n: u8,
-    number: Option<TypeId>,
-) -> bool
-    requires { Inner at }
-    ensures { AgainstType b s.now types.now recorded.now (ValuesAt b.next t.now at) n number
-        parts_fit result }
+// The values of a list are the parts of a type.
+pub fn parts_fit(typing: Typing, list: Listed, number: Option<TypeId>) -> bool
+    ensures { AgainstType typing.entry list.entry ValuesAt number parts_fit result }
 {
-    let counted = shelf_rows::has_parts(s, b, types, number, n as u32);
-    let all = all_fit(s, b, types, recorded, t, at, n, number);
-    shelf_field::both(counted, all)
+    let counted = shelf_rows::has_parts(typing.code, number, list.count as u32);
+    let all = all_fit(typing, list, number);
+    counted & all
 }
 
-// Each value of a Phi's `n` sources fits a type.
-pub fn sources_fit(
-    s: &[u8],
-    b: Bounds,
-    types: &[u16],
-    recorded: &[u16],
-    t: &[u8],
-    at: usize,
-    n: u8,
-    number: Option<TypeId>,
-) -> bool
-    requires { Inner at }
-    ensures { AgainstType b s.now types.now recorded.now (SourcesAt b.next t.now at) n number
+// The value of each of a Phi's sources fits a type.
+pub fn sources_fit(typing: Typing, list: Listed, number: Option<TypeId>) -> bool
+    ensures { AgainstType typing.entry list.entry SourcesAt number
         (λ τ o xs. every (λ x. fits τ x.value o) xs) result }
 {
-    let mut here = at;
-    for i in 0..n {
-        if !shelf_field::value_fits(s, b, types, recorded, t, here + SOURCE_VALUE, number) {
-            return false;
-        }
-        here = bytes_operands::value_end(t, here + SOURCE_VALUE);
-    }
-    true
+    shelf_field::each_passes(
+        list,
+        |at| bytes_operands::value_end(list.bytes, at + SOURCE_VALUE),
+        |_, at|
+            requires { at < value_reach }
+            ensures { ValueFits typing.entry list.entry.bytes.now (at + 2) number result }
+        { shelf_field::value_fits(typing, list.bytes, at + SOURCE_VALUE, number) },
+    )
 }
 
-// Each of `n` arguments fits its parameter's type; the types stand from `parameters` on.
-pub fn arguments_fit(
-    s: &[u8],
-    b: Bounds,
-    types: &[u16],
-    recorded: &[u16],
-    t: &[u8],
-    at: usize,
-    n: u8,
-    parameters: usize,
-) -> bool
-    requires { Inner at × Later parameters }
-    ensures { AgainstTypes b s.now types.now recorded.now (ValuesAt b.next t.now at) n
-        t.now parameters arguments_fit result }
+// Each argument fits its parameter's type; the types stand from `parameters` on.
+pub fn arguments_fit(typing: Typing, list: Listed, parameters: usize) -> bool
+    requires { Later parameters }
+    ensures { AgainstTypes typing.entry list.entry ValuesAt parameters arguments_fit result }
 {
-    let mut here = at;
-    let mut there = parameters;
-    for i in 0..n {
-        let number = shelf_field::type_at(t, b, there);
-        if !shelf_field::value_fits(s, b, types, recorded, t, here, number) {
-            return false;
-        }
-        here = bytes_operands::value_end(t, here);
-        there = there + APART;
-    }
-    true
+    shelf_field::each_passes(
+        list,
+        |at| bytes_operands::value_end(list.bytes, at),
+        |i, at|
+            requires { Later parameters }
+            ensures { ArgumentFits typing.entry list.entry.bytes.now at (parameters + 2 * i) result }
+        {
+            let there = parameters + APART * i as usize;
+            let number = shelf_field::type_at(list.bytes, typing.code.bounds, there);
+            shelf_field::value_fits(typing, list.bytes, at, number)
+        },
+    )
 }
 
-// Each of `n` dests has its return type; the types stand from `returns` on.
-pub fn dests_fit(b: Bounds, recorded: &[u16], t: &[u8], at: usize, n: u8, returns: usize) -> bool
-    requires { Inner at × Late returns }
-    ensures { (s types : List ℕ) → AgainstTypes b s types recorded.now (IdsAt b.next t.now at) n
-        t.now returns dests_fit result }
+// Each dest has its return type; the types stand from `returns` on.
+pub fn dests_fit(typing: Typing, list: Listed, returns: usize) -> bool
+    requires { Late returns }
+    ensures { DestsFit typing.entry list.entry returns result }
 {
-    let mut here = at;
-    let mut there = returns;
-    for i in 0..n {
-        let number = shelf_field::type_at(t, b, there);
-        if !shelf_field::id_has(b, recorded, t, here, number) {
-            return false;
-        }
-        here = here + APART;
-        there = there + APART;
-    }
-    true
+    shelf_field::each_passes(
+        list,
+        |at| at + APART,
+        |i, at|
+            requires { Late returns }
+            ensures { DestFits typing.entry list.entry.bytes.now at (returns + 2 * i) result }
+        {
+            let there = returns + APART * i as usize;
+            let number = shelf_field::type_at(list.bytes, typing.code.bounds, there);
+            shelf_field::id_has(typing, list.bytes, at, number)
+        },
+    )
 }
 
 // The value of a field is given, and fits.
-fn given_fits(
-    s: &[u8],
-    b: Bounds,
-    types: &[u16],
-    recorded: &[u16],
-    t: &[u8],
-    init: Option<usize>,
-    number: Option<TypeId>,
-) -> bool
-    ensures { GivenFits b s.now types.now recorded.now t.now init number result }
+fn given_fits(typing: Typing, t: &[u8], init: Option<usize>, number: Option<TypeId>) -> bool
+    ensures { GivenFits typing.entry t.now init number result }
 {
     match init {
-        Some(place) => shelf_field::value_fits(s, b, types, recorded, t, place, number),
+        Some(place) => shelf_field::value_fits(typing, t, place, number),
         None => false,
     }
 }
 
-// Each of the `n` fields of a struct type, the row `row`, is given a value that fits by the `n` inits from `at` on.
-pub fn fields_fit(
-    s: &[u8],
-    b: Bounds,
-    types: &[u16],
-    recorded: &[u16],
-    t: &[u8],
-    at: usize,
-    n: u8,
-    number: Option<TypeId>,
-    row: &[u8],
-) -> bool
-    requires { Inner at }
-    ensures { FieldsFit b s.now types.now recorded.now t.now at n number row.now result }
+// Each field of a struct type with as many, the row `row`, is given a value that fits by the inits of a list. (A loop of its own: fields
+// are known by their numbers, and no end of a field is asked for.)
+pub fn fields_fit(typing: Typing, list: Listed, number: Option<TypeId>, row: &[u8]) -> bool
+    ensures { FieldsFit typing.entry list.entry number row.now result }
 {
-    for i in 0..n {
+    for i in 0..list.count {
         let name = NameId(bytes_wire::u16_at(
             row,
             layout::STRUCT_NAMES + layout::STRUCT_APART * i as usize,
         ));
-        let init = rewrite_parts::find_init(t, at, n, name);
-        let part = shelf_rows::part_type(s, b, types, number, i as u32);
-        if !given_fits(s, b, types, recorded, t, init, part) {
+        let init = rewrite_parts::find_init(list, name);
+        let part = shelf_rows::part_type(typing.code, number, i as u32);
+        if !given_fits(typing, list.bytes, init, part) {
             return false;
         }
     }
@@ -187,46 +133,36 @@ pub fn fields_fit(
 }
 
 // The value at a place has a recorded type or is a literal.
-fn value_known(b: Bounds, recorded: &[u16], t: &[u8], at: usize) -> bool
-    ensures { (s types : List ℕ) → OfValueAt b s types recorded.now t.now at (λ τ x. result ≡ is_known τ x) }
+fn value_known(typing: Typing, t: &[u8], at: usize) -> bool
+    ensures { OfAnyValue typing.entry t.now at is_known result }
 {
-    shelf_types::is_known(recorded, shelf_field::value_at(t, at, b.next))
+    let x = shelf_field::value_at(t, at, typing.code.bounds.next);
+    shelf_types::is_known(typing.recorded, x)
 }
 
-// Each of a Return's or a Debug's `n` values has a recorded type or is a literal.
-pub fn all_known(b: Bounds, recorded: &[u16], t: &[u8], at: usize, n: u8) -> bool
-    requires { Inner at }
-    ensures { OfEach b recorded.now (ValuesAt b.next t.now at) n (λ τ xs. every (is_known τ) xs) result }
+// Each of a Return's or a Debug's values has a recorded type or is a literal.
+pub fn all_known(typing: Typing, list: Listed) -> bool
+    ensures { OfEach typing.entry list.entry ValuesAt (λ τ xs. every (is_known τ) xs) result }
 {
-    let mut here = at;
-    for i in 0..n {
-        if !value_known(b, recorded, t, here) {
-            return false;
-        }
-        here = bytes_operands::value_end(t, here);
-    }
-    true
+    shelf_field::each_passes(
+        list,
+        |at| bytes_operands::value_end(list.bytes, at),
+        |_, at|
+            ensures { OfAnyValue typing.entry list.entry.bytes.now at is_known result }
+        { value_known(typing, list.bytes, at) },
+    )
 }
 
-// The value whose number stands at a place has a recorded type.
-fn id_typed(b: Bounds, recorded: &[u16], t: &[u8], at: usize) -> bool
-    ensures { (s types : List ℕ) → OfId b s types recorded.now t.now at (λ τ d. result ≡ is_some (recorded_type τ d)) }
-{
-    shelf_field::id_type(b, recorded, t, at).is_some()
-}
-
-// Each of the `n` parameters has a recorded type.
-pub fn all_typed(b: Bounds, recorded: &[u16], t: &[u8], at: usize, n: u8) -> bool
-    requires { Inner at }
-    ensures { OfEach b recorded.now (IdsAt b.next t.now at) n
+// Each parameter has a recorded type.
+pub fn all_typed(typing: Typing, list: Listed) -> bool
+    ensures { OfEach typing.entry list.entry IdsAt
         (λ τ ds. every (λ v. is_some (recorded_type τ v)) ds) result }
 {
-    let mut here = at;
-    for i in 0..n {
-        if !id_typed(b, recorded, t, here) {
-            return false;
-        }
-        here = here + APART;
-    }
-    true
+    shelf_field::each_passes(
+        list,
+        |at| at + APART,
+        |_, at|
+            ensures { IdTyped typing.entry list.entry.bytes.now at result }
+        { shelf_field::id_type(typing, list.bytes, at).is_some() },
+    )
 }

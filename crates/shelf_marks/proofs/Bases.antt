@@ -1,5 +1,5 @@
 -- The marks of the aggregates that are stored into, and reason 3 over all blocks.
-use Prim.Native.Nat.{ℕ, zero, suc, ◌+◌, ◌-◌, ◌≤◌, ◌<◌}
+use Prim.Native.Nat.{ℕ, zero, suc, ◌+◌, ◌≤◌, ◌<◌}
 use mathlib.Core.Path.{◌≡◌, refl, ap, ◌∙◌, sym}
 use mathlib.Core.List.{List, [], ◌∷◌, ◌++◌}
 use mathlib.Core.Bool.{true, false, cond, not, ◌&&◌, ◌||◌, or-true, or-false, or_assoc}
@@ -7,33 +7,38 @@ use mathlib.Core.Bool as B
 use mathlib.Core.Option.{Option, none, some}
 use native.Mathlib.Omega.{arith}
 use borrow.Author.Tests.{eq-eqb}
-use lib.ListN.{length, get_or, get_elem?, set, drop, replicate, length-set, length-replicate, get_or-eq_default}
+use lib.ListN.{length, get_or, set, drop, replicate, length-set, length-replicate, get_or-eq_default}
 use lib.Seq.{get_or-set_same, get_or-set_other}
 use lib.Dec.{eqb, eqb→eq}
+use denote.Enum.Bare.{sameb}
 use Rattle.table.proofs.Elements.{clear_at}
+use Rattle.mir.specs.contracts.shape.Shape.{the_type}
+use Rattle.mir.specs.declared.shape.Shape.{Shape}
+use Rattle.mir.specs.Shape.{number_of_shape}
 use Rattle.mir.specs.declared.TypeId.{TypeId}
 use Rattle.mir.specs.declared.ValueId.{ValueId}
 use Rattle.mir.specs.MirType.{MirType, Felt, Bool, U32, Tuple, Struct, FixedArray, Pointer, Function, Unit, Error, Unknown}
-use Rattle.bytes_types.specs.Index.{TypesAt}
+use Rattle.fold_shapes.specs.Shapes.{OfType}
 use Rattle.mir.specs.Syntax.{Instruction, Block}
 use Rattle.mir.specs.Reads.{store_base, is_phi}
 use Rattle.bytes_field.specs.Decode.{mark}
-use Rattle.bytes_field.specs.declared.Bounds.{Bounds}
+use Rattle.bytes_index.specs.declared.code.Code.{Code}
+use Rattle.bytes_index.specs.declared.slots.Slots.{Slots}
 use Rattle.bytes_block.specs.Decode.{marks}
 use Rattle.bytes_sections.specs.Index.{recorded_from}
 use Rattle.bytes_index.proofs.Laws.{from_number}
 use Rattle.mir.specs.Option.{as_option}
 use Rattle.std.specs.Prelude.{Some, None, Option as Answered}
-use Rattle.bytes_index.specs.Table.{recorded_in, starts_in, kind_in, read_in}
-use Rattle.bytes_index.specs.Code.{no_block, InstructionIn, LastSlot}
+use Rattle.bytes_index.specs.Table.{recorded_in, kind_in, read_in}
+use Rattle.bytes_index.specs.Code.{no_block, SlotsOf}
 use Rattle.mir.specs.Lists.{Each}
 use Rattle.mir.specs.Lookup.{Types, row_of, recorded_type, value_row, shape, is_tuple, is_struct, is_array, is_aggregate}
 use Rattle.mir.specs.Phis.{behind_phis}
-use Rattle.rewrite_progress.specs.Ground.{Ground}
+use Rattle.fold.specs.Tables.{CodeGround}
 use Rattle.shelf.specs.Lists.{every, among}
 use Rattle.shelf.specs.Reads.{parts_taken, aggregate_base, bases_in, bases, apart}
-use Rattle.shelf_marks.specs.Tests.{OfSlot, OfBlock, OfRoutine, parts_clear, each_kind, each_block}
-use Rattle.shelf_marks.proofs.Scanning.{Slots, slots_start, slots_again, slots_done, Blocks, blocks_next, blocks_done, every_behind, every_same}
+use Rattle.shelf_marks.specs.Tests.{SlotIn, OfSlot, OfBlock, OfRoutine, parts_clear, each_kind, each_block}
+use Rattle.shelf_marks.proofs.Scanning.{SlotsLeft, slots_again, slots_done, Blocks, blocks_next, blocks_done, every_behind, every_same}
 use Rattle.shelf_marks.proofs.Storing.{base_none, base_read, no_phi, phi_parts}
 
 -- marks behind marks
@@ -86,6 +91,13 @@ aggregate_shape (some Unit) = refl
 aggregate_shape (some Error) = refl
 aggregate_shape (some Unknown) = refl
 
+-- a shape that is not Other is no zero
+pub shape_differs : (k : Shape) → not (sameb the_type k Shape.Other) ≡ not (eqb (number_of_shape k) 0)
+shape_differs Shape.Other = refl
+shape_differs Shape.Tuple = refl
+shape_differs Shape.Struct = refl
+shape_differs Shape.FixedArray = refl
+
 no_aggregate : false ≡ is_aggregate none
 unfolding is_aggregate is_tuple is_struct is_array shape
 no_aggregate = refl
@@ -101,64 +113,60 @@ unfolding value_row recorded_type
 aggregate_low τ v e = listed_low τ τ.recorded v.0 e
 
 -- what is_aggregate finds
-module _ (b : Bounds) (s types recorded : List ℕ) (v : ℕ) where
-  pub aggregate_past : b.next ≤ v → (τ : Types) → Ground b s types recorded τ → false ≡ is_aggregate (value_row τ (record { 0 = v }))
+module _ (code : Code) (v : ℕ) where
+  pub aggregate_past : code.bounds.next ≤ v → (τ : Types) → CodeGround code τ → false ≡ is_aggregate (value_row τ (record { 0 = v }))
   unfolding value_row recorded_type row_of
   aggregate_past h τ g = no_aggregate ∙ ap (λ q. is_aggregate (row_of τ q)) (sym (get_or-eq_default τ.recorded none (omega (arith, g.values))))
 
-  known_type : (r : Answered TypeId) → as_option r ≡ recorded_from (get_or recorded v 0) → v < b.next → (τ : Types) → Ground b s types recorded τ → as_option r ≡ recorded_type τ (record { 0 = v })
+  known_type : (r : Answered TypeId) → as_option r ≡ recorded_from (get_or (recorded_in code.facts.now) v 0) → v < code.bounds.next → (τ : Types) → CodeGround code τ → as_option r ≡ recorded_type τ (record { 0 = v })
   unfolding recorded_type
   known_type r e h τ g = e ∙ from_number _ (g.known.recorded_types v (omega (arith, g.values)) (omega (arith, g.values, g.known.long)))
 
-  pub aggregate_none : none ≡ recorded_from (get_or recorded v 0) → v < b.next → (τ : Types) → Ground b s types recorded τ → false ≡ is_aggregate (value_row τ (record { 0 = v }))
+  pub aggregate_none : none ≡ recorded_from (get_or (recorded_in code.facts.now) v 0) → v < code.bounds.next → (τ : Types) → CodeGround code τ → false ≡ is_aggregate (value_row τ (record { 0 = v }))
   unfolding value_row row_of
   aggregate_none e h τ g = no_aggregate ∙ ap (λ o. is_aggregate (row_of τ o)) (known_type None e h τ g)
 
-  pub aggregate_some : (t : TypeId) → some t ≡ recorded_from (get_or recorded v 0) → v < b.next → {r : ℕ} → ((most : ℕ) (ts : List MirType) → TypesAt most s types ts → length ts ≡ b.types → r ≡ shape (get_elem? ts t.0)) → (τ : Types) → Ground b s types recorded τ → not (eqb r 0) ≡ is_aggregate (value_row τ (record { 0 = v }))
+  pub aggregate_some : (t : TypeId) → some t ≡ recorded_from (get_or (recorded_in code.facts.now) v 0) → v < code.bounds.next → {r : ℕ} → OfType shape code t r → (τ : Types) → CodeGround code τ → not (eqb r 0) ≡ is_aggregate (value_row τ (record { 0 = v }))
   unfolding value_row row_of
   aggregate_some t e h {r} f τ g =
-      let z : r ≡ shape (row_of τ (some t)) = f b.list τ.rows g.known.rows g.rows in
+      let z : r ≡ shape (row_of τ (some t)) = f code.bounds.list τ.rows g.known.rows g.rows in
       ap (λ q. not (eqb q 0)) z ∙ sym (aggregate_shape (row_of τ (some t))) ∙ ap (λ o. is_aggregate (row_of τ o)) (known_type (Some t) e h τ g)
 
 -- what mark_base marks
-module _ (b : Bounds) (s facts : List ℕ) (slot : ℕ) (m : List B.Bool) {kind : ℕ} (ek : kind ≡ kind_in facts slot) where
-  pub base_other : (kind ≡ 6 → ⊥) → OfSlot b s facts slot (λ τ i. marks m (aggregate_base τ (store_base i))) m
+module _ (code : Code) (slot : ℕ) (m : List B.Bool) where
+  pub base_other : (kind_in code.facts.now slot ≡ 6 → ⊥) → OfSlot code slot (λ τ i. marks m (aggregate_base τ (store_base i))) m
   unfolding aggregate_base
-  base_other f τ i g a = sym (ap (λ q. marks m (aggregate_base τ q)) (base_none i.kind (λ z. f (ek ∙ a.kind ∙ z))))
+  base_other f τ i g a = sym (ap (λ q. marks m (aggregate_base τ q)) (base_none i.kind (λ z. f (a.kind ∙ z))))
 
-  module _ (h : kind ≡ 6) {v : ℕ} {r : B.Bool} (ev : v ≡ read_in facts slot 0) (er : (τ : Types) → Ground b s facts (recorded_in facts) τ → r ≡ is_aggregate (value_row τ (record { 0 = v }))) where
-    based : (τ : Types) (i : Instruction) → Ground b s facts (recorded_in facts) τ → InstructionIn b s facts slot i → aggregate_base τ (store_base i.kind) ≡ cond r (record { 0 = v } ∷ []) []
+  module _ (h : kind_in code.facts.now slot ≡ 6) {v : ℕ} {r : B.Bool} (ev : v ≡ read_in code.facts.now slot 0) (er : (τ : Types) → CodeGround code τ → r ≡ is_aggregate (value_row τ (record { 0 = v }))) where
+    based : (τ : Types) (i : Instruction) → CodeGround code τ → SlotIn code slot i → aggregate_base τ (store_base i.kind) ≡ cond r (record { 0 = v } ∷ []) []
     unfolding aggregate_base
-    based τ i g a = ap (aggregate_base τ) (base_read b s facts slot i a (sym ek ∙ h) ev) ∙ ap (λ q. cond q (record { 0 = v } ∷ []) []) (sym (er τ g))
+    based τ i g a = ap (aggregate_base τ) (base_read code slot i a h ev) ∙ ap (λ q. cond q (record { 0 = v } ∷ []) []) (sym (er τ g))
 
-    pub base_kept : r ≡ false → OfSlot b s facts slot (λ τ i. marks m (aggregate_base τ (store_base i))) m
+    pub base_kept : r ≡ false → OfSlot code slot (λ τ i. marks m (aggregate_base τ (store_base i))) m
     base_kept k τ i g a = sym (ap (marks m) (based τ i g a ∙ ap (λ q. cond q (record { 0 = v } ∷ []) []) k))
 
-    pub base_marked : r ≡ true → {m' : List B.Bool} → m' ≡ set m v true → OfSlot b s facts slot (λ τ i. marks m (aggregate_base τ (store_base i))) m'
+    pub base_marked : r ≡ true → {m' : List B.Bool} → m' ≡ set m v true → OfSlot code slot (λ τ i. marks m (aggregate_base τ (store_base i))) m'
     base_marked k f τ i g a = f ∙ sym (ap (marks m) (based τ i g a ∙ ap (λ q. cond q (record { 0 = v } ∷ []) []) k))
 
 -- the instructions of a block up to a slot have their bases marked
-pub record Based (b : Bounds) (s facts : List ℕ) (k : ℕ) (m₀ m : List B.Bool) (slot : ℕ) : Type 0 where
+pub record Based (code : Code) (k : ℕ) (m₀ m : List B.Bool) (i : ℕ) : Type 0 where
   pub long : length m ≡ length m₀
-  pub slots : Slots b s facts k (λ τ q is. marks q (bases_in τ is)) m₀ m slot
+  pub left : SlotsLeft code k (λ τ q is. marks q (bases_in τ is)) m₀ m i
 
-module _ (b : Bounds) (s facts : List ℕ) (k : ℕ) where
-  pub based_start : (m : List B.Bool) {slot : ℕ} → slot ≡ get_or (starts_in facts) k 0 → Based b s facts k m m slot
-  based_start m e = record { long = refl; slots = slots_start b s facts k (λ τ q is. marks q (bases_in τ is)) m e }
+module _ (code : Code) (k : ℕ) (at : Slots) {m₀ m : List B.Bool} {i : ℕ} (el : SlotsOf code.facts.now k at) (u : Based code k m₀ m i) where
+  pub based_again : {m' : List B.Bool} → i < at.count → OfSlot code (at.first + i) (λ τ y. marks m (aggregate_base τ (store_base y))) m' → length m' ≡ length m → Based code k m₀ m' (i + 1)
+  unfolding bases_in
+  based_again g f lm =
+      record {
+        long = lm ∙ u.long;
+        left = slots_again code k (λ τ q is. marks q (bases_in τ is)) at el u.left g
+            (λ τ ks y is c a. marks_append m (aggregate_base τ (store_base y.kind)) (bases_in τ is) ∙ ap (λ q. marks q (bases_in τ is)) (sym (f τ y c.ground a)));
+      }
 
-  module _ {m₀ m : List B.Bool} {last slot : ℕ} (el : LastSlot facts k last) (u : Based b s facts k m₀ m slot) where
-    pub based_again : {m' : List B.Bool} → slot < last → OfSlot b s facts slot (λ τ i. marks m (aggregate_base τ (store_base i))) m' → length m' ≡ length m → Based b s facts k m₀ m' (slot + 1)
-    unfolding bases_in
-    based_again g f lm =
-        record {
-          long = lm ∙ u.long;
-          slots = slots_again b s facts k (λ τ q is. marks q (bases_in τ is)) el u.slots g
-              (λ τ ks i is c a. marks_append m (aggregate_base τ (store_base i.kind)) (bases_in τ is) ∙ ap (λ q. marks q (bases_in τ is)) (sym (f τ i c.ground a)));
-        }
-
-    pub based_done : last ≤ slot → OfBlock b s facts k (λ τ x. marks m₀ (bases_in τ x.instructions)) m
-    unfolding bases_in
-    based_done g τ ks c h = sym (slots_done b s facts k (λ τ q is. marks q (bases_in τ is)) el u.slots g τ ks c h)
+  pub based_done : at.count ≤ i → OfBlock code k (λ τ x. marks m₀ (bases_in τ x.instructions)) m
+  unfolding bases_in
+  based_done g τ ks c h = sym (slots_done code k (λ τ q is. marks q (bases_in τ is)) at el u.left g τ ks c h)
 
 -- phis have none
 bases_behind : (τ : Types) (is : List Instruction) → bases_in τ (behind_phis is) ≡ bases_in τ is
@@ -171,12 +179,12 @@ bases_behind τ (i ∷ is) = at (is_phi i.kind) refl (bases_behind τ is)
     at false e g = refl
 
 -- k blocks have their bases marked
-pub record Basing (b : Bounds) (s facts : List ℕ) (m₀ m : List B.Bool) (k : ℕ) : Type 0 where
+pub record Basing (code : Code) (m₀ m : List B.Bool) (k : ℕ) : Type 0 where
   pub long : length m ≡ length m₀
-  pub left : Blocks b s facts (λ τ q ks. marks q (bases τ ks)) m₀ m k
+  pub left : Blocks code (λ τ q ks. marks q (bases τ ks)) m₀ m k
 
-module _ (b : Bounds) (s facts : List ℕ) {m₀ m : List B.Bool} {k : ℕ} (u : Basing b s facts m₀ m k) where
-  pub basing_again : {m' : List B.Bool} → k < b.blocks → OfBlock b s facts k (λ τ x. marks m (bases_in τ x.instructions)) m' → length m' ≡ length m → Basing b s facts m₀ m' (k + 1)
+module _ (code : Code) {m₀ m : List B.Bool} {k : ℕ} (u : Basing code m₀ m k) where
+  pub basing_again : {m' : List B.Bool} → k < code.bounds.blocks → OfBlock code k (λ τ x. marks m (bases_in τ x.instructions)) m' → length m' ≡ length m → Basing code m₀ m' (k + 1)
   unfolding bases
   basing_again {m'} g f lm =
       record {
@@ -184,14 +192,14 @@ module _ (b : Bounds) (s facts : List ℕ) {m₀ m : List B.Bool} {k : ℕ} (u :
         left = λ τ ks c.
             let is = (get_or ks k no_block).instructions in
             let y : marks m (bases_in τ (behind_phis is)) ≡ m' = ap (marks m) (bases_behind τ is) ∙ sym (f τ ks c (omega (arith, c.many))) in
-            blocks_next b s facts (λ τ q ks. marks q (bases τ ks)) u.left g τ ks c
+            blocks_next code (λ τ q ks. marks q (bases τ ks)) u.left g τ ks c
             ∙ marks_append m (bases_in τ (behind_phis is)) (bases τ (drop (k + 1) ks))
             ∙ ap (λ o. marks o (bases τ (drop (k + 1) ks))) y;
       }
 
-  pub basing_done : b.blocks ≤ k → OfRoutine b s facts (λ τ ks. marks m₀ (bases τ ks)) m
+  pub basing_done : code.bounds.blocks ≤ k → OfRoutine code (λ τ ks. marks m₀ (bases τ ks)) m
   unfolding bases
-  basing_done g τ ks c = sym (blocks_done b s facts (λ τ q ks. marks q (bases τ ks)) u.left g τ ks c)
+  basing_done g τ ks c = sym (blocks_done code (λ τ q ks. marks q (bases τ ks)) u.left g τ ks c)
 
 -- the bases are values
 all_append : (P : ValueId → Type 0) (xs ys : List ValueId) → Each P xs → Each P ys → Each P (xs ++ ys)
@@ -224,8 +232,8 @@ apart_every f [] = refl
 apart_every f (i ∷ is) = ap (λ q. every (λ v. not (f v.0)) (parts_taken i.kind) && q) (apart_every f is)
 
 -- the whole: what the marks say of all blocks
-pub apart_all : (b : Bounds) (s facts : List ℕ) (m : List B.Bool) {r : B.Bool} → OfRoutine b s facts (λ τ ks. marks (replicate 256 false) (bases τ ks)) m → OfRoutine b s facts (λ τ ks. each_block (each_kind (parts_clear m)) ks) r → OfRoutine b s facts (λ τ ks. every (λ k. apart (λ x. among x (bases τ ks)) (behind_phis k.instructions)) ks) r
-apart_all b s facts m em er τ ks c =
+pub apart_all : (code : Code) (m : List B.Bool) {r : B.Bool} → OfRoutine code (λ τ ks. marks (replicate 256 false) (bases τ ks)) m → OfRoutine code (λ τ ks. each_block (each_kind (parts_clear m)) ks) r → OfRoutine code (λ τ ks. every (λ k. apart (λ x. among x (bases τ ks)) (behind_phis k.instructions)) ks) r
+apart_all code m em er τ ks c =
     let h : (v : ℕ) → get_or m v false ≡ among v (bases τ ks) = marks_fresh 256 m (bases τ ks) (em τ ks c) (bases_low τ 256 (omega (arith, c.ground.values, c.ground.few)) ks) in
     let f : ℕ → B.Bool = λ x. among x (bases τ ks) in
     er τ ks c

@@ -1,3 +1,4 @@
+pub mod Numbered
 pub mod Scanning
 pub mod Storing
 pub mod Bases

@@ -8,17 +8,18 @@ use native.Mathlib.Omega.{arith}
 use borrow.Author.Tests.{not-true, not-false}
 use lib.ListN.{length, get_or, drop, drop_of_length-le}
 use lib.Seq.{drop-cons}
+use Rattle.mir.specs.declared.BlockId.{BlockId}
 use Rattle.mir.specs.declared.ValueId.{ValueId}
 use Rattle.mir.specs.Syntax.{Instruction, InstructionKind, Block}
 use Rattle.mir.specs.Reads.{is_phi}
-use Rattle.bytes_field.specs.declared.Bounds.{Bounds}
 use Rattle.bytes_index.specs.Table.{starts_in, read_count, read_in, ReadsIn}
-use Rattle.bytes_index.specs.Code.{no_instruction, no_block, InstructionIn, LastSlot}
+use Rattle.bytes_index.specs.Code.{no_instruction, no_block, SlotsOf}
+use Rattle.bytes_index.specs.declared.code.Code.{Code}
+use Rattle.bytes_index.specs.declared.slots.Slots.{Slots}
 use Rattle.mir.specs.Lookup.{Types}
 use Rattle.mir.specs.Phis.{behind_phis}
-use Rattle.rewrite_progress.specs.Ground.{Coded}
 use Rattle.shelf.specs.Lists.{every, clear}
-use Rattle.shelf_marks.specs.Tests.{OfSlot, OfBlock, OfRoutine, each_kind}
+use Rattle.shelf_marks.specs.Tests.{CodedIn, SlotIn, OfBlock, OfRoutine, AsksSlots, AsksBlocks, each_kind}
 
 abbrev no_value : ValueId
 no_value = record { 0 = 0 }
@@ -52,90 +53,83 @@ module _ (facts : List ℕ) (slot : ℕ) (marks : List Bool) where
   clearing_done {n} {k} u en h vs a = sym (u vs a ∙ ap (clear marks) (none_of vs k (omega (arith, a.many))))
 
 -- the instruction in a slot of block k
-pub slot_holds : (b : Bounds) (s facts : List ℕ) (k : ℕ) {last : ℕ} → LastSlot facts k last → (slot : ℕ) → get_or (starts_in facts) k 0 ≤ slot → slot < last → (τ : Types) (ks : List Block) → Coded b s facts τ ks → k < length ks → InstructionIn b s facts slot (get_or (get_or ks k no_block).instructions (slot - get_or (starts_in facts) k 0) no_instruction)
-slot_holds b s facts k el slot f g τ ks c h =
-    let z : get_or (starts_in facts) k 0 + (slot - get_or (starts_in facts) k 0) ≡ slot = omega arith in
-    rw z at ((c.code.each k h).instructions (slot - get_or (starts_in facts) k 0) (omega (arith, el b s ks c.code h)))
+pub block_holds : (code : Code) (k slot : ℕ) (τ : Types) (ks : List Block) → CodedIn code τ ks → k < length ks → get_or (starts_in code.facts.now) k 0 ≤ slot → slot < get_or (starts_in code.facts.now) k 0 + length (get_or ks k no_block).instructions → SlotIn code slot (get_or (get_or ks k no_block).instructions (slot - get_or (starts_in code.facts.now) k 0) no_instruction)
+block_holds code k slot τ ks c h f g =
+    let first = get_or (starts_in code.facts.now) k 0 in
+    let z : first + (slot - first) ≡ slot = omega arith in
+    rw z at ((c.code.each k h).instructions (slot - first) (omega arith))
 
--- The slots of block k from `slot` on are left of what f asks of its instructions; x stands for what is changed on the way.
-module _ {X A : Type 0} (b : Bounds) (s facts : List ℕ) (k : ℕ) (f : Types → X → List Instruction → A) where
-  pub record Slots (x₀ x : X) (slot : ℕ) : Type 0 where
-    pub from : get_or (starts_in facts) k 0 ≤ slot
-    pub left : (τ : Types) (ks : List Block) → Coded b s facts τ ks → k < length ks → f τ x₀ (get_or ks k no_block).instructions ≡ f τ x (drop (slot - get_or (starts_in facts) k 0) (get_or ks k no_block).instructions)
+pub slot_holds : (code : Code) (k : ℕ) (at : Slots) → SlotsOf code.facts.now k at → (i : ℕ) → i < at.count → (τ : Types) (ks : List Block) → CodedIn code τ ks → k < length ks → SlotIn code (at.first + i) (get_or (get_or ks k no_block).instructions i no_instruction)
+slot_holds code k at el i g τ ks c h =
+    let w = el code.bounds code.bytes.now ks c.code h in
+    rw w.0 ((c.code.each k h).instructions i (omega (arith, w.1)))
 
-  pub slots_start : (x : X) {slot : ℕ} → slot ≡ get_or (starts_in facts) k 0 → Slots x x slot
-  slots_start x {slot} e = record { from = omega (arith, e); left = λ τ ks c h. let z : slot - get_or (starts_in facts) k 0 ≡ 0 = omega (arith, e) in ap (λ q. f τ x (drop q (get_or ks k no_block).instructions)) (sym z) }
+-- The slots of block k from number i on are left of what f asks of its instructions; x stands for what is changed on the way.
+abbrev pub SlotsLeft : {X A : Type 0} → Code → ℕ → (Types → X → List Instruction → A) → X → X → ℕ → Type 0
+SlotsLeft code k f x₀ x i = (τ : Types) (ks : List Block) → CodedIn code τ ks → k < length ks → f τ x₀ (get_or ks k no_block).instructions ≡ f τ x (drop i (get_or ks k no_block).instructions)
 
-  module _ {last slot : ℕ} (el : LastSlot facts k last) {x₀ x : X} (u : Slots x₀ x slot) where
-    module _ (g : slot < last) (τ : Types) (ks : List Block) (c : Coded b s facts τ ks) (h : k < length ks) where
-      pub slot_next : f τ x₀ (get_or ks k no_block).instructions ≡ f τ x (get_or (get_or ks k no_block).instructions (slot - get_or (starts_in facts) k 0) no_instruction ∷ drop (slot + 1 - get_or (starts_in facts) k 0) (get_or ks k no_block).instructions)
-      slot_next =
-          let is = (get_or ks k no_block).instructions in
-          let j = slot - get_or (starts_in facts) k 0 in
-          let low : j < length is = omega (arith, el b s ks c.code h, u.from) in
-          let z : j + 1 ≡ slot + 1 - get_or (starts_in facts) k 0 = omega (arith, u.from) in
-          u.left τ ks c h ∙ ap (f τ x) (next_of is j no_instruction low ∙ ap (λ q. get_or is j no_instruction ∷ drop q is) z)
+module _ {X A : Type 0} (code : Code) (k : ℕ) (f : Types → X → List Instruction → A) (at : Slots) (el : SlotsOf code.facts.now k at) {x₀ x : X} {i : ℕ} (u : SlotsLeft code k f x₀ x i) where
+  module _ (g : i < at.count) (τ : Types) (ks : List Block) (c : CodedIn code τ ks) (h : k < length ks) where
+    pub slot_next : f τ x₀ (get_or ks k no_block).instructions ≡ f τ x (get_or (get_or ks k no_block).instructions i no_instruction ∷ drop (i + 1) (get_or ks k no_block).instructions)
+    slot_next = u τ ks c h ∙ ap (f τ x) (next_of (get_or ks k no_block).instructions i no_instruction (omega (arith, (el code.bounds code.bytes.now ks c.code h).1)))
 
-      pub in_slot : InstructionIn b s facts slot (get_or (get_or ks k no_block).instructions (slot - get_or (starts_in facts) k 0) no_instruction)
-      in_slot = slot_holds b s facts k el slot u.from g τ ks c h
+  -- the next is looked at
+  pub slots_again : i < at.count → {x' : X} → ((τ : Types) (ks : List Block) (y : Instruction) (is : List Instruction) → CodedIn code τ ks → SlotIn code (at.first + i) y → f τ x (y ∷ is) ≡ f τ x' is) → SlotsLeft code k f x₀ x' (i + 1)
+  slots_again g e τ ks c h = slot_next g τ ks c h ∙ e τ ks _ _ c (slot_holds code k at el i g τ ks c h)
 
-    -- the next is looked at
-    pub slots_again : slot < last → {x' : X} → ((τ : Types) (ks : List Block) (i : Instruction) (is : List Instruction) → Coded b s facts τ ks → InstructionIn b s facts slot i → f τ x (i ∷ is) ≡ f τ x' is) → Slots x₀ x' (slot + 1)
-    slots_again g e = record { from = omega (arith, u.from); left = λ τ ks c h. slot_next g τ ks c h ∙ e τ ks _ _ c (in_slot g τ ks c h) }
-
-    pub slots_done : last ≤ slot → (τ : Types) (ks : List Block) → Coded b s facts τ ks → k < length ks → f τ x₀ (get_or ks k no_block).instructions ≡ f τ x []
-    slots_done g τ ks c h =
-        u.left τ ks c h ∙ ap (f τ x) (none_of (get_or ks k no_block).instructions (slot - get_or (starts_in facts) k 0) (omega (arith, el b s ks c.code h, u.from)))
+  pub slots_done : at.count ≤ i → (τ : Types) (ks : List Block) → CodedIn code τ ks → k < length ks → f τ x₀ (get_or ks k no_block).instructions ≡ f τ x []
+  slots_done g τ ks c h = u τ ks c h ∙ ap (f τ x) (none_of (get_or ks k no_block).instructions i (omega (arith, (el code.bounds code.bytes.now ks c.code h).1)))
 
 -- a test that each instruction of a block is to pass
-abbrev pub Passing : Bounds → List ℕ → List ℕ → ℕ → (Types → InstructionKind → Bool) → ℕ → Type 0
-Passing b s facts k p slot = Slots {X = Unit {0}} b s facts k (λ τ u is. each_kind (p τ) is) tt tt slot
+abbrev pub Passing : Code → ℕ → (ℕ → Bool → Type 0) → ℕ → Type 0
+Passing code k post i = (p : Types → InstructionKind → Bool) → AsksSlots code post p → SlotsLeft {X = Unit {0}} code k (λ τ u is. each_kind (p τ) is) tt tt i
 
-module _ (b : Bounds) (s facts : List ℕ) (k : ℕ) (p : Types → InstructionKind → Bool) where
-  pub passing_start : {slot : ℕ} → slot ≡ get_or (starts_in facts) k 0 → Passing b s facts k p slot
-  passing_start e = slots_start b s facts k (λ τ u is. each_kind (p τ) is) tt e
+module _ (code : Code) (k : ℕ) (at : Slots) (post : ℕ → Bool → Type 0) (el : SlotsOf code.facts.now k at) {i : ℕ} (u : Passing code k post i) where
+  module _ (g : i < at.count) (low : at.first + i < 65536) {r : Bool} (e : post (at.first + i) r) where
+    pub passing_again : not r ≡ false → Passing code k post (i + 1)
+    passing_again h p a =
+        slots_again {X = Unit {0}} code k (λ τ u is. each_kind (p τ) is) at el {x₀ = tt} {x = tt} (u p a) g
+        (λ τ ks y is c s. ap (λ q. q && each_kind (p τ) is) (sym (a (at.first + i) r low e τ y c.ground s) ∙ not-false r h))
 
-  module _ {last slot : ℕ} (el : LastSlot facts k last) (u : Passing b s facts k p slot) where
-    module _ (g : slot < last) {r : Bool} (e : OfSlot b s facts slot p r) where
-      pub passing_again : not r ≡ false → Passing b s facts k p (slot + 1)
-      passing_again h = slots_again b s facts k (λ τ u is. each_kind (p τ) is) el u g (λ τ ks i is c a. ap (λ q. q && each_kind (p τ) is) (sym (e τ i c.ground a) ∙ not-false r h))
+    pub passing_stop : not r ≡ true → (p : Types → InstructionKind → Bool) → AsksSlots code post p → OfBlock code k (λ τ y. each_kind (p τ) y.instructions) false
+    passing_stop h p a τ ks c l =
+        let s = slot_holds code k at el i g τ ks c l in
+        sym (slot_next {X = Unit {0}} code k (λ τ u is. each_kind (p τ) is) at el {x₀ = tt} {x = tt} (u p a) g τ ks c l
+        ∙ ap (λ q. q && each_kind (p τ) (drop (i + 1) (get_or ks k no_block).instructions)) (sym (a (at.first + i) r low e τ _ c.ground s) ∙ not-true r h))
 
-      pub passing_stop : not r ≡ true → OfBlock b s facts k (λ τ y. each_kind (p τ) y.instructions) false
-      passing_stop h τ ks c l =
-          let a = in_slot b s facts k (λ τ u is. each_kind (p τ) is) el u g τ ks c l in
-          sym (slot_next b s facts k (λ τ u is. each_kind (p τ) is) el u g τ ks c l ∙ ap (λ q. q && each_kind (p τ) (drop (slot + 1 - get_or (starts_in facts) k 0) (get_or ks k no_block).instructions)) (sym (e τ _ c.ground a) ∙ not-true r h))
-
-    pub passing_done : last ≤ slot → OfBlock b s facts k (λ τ y. each_kind (p τ) y.instructions) true
-    passing_done g τ ks c l = sym (slots_done b s facts k (λ τ u is. each_kind (p τ) is) el u g τ ks c l)
+  pub passing_done : at.count ≤ i → (p : Types → InstructionKind → Bool) → AsksSlots code post p → OfBlock code k (λ τ y. each_kind (p τ) y.instructions) true
+  passing_done g p a τ ks c l = sym (slots_done {X = Unit {0}} code k (λ τ u is. each_kind (p τ) is) at el {x₀ = tt} {x = tt} (u p a) g τ ks c l)
 
 -- The blocks from k on are left of what f asks of all.
-abbrev pub Blocks : {X A : Type 0} → Bounds → List ℕ → List ℕ → (Types → X → List Block → A) → X → X → ℕ → Type 0
-Blocks b s facts f x₀ x k = (τ : Types) (ks : List Block) → Coded b s facts τ ks → f τ x₀ ks ≡ f τ x (drop k ks)
+abbrev pub Blocks : {X A : Type 0} → Code → (Types → X → List Block → A) → X → X → ℕ → Type 0
+Blocks code f x₀ x k = (τ : Types) (ks : List Block) → CodedIn code τ ks → f τ x₀ ks ≡ f τ x (drop k ks)
 
-module _ {X A : Type 0} (b : Bounds) (s facts : List ℕ) (f : Types → X → List Block → A) {k : ℕ} {x₀ x : X} (u : Blocks b s facts f x₀ x k) where
-  pub blocks_next : k < b.blocks → (τ : Types) (ks : List Block) → Coded b s facts τ ks → f τ x₀ ks ≡ f τ x (get_or ks k no_block ∷ drop (k + 1) ks)
+module _ {X A : Type 0} (code : Code) (f : Types → X → List Block → A) {k : ℕ} {x₀ x : X} (u : Blocks code f x₀ x k) where
+  pub blocks_next : k < code.bounds.blocks → (τ : Types) (ks : List Block) → CodedIn code τ ks → f τ x₀ ks ≡ f τ x (get_or ks k no_block ∷ drop (k + 1) ks)
   blocks_next g τ ks c = u τ ks c ∙ ap (f τ x) (next_of ks k no_block (omega (arith, c.many)))
 
-  pub blocks_done : b.blocks ≤ k → (τ : Types) (ks : List Block) → Coded b s facts τ ks → f τ x₀ ks ≡ f τ x []
+  pub blocks_done : code.bounds.blocks ≤ k → (τ : Types) (ks : List Block) → CodedIn code τ ks → f τ x₀ ks ≡ f τ x []
   blocks_done g τ ks c = u τ ks c ∙ ap (f τ x) (none_of ks k (omega (arith, c.many)))
 
 -- a test that each block is to pass
-abbrev pub Tested : Bounds → List ℕ → List ℕ → (Types → Block → Bool) → ℕ → Type 0
-Tested b s facts q k = Blocks {X = Unit {0}} b s facts (λ τ u ks. every (q τ) ks) tt tt k
+abbrev pub Tested : Code → (BlockId → Bool → Type 0) → ℕ → Type 0
+Tested code post k = (q : Types → Block → Bool) → AsksBlocks code post q → Blocks {X = Unit {0}} code (λ τ u ks. every (q τ) ks) tt tt k
 
-module _ (b : Bounds) (s facts : List ℕ) (q : Types → Block → Bool) {k : ℕ} (u : Tested b s facts q k) where
-  module _ (g : k < b.blocks) {r : Bool} (e : OfBlock b s facts k q r) where
-    tested_here : (τ : Types) (ks : List Block) → Coded b s facts τ ks → every (q τ) ks ≡ (r && every (q τ) (drop (k + 1) ks))
-    tested_here τ ks c = blocks_next {X = Unit {0}} b s facts (λ τ u ks. every (q τ) ks) {x₀ = tt} {x = tt} u g τ ks c ∙ ap (λ y. y && every (q τ) (drop (k + 1) ks)) (sym (e τ ks c (omega (arith, c.many))))
+module _ (code : Code) (post : BlockId → Bool → Type 0) {k : ℕ} (u : Tested code post k) where
+  module _ (g : k < code.bounds.blocks) (low : k < 65536) {r : Bool} (e : post (record { 0 = k }) r) where
+    tested_here : (q : Types → Block → Bool) → AsksBlocks code post q → (τ : Types) (ks : List Block) → CodedIn code τ ks → every (q τ) ks ≡ (r && every (q τ) (drop (k + 1) ks))
+    tested_here q a τ ks c =
+        blocks_next {X = Unit {0}} code (λ τ u ks. every (q τ) ks) {x₀ = tt} {x = tt} (u q a) g τ ks c
+        ∙ ap (λ y. y && every (q τ) (drop (k + 1) ks)) (sym (a (record { 0 = k }) r low e τ ks c (omega (arith, c.many))))
 
-    pub tested_again : not r ≡ false → Tested b s facts q (k + 1)
-    tested_again h τ ks c = tested_here τ ks c ∙ ap (λ y. y && every (q τ) (drop (k + 1) ks)) (not-false r h)
+    pub tested_again : not r ≡ false → Tested code post (k + 1)
+    tested_again h q a τ ks c = tested_here q a τ ks c ∙ ap (λ y. y && every (q τ) (drop (k + 1) ks)) (not-false r h)
 
-    pub tested_stop : not r ≡ true → OfRoutine b s facts (λ τ ks. every (q τ) ks) false
-    tested_stop h τ ks c = sym (tested_here τ ks c ∙ ap (λ y. y && every (q τ) (drop (k + 1) ks)) (not-true r h))
+    pub tested_stop : not r ≡ true → (q : Types → Block → Bool) → AsksBlocks code post q → OfRoutine code (λ τ ks. every (q τ) ks) false
+    tested_stop h q a τ ks c = sym (tested_here q a τ ks c ∙ ap (λ y. y && every (q τ) (drop (k + 1) ks)) (not-true r h))
 
-  pub tested_done : b.blocks ≤ k → OfRoutine b s facts (λ τ ks. every (q τ) ks) true
-  tested_done g τ ks c = sym (blocks_done {X = Unit {0}} b s facts (λ τ u ks. every (q τ) ks) {x₀ = tt} {x = tt} u g τ ks c)
+  pub tested_done : code.bounds.blocks ≤ k → (q : Types → Block → Bool) → AsksBlocks code post q → OfRoutine code (λ τ ks. every (q τ) ks) true
+  tested_done g q a τ ks c = sym (blocks_done {X = Unit {0}} code (λ τ u ks. every (q τ) ks) {x₀ = tt} {x = tt} (u q a) g τ ks c)
 
 -- a test that phis pass says the same behind them
 pub every_behind : (p : InstructionKind → Bool) → ((i : InstructionKind) → is_phi i ≡ true → p i ≡ true) → (is : List Instruction) → each_kind p (behind_phis is) ≡ each_kind p is

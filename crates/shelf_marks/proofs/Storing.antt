@@ -9,7 +9,6 @@ use borrow.Author.Tests.{eq-eqb, ne_eqb, not-true}
 use lib.ListN.{length, get_or, get_elem?, drop}
 use lib.Dec.{eqb, eqb→eq}
 use Rattle.bytes_wire.specs.Parse.{ok}
-use Rattle.mir.specs.declared.Literal.{Literal}
 use Rattle.mir.specs.declared.Value.{Value}
 use Rattle.mir.specs.declared.ValueId.{ValueId}
 use Rattle.mir.specs.declared.Projection.{Projection}
@@ -18,9 +17,8 @@ use Rattle.mir.specs.Syntax.{Assign, UnaryOp, BinaryOp, Call, Cast, Load, Store,
 use Rattle.mir.specs.Syntax.{MakeTuple, ExtractTupleElement, MakeStruct, ExtractStructField, InsertField, InsertTuple, MakeFixedArray, AssertEq, HeapAllocCells}
 use Rattle.mir.specs.Reads.{reads, store_base, kind_number, is_phi}
 use Rattle.bytes_field.specs.Decode.{instruction_of}
-use Rattle.bytes_field.specs.declared.Bounds.{Bounds}
+use Rattle.bytes_index.specs.declared.code.Code.{Code}
 use Rattle.bytes_index.specs.Table.{place_in, kind_in, read_in, ReadsIn}
-use Rattle.bytes_index.specs.Code.{InstructionIn}
 use Rattle.bytes_operands.specs.Fields.{operand_fields, place_steps}
 use Rattle.mir.specs.Option.{as_option}
 use Rattle.std.specs.Prelude.{Some, None, Option as Answered}
@@ -28,7 +26,7 @@ use Rattle.std.specs.Option.{is_some as has_some}
 use Rattle.mir.specs.Phis.{behind_phis}
 use Rattle.shelf.specs.Lists.{every, among, clear}
 use Rattle.shelf.specs.Reads.{parts_taken, is_deep, shallow}
-use Rattle.shelf_marks.specs.Tests.{OfSlot, found_reads, parts_clear, shallow_in, each_kind, each_block}
+use Rattle.shelf_marks.specs.Tests.{SlotIn, OfSlot, found_reads, parts_clear, shallow_in, each_kind, each_block}
 use Rattle.shelf_marks.proofs.Scanning.{every_behind, every_same}
 
 abbrev no_value : ValueId
@@ -59,8 +57,8 @@ base_of (HeapAllocCells d v) = (refl, omega arith)
 pub base_none : (i : InstructionKind) → (kind_number i ≡ 6 → ⊥) → store_base i ≡ none
 base_none i f = (base_of i).0 ∙ ap (λ q. cond q (some (get_or (reads i) 0 no_value)) none) (ne_eqb (kind_number i) 6 f)
 
-pub base_read : (b : Bounds) (s facts : List ℕ) (slot : ℕ) (i : Instruction) {v : ℕ} → InstructionIn b s facts slot i → kind_in facts slot ≡ 6 → v ≡ read_in facts slot 0 → store_base i.kind ≡ some (record { 0 = v })
-base_read b s facts slot i {v} a k e =
+pub base_read : (code : Code) (slot : ℕ) (i : Instruction) {v : ℕ} → SlotIn code slot i → kind_in code.facts.now slot ≡ 6 → v ≡ read_in code.facts.now slot 0 → store_base i.kind ≡ some (record { 0 = v })
+base_read code slot i {v} a k e =
     let z : eqb (kind_number i.kind) 6 ≡ true = eq-eqb (kind_number i.kind) 6 (sym a.kind ∙ k) in
     let h : 0 < length (reads i.kind) = rw z at (base_of i.kind).1 in
     let y : (get_or (reads i.kind) 0 no_value).0 ≡ v = sym (e ∙ a.reads_in.each 0 h) in
@@ -130,26 +128,26 @@ deep_none (q ∷ []) e = refl
 deep_none (q ∷ r ∷ ps) e = absurd (let z : ◌≡◌ {A = ℕ} 0 1 = cc in omega arith)
 
 -- what is_shallow finds
-module _ (b : Bounds) (s facts : List ℕ) (slot : ℕ) (dropped : List Bool) {kind : ℕ} (ek : kind ≡ kind_in facts slot) where
-  pub shallow_other : (kind ≡ 6 → ⊥) → OfSlot b s facts slot (λ τ. shallow_in dropped) true
+module _ (code : Code) (slot : ℕ) (dropped : List Bool) where
+  pub shallow_other : (kind_in code.facts.now slot ≡ 6 → ⊥) → OfSlot code slot (λ τ. shallow_in dropped) true
   shallow_other f τ i g a =
-      sym (shallow_by (λ x. get_or dropped x false) i.kind ∙ ap (λ q. on_base q (λ v. not (is_deep (place_steps i.kind) && get_or dropped v.0 false))) (base_none i.kind (λ z. f (ek ∙ a.kind ∙ z))))
+      sym (shallow_by (λ x. get_or dropped x false) i.kind ∙ ap (λ q. on_base q (λ v. not (is_deep (place_steps i.kind) && get_or dropped v.0 false))) (base_none i.kind (λ z. f (a.kind ∙ z))))
 
-  module _ (h : kind ≡ 6) {v : ℕ} {r : Bool} (ev : v ≡ read_in facts slot 0) (er : r ≡ get_or dropped v false) where
-    store_shallow : (i : Instruction) → InstructionIn b s facts slot i → shallow_in dropped i.kind ≡ not (is_deep (place_steps i.kind) && r)
+  module _ (h : kind_in code.facts.now slot ≡ 6) {v : ℕ} {r : Bool} (ev : v ≡ read_in code.facts.now slot 0) (er : r ≡ get_or dropped v false) where
+    store_shallow : (i : Instruction) → SlotIn code slot i → shallow_in dropped i.kind ≡ not (is_deep (place_steps i.kind) && r)
     store_shallow i a =
         shallow_by (λ x. get_or dropped x false) i.kind
-        ∙ ap (λ q. on_base q (λ v. not (is_deep (place_steps i.kind) && get_or dropped v.0 false))) (base_read b s facts slot i a (sym ek ∙ h) ev)
+        ∙ ap (λ q. on_base q (λ v. not (is_deep (place_steps i.kind) && get_or dropped v.0 false))) (base_read code slot i a h ev)
         ∙ ap (λ q. not (is_deep (place_steps i.kind) && q)) (sym er)
 
-    pub shallow_kept : not r ≡ true → OfSlot b s facts slot (λ τ. shallow_in dropped) true
+    pub shallow_kept : not r ≡ true → OfSlot code slot (λ τ. shallow_in dropped) true
     shallow_kept n τ i g a = sym (store_shallow i a ∙ ap (λ q. not (is_deep (place_steps i.kind) && q)) (not-true r n) ∙ ap not (and-false (is_deep (place_steps i.kind))))
 
-    module _ (n : not r ≡ false) {at : ℕ} {t : List ℕ} (p : Answered Projection) (ea : at ≡ place_in facts slot) (et : t ≡ drop at s) (ep : (seen : List Bool) (late : Bool) (i : Instruction) (n : ℕ) → instruction_of b seen late t ≡ ok i n → as_option p ≡ get_elem? (place_steps i.kind) 1) where
-      found : (i : Instruction) → InstructionIn b s facts slot i → as_option p ≡ get_elem? (place_steps i.kind) 1
-      found i a = ep [] false i _ (ap (λ q. instruction_of b [] false q) (et ∙ ap (λ q. drop q s) ea) ∙ a.read)
+    module _ (n : not r ≡ false) {at : ℕ} {t : List ℕ} (p : Answered Projection) (ea : at ≡ place_in code.facts.now slot) (et : t ≡ drop at code.bytes.now) (ep : (seen : List Bool) (late : Bool) (i : Instruction) (n : ℕ) → instruction_of code.bounds seen late t ≡ ok i n → as_option p ≡ get_elem? (place_steps i.kind) 1) where
+      found : (i : Instruction) → SlotIn code slot i → as_option p ≡ get_elem? (place_steps i.kind) 1
+      found i a = ep [] false i _ (ap (λ q. instruction_of code.bounds [] false q) (et ∙ ap (λ q. drop q code.bytes.now) ea) ∙ a.read)
 
-      pub shallow_found : (k : Bool) → has_some p ≡ not k → OfSlot b s facts slot (λ τ. shallow_in dropped) k
+      pub shallow_found : (k : Bool) → has_some p ≡ not k → OfSlot code slot (λ τ. shallow_in dropped) k
       shallow_found k e τ i g a = back k (has_some p) e ∙ sym (store_shallow i a ∙ go p (found i a))
         where
           back : (k q : Bool) → q ≡ not k → k ≡ not q
@@ -201,24 +199,24 @@ pub phi_parts : (marks : List Bool) (i : InstructionKind) → is_phi i ≡ true 
 phi_parts marks i e = ap (clear marks) (taken i ∙ ap (λ q. taken_by q i) (eqb→eq (kind_number i) 9 (rw e tt)))
 
 -- what parts_clear finds
-module _ (b : Bounds) (s facts : List ℕ) (slot : ℕ) (marks : List Bool) {kind : ℕ} (ek : kind ≡ kind_in facts slot) where
-  parts_by : (j : ℕ) → kind ≡ j → (i : Instruction) → InstructionIn b s facts slot i → taken_by j i.kind ≡ parts_taken i.kind
-  parts_by j h i a = sym (taken i.kind ∙ ap (λ q. taken_by q i.kind) (sym a.kind ∙ sym ek ∙ h))
+module _ (code : Code) (slot : ℕ) (marks : List Bool) where
+  parts_by : (j : ℕ) → kind_in code.facts.now slot ≡ j → (i : Instruction) → SlotIn code slot i → taken_by j i.kind ≡ parts_taken i.kind
+  parts_by j h i a = sym (taken i.kind ∙ ap (λ q. taken_by q i.kind) (sym a.kind ∙ h))
 
   -- a value that is an operand field
-  pub parts_operand : (j m : ℕ) → ((i : InstructionKind) → taken_by j i ≡ found_reads (get_elem? (operand_fields i) m)) → kind ≡ j
-      → {at : ℕ} {t : List ℕ} (f : Answered Value) {r : Bool} → at ≡ place_in facts slot → t ≡ drop at s
-      → ((seen : List Bool) (late : Bool) (i : Instruction) (n : ℕ) → instruction_of b seen late t ≡ ok i n
-      → as_option f ≡ get_elem? (operand_fields i.kind) m) → r ≡ clear marks (found_reads (as_option f)) → OfSlot b s facts slot (λ τ. parts_clear marks) r
+  pub parts_operand : (j m : ℕ) → ((i : InstructionKind) → taken_by j i ≡ found_reads (get_elem? (operand_fields i) m)) → kind_in code.facts.now slot ≡ j
+      → {at : ℕ} {t : List ℕ} (f : Answered Value) {r : Bool} → at ≡ place_in code.facts.now slot → t ≡ drop at code.bytes.now
+      → ((seen : List Bool) (late : Bool) (i : Instruction) (n : ℕ) → instruction_of code.bounds seen late t ≡ ok i n
+      → as_option f ≡ get_elem? (operand_fields i.kind) m) → r ≡ clear marks (found_reads (as_option f)) → OfSlot code slot (λ τ. parts_clear marks) r
   parts_operand j m q h x ea et f er τ i g a =
-      let z = f [] false i _ (ap (λ q. instruction_of b [] false q) (et ∙ ap (λ q. drop q s) ea) ∙ a.read) in
+      let z = f [] false i _ (ap (λ q. instruction_of code.bounds [] false q) (et ∙ ap (λ q. drop q code.bytes.now) ea) ∙ a.read) in
       er ∙ ap (λ y. clear marks (found_reads y)) z ∙ ap (clear marks) (sym (q i.kind) ∙ parts_by j h i a)
 
   -- a build takes what it reads
-  pub parts_build : (j : ℕ) → ((i : InstructionKind) → taken_by j i ≡ reads i) → kind ≡ j → {r : Bool} → ((vs : List ValueId) → ReadsIn facts slot vs → r ≡ clear marks vs) → OfSlot b s facts slot (λ τ. parts_clear marks) r
+  pub parts_build : (j : ℕ) → ((i : InstructionKind) → taken_by j i ≡ reads i) → kind_in code.facts.now slot ≡ j → {r : Bool} → ((vs : List ValueId) → ReadsIn code.facts.now slot vs → r ≡ clear marks vs) → OfSlot code slot (λ τ. parts_clear marks) r
   parts_build j q h er τ i g a = er (reads i.kind) a.reads_in ∙ ap (clear marks) (sym (q i.kind) ∙ parts_by j h i a)
 
-  pub parts_none : (kind ≡ 6 → ⊥) → (kind ≡ 10 → ⊥) → (kind ≡ 12 → ⊥) → (kind ≡ 14 → ⊥) → (kind ≡ 15 → ⊥) → (kind ≡ 16 → ⊥) → OfSlot b s facts slot (λ τ. parts_clear marks) true
+  pub parts_none : (kind_in code.facts.now slot ≡ 6 → ⊥) → (kind_in code.facts.now slot ≡ 10 → ⊥) → (kind_in code.facts.now slot ≡ 12 → ⊥) → (kind_in code.facts.now slot ≡ 14 → ⊥) → (kind_in code.facts.now slot ≡ 15 → ⊥) → (kind_in code.facts.now slot ≡ 16 → ⊥) → OfSlot code slot (λ τ. parts_clear marks) true
   parts_none f g h k l m τ i w a =
-      let z : taken_by kind i.kind ≡ [] = rw (ne_eqb kind 6 f, ne_eqb kind 10 g, ne_eqb kind 12 h, ne_eqb kind 14 k, ne_eqb kind 15 l, ne_eqb kind 16 m) refl in
-      ap (clear marks) (sym z ∙ parts_by kind refl i a)
+      let z : taken_by (kind_in code.facts.now slot) i.kind ≡ [] = rw (ne_eqb (kind_in code.facts.now slot) 6 f, ne_eqb (kind_in code.facts.now slot) 10 g, ne_eqb (kind_in code.facts.now slot) 12 h, ne_eqb (kind_in code.facts.now slot) 14 k, ne_eqb (kind_in code.facts.now slot) 15 l, ne_eqb (kind_in code.facts.now slot) 16 m) refl in
+      ap (clear marks) (sym z ∙ parts_by (kind_in code.facts.now slot) refl i a)

@@ -3,28 +3,44 @@ use Rattle.std.specs.Prelude.{ℕ, zero, suc, ◌+◌, ◌-◌, ◌≤◌, ◌<�
 use Rattle.std.proofs.Math.Option.{Option, none, some}
 use Rattle.bytes_wire.specs.Number.{at16}
 use Rattle.mir.specs.declared.Value.{Value}
+use Rattle.mir.specs.declared.BlockId.{BlockId}
 use Rattle.mir.specs.declared.ValueId.{ValueId}
 use Rattle.mir.specs.Syntax.{Instruction, InstructionKind, Block}
 use Rattle.mir.specs.Reads.{operand}
-use Rattle.bytes_field.specs.declared.Bounds.{Bounds}
-use Rattle.bytes_index.specs.Table.{recorded_in, starts_in}
+use Rattle.bytes_index.specs.Table.{starts_in}
 use Rattle.bytes_index.specs.Code.{no_block, InstructionIn}
+use Rattle.bytes_index.specs.declared.code.Code.{Code}
+use Rattle.bytes_index.specs.declared.slots.Slots.{Slots}
+use Rattle.fold.specs.Tables.{Coded, CodeGround}
 use Rattle.bytes_operands.specs.Fields.{fields_place}
 use Rattle.mir.specs.Lookup.{Types}
 use Rattle.mir.specs.Phis.{behind_phis}
-use Rattle.rewrite_progress.specs.Ground.{Ground, Coded}
 use Rattle.shelf.specs.Lists.{every, among, clear}
 use Rattle.shelf.specs.Reads.{ordered, parts_taken, bases, apart, shallow, with_debug}
 
+-- an accepted routine as the code has it: its types and blocks, and the instruction in a slot
+abbrev pub CodedIn : Code → Types → List Block → Type 0
+CodedIn code τ ks = Coded code.bounds code.bytes.now code.facts.now τ ks
+
+abbrev pub SlotIn : Code → ℕ → Instruction → Type 0
+SlotIn code slot i = InstructionIn code.bounds code.bytes.now code.facts.now slot i
+
 -- what is answered of the instruction in a slot, of block k, of all blocks
-abbrev pub OfSlot : {A : Type 0} → Bounds → List ℕ → List ℕ → ℕ → (Types → InstructionKind → A) → A → Type 0
-OfSlot b s facts slot f r = (τ : Types) (i : Instruction) → Ground b s facts (recorded_in facts) τ → InstructionIn b s facts slot i → r ≡ f τ i.kind
+abbrev pub OfSlot : {A : Type 0} → Code → ℕ → (Types → InstructionKind → A) → A → Type 0
+OfSlot code slot f r = (τ : Types) (i : Instruction) → CodeGround code τ → SlotIn code slot i → r ≡ f τ i.kind
 
-abbrev pub OfBlock : {A : Type 0} → Bounds → List ℕ → List ℕ → ℕ → (Types → Block → A) → A → Type 0
-OfBlock b s facts k f r = (τ : Types) (ks : List Block) → Coded b s facts τ ks → k < length ks → r ≡ f τ (get_or ks k no_block)
+abbrev pub OfBlock : {A : Type 0} → Code → ℕ → (Types → Block → A) → A → Type 0
+OfBlock code k f r = (τ : Types) (ks : List Block) → CodedIn code τ ks → k < length ks → r ≡ f τ (get_or ks k no_block)
 
-abbrev pub OfRoutine : {A : Type 0} → Bounds → List ℕ → List ℕ → (Types → List Block → A) → A → Type 0
-OfRoutine b s facts f r = (τ : Types) (ks : List Block) → Coded b s facts τ ks → r ≡ f τ ks
+abbrev pub OfRoutine : {A : Type 0} → Code → (Types → List Block → A) → A → Type 0
+OfRoutine code f r = (τ : Types) (ks : List Block) → CodedIn code τ ks → r ≡ f τ ks
+
+-- a test of slots asks p of their instructions, and one of blocks q of them; `post` is what the test may answer
+abbrev pub AsksSlots : Code → (ℕ → Bool → Type 0) → (Types → InstructionKind → Bool) → Type 0
+AsksSlots code post p = (slot : ℕ) (r : Bool) → slot < 65536 → post slot r → OfSlot code slot p r
+
+abbrev pub AsksBlocks : Code → (BlockId → Bool → Type 0) → (Types → Block → Bool) → Type 0
+AsksBlocks code post q = (k : BlockId) (r : Bool) → k.0 < 65536 → post k r → OfBlock code k.0 q r
 
 -- the value that a lookup has found, where it is an operand
 abbrev pub found_reads : Option Value → List ValueId
@@ -77,14 +93,15 @@ dests_at u at (suc n) = record { 0 = at16 u at } ∷ dests_at u (at + 2) n
 abbrev pub dests_of : List ℕ → ℕ → List ValueId
 dests_of t kind = dests_at (drop (fields_place t) t) (dest_first kind) (dest_count (drop (fields_place t) t) kind)
 
--- the slot r of block k is the first behind its phis; is are its instructions
-pub record Behind (first r : ℕ) (is : List Instruction) : Type 0 where
-  pub from : first ≤ r
-  pub same : behind_phis is ≡ drop (r - first) is
+-- slots of a block that begins at `first`: the last of its instructions `is`, those behind its phis
+pub record Behind (first : ℕ) (at : Slots) (is : List Instruction) : Type 0 where
+  pub from : first ≤ at.first
+  pub all : at.first + at.count ≡ first + length is
+  pub same : behind_phis is ≡ drop (at.first - first) is
 
-abbrev pub BehindPhis : List ℕ → ℕ → ℕ → Type 0
-BehindPhis facts k r =
-    (b : Bounds) (s : List ℕ) (τ : Types) (ks : List Block)
-    → Coded b s facts τ ks
+abbrev pub BehindPhis : Code → ℕ → Slots → Type 0
+BehindPhis code k at =
+    (τ : Types) (ks : List Block)
+    → CodedIn code τ ks
     → k < length ks
-    → Behind (get_or (starts_in facts) k 0) r (get_or ks k no_block).instructions
+    → Behind (get_or (starts_in code.facts.now) k 0) at (get_or ks k no_block).instructions

@@ -2,14 +2,15 @@
 use Prim.Native.Nat.{ℕ, ◌+◌}
 use mathlib.Core.Path.{◌≡◌, refl, ap, ◌∙◌}
 use mathlib.Core.List.{List}
-use mathlib.Core.Bool.{Bool, ◌&&◌}
-use mathlib.Core.Option.{some}
+use mathlib.Core.Bool.{Bool, true, false, cond, ◌&&◌}
+use mathlib.Core.Option.{Option, none, some}
 use lib.Dec.{eqb}
 use Rattle.bytes_wire.specs.Number.{at16, at32}
 use Rattle.mir.specs.declared.ValueId.{ValueId}
 use Rattle.mir.specs.declared.TypeId.{TypeId}
 use Rattle.mir.specs.declared.NameId.{NameId}
 use Rattle.mir.specs.declared.Value.{Value}
+use Rattle.mir.specs.declared.Literal.{Literal}
 use Rattle.bytes_field.specs.Decode.{extract_tuple_of, extract_field_of, insert_field_of, insert_tuple_of}
 use Rattle.bytes_field.specs.declared.Bounds.{Bounds}
 use Rattle.bytes_operands.specs.Fields.{value_end}
@@ -17,7 +18,8 @@ use Rattle.bytes_operands.proofs.Places.{Stand, then, last}
 use Rattle.rewrite_parts.specs.Rows.{ValueAt}
 use Rattle.mir.specs.Lookup.{Types, row_of, recorded_type, value_row, shape, is_tuple}
 use Rattle.mir.specs.Parts.{part_type, operand_row}
-use Rattle.shelf.specs.Fits.{same_type, fits}
+use Rattle.shelf.specs.Fits.{same_type, fits, literal_kind, scalar_kind}
+use Rattle.shelf_types.specs.Types.{shaped_part}
 use Rattle.bytes_struct.specs.FindField.{field_type_of}
 use Rattle.shelf.specs.Agrees.{agrees}
 use Rattle.rewrite.specs.Rebuild.{return_type}
@@ -31,6 +33,30 @@ operand_row_lem τ (Value.Literal l) = refl
 operand_row_lem τ (Value.Operand v) = refl
 operand_row_lem τ Value.Error = refl
 
+-- no value fits where there is no type
+same_none : (o : Option TypeId) → same_type o none ≡ false
+unfolding same_type
+same_none none = refl
+same_none (some t) = refl
+
+fits_none : (τ : Types) (x : Value) → fits τ x none ≡ false
+unfolding fits literal_kind scalar_kind row_of
+fits_none τ (Value.Literal (Literal.Integer n)) = refl
+fits_none τ (Value.Literal (Literal.Boolean b)) = refl
+fits_none τ (Value.Literal Literal.Unit) = refl
+fits_none τ (Value.Operand v) = same_none (recorded_type τ v)
+fits_none τ Value.Error = refl
+
+-- the part of a tuple, where it is one
+part_same : (c : Bool) (o : Option TypeId) (y : TypeId) → same_type (cond c o none) (some y) ≡ (c && same_type o (some y))
+unfolding same_type
+part_same true o y = refl
+part_same false o y = refl
+
+part_fits : (τ : Types) (x : Value) (c : Bool) (o : Option TypeId) → fits τ x (cond c o none) ≡ (c && fits τ x o)
+part_fits τ x true o = refl
+part_fits τ x false o = fits_none τ x
+
 module _ (b : Bounds) (t : List ℕ) where
   abbrev D : ℕ → ValueId → Type 0
   D p d = IdAt b.next t p d
@@ -42,11 +68,12 @@ module _ (b : Bounds) (t : List ℕ) where
   Y p y = TypeAt b.types t p y
 
   module _ (seen : List Bool) (τ : Types) {r : Bool} where
-    pub extract_tuple_agrees : ((d : ValueId) (x : Value) (k : ℕ) (y : TypeId) → D 0 d → X 2 x → k ≡ at32 t (value_end t 2) → Y (value_end t 2 + 4) y → r ≡ (same_type (recorded_type τ d) (some y) && (eqb (shape (row_of τ (return_type τ x))) 1 && same_type (part_type (row_of τ (return_type τ x)) k) (some y)))) → Stand t 0 (extract_tuple_of b seen) (λ i e. r ≡ agrees τ i)
+    pub extract_tuple_agrees : ((d : ValueId) (x : Value) (k : ℕ) (y : TypeId) → D 0 d → X 2 x → k ≡ at32 t (value_end t 2) → Y (value_end t 2 + 4) y → r ≡ (same_type (recorded_type τ d) (some y) && same_type (shaped_part (row_of τ (return_type τ x)) 1 k) (some y))) → Stand t 0 (extract_tuple_of b seen) (λ i e. r ≡ agrees τ i)
     unfolding extract_tuple_of agrees is_tuple
     extract_tuple_agrees f =
         then (dest_field b t seen) (λ d u. then (value_field b t) (λ x p. then (long_field b t) (λ k w. last _ (type_field b t) (λ y v.
-        f d x k y u p w v ∙ ap (λ o. same_type (recorded_type τ d) (some y) && (eqb (shape o) 1 && same_type (part_type o k) (some y))) (operand_row_lem τ x)))))
+        f d x k y u p w v ∙ ap (λ o. same_type (recorded_type τ d) (some y) && same_type (shaped_part o 1 k) (some y)) (operand_row_lem τ x)
+        ∙ ap (λ c. same_type (recorded_type τ d) (some y) && c) (part_same (eqb (shape (operand_row τ x)) 1) (part_type (operand_row τ x) k) y)))))
 
     pub extract_field_agrees : ((d : ValueId) (x : Value) (k : NameId) (y : TypeId) → D 0 d → X 2 x → k.0 ≡ at16 t (value_end t 2) → Y (value_end t 2 + 2) y → r ≡ (same_type (recorded_type τ d) (some y) && same_type (field_type_of (row_of τ (return_type τ x)) k) (some y))) → Stand t 0 (extract_field_of b seen) (λ i e. r ≡ agrees τ i)
     unfolding extract_field_of agrees
@@ -60,6 +87,8 @@ module _ (b : Bounds) (t : List ℕ) where
 
     pub insert_tuple_agrees : ((d : ValueId) (x : Value) (k : ℕ) (z : Value) (y : TypeId) → D 0 d → X 2 x → k ≡ at32 t (value_end t 2)
         → X (value_end t 2 + 4) z → Y (value_end t (value_end t 2 + 4)) y
-        → r ≡ (same_type (recorded_type τ d) (some y) && (fits τ x (some y) && (eqb (shape (row_of τ (some y))) 1 && fits τ z (part_type (row_of τ (some y)) k))))) → Stand t 0 (insert_tuple_of b seen) (λ i e. r ≡ agrees τ i)
+        → r ≡ (same_type (recorded_type τ d) (some y) && (fits τ x (some y) && fits τ z (shaped_part (row_of τ (some y)) 1 k)))) → Stand t 0 (insert_tuple_of b seen) (λ i e. r ≡ agrees τ i)
     unfolding insert_tuple_of agrees is_tuple
-    insert_tuple_agrees f = then (dest_field b t seen) (λ d u. then (value_field b t) (λ x p. then (long_field b t) (λ k w. then (value_field b t) (λ z q. last _ (type_field b t) (λ y v. f d x k z y u p w q v)))))
+    insert_tuple_agrees f =
+        then (dest_field b t seen) (λ d u. then (value_field b t) (λ x p. then (long_field b t) (λ k w. then (value_field b t) (λ z q. last _ (type_field b t) (λ y v.
+        f d x k z y u p w q v ∙ ap (λ c. same_type (recorded_type τ d) (some y) && (fits τ x (some y) && c)) (part_fits τ z (eqb (shape (row_of τ (some y))) 1) (part_type (row_of τ (some y)) k)))))))

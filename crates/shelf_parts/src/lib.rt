@@ -3,9 +3,11 @@
 
 ghost use Rattle.bytes_field.specs.Decode.{extract_tuple_of, extract_field_of, insert_field_of, insert_tuple_of};
 ghost use Rattle.shelf_field.specs.Asked.{Judged};
+ghost use Rattle.shelf_parts.specs.Parts.{TakenOut, PutIn};
 
-use bytes_field::Bounds;
-use mir::{NameId, shape};
+use bytes_index::Typing;
+use mir::shape::Shape;
+use mir::{NameId, TypeId};
 
 // Where the dest and the aggregate stand, and how long an index and a name are.
 const DEST: usize = 0;
@@ -16,60 +18,69 @@ const INDEX_SIZE: usize = 4;
 
 const NAME_SIZE: usize = 2;
 
+// A part is taken out: the dest has the type that stands at a place, and so has the part.
+fn taken_out(typing: Typing, t: &[u8], at: usize, part: Option<TypeId>) -> bool
+    ensures { TakenOut typing.entry t.now at part result }
+{
+    let y = shelf_field::type_at(t, typing.code.bounds, at);
+    let same = shelf_field::id_has(typing, t, DEST, y);
+    let named = shelf_types::same_type(part, y);
+    same & named
+}
+
+// The value at a place is put in for a part: the dest and the old aggregate are of type `y`, the value is of the part's type.
+fn put_in(typing: Typing, t: &[u8], y: Option<TypeId>, at: usize, part: Option<TypeId>) -> bool
+    ensures { PutIn typing.entry t.now y at part result }
+{
+    let same = shelf_field::id_has(typing, t, DEST, y);
+    let old = shelf_field::value_fits(typing, t, AGGREGATE, y);
+    let new = shelf_field::value_fits(typing, t, at, part);
+    let fit = old & new;
+    same & fit
+}
+
 // An ExtractTupleElement takes the part with its index from a tuple; the dest and the part have the type that is named.
-pub fn extract_tuple(s: &[u8], b: Bounds, types: &[u16], recorded: &[u16], t: &[u8]) -> bool
-    ensures { Judged extract_tuple_of b s.now types.now recorded.now t.now result }
+pub fn extract_tuple(typing: Typing, t: &[u8]) -> bool
+    ensures { Judged extract_tuple_of typing.entry t.now result }
 {
     let e = bytes_operands::value_end(t, AGGREGATE);
-    let y = shelf_field::type_at(t, b, e + INDEX_SIZE);
-    let from = shelf_field::operand_type(b, recorded, t, AGGREGATE);
-    let part = shelf_rows::part_type(s, b, types, from, bytes_wire::u32_at(t, e));
-    let same = shelf_field::id_has(b, recorded, t, DEST, y);
-    let shaped = shelf_field::has_shape(s, b, types, from, shape::TUPLE);
-    let fit = shelf_types::same_type(part, y);
-    let taken = shelf_field::both(shaped, fit);
-    shelf_field::both(same, taken)
+    let from = shelf_field::operand_type(typing, t, AGGREGATE);
+    let k = bytes_wire::u32_at(t, e);
+    let part = shelf_types::shaped_part(typing.code, from, Shape::Tuple, k);
+    taken_out(typing, t, e + INDEX_SIZE, part)
 }
 
 // An ExtractStructField takes the field of its name from a struct; the dest and the field have the type that is named.
-pub fn extract_field(s: &[u8], b: Bounds, types: &[u16], recorded: &[u16], t: &[u8]) -> bool
-    ensures { Judged extract_field_of b s.now types.now recorded.now t.now result }
+pub fn extract_field(typing: Typing, t: &[u8]) -> bool
+    ensures { Judged extract_field_of typing.entry t.now result }
 {
     let e = bytes_operands::value_end(t, AGGREGATE);
-    let y = shelf_field::type_at(t, b, e + NAME_SIZE);
-    let from = shelf_field::operand_type(b, recorded, t, AGGREGATE);
-    let part = shelf_types::field_type(s, b, types, from, NameId(bytes_wire::u16_at(t, e)));
-    let same = shelf_field::id_has(b, recorded, t, DEST, y);
-    let named = shelf_types::same_type(part, y);
-    shelf_field::both(same, named)
+    let from = shelf_field::operand_type(typing, t, AGGREGATE);
+    let name = NameId(bytes_wire::u16_at(t, e));
+    let part = shelf_types::field_type(typing.code, from, name);
+    taken_out(typing, t, e + NAME_SIZE, part)
 }
 
 // An InsertField: the dest and the old struct have the type that is named, the new value has that of its field.
-pub fn insert_field(s: &[u8], b: Bounds, types: &[u16], recorded: &[u16], t: &[u8]) -> bool
-    ensures { Judged insert_field_of b s.now types.now recorded.now t.now result }
+pub fn insert_field(typing: Typing, t: &[u8]) -> bool
+    ensures { Judged insert_field_of typing.entry t.now result }
 {
     let e = bytes_operands::value_end(t, AGGREGATE);
-    let y = shelf_field::type_at(t, b, bytes_operands::value_end(t, e + NAME_SIZE));
-    let part = shelf_types::field_type(s, b, types, y, NameId(bytes_wire::u16_at(t, e)));
-    let same = shelf_field::id_has(b, recorded, t, DEST, y);
-    let old = shelf_field::value_fits(s, b, types, recorded, t, AGGREGATE, y);
-    let new = shelf_field::value_fits(s, b, types, recorded, t, e + NAME_SIZE, part);
-    let fit = shelf_field::both(old, new);
-    shelf_field::both(same, fit)
+    let at = e + NAME_SIZE;
+    let y = shelf_field::type_at(t, typing.code.bounds, bytes_operands::value_end(t, at));
+    let name = NameId(bytes_wire::u16_at(t, e));
+    let part = shelf_types::field_type(typing.code, y, name);
+    put_in(typing, t, y, at, part)
 }
 
 // An InsertTuple: the dest and the old tuple have the type that is named, the new value has that of its part.
-pub fn insert_tuple(s: &[u8], b: Bounds, types: &[u16], recorded: &[u16], t: &[u8]) -> bool
-    ensures { Judged insert_tuple_of b s.now types.now recorded.now t.now result }
+pub fn insert_tuple(typing: Typing, t: &[u8]) -> bool
+    ensures { Judged insert_tuple_of typing.entry t.now result }
 {
     let e = bytes_operands::value_end(t, AGGREGATE);
-    let y = shelf_field::type_at(t, b, bytes_operands::value_end(t, e + INDEX_SIZE));
-    let part = shelf_rows::part_type(s, b, types, y, bytes_wire::u32_at(t, e));
-    let same = shelf_field::id_has(b, recorded, t, DEST, y);
-    let old = shelf_field::value_fits(s, b, types, recorded, t, AGGREGATE, y);
-    let shaped = shelf_field::has_shape(s, b, types, y, shape::TUPLE);
-    let new = shelf_field::value_fits(s, b, types, recorded, t, e + INDEX_SIZE, part);
-    let put = shelf_field::both(shaped, new);
-    let fit = shelf_field::both(old, put);
-    shelf_field::both(same, fit)
+    let at = e + INDEX_SIZE;
+    let y = shelf_field::type_at(t, typing.code.bounds, bytes_operands::value_end(t, at));
+    let k = bytes_wire::u32_at(t, e);
+    let part = shelf_types::shaped_part(typing.code, y, Shape::Tuple, k);
+    put_in(typing, t, y, at, part)
 }

@@ -7,6 +7,7 @@ use mathlib.Core.Bool as B
 use mathlib.Core.Option.{Option, none, some}
 use native.Mathlib.Omega.{arith}
 use lib.ListN.{length, get_or, drop}
+use borrow.Author.Tests.{eqb-true, eqb-false}
 use lib.Dec.{eqb}
 use lib.Seq.{get_or-drop}
 use Rattle.bytes_wire.specs.Parse.{Parse, ok, bad, later, map_parse}
@@ -32,6 +33,10 @@ use Rattle.bytes_operands.proofs.Places.{then, last, list}
 use Rattle.bytes_operands.proofs.EachKind.{projection_size, ends}
 use Rattle.std.specs.Prelude.{Some, None, Option as Answered}
 use Rattle.std.proofs.lemmas.Option.{none-some}
+use Rattle.mir.specs.contracts.shape.ShapePartialEq.TheImpl.{eq-value}
+use Rattle.mir.specs.declared.shape.Shape.{Shape}
+use Rattle.mir.specs.Shape.{number_of_shape}
+use Rattle.shelf_types.proofs.Numbers.{shape_eq}
 use Rattle.shelf_rows.specs.Rows.{Is}
 use Rattle.rewrite_parts.specs.Rows.{ValueAt, stands}
 use Rattle.mir.specs.Lookup.{Types, row_of, recorded_type, value_row, shape, is_tuple, is_struct, is_array, is_aggregate}
@@ -107,6 +112,13 @@ module _ (next : ℕ) (t : List ℕ) (at n : ℕ) (τ : Types) (o : Option TypeI
   pub pointed_nothing : (ps : List Projection) → StepsIn next t at ps → length ps ≡ n → (n ≡ 0 → ⊥) → ((q : Projection) → StepAt next t at q → None ≡ Some q) → none ≡ pointed τ o ps
   pointed_nothing [] l h z f = absurd (z (sym h))
   pointed_nothing (q ∷ ps) (w & l) h z f = absurd (none-some q (f q w))
+
+-- the shape of no aggregate is 0, that of any other is not
+pub is_other : {b : B.Bool} (k : Shape) → b ≡ eq-value.it k Shape.Other → b ≡ true → number_of_shape k ≡ 0
+is_other k e h = eqb-true (number_of_shape k) 0 (sym (shape_eq k Shape.Other) ∙ sym e ∙ h)
+
+pub not_other : {b : B.Bool} (k : Shape) → b ≡ eq-value.it k Shape.Other → b ≡ false → number_of_shape k ≡ 0 → ⊥
+not_other k e h z = eqb-false (number_of_shape k) 0 (sym (shape_eq k Shape.Other) ∙ sym e ∙ h) z
 
 -- a base that is no aggregate, and one that is
 aggregate : (row : Option MirType) → (shape row ≡ 0 → ⊥) → is_aggregate row ≡ true

@@ -5,13 +5,15 @@ use Rattle.std.proofs.Math.Option.{Option, some}
 use Rattle.mir.specs.declared.TypeId.{TypeId}
 use Rattle.mir.specs.declared.Projection.{Projection}
 use Rattle.mir.specs.Syntax.{Place}
-use Rattle.bytes_field.specs.declared.Bounds.{Bounds}
+use Rattle.bytes_index.specs.declared.code.Code.{Code}
+use Rattle.bytes_index.specs.declared.code.Typing.{Typing}
 use Rattle.bytes_operands.specs.Fields.{projection_end}
-use Rattle.mir.specs.Lookup.{Types}
-use Rattle.rewrite_progress.specs.Ground.{Ground}
+use Rattle.mir.specs.Lookup.{Types, recorded_type}
+use Rattle.fold.specs.Tables.{Ground, TypingGround}
 use Rattle.shelf.specs.Lists.{every}
 use Rattle.shelf.specs.Agrees.{index_fits, reached, place_fits}
 use Rattle.shelf_rows.specs.Rows.{Is}
+use Rattle.rewrite_parts.specs.declared.listed.Listed.{Listed}
 use Rattle.shelf_field.specs.Fields.{IdAt, StepAt, Lined}
 
 abbrev pub StepsIn : ℕ → List ℕ → ℕ → List Projection → Type 0
@@ -23,47 +25,49 @@ pub record PlaceAt (next : ℕ) (t : List ℕ) (at : ℕ) (p : Place) : Type 0 w
   pub many : length p.projections ≡ get_or t (at + 2) 0
   pub steps : StepsIn next t (at + 3) p.projections
 
--- the type that n projections lead to from the type `number`
-abbrev pub LeadsTo : Bounds → List ℕ → List ℕ → List ℕ → ℕ → ℕ → Answered TypeId
+-- the type that projections lead to from the type `number`
+abbrev pub LeadsTo : Code → Listed → Answered TypeId
     → (Types → Option TypeId → List Projection → Option TypeId) → Answered TypeId → Type 0
-LeadsTo b s types t at n number f r =
+LeadsTo code steps number f r =
     (recorded : List ℕ) (τ : Types) (o : Option TypeId) (ps : List Projection)
-    → Ground b s types recorded τ
+    → Ground code.bounds code.bytes.now code.facts.now recorded τ
     → Is number o
-    → StepsIn b.next t at ps
-    → length ps ≡ n
+    → StepsIn code.bounds.next steps.bytes.now steps.at ps
+    → length ps ≡ steps.count
     → Is r (f τ o ps)
 
 -- the value of a projection that is an Index can be one
-abbrev pub IndexFits : Bounds → List ℕ → List ℕ → List ℕ → List ℕ → ℕ → Bool → Type 0
-IndexFits b s types recorded t at r =
+abbrev pub IndexFits : Typing → List ℕ → ℕ → Bool → Type 0
+IndexFits typing t at r =
     (τ : Types) (q : Projection)
-    → Ground b s types recorded τ
-    → StepAt b.next t at q
+    → TypingGround typing τ
+    → StepAt typing.code.bounds.next t at q
     → r ≡ index_fits τ q
 
--- and so of each of n projections
-abbrev pub IndexesFit : Bounds → List ℕ → List ℕ → List ℕ → List ℕ → ℕ → ℕ → Bool → Type 0
-IndexesFit b s types recorded t at n r =
+-- and so of each of a list
+abbrev pub IndexesFit : Typing → Listed → Bool → Type 0
+IndexesFit typing steps r =
     (τ : Types) (ps : List Projection)
-    → Ground b s types recorded τ
-    → StepsIn b.next t at ps
-    → length ps ≡ n
+    → TypingGround typing τ
+    → StepsIn typing.code.bounds.next steps.bytes.now steps.at ps
+    → length ps ≡ steps.count
     → r ≡ every (index_fits τ) ps
 
--- the type at the end of a place
-abbrev pub Reaches : Bounds → List ℕ → List ℕ → List ℕ → List ℕ → ℕ → Answered TypeId → Type 0
-Reaches b s types recorded t at r =
-    (τ : Types) (p : Place)
-    → Ground b s types recorded τ
-    → PlaceAt b.next t at p
+-- the type at the end of a place, whose base is of the type `base`
+abbrev pub Reaches : Code → Answered TypeId → Listed → Answered TypeId → Type 0
+Reaches code base steps r =
+    (recorded : List ℕ) (τ : Types) (p : Place)
+    → Ground code.bounds code.bytes.now code.facts.now recorded τ
+    → Is base (recorded_type τ p.base)
+    → StepsIn code.bounds.next steps.bytes.now steps.at p.projections
+    → length p.projections ≡ steps.count
     → Is r (reached τ p)
 
 -- a place leads to the type `number`
-abbrev pub PlaceFits : Bounds → List ℕ → List ℕ → List ℕ → List ℕ → ℕ → Answered TypeId → Bool → Type 0
-PlaceFits b s types recorded t at number r =
+abbrev pub PlaceFits : Typing → List ℕ → ℕ → Answered TypeId → Bool → Type 0
+PlaceFits typing t at number r =
     (τ : Types) (p : Place) (y : TypeId)
-    → Ground b s types recorded τ
-    → PlaceAt b.next t at p
+    → TypingGround typing τ
+    → PlaceAt typing.code.bounds.next t at p
     → Is number (some y)
     → r ≡ place_fits τ p y

@@ -19,7 +19,8 @@ use bytes_wire::Refusal;
 // The most values that an instruction or a terminator reads.
 const READS: usize = 32;
 
-// None of the first `n` values of a buffer is dropped.
+// None of the first `n` values of a buffer is dropped. No slice of that length: a scan's number of reads has no bound in its type, and past
+// the buffer stands 0.
 fn clean_buffer(buffer: &[u16], n: usize, dropped: &[bool]) -> bool
     ensures { (vs : List ValueId) → Buffered buffer.now n vs → result ≡ clear dropped.now vs }
 {
@@ -59,7 +60,8 @@ fn walk_instruction(s: &[u8], at: usize, b: Bounds, dropped: &[bool]) -> Option<
     judge(bytes_field::further(scan, at), &buffer, dropped)
 }
 
-// Walks the terminator that stands at `at`.
+// Walks the terminator that stands at `at`. Not one function with the one above: it would take the reader, and clauses for what that
+// leaves in both buffers, which are longer than the body.
 fn walk_terminator(s: &[u8], at: usize, b: Bounds, dropped: &[bool]) -> Option<usize>
     ensures { (x : Terminator) (n : ℕ) → terminator_of b (drop at s.now) ≡ ok x n → length (terminator_reads x) ≤ 32
         → result ≡ walked (clean_terminator (marked dropped.now) x) (at + n) }

@@ -5,7 +5,7 @@ use Rattle.std.proofs.Math.Option.{Option, none, some}
 use Rattle.bytes_wire.specs.Number.{at16, at32}
 use Rattle.mir.specs.declared.TypeId.{TypeId}
 use Rattle.mir.specs.MirType.{MirType}
-use Rattle.bytes_field.specs.declared.Bounds.{Bounds}
+use Rattle.bytes_index.specs.declared.code.Code.{Code}
 use Rattle.bytes_types.specs.Index.{TypesAt}
 use Rattle.mir.specs.Lookup.{Types, row_of}
 use Rattle.mir.specs.Option.{as_option}
@@ -63,21 +63,21 @@ pub record Tells (o : Option MirType) (t : List ℕ) : Type 0 where
 abbrev pub Is : Answered TypeId → Option TypeId → Type 0
 Is r o = as_option r ≡ o
 
--- what holds of a recorded type in the type table, where that stands at `types`
-abbrev pub Typed : Bounds → List ℕ → List ℕ → Answered TypeId → (Types → Option TypeId → Type 0) → Type 0
-Typed b s types number P =
+-- what holds of a recorded type in the type table of a routine
+abbrev pub Typed : Code → Answered TypeId → (Types → Option TypeId → Type 0) → Type 0
+Typed code number P =
     (τ : Types) (o : Option TypeId)
-    → TypesAt b.list s types τ.rows
-    → length τ.rows ≡ b.types
+    → TypesAt code.bounds.list code.bytes.now code.facts.now τ.rows
+    → length τ.rows ≡ code.bounds.types
     → Is number o
     → P τ o
 
 -- what is answered of a recorded type: by the type, by its row, and where the answer is a type itself
-abbrev pub OfType : {A : Type 0} → Bounds → List ℕ → List ℕ → Answered TypeId → (Types → Option TypeId → A) → A → Type 0
-OfType b s types number f r = Typed b s types number (λ τ o. r ≡ f τ o)
+abbrev pub OfType : {A : Type 0} → Code → Answered TypeId → (Types → Option TypeId → A) → A → Type 0
+OfType code number f r = Typed code number (λ τ o. r ≡ f τ o)
 
-abbrev pub OfRow : {A : Type 0} → Bounds → List ℕ → List ℕ → Answered TypeId → (Option MirType → A) → A → Type 0
-OfRow b s types number f r = Typed b s types number (λ τ o. r ≡ f (row_of τ o))
+abbrev pub OfRow : {A : Type 0} → Code → Answered TypeId → (Option MirType → A) → A → Type 0
+OfRow code number f r = Typed code number (λ τ o. r ≡ f (row_of τ o))
 
-abbrev pub TypeInRow : Bounds → List ℕ → List ℕ → Answered TypeId → (Option MirType → Option TypeId) → Answered TypeId → Type 0
-TypeInRow b s types number f r = Typed b s types number (λ τ o. Is r (f (row_of τ o)))
+abbrev pub TypeInRow : Code → Answered TypeId → (Option MirType → Option TypeId) → Answered TypeId → Type 0
+TypeInRow code number f r = Typed code number (λ τ o. Is r (f (row_of τ o)))

@@ -6,10 +6,11 @@ ghost use Rattle.mir.specs.Option.{as_option};
 ghost use Rattle.shelf.specs.Lists.{clear};
 ghost use Rattle.shelf_marks.specs.Tests.{OfSlot, found_reads, parts_clear};
 
-use bytes_field::Bounds;
-use mir::{Value, kind};
+use bytes_index::Code;
+use mir::Value;
+use mir::kind::Kind;
 
-// Which operand of a Store is its value, and of an insert the new one.
+// Which operand of a Store is its value, and of an insert the new one: places among the operands.
 const STORED: u8 = 0;
 
 const INSERTED: u8 = 1;
@@ -20,25 +21,23 @@ fn value_clear(f: Option<Value>, marks: &[bool]) -> bool
 {
     match f {
         Some(Value::Operand(v)) => !table::flag(marks, v.0 as usize),
-        Some(Value::Literal(_)) => true,
-        Some(Value::Error) => true,
-        None => true,
+        _ => true,
     }
 }
 
 // Whether the instruction in a slot takes no marked value: as a part, an insert's new value, a Store's value.
-pub fn parts_clear(s: &[u8], b: Bounds, facts: &[u16], slot: u16, marks: &[bool]) -> bool
-    ensures { OfSlot b s.now facts.now slot (λ τ. parts_clear marks.now) result }
+pub fn parts_clear(code: Code, slot: u16, marks: &[bool]) -> bool
+    ensures { OfSlot code.entry slot (λ τ. parts_clear marks.now) result }
 {
-    let t = bytes_field::tail(s, bytes_index::place(facts, slot));
-    let kind = bytes_index::kind(facts, slot);
-    match kind {
-        kind::STORE => value_clear(bytes_operands::operand(t, b, STORED), marks),
-        kind::MAKE_TUPLE => shelf_marks::reads_clear(facts, slot, marks),
-        kind::MAKE_STRUCT => shelf_marks::reads_clear(facts, slot, marks),
-        kind::INSERT_FIELD => value_clear(bytes_operands::operand(t, b, INSERTED), marks),
-        kind::INSERT_TUPLE => value_clear(bytes_operands::operand(t, b, INSERTED), marks),
-        kind::MAKE_FIXED_ARRAY => shelf_marks::reads_clear(facts, slot, marks),
+    let b = code.bounds;
+    let t = bytes_field::tail(code.bytes, bytes_index::place(code.facts, slot));
+    match bytes_index::instruction_kind(code.facts, slot) {
+        Some(Kind::Store) => value_clear(bytes_operands::operand(t, b, STORED), marks),
+        Some(Kind::InsertField) => value_clear(bytes_operands::operand(t, b, INSERTED), marks),
+        Some(Kind::InsertTuple) => value_clear(bytes_operands::operand(t, b, INSERTED), marks),
+        Some(Kind::MakeTuple | Kind::MakeStruct | Kind::MakeFixedArray) => {
+            shelf_marks::reads_clear(code.facts, slot, marks)
+        }
         _ => true,
     }
 }

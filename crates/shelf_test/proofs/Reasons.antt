@@ -7,7 +7,7 @@ use Rattle.mir.specs.Syntax.{Instruction, InstructionKind, Terminator, Block}
 use Rattle.mir.specs.Syntax.{Assign, UnaryOp, BinaryOp, Call, Cast, Load, Store, Debug, Nop, Phi}
 use Rattle.mir.specs.Syntax.{MakeTuple, ExtractTupleElement, MakeStruct, ExtractStructField, InsertField, InsertTuple, MakeFixedArray, AssertEq, HeapAllocCells}
 use Rattle.mir.specs.Reads.{terminator_reads}
-use Rattle.bytes_field.specs.declared.Bounds.{Bounds}
+use Rattle.bytes_index.specs.declared.code.Code.{Code}
 use Rattle.mir.specs.Routine.{Routine}
 use Rattle.rewrite.specs.Run.{Rewritten}
 use mathlib.Core.List.{List, [], ◌∷◌}
@@ -89,7 +89,7 @@ module _ (ds : List ValueId) (none : (v : ℕ) → among v ds ≡ false) where
   none_dropped debug ks = sym (rw (every_true _ (λ k. none_clean (λ v. among v ds) none debug k.instructions) ks) (every_true _ (λ k. none_last (λ v. among v ds) none k.terminator) ks))
 
 -- the blocks of the output as reason 5 looks at them
-pub blocks_written : {s facts out : List ℕ} {b : Bounds} {at next : ℕ} {dropped : List Bool} {x : Routine} {w : Rewritten} → Shelved s b facts out at next dropped x w → Written (output_bounds b next) out at b.blocks w.blocks
+pub blocks_written : {code : Code} {out : List ℕ} {at next : ℕ} {dropped : List Bool} {x : Routine} {w : Rewritten} → Shelved code out at next dropped x w → Written (output_bounds code.bounds next) out at code.bounds.blocks w.blocks
 blocks_written h =
     record {
       rest = h.rest;

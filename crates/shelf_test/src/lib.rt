@@ -10,8 +10,10 @@ ghost use Rattle.shelf_test.specs.Number.{number_of_reason};
 ghost use Rattle.shelf_test.specs.Shelved.{Input, input_reason, Shelved};
 
 use bytes_field::Bounds;
+use bytes_index::Code;
 
-// What the shelf test says: document 01's reasons 0 to 5, in their order.
+// What the shelf test says: document 01's reasons 0 to 5, in their order. (No Option: 0 is a
+// reason too, and answers go by its number.)
 #[derive(Clone, Copy, PartialEq, Eq)]
 pub enum ShelfReason {
     Passed = 0,
@@ -30,16 +32,16 @@ pub fn reason_number(k: ShelfReason) -> u8
 }
 
 // The lowest of the reasons 1, 2 and 3, which are reasons of the input alone; else passed.
-pub fn input_reason(s: &[u8], b: Bounds, facts: &[u16]) -> ShelfReason
-    ensures { (x : Routine) → Input s.now b facts.now x → number_of_reason result ≡ input_reason x }
+pub fn input_reason(code: Code) -> ShelfReason
+    ensures { (x : Routine) → Input code.entry x → number_of_reason result ≡ input_reason x }
 {
-    if !shelf_reason1::types_agree(s, b, facts) {
+    if !shelf_reason1::types_agree(code) {
         return ShelfReason::TypesDisagree;
     }
-    if !shelf_reason2::in_order(s, b, facts) {
+    if !shelf_reason2::in_order(code) {
         return ShelfReason::ReadsEarly;
     }
-    if !shelf_reason3::kept_apart(s, b, facts) {
+    if !shelf_reason3::kept_apart(code) {
         return ShelfReason::BaseAsPart;
     }
     ShelfReason::Passed
@@ -47,30 +49,25 @@ pub fn input_reason(s: &[u8], b: Bounds, facts: &[u16]) -> ShelfReason
 
 // "Reason 0 is passed; else the lowest that holds". The blocks of the output stand at `at` of `out`, and its next value is `next`. `dropped`
 // has a mark for each value left out.
-pub fn reason(
-    s: &[u8],
-    b: Bounds,
-    facts: &[u16],
-    out: &[u8],
-    at: usize,
-    next: u16,
-    dropped: &[bool],
-) -> ShelfReason
-    ensures { (x : Routine) (w : Rewritten) → Shelved s.now b facts.now out.now at next dropped.now x w
+pub fn reason(code: Code, out: &[u8], at: usize, next: u16, dropped: &[bool]) -> ShelfReason
+    ensures { (x : Routine) (w : Rewritten) → Shelved code.entry out.now at next dropped.now x w
         → number_of_reason result ≡ shelf_reason with_debug x w }
 {
-    let first = input_reason(s, b, facts);
+    let first = input_reason(code);
     if first != ShelfReason::Passed {
         return first;
     }
     if !table::any(dropped) {
         return ShelfReason::Passed;
     }
-    if !shelf_reason4::no_deep_store(s, b, facts, dropped) {
+    if !shelf_reason4::no_deep_store(code, dropped) {
         return ShelfReason::DeepStore;
     }
-    let wider = Bounds { next, ..b };
-    if !shelf_reason5::reads_no_dropped(out, at, wider, b.blocks, dropped) {
+    let wider = Bounds {
+        next,
+        ..code.bounds
+    };
+    if !shelf_reason5::reads_no_dropped(out, at, wider, code.bounds.blocks, dropped) {
         return ShelfReason::ReadsDropped;
     }
     ShelfReason::Passed

@@ -14,6 +14,9 @@ use Rattle.mir.specs.MirType.{MirType, Felt, Bool, U32, Tuple, Struct, FixedArra
 use Rattle.bytes_sections.specs.Index.{recorded_number, RecordedAt}
 use Rattle.std.specs.Prelude.{Some, None, Option as Answered}
 use Rattle.mir.specs.Option.{as_option}
+use Rattle.mir.specs.contracts.shape.ShapePartialEq.TheImpl.{eq-value}
+use Rattle.mir.specs.declared.shape.Shape.{Shape}
+use Rattle.mir.specs.Shape.{number_of_shape}
 use Rattle.mir.specs.Lookup.{Types, row_of, recorded_type, shape, is_tuple, is_struct, is_array, is_aggregate}
 use Rattle.bytes_struct.specs.declared.FoundField.{FoundField}
 use Rattle.bytes_struct.specs.FindField.{part_in}
@@ -24,6 +27,25 @@ use Rattle.shelf.specs.Agrees.{is_scalar_type}
 pub recorded_at : (recorded : List ℕ) (τ : Types) (v : ValueId) → RecordedAt recorded τ.recorded → length τ.recorded ≤ length recorded → v.0 < length τ.recorded → get_or recorded v.0 0 ≡ recorded_number (recorded_type τ v)
 unfolding recorded_type
 recorded_at recorded τ v r l h = r v.0 h (omega arith)
+
+-- shapes are the same where their numbers are
+pub shape_eq : (a c : Shape) → eq-value.it a c ≡ eqb (number_of_shape a) (number_of_shape c)
+shape_eq Shape.Other Shape.Other = refl
+shape_eq Shape.Other Shape.Tuple = refl
+shape_eq Shape.Other Shape.Struct = refl
+shape_eq Shape.Other Shape.FixedArray = refl
+shape_eq Shape.Tuple Shape.Other = refl
+shape_eq Shape.Tuple Shape.Tuple = refl
+shape_eq Shape.Tuple Shape.Struct = refl
+shape_eq Shape.Tuple Shape.FixedArray = refl
+shape_eq Shape.Struct Shape.Other = refl
+shape_eq Shape.Struct Shape.Tuple = refl
+shape_eq Shape.Struct Shape.Struct = refl
+shape_eq Shape.Struct Shape.FixedArray = refl
+shape_eq Shape.FixedArray Shape.Other = refl
+shape_eq Shape.FixedArray Shape.Tuple = refl
+shape_eq Shape.FixedArray Shape.Struct = refl
+shape_eq Shape.FixedArray Shape.FixedArray = refl
 
 -- no aggregate has shape 0
 plain : (row : Option MirType) → eqb (shape row) 0 ≡ not (is_aggregate row)

@@ -2,7 +2,7 @@
 // (The reader of bytes stands in bytes_wire: byte_at.)
 #![tactic(auto)]
 
-ghost use Rattle.std.specs.Prelude.{◌≡◌, false, ◌%◌, get_or, set};
+ghost use Rattle.std.specs.Prelude.{◌≡◌, false, ◌%◌, drop, get_or, set};
 ghost use Rattle.table.specs.Flags.{any_stands};
 ghost use Rattle.table.specs.Number.{numbers_below};
 
@@ -22,6 +22,14 @@ pub fn put<T: Copy>(l: &mut [T], i: usize, x: T)
     if i < l.len() {
         l[i] = x;
     }
+}
+
+// What stands from a place on; nothing where that is past the end.
+#[inline]
+pub fn behind<T>(l: &[T], from: usize) -> &[T]
+    ensures { result.now ≡ drop from l.now }
+{
+    &l[from.min(l.len())..]
 }
 
 // The number at a place.

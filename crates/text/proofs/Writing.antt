@@ -1,11 +1,11 @@
 -- Loops that write one thing behind another.
-use Prim.Native.Nat.{ℕ, ◌+◌, ◌-◌, ◌≤◌, ◌<◌}
+use Prim.Native.Nat.{ℕ, ◌+◌, ◌≤◌, ◌<◌}
 use mathlib.Core.Path.{◌≡◌, refl, ap, ◌∙◌, sym}
 use mathlib.Core.List.{List, [], ◌∷◌, ◌++◌}
 use native.Mathlib.Numerals.{add-one}
 use native.Mathlib.Omega.{arith}
 use lib.ListN.{length, length-append, get_or, drop, drop_of_length-le}
-use lib.Seq.{sets, length-sets, slice, take-length, drop-cons}
+use lib.Seq.{sets, length-sets, drop-cons}
 use Rattle.bytes_emit.proofs.Sets.{sets_append}
 use Rattle.text.specs.Digits.{hexadecimal}
 use Rattle.text.specs.Written.{Written}
@@ -35,10 +35,6 @@ writing_done all rest text₀ text to at w e = record { place = omega (arith, w.
 -- two things, the second behind the first
 pub written_behind : {a b text mid text' : List ℕ} {to at r : ℕ} → Written a to text mid at → Written b at mid text' r → Written (a ++ b) to text text' r
 written_behind {a} {b} {text} {mid} {text'} {to} {at} {r} p q = record { place = omega (arith, p.place, q.place, length-append a b); stored = q.stored ∙ rw (p.place, p.stored) (sym (sets_append text to a b)) }
-
--- a copy of all bytes writes them
-pub copied_whole : (s text text' : List ℕ) (to r : ℕ) → (r ≡ to + (length s - 0)) × (text' ≡ sets text to (slice 0 (length s) s)) → Written s to text text' r
-copied_whole s text text' to r h = record { place = omega (arith, h.0); stored = h.1 ∙ ap (sets text to) (take-length s) }
 
 -- bytes in hexadecimal: one more is written
 pub hexadecimal_on : (bytes text₀ text text' : List ℕ) (to at i : ℕ) → i < length bytes → Writing (hexadecimal bytes) (hexadecimal (drop i bytes)) text₀ text to at → text' ≡ sets text at (hexadecimal (get_or bytes i 0 ∷ [])) → Writing (hexadecimal bytes) (hexadecimal (drop (i + 1) bytes)) text₀ text' to (at + 2)

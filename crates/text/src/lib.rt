@@ -1,4 +1,6 @@
 // Numbers and bytes as text. As the writers of bytes_emit, none asks for room: what is past the end is counted and not stored.
+// (No Display: what is printed is defined in specs/Digits and written into lent bytes, with no heap. The bounds of places and lengths are
+// those of bytes_emit, and halve likewise.)
 #![tactic(auto)]
 
 ghost use Rattle.std.specs.Prelude.{◌≡◌, [], ◌∷◌, ◌+◌, ◌<◌, ◌≤◌, length};
@@ -19,7 +21,8 @@ fn digit(d: u8) -> u8
 
 // Writes bytes as they are, and returns the place behind them.
 pub fn put_bytes(text: &mut [u8], to: usize, bytes: &[u8]) -> usize
-    requires { (to < value_room) × (length bytes.now < value_room) }
+    requires room { to < value_room }
+    requires short { length bytes.now < value_room }
     ensures { Written bytes.now to text.old text.new result }
 {
     bytes_emit::copy(text, to, bytes, 0, bytes.len())
@@ -51,13 +54,14 @@ fn put_byte(text: &mut [u8], to: usize, x: u8)
 
 // Writes bytes in hexadecimal, and returns the place behind them.
 pub fn put_hexadecimal(text: &mut [u8], to: usize, bytes: &[u8]) -> usize
-    requires { (to < value_room) × (length bytes.now < value_room) }
+    requires room { to < value_room }
+    requires short { length bytes.now < value_room }
     ensures { Written (hexadecimal bytes.now) to text.old text.new result }
 {
     let mut at = to;
     for b in bytes {
         put_byte(text, at, *b);
-        at = at + 2;
+        at += 2;
     }
     at
 }

@@ -3,22 +3,16 @@ use Prim.Native.Nat.{ℕ, zero, suc, ◌+◌, ◌-◌, ◌≤◌, ◌<◌, min}
 use mathlib.Core.Path.{◌≡◌, refl, ap, ◌∙◌, sym}
 use mathlib.Core.List.{List, ◌++◌}
 use mathlib.Core.Bool.{Bool, true, false}
-use native.Mathlib.Nat.{min-eq_left, min-eq_right, min-le_left, min-le_right, le_of_lt}
+use native.Mathlib.Nat.{min-eq_left, min-eq_right, le_of_lt}
 use native.Mathlib.Numerals.{add-one}
-use native.Mathlib.Omega.{arith}
-use lib.ListN.{length, get_or, take, drop, length-take, length-drop, drop_of_length-le}
-use lib.Seq.{drop-cons, take-length, take_all, length-take-le}
+use lib.ListN.{length, get_or, take, drop, length-drop, drop_of_length-le}
+use lib.Seq.{drop-cons, take-length, take_all}
 use lib.Dec.{ltb}
 use borrow.Author.Tests.{ltb-true, ltb-false, eq-eqb, ne_eqb}
 use Rattle.text.specs.Digits.{letters, decimal}
 use Rattle.text.specs.Written.{Written}
 use Rattle.text.proofs.Writing.{Writing, writing_on, writing_done, written_behind}
 use Rattle.text_lines.specs.Lines.{refused_line, checked_line, behind, numbers_line, lowered_lines, answer_lines}
-
--- a blank, where more follow
-pub behind_more : (more : ℕ) → (more ≡ 0 → ⊥) → letters " " ≡ behind more
-behind_more zero h = absurd (h refl)
-behind_more (suc more) h = refl
 
 -- it is one character
 pub behind_one : (more : ℕ) → length (behind more) ≡ 1
@@ -59,12 +53,6 @@ least_by n l false e = ap (λ k. take k l) (min-eq_right (ltb-false n (length l)
 take_least : (n : ℕ) (l : List ℕ) → take (min n (length l)) l ≡ take n l
 take_least n l = least_by n l (ltb n (length l)) refl
 
--- so much there is
-pub least_there : (n m : ℕ) (l : List ℕ) → n ≡ min m (length l) → (n ≤ length l) × (length (take n l) ≡ n)
-least_there n m l e =
-    let h : n ≤ length l = rw e (min-le_right m (length l)) in
-    (h, length-take-le n l h)
-
 -- the lines of a refusal, and of a routine
 pub answer_refused : (ns out : List ℕ) → (get_or ns 0 0 ≡ 0 → ⊥) → refused_line (get_or ns 0 0) (get_or ns 1 0) ≡ answer_lines ns out
 unfolding answer_lines
@@ -77,7 +65,3 @@ answer_lowered ns out e = rw (eq-eqb (get_or ns 0 0) 0 e) refl
 -- as the code takes the bytes
 pub answer_taken : (ns out : List ℕ) (n : ℕ) → get_or ns 0 0 ≡ 0 → n ≡ min (get_or ns 9 0) (length out) → lowered_lines (take 7 (drop 2 ns)) (take n out) ≡ answer_lines ns out
 answer_taken ns out n e f = ap (lowered_lines (take 7 (drop 2 ns))) (ap (λ k. take k out) f ∙ take_least (get_or ns 9 0) out) ∙ answer_lowered ns out e
-
--- seven at most
-pub length_seven : (l : List ℕ) → length (take 7 l) ≤ 7
-length_seven l = omega (arith, length-take 7 l, min-le_left 7 (length l))

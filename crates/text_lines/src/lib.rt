@@ -1,4 +1,5 @@
 // The lines that the programs print, put together from numbers and bytes. Each stands at the head of the text.
+// (Numbers by their places: the ten numbers of an answer are printed as the entry for C gives them.)
 #![tactic(auto)]
 
 ghost use Rattle.std.specs.Prelude.{◌≡◌, ◌+◌, ◌*◌, ◌<◌, ◌≤◌, length};
@@ -72,7 +73,8 @@ pub fn numbers_line(text: &mut [u8], numbers: &[u64]) -> usize
 
 // A line of numbers, and a line of bytes in hexadecimal.
 fn lowered_lines(text: &mut [u8], numbers: &[u64], bytes: &[u8]) -> usize
-    requires { (length numbers.now < numbers_room) × (length bytes.now < bytes_room) }
+    requires few { length numbers.now < numbers_room }
+    requires short { length bytes.now < bytes_room }
     ensures written { Written (lowered_lines numbers.now bytes.now) 0 text.old text.new result }
     ensures upper_bound { result ≤ number_width * length numbers.now + 2 * length bytes.now + 1 }
 {
@@ -83,7 +85,8 @@ fn lowered_lines(text: &mut [u8], numbers: &[u64], bytes: &[u8]) -> usize
 
 // An answer of the pass: the refusal, or the numbers from the result to the shelf reason and the rewritten routine.
 pub fn answer_lines(text: &mut [u8], numbers: &[u64], output: &[u8]) -> usize
-    requires { (10 ≤ length numbers.now) × (length output.now < bytes_room) }
+    requires all { 10 ≤ length numbers.now }
+    requires short { length output.now < bytes_room }
     ensures written { Written (answer_lines numbers.now output.now) 0 text.old text.new result }
     ensures upper_bound { result ≤ lowered_width + 2 * length output.now }
 {

@@ -1,11 +1,10 @@
-use Rattle.std.proofs.Common.{◌∙◌, ◌≡◌, ◌≤◌, ◌<◌, ◌&&◌, Bool, true, false, sym, refl, eqb, get_or, arith}
+use Rattle.std.proofs.Common.{◌∙◌, ◌≡◌, ◌≤◌, ◌<◌, ◌&&◌, true, false, sym, refl, eqb, get_or, arith}
 use denote.Enum.Bare.{sameb}
 use Rattle.mir.specs.contracts.kind.Kind.{the_type}
 use Rattle.mir.specs.declared.kind.Kind.{Kind}
 use Rattle.mir.proofs.Numbered.{kind_below}
 use Rattle.mir.specs.Kind.{number_of_kind}
-use borrow.Author.Tests.{eq-eqb}
-use Rattle.bytes_block.proofs.Start.{no_bits, bits_past, no_kind, kind_past, late_phi_lem, not_late, head_some}
+use Rattle.bytes_block.proofs.Start.{no_bits, bits_past, no_kind, kind_past, late_phi_lem, head_some}
 use Rattle.bytes_block.proofs.read_head.Goals as goal
 use Rattle.bytes_block.proofs.read_head.Goals.{else-late-via-then-late+else-eq, else-late-via-else-late}
 

@@ -1,6 +1,6 @@
-use Rattle.std.proofs.Common.{arith, rules, of_calls, ◌≡◌, Ok}
+use Rattle.std.proofs.Common.{arith, rules, ◌≡◌, Ok}
 use Rattle.std.proofs.iter.Serving.{serving}
-use Rattle.bytes_block.proofs.Blocks.{end_size, end_bad, end_reads, end_some}
+use Rattle.bytes_block.proofs.Blocks.{end_size, end_reads, end_some}
 use Rattle.bytes_block.proofs.terminator_row.Goals as goal
 
 pub map_err-requires : goal.map_err-requires

@@ -1,5 +1,4 @@
 use Rattle.bytes_emit.proofs.Sets.{Copied}
-use Rattle.std.proofs.Common.{◌-◌}
 use Rattle.bytes_emit.proofs.copy_cut.Given as goal
 
 abbrev pub invariant-loop-at : goal.invariant-loop-at

@@ -1,20 +1,25 @@
-use Rattle.std.proofs.Common.{arith, refl, ap, ◌∙◌}
-use Rattle.bytes_operands.proofs.Instruction.{no_operand, operand_at}
-use Rattle.std.proofs.Common.{drop}
+use Rattle.std.proofs.Common.{arith, refl, ap, ◌∙◌, drop}
+use Rattle.mir.specs.Kind.{number_of_kind}
 use Rattle.mir.specs.Option.{as_option}
 use Rattle.bytes_operands.specs.Fields.{fields_place}
+use Rattle.bytes_operands.proofs.Instruction.{instruction_fields, no_operand, operand_at}
 use Rattle.bytes_operands.proofs.operand.Goals as goal
+
+pub returns-in_err-kind : goal.returns-in_err-kind
+returns-in_err-kind c = λ seen late i n e.
+    let a = c.args in
+    absurd (omega (arith, c.in_err-kind.ensures, (instruction_fields a.b seen late a.s.now i n e).known))
 
 pub returns-then-o-k : goal.returns-then-o-k
 returns-then-o-k c = λ seen late i n e.
     let a = c.args in
-    no_operand a.b seen late a.s.now i n e (drop (fields_place a.s.now) a.s.now) c.byte_at-kind.result a.k refl c.byte_at-kind.ensures
+    no_operand a.b seen late a.s.now i n e (drop (fields_place a.s.now) a.s.now) (number_of_kind c.in_ok-kind.kind) a.k refl c.in_ok-kind.ensures
     (omega (arith, ap (λ o. o.0) c.operands_of-o.ensures, c.if-o-k.true))
 
 pub returns : goal.returns
 returns c = λ seen late i n e.
     let a = c.args in
-    operand_at a.b seen late a.s.now i n e c.tail-t.result.now c.byte_at-kind.result a.k
-    (c.tail-t.ensures ∙ ap (λ p. drop p a.s.now) c.fields_place.ensures) c.byte_at-kind.ensures c.values_end.result
+    operand_at a.b seen late a.s.now i n e c.tail-t.result.now (number_of_kind c.in_ok-kind.kind) a.k
+    (c.tail-t.ensures ∙ ap (λ p. drop p a.s.now) c.fields_place.ensures) c.in_ok-kind.ensures c.values_end.result
     (omega (arith, ap (λ o. o.0) c.operands_of-o.ensures, c.if-o-k.false))
     (simp (c.values_end.ensures.0, c.operand_first.ensures.0, c.operands_of-o.ensures)) (λ x m e. ap as_option (c.found_at.ensures x m e))

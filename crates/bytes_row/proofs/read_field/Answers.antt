@@ -1,42 +1,42 @@
 use Rattle.bytes_field.specs.Walk.{simple_walk, field_walk}
 use Rattle.bytes_row.proofs.read_field.Goals as goal
 
-pub returns-in-0 : goal.returns-in-0
+pub returns-in-Nothing : goal.returns-in-Nothing
 unfolding field_walk simple_walk
-returns-in-0 c = simp c.in-0.is
+returns-in-Nothing c = simp c.in-Nothing.is
 
-pub returns-in-1 : goal.returns-in-1
+pub returns-in-Dest : goal.returns-in-Dest
 unfolding field_walk simple_walk
-returns-in-1 c = simp (c.read_defined.ensures c.args.buffer.now, c.in-1.is)
+returns-in-Dest c = simp (c.read_defined.ensures c.args.buffer.now, c.in-Dest.is)
 
-pub returns-in-2 : goal.returns-in-2
+pub returns-in-Value : goal.returns-in-Value
 unfolding field_walk simple_walk
-returns-in-2 c = simp (c.read_value.ensures c.args.seen.now, c.in-2.is)
+returns-in-Value c = simp (c.read_value.ensures c.args.seen.now, c.in-Value.is)
 
-pub returns-in-3 : goal.returns-in-3
+pub returns-in-Type : goal.returns-in-Type
 unfolding field_walk simple_walk
-returns-in-3 c = simp (c.read_below.ensures c.args.seen.now c.args.buffer.now, c.in-3.is)
+returns-in-Type c = simp (c.read_below.ensures c.args.seen.now c.args.buffer.now, c.in-Type.is)
 
-pub returns-in-4 : goal.returns-in-4
+pub returns-in-Name : goal.returns-in-Name
 unfolding field_walk simple_walk
-returns-in-4 c = simp (c.read_number.ensures c.args.seen.now c.args.buffer.now, c.in-4.is)
+returns-in-Name c = simp (c.read_number.ensures c.args.seen.now c.args.buffer.now, c.in-Name.is)
 
-pub returns-in-5 : goal.returns-in-5
+pub returns-in-Number : goal.returns-in-Number
 unfolding field_walk simple_walk
-returns-in-5 c = simp (c.read_number-in-5.ensures c.args.seen.now c.args.buffer.now, c.in-5.is)
+returns-in-Number c = simp (c.read_number-in-Number.ensures c.args.seen.now c.args.buffer.now, c.in-Number.is)
 
-pub returns-in-6 : goal.returns-in-6
+pub returns-in-Block : goal.returns-in-Block
 unfolding field_walk simple_walk
-returns-in-6 c = simp (c.read_below-in-6.ensures c.args.seen.now c.args.buffer.now, c.in-6.is)
+returns-in-Block c = simp (c.read_below-in-Block.ensures c.args.seen.now c.args.buffer.now, c.in-Block.is)
 
-pub returns-in-7 : goal.returns-in-7
+pub returns-in-Place : goal.returns-in-Place
 unfolding field_walk
-returns-in-7 c = simp (c.read_place.ensures, c.in-7.is)
+returns-in-Place c = simp (c.read_place.ensures, c.in-Place.is)
 
-pub returns-in-8 : goal.returns-in-8
+pub returns-in-Binary : goal.returns-in-Binary
 unfolding field_walk simple_walk
-returns-in-8 c = simp (c.read_operation.ensures c.args.seen.now c.args.buffer.now, c.in-8.is)
+returns-in-Binary c = simp (c.read_operation.ensures c.args.seen.now c.args.buffer.now, c.in-Binary.is)
 
-pub returns-in-9 : goal.returns-in-9
+pub returns-in-Unary : goal.returns-in-Unary
 unfolding field_walk simple_walk
-returns-in-9 c = simp (c.read_operation-in-9.ensures c.args.seen.now c.args.buffer.now, c.in-9.is)
+returns-in-Unary c = simp (c.read_operation-in-Unary.ensures c.args.seen.now c.args.buffer.now, c.in-Unary.is)

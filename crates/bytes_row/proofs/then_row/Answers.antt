@@ -1,13 +1,13 @@
 use Rattle.std.proofs.Common.{arith}
 use Rattle.bytes_field.proofs.Sizes.{size_row}
 use Rattle.bytes_field.proofs.Laws.{bytes_within}
-use Rattle.bytes_field.specs.Walk.{walk_of, row_walk}
+use Rattle.bytes_field.specs.Walk.{walk_before, row_walk}
 use Rattle.bytes_row.proofs.then_row.Goals as goal
 
 pub further-requires : goal.further-requires
 further-requires c =
     let a = c.args in
-    let w = walk_of a.seen.now a.buffer.now a.p.reads a.p.late in
+    let w = walk_before a.seen.now a.buffer.now a.p in
     omega (
       arith,
       bytes_within a.s.now a.p.size c.read_row-r.result c.read_row-r.new.seen c.read_row-r.new.buffer (λ t. row_walk a.b a.many 5 a.row w t)

@@ -3,7 +3,7 @@ use Rattle.std.proofs.iter.Serving.{serving}
 use Rattle.bytes_wire.specs.Parse.{as_read, as_parse}
 use Rattle.bytes_wire.specs.Number.{u16_of, below}
 use Rattle.bytes_wire.proofs.Laws.{told, told_size, there, behind_bad, refused_within, size_number, size_below}
-use Rattle.bytes_types.proofs.Fields.{two_left, field_no_name, field_no_type, field_some}
+use Rattle.bytes_types.proofs.Fields.{two_left, field_no_type, field_some}
 use Rattle.bytes_field.specs.Walk.{part_used}
 use Rattle.bytes_before.specs.Before.{names_at}
 use Rattle.bytes_types.proofs.struct_field.Goals as goal

@@ -1,11 +1,7 @@
-use Rattle.bytes_wire.proofs.read_u16.Goals as goal
-use native.Mathlib.Omega.{arith}
-use mathlib.Core.Path.{ap, sym, ◌∙◌}
+use Rattle.std.proofs.Common.{◌∙◌, ap, arith}
 use Rattle.bytes_wire.specs.Parse.{ok}
-use Rattle.bytes_wire.proofs.Laws.{number_short, number_some, from_16}
+use Rattle.bytes_wire.proofs.Chunks.{two}
+use Rattle.bytes_wire.proofs.read_u16.Goals as goal
 
-pub returns-in_default : goal.returns-in_default
-returns-in_default c = rw c.at.ensures (sym (number_short 2 c.args.s.now c.in_default.len_below))
-
-pub returns-in-len2-up : goal.returns-in-len2-up
-returns-in-len2-up c = let s = c.args.s.now in sym (number_some 2 s c.in-len2-up.len_at_least ∙ ap (λ x. ok x 2) (from_16 s 0 ∙ omega (arith, c.from_le_bytes.ensures)))
+pub returns : goal.returns
+returns c = ap (λ x. ok x 2) (omega (arith, c.from_le_bytes.ensures, two c.in_ok-bytes.bytes.now c.in_ok-bytes.ensures.long)) ∙ c.in_ok-bytes.ensures.told

@@ -1,11 +1,7 @@
-use Rattle.bytes_wire.proofs.read_u32.Goals as goal
-use native.Mathlib.Omega.{arith}
-use mathlib.Core.Path.{ap, sym, ◌∙◌}
+use Rattle.std.proofs.Common.{◌∙◌, ap, arith}
 use Rattle.bytes_wire.specs.Parse.{ok}
-use Rattle.bytes_wire.proofs.Laws.{number_short, number_some, from_32}
+use Rattle.bytes_wire.proofs.Chunks.{four}
+use Rattle.bytes_wire.proofs.read_u32.Goals as goal
 
-pub returns-in_default : goal.returns-in_default
-returns-in_default c = rw c.at.ensures (sym (number_short 4 c.args.s.now c.in_default.len_below))
-
-pub returns-in-len4-up : goal.returns-in-len4-up
-returns-in-len4-up c = let s = c.args.s.now in sym (number_some 4 s c.in-len4-up.len_at_least ∙ ap (λ x. ok x 4) (from_32 s 0 ∙ omega (arith, c.from_le_bytes.ensures)))
+pub returns : goal.returns
+returns c = ap (λ x. ok x 4) (omega (arith, c.from_le_bytes.ensures, four c.in_ok-bytes.bytes.now c.in_ok-bytes.ensures.long)) ∙ c.in_ok-bytes.ensures.told

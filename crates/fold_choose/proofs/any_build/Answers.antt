@@ -1,18 +1,11 @@
-use mathlib.Core.Path.{◌≡◌, refl, sym, ◌∙◌}
-use Rattle.std.proofs.Common.{rules, tests, ◌-◌}
-use Rattle.std.specs.List.{list_any, range_with_len}
-use Rattle.std.proofs.lemmas.Iterator.{YieldsList-from_range}
-use Rattle.std.proofs.lemmas.Iterator.Search.{any_from_yields_List}
-use Rattle.bytes_index.specs.Table.{kind_in}
-use Rattle.fold_looked.proofs.Slots.{none_passes}
-use Rattle.fold_choose.specs.Chosen.{build_kind}
+use Rattle.std.proofs.Common.{rules, tests}
+use Rattle.mir.specs.declared.kind.Kind.{Kind}
+use Rattle.fold_choose.proofs.Folding.{none_of_three}
 use Rattle.fold_choose.proofs.any_build.Goals as goal
 
 pub returns : goal.returns
-returns c =
-    let a = c.args in
-    let e : c.any.result ≡ list_any (λ slot. build_kind (kind_in a.facts.now slot)) (range_with_len a.from (a.to - a.from)) =
-    any_from_yields_List (λ slot. build_kind (kind_in a.facts.now slot)) c.any.new.self _ c.any.result c.any.ensures.ran
-    (YieldsList-from_range a.from a.to _ refl refl) (λ x b q k. search (rules, tests))
-    in
-    λ h slot l r. none_passes _ a.from a.to (sym e ∙ h) slot l r
+returns c = λ h slot l r.
+    none_of_three _
+    (λ z. let p = c.any_kind.ensures h slot Kind.MakeTuple l r z in search (rules, tests))
+    (λ z. let p = c.any_kind.ensures h slot Kind.MakeStruct l r z in search (rules, tests))
+    (λ z. let p = c.any_kind.ensures h slot Kind.MakeFixedArray l r z in search (rules, tests))

@@ -8,14 +8,14 @@ pub returns-then-not-any_build-clause-decides_block : goal.returns-then-not-any_
 returns-then-not-any_build-clause-decides_block c =
     let a = c.args in
     λ τ all g f st room long j d l e. absurd
-    (none_built a.b a.s.now a.facts.now a.at.first (a.at.first + a.at.count) all
-    (c.any_build.ensures c.if-not-any_build.true) st.code (omega (arith, st.counted)) j d l e)
+    (none_built a.code.bounds a.code.bytes.now a.code.facts.now a.slots.first (a.slots.first + a.slots.count) all
+    (c.any_build.ensures c.if-not-any_build.true) st.stands (omega (arith, st.counted)) j d l e)
 
 pub returns-clause-decides_block : goal.returns-clause-decides_block
 returns-clause-decides_block c =
     let a = c.args in
     λ τ all g f st room long.
-    c.decide_all.ensures.decides_all τ a.cross.now all st
-    (record { eligible = a.eligible.now; facts = f; scanned = c.fill_graph.ensures τ all g f st room })
-    (c.fill_looked.ensures a.settings τ all a.eligible.now g f st.code st.counted st.few (omega (arith, length-replicate 128 false)))
+    c.decide_all.ensures.decides_all τ a.values.cross.now all st
+    (record { eligible = a.values.eligible.now; facts = f; scanned = c.fill_graph.ensures τ all g f st room })
+    (c.fill_looked.ensures a.settings τ all a.values.eligible.now g f st.stands st.counted st.few (omega (arith, length-replicate 128 false)))
     g.values g.few long

@@ -5,14 +5,14 @@ use Rattle.fold_choose.proofs.choose_one.Goals as goal
 pub returns-then-skip : goal.returns-then-skip
 returns-then-skip c =
     let a = c.args in
-    chooses_skip a.settings a.shapes.now a.eligible.now a.cross.now a.s.now a.b a.facts.now (length a.graph.now)
-    a.k.0 c.find_slots-at.result c.find_slots-at.ensures c.is_skipped-skip.result c.is_skipped-skip.ensures a.choice.now
+    chooses_skip a.settings a.values a.code (length a.graph.now)
+    a.k.0 c.block_slots-slots.result c.block_slots-slots.ensures c.is_skipped-skip.result c.is_skipped-skip.ensures a.choice.now
     c.set_flag.new.l c.set_flag.ensures c.if-skip.true
 
 pub returns : goal.returns
 returns c =
     let a = c.args in
-    chooses_block a.settings a.shapes.now a.eligible.now a.cross.now a.s.now a.b a.facts.now (length a.graph.now)
-    a.k.0 c.find_slots-at.result c.find_slots-at.ensures c.is_skipped-skip.result c.is_skipped-skip.ensures a.choice.now
+    chooses_block a.settings a.values a.code (length a.graph.now)
+    a.k.0 c.block_slots-slots.result c.block_slots-slots.ensures c.is_skipped-skip.result c.is_skipped-skip.ensures a.choice.now
     c.set_flag.new.l c.set_flag.ensures c.choose_block.new.choice c.choose_block.ensures.flagged
     c.choose_block.ensures.decides_block

@@ -6,7 +6,7 @@ use Rattle.fold_choose.proofs.fill_graph.Goals as goal
 pub returns : goal.returns
 returns c =
     let a = c.args in
-    λ τ all g f st room. c.scan_block.ensures a.settings τ all st.code st.counted f
+    λ τ all g f st room. c.scan_block.ensures a.settings τ all st.stands st.counted f
     (record { next = sym g.values; few = omega (arith, g.values, g.few); room = room })
-    (c.fill_structs.ensures τ all g st.code st.counted st.few)
-    (edges_fit a.settings τ a.cross.now a.b a.s.now a.facts.now a.at.first a.at.count all st)
+    (c.fill_structs.ensures τ all g st.stands st.counted st.few)
+    (edges_fit a.settings τ a.values.cross.now a.code a.slots all st)

@@ -25,7 +25,7 @@ returns-then-array t c =
     sym
     (climbs S a.v.0 a.visited k c.if-visited-at.false (sym c.allowed.ensures ∙ c.if-not-allowed.false) ∙ turn_array S a.v.0 a.graph.now
     (slice_set a.visited a.v.0 true) c.loop-i.i c.loop-i.met c.loop-i.invariant c.loop-i-test.true
-    (sym c.number.ensures ∙ c.if-number-v.true) (eq-eqb _ _ (sym c.byte_at-array.ensures ∙ c.if-array.true)))
+    (sym c.number.ensures ∙ c.if-number-v.true) (eq-eqb _ _ (sym c.byte_at.ensures ∙ c.if-array.true)))
 
 pub climb-requires : goal.climb-requires
 climb-requires t c =
@@ -39,7 +39,7 @@ returns-in_err-met t c =
     let S = sight_of a.shapes.now a.graph.now in
     let k : a.v.0 < length a.visited = omega arith in
     rw c.from_residual.ensures (turn_stop S a.v.0 a.graph.now (slice_set a.visited a.v.0 true) c.loop-i.i c.loop-i.met c.loop-i.invariant c.loop-i-test.true
-    (sym c.number.ensures ∙ c.if-number-v.true) (ne_eqb _ _ (λ e. c.if-array.false (c.byte_at-array.ensures ∙ e)))
+    (sym c.number.ensures ∙ c.if-number-v.true) (ne_eqb _ _ (λ e. c.if-array.false (c.byte_at.ensures ∙ e)))
     c.number-then-number-v.result c.number-then-number-v.ensures c.in_err-met.ensures ∙ sym
     (climbs S a.v.0 a.visited k c.if-visited-at.false (sym c.allowed.ensures ∙ c.if-not-allowed.false)))
 
@@ -48,7 +48,7 @@ loop-i-preserved-then-number-v t c =
     let a = c.args in
     let S = sight_of a.shapes.now a.graph.now in
     turn_on S a.v.0 a.graph.now (slice_set a.visited a.v.0 true) c.loop-i.i c.loop-i.met c.loop-i.invariant c.loop-i-test.true
-    (sym c.number.ensures ∙ c.if-number-v.true) (ne_eqb _ _ (λ e. c.if-array.false (c.byte_at-array.ensures ∙ e)))
+    (sym c.number.ensures ∙ c.if-number-v.true) (ne_eqb _ _ (λ e. c.if-array.false (c.byte_at.ensures ∙ e)))
     c.number-then-number-v.result c.number-then-number-v.ensures _ c.in_ok-met.ensures
 
 pub loop-i-preserved : goal.loop-i-preserved

@@ -1,57 +1,69 @@
-use Rattle.std.proofs.Common.{◌≡◌, true, false}
-use mathlib.Core.Path.{sym, ◌∙◌}
-use borrow.Author.Tests.{not-true, not-false, eq-eqb, ne_eqb}
+use Rattle.std.proofs.Common.{◌≡◌, true, false, not}
+use mathlib.Core.Path.{sym, ◌∙◌, ap, refl}
+use mathlib.Core.Bool.{true≢false}
+use mathlib.Core.Logic.{inl, inr}
+use Rattle.mir.specs.declared.kind.Kind.{Kind}
+use Rattle.mir.specs.Kind.{number_of_kind}
+use Rattle.mir.proofs.Numbers.{one_kind}
 use Rattle.fold_climb.specs.Scanned.{sight_of, built_in}
 use Rattle.fold_climb.specs.Decided.{climbs}
-use Rattle.fold_climb.proofs.Decide.{for_struct, for_array, for_tuple, for_none, dynamic_array, constant_array}
+use Rattle.fold_climb.proofs.Decide.{for_struct, for_array, for_tuple, dynamic_array, constant_array}
 use Rattle.fold_climb.proofs.folds.Goals as goal
+use Rattle.fold_climb.proofs.folds.Goals.{then-settings-2, else-settings-2, then-settings-3, else-settings-3}
 
-pub returns-then-not-settings : goal.returns-then-not-settings
-returns-then-not-settings c =
+pub returns-then-settings : goal.returns-then-settings
+returns-then-settings c =
     let a = c.args in
-    λ τ cross is eligible facts scanned few low. for_struct facts scanned few a.v low a.kind a.dynamic false
-    c.if-kind-eq-MAKE_STRUCT.true (rw (not-true a.settings.structs c.if-not-settings.true))
+    λ τ cross is eligible facts scanned few low. for_struct facts scanned few a.v low (number_of_kind a.kind) a.dynamic c.can_scalarize.result
+    (ap number_of_kind c.in-MakeStruct.is) (rw c.if-settings.true c.can_scalarize.ensures)
 
-pub returns-then-kind-eq-MAKE_STRUCT : goal.returns-then-kind-eq-MAKE_STRUCT
-returns-then-kind-eq-MAKE_STRUCT c =
+pub returns-else-settings : goal.returns-else-settings
+returns-else-settings c =
     let a = c.args in
-    λ τ cross is eligible facts scanned few low. for_struct facts scanned few a.v low a.kind a.dynamic c.can_scalarize.result
-    c.if-kind-eq-MAKE_STRUCT.true (rw (not-false a.settings.structs c.if-not-settings.false) c.can_scalarize.ensures)
+    λ τ cross is eligible facts scanned few low. for_struct facts scanned few a.v low (number_of_kind a.kind) a.dynamic a.settings.structs
+    (ap number_of_kind c.in-MakeStruct.is) (rw c.if-settings.false refl)
 
-pub returns-then-not-settings-2 : goal.returns-then-not-settings-2
-returns-then-not-settings-2 c =
+pub returns-then-not-dynamic : goal.returns-then-not-dynamic
+returns-then-not-dynamic c =
     let a = c.args in
-    λ τ cross is eligible facts scanned few low. for_none facts scanned few a.v low a.kind a.dynamic
-    c.if-kind-eq-MAKE_STRUCT.false (not-true _ c.if-not-settings-2.true)
+    λ τ cross is eligible facts scanned few low. for_array facts scanned few a.v low (number_of_kind a.kind) a.dynamic _
+    (ap number_of_kind c.in-MakeFixedArray.is)
+    (constant_array a.settings.tuples (climbs (sight_of a.shapes.now a.graph.now) a.v.0) a.dynamic _
+    c.if-not-dynamic.true.0 c.if-not-dynamic.true.1 c.can_scalarize-then-not-dynamic.ensures)
 
-pub returns-then-dynamic : goal.returns-then-dynamic
-returns-then-dynamic c =
+pub returns-else-not-dynamic : goal.returns-else-not-dynamic
+returns-else-not-dynamic c =
     let a = c.args in
-    λ τ cross is eligible facts scanned few low. for_array facts scanned few a.v low a.kind a.dynamic false
-    c.if-kind-eq-MAKE_FIXED_ARRAY.true
-    (dynamic_array a.settings.tuples (climbs (sight_of a.shapes.now a.graph.now) a.v.0) a.dynamic c.if-dynamic.true)
+    λ τ cross is eligible facts scanned few low. for_array facts scanned few a.v low (number_of_kind a.kind) a.dynamic _
+    (ap number_of_kind c.in-MakeFixedArray.is)
+    (elim c.if-settings-2.branch [
+      | then-settings-2 w ↦ elim c.if-not-dynamic.either [
+        | inl p ↦ (w.t-10-is ∙ ap not p.1) ∙ dynamic_array a.settings.tuples (climbs (sight_of a.shapes.now a.graph.now) a.v.0) a.dynamic p.1
+        | inr q ↦ absurd (true≢false (sym w.if-settings-2.true ∙ q))
+      ]
+      | else-settings-2 w ↦ rw w.if-settings-2.false (w.t-10-is ∙ w.if-settings-2.false)
+    ])
 
-pub returns-then-kind-eq-MAKE_FIXED_ARRAY : goal.returns-then-kind-eq-MAKE_FIXED_ARRAY
-returns-then-kind-eq-MAKE_FIXED_ARRAY c =
+pub returns-then-number-eq1 : goal.returns-then-number-eq1
+returns-then-number-eq1 c =
     let a = c.args in
-    let r = c.can_scalarize-then-kind-eq-MAKE_FIXED_ARRAY in
-    λ τ cross is eligible facts scanned few low. for_array facts scanned few a.v low a.kind a.dynamic r.result
-    c.if-kind-eq-MAKE_FIXED_ARRAY.true
-    (constant_array a.settings.tuples (climbs (sight_of a.shapes.now a.graph.now) a.v.0) a.dynamic r.result
-    (not-false _ c.if-not-settings-2.false) c.if-dynamic.false r.ensures)
+    λ τ cross is eligible facts scanned few low. for_tuple facts scanned few a.v low (number_of_kind a.kind) a.dynamic c.tuple_parents.result
+    (λ e. c.in_default.not-MakeStruct (one_kind _ Kind.MakeStruct e)) (λ e. c.in_default.not-MakeFixedArray (one_kind _ Kind.MakeFixedArray e))
+    (elim c.if-settings-3.branch [
+      | then-settings-3 w ↦
+          let z : built_in a.graph.now a.v.0 ≡ true = sym (rw w.number.ensures at w.value-is) ∙ c.if-number-eq1.true in
+          rw (w.if-settings-3.true, z) c.tuple_parents.ensures
+      | else-settings-3 w ↦ absurd (true≢false (sym c.if-number-eq1.true ∙ w.value-is ∙ w.if-settings-3.false))
+    ])
 
-pub returns-then-number-ne1 : goal.returns-then-number-ne1
-returns-then-number-ne1 c =
+pub returns-else-number-eq1 : goal.returns-else-number-eq1
+returns-else-number-eq1 c =
     let a = c.args in
-    λ τ cross is eligible facts scanned few low. for_tuple facts scanned few a.v low a.kind a.dynamic false
-    c.if-kind-eq-MAKE_STRUCT.false c.if-kind-eq-MAKE_FIXED_ARRAY.false
-    (let z : built_in a.graph.now a.v.0 ≡ false = ne_eqb _ _ (λ e. c.if-number-ne1.true (c.number.ensures ∙ e)) in
-    rw (not-false a.settings.tuples c.if-not-settings-2.false, z))
-
-pub returns : goal.returns
-returns c =
-    let a = c.args in
-    λ τ cross is eligible facts scanned few low. for_tuple facts scanned few a.v low a.kind a.dynamic c.tuple_parents.result
-    c.if-kind-eq-MAKE_STRUCT.false c.if-kind-eq-MAKE_FIXED_ARRAY.false
-    (let z : built_in a.graph.now a.v.0 ≡ true = eq-eqb _ _ (sym c.number.ensures ∙ c.if-number-ne1.false) in
-    rw (not-false a.settings.tuples c.if-not-settings-2.false, z) c.tuple_parents.ensures)
+    λ τ cross is eligible facts scanned few low. for_tuple facts scanned few a.v low (number_of_kind a.kind) a.dynamic c.if-settings-3.value
+    (λ e. c.in_default.not-MakeStruct (one_kind _ Kind.MakeStruct e)) (λ e. c.in_default.not-MakeFixedArray (one_kind _ Kind.MakeFixedArray e))
+    (elim c.if-settings-3.branch [
+      | then-settings-3 w ↦
+          let z : built_in a.graph.now a.v.0 ≡ false = sym (rw w.number.ensures at w.value-is) ∙ c.if-number-eq1.false in
+          rw (w.if-settings-3.true, z) c.if-number-eq1.false
+      | else-settings-3 w ↦ rw w.if-settings-3.false (w.value-is ∙ w.if-settings-3.false)
+    ])

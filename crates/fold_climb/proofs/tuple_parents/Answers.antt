@@ -29,13 +29,13 @@ loop-i-preserved-else-number-v c =
     let a = c.args in
     test_other (climbs (sight_of a.shapes.now a.graph.now)) a.v.0 a.graph.now c.number-i.result c.loop-i.i c.loop-i.invariant
     c.loop-i-test.true (eq-eqb _ _ (omega arith))
-    (λ e. c.if-number-v.false (c.number-then-number-eq-MAKE_TUPLE.ensures ∙ e))
+    (λ e. c.if-number-v.false (c.number-then-number.ensures ∙ e))
 
 pub loop-i-preserved : goal.loop-i-preserved
 loop-i-preserved c =
     let a = c.args in
     test_kind (climbs (sight_of a.shapes.now a.graph.now)) a.v.0 a.graph.now c.number-i.result c.loop-i.i c.loop-i.invariant
-    c.loop-i-test.true (ne_eqb _ _ (λ e. c.if-number-eq-MAKE_TUPLE.false (c.number.ensures ∙ e)))
+    c.loop-i-test.true (ne_eqb _ _ (λ e. c.if-number.false (c.number.ensures ∙ e)))
 
 pub returns : goal.returns
 returns c =

@@ -7,14 +7,12 @@ use Rattle.fold_cross.proofs.cross_block.Goals as goal
 pub returns-then-not-has_build : goal.returns-then-not-has_build
 returns-then-not-has_build c =
     let a = c.args in
-    λ τ ks h σ r l. block_idle a.b a.s.now a.facts.now a.shapes.now a.eligible.now a.readers.now a.k.0 _ _
-    c.first_slot-first.ensures c.instruction_count-count.ensures a.marks.now (c.has_build.ensures c.if-not-has_build.true) σ τ ks r h
+    λ τ ks h σ r l. block_idle a.values a.k.0 c.block_slots-slots.result c.block_slots-slots.ensures a.marks.now (c.has_build.ensures c.if-not-has_build.true) σ τ ks r h
 
 pub returns : goal.returns
 returns c =
     let a = c.args in
     λ τ ks h σ r. c.cross_builds.ensures τ ks h
-    (block_copies a.b a.s.now a.facts.now a.shapes.now a.eligible.now a.readers.now a.k.0 _ _ c.first_slot-first.ensures
-    c.instruction_count-count.ensures _ _ _ _ c.scan_copies.ensures refl σ τ ks r h)
-    (clear_part false a.b.next 256 c.requires)
+    (block_copies a.values a.k.0 c.block_slots-slots.result c.block_slots-slots.ensures _ _ _ _ c.scan_copies.ensures refl σ τ ks r h)
+    (clear_part false a.values.code.bounds.next 256 a.values.few)
     σ r

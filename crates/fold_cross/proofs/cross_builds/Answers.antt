@@ -5,8 +5,7 @@ pub loop-j-preserved : goal.loop-j-preserved
 loop-j-preserved c =
     let a = c.args in
     let l = c.loop-j in
-    building_again a.b a.s.now a.facts.now a.shapes.now a.eligible.now a.readers.now a.copies.now a.k.0 _ _ _ _
-    c.block_number-own.ensures.1 c.first_slot.ensures c.row_place-rows.ensures c.instruction_count-count.ensures _ _
+    building_again a.values a.copies.now a.k.0 c.block_slots-slots.result _ c.block_number-own.ensures c.block_slots-slots.ensures _ _
     l.family l.marks l.members l.j l.invariant c.loop-j-test.true
     c.eligible_build-d.result c.eligible_build-d.ensures _ _ _ c.find_family-n.ensures
     c.find_family-n.auto.members _ c.first_members-listed.ensures _ _ c.unite_abroad.ensures c.unite_abroad.auto.marks c.unmark.ensures
@@ -15,7 +14,7 @@ pub returns : goal.returns
 returns c =
     let a = c.args in
     let l = c.loop-j in
-    λ τ ks p cp e σ r lc. building_done a.b a.s.now a.facts.now a.shapes.now a.eligible.now a.readers.now a.copies.now
-    a.k.0 _ _ _ _ c.block_number-own.ensures.1 c.first_slot.ensures c.row_place-rows.ensures c.instruction_count-count.ensures _ _
+    λ τ ks p cp e σ r lc. building_done a.values a.copies.now a.k.0 c.block_slots-slots.result _
+    c.block_number-own.ensures c.block_slots-slots.ensures _ _
     l.family l.marks l.members l.j l.invariant c.loop-j-test.false σ τ ks
     (record { ready = r; inside = p; rows = cp; clear = e; each = lc })

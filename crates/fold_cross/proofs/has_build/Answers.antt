@@ -6,5 +6,5 @@ pub loop-k-preserved : goal.loop-k-preserved
 loop-k-preserved c =
     let a = c.args in
     let l = c.loop-k in
-    idling_again a.s.now a.facts.now a.first a.count a.eligible.now _ l.k _ c.row_place-rows.ensures l.invariant
+    idling_again a.code a.slots a.eligible.now l.k _ l.invariant
     c.loop-k-test.true c.eligible_build.ensures (none_left c.eligible_build.result (sym c.is_some.ensures ∙ c.if-is_some.false))

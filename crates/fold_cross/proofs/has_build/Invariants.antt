@@ -2,4 +2,4 @@ use Rattle.fold_cross.proofs.Idle.{Idling}
 use Rattle.fold_cross.proofs.has_build.Given as goal
 
 abbrev pub invariant-loop-k : goal.invariant-loop-k
-invariant-loop-k l = Idling l.s l.facts l.first l.count l.eligible l.k
+invariant-loop-k l = Idling l.code l.slots l.eligible l.k

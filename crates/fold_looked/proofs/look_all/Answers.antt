@@ -5,7 +5,7 @@ pub loop-j-preserved : goal.loop-j-preserved
 loop-j-preserved c =
     let a = c.args in
     let l = c.loop-j in
-    flag_on a.s.now a.facts.now a.first a.count a.shapes.now a.copies.now a.dynamic.now a.family.now a.looked.now
+    flag_on a.code a.slots a.tables a.family.now a.looked.now
     l.family l.looked l.members l.j l.invariant c.loop-j-test.true c.look-yes.new.family c.look-yes.new.members c.look-yes.result c.set_flag.new.l
     c.look-yes.ensures c.look-yes.auto.members c.set_flag.ensures
 
@@ -13,5 +13,5 @@ pub returns : goal.returns
 returns c =
     let a = c.args in
     let l = c.loop-j in
-    flags_all a.s.now a.facts.now a.first a.count a.shapes.now a.copies.now a.dynamic.now a.family.now a.looked.now
+    flags_all a.code a.slots a.tables a.family.now a.looked.now
     l.family l.looked l.members l.j l.invariant c.loop-j-test.false

@@ -5,12 +5,12 @@ pub loop-k-preserved : goal.loop-k-preserved
 loop-k-preserved c =
     let a = c.args in
     let l = c.loop-k in
-    reading_again a.own a.facts.now a.first a.count _ l.readers _ _ l.k c.row_place-rows.ensures l.invariant c.loop-k-test.true
+    reading_again a.own.number a.facts.now a.slots _ l.readers _ l.k l.invariant c.loop-k-test.true
     c.note_instruction.ensures c.note_instruction.auto.readers
 
 pub returns : goal.returns
 returns c =
     let a = c.args in
     let l = c.loop-k in
-    reading_done a.own a.facts.now a.first a.count _ l.readers _ _ l.k c.row_place-rows.ensures l.invariant c.loop-k-test.false
+    reading_done a.own.number a.facts.now a.slots _ l.readers _ l.k l.invariant c.loop-k-test.false
     c.note_reads.ensures

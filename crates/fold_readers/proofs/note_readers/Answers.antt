@@ -5,8 +5,8 @@ pub loop-k-preserved : goal.loop-k-preserved
 loop-k-preserved c =
     let a = c.args in
     let l = c.loop-k in
-    noting_again a.facts.now a.many _ l.readers _ l.k _ _ _ l.invariant c.loop-k-test.true c.block_number.ensures.1
-    c.first_slot-first.ensures c.instruction_count-count.ensures c.note_block.ensures c.note_block.auto.readers
+    noting_again a.facts.now a.many _ l.readers _ l.k _ c.block_slots.result l.invariant c.loop-k-test.true c.block_number.ensures
+    c.block_slots.ensures c.note_block.ensures c.note_block.auto.readers
 
 pub returns : goal.returns
 returns c = noting_done c.args.facts.now c.args.many _ c.loop-k.readers c.loop-k.k c.loop-k.invariant c.loop-k-test.false

@@ -2,4 +2,4 @@ use Rattle.fold_readers.proofs.Noting.{Via}
 use Rattle.fold_readers.proofs.note_reads.Given as goal
 
 abbrev pub invariant-loop-k : goal.invariant-loop-k
-invariant-loop-k l = Via l.own l.facts l.row l.n l.initial.readers l.readers l.k
+invariant-loop-k l = Via l.own.number l.facts l.slot l.n l.initial.readers l.readers l.k

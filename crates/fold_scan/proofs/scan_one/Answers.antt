@@ -1,49 +1,51 @@
-use Rattle.std.proofs.Common.{◌||◌, ℕ, arith}
+use Rattle.std.proofs.Common.{◌||◌}
 use mathlib.Core.Path.{refl, ap}
+use mathlib.Core.Logic.{inl, inr}
 use lib.Dec.{eqb}
+use Rattle.mir.specs.declared.kind.Kind.{Kind}
+use Rattle.mir.specs.Kind.{number_of_kind}
+use Rattle.mir.proofs.Numbers.{one_kind}
 use Rattle.fold_scan.proofs.One.{one_idle, one_call, one_walk, one_tuple, one_array, one_struct}
 use Rattle.fold_scan.proofs.scan_one.Goals as goal
 
-pub returns-in-3 : goal.returns-in-3
-returns-in-3 c =
+pub returns-in-Call : goal.returns-in-Call
+returns-in-Call c =
     let a = c.args in
-    one_call a.s.now a.b a.facts.now a.slot a.shapes.now a.eligible.now a.cross.now a.pass a.graph.now
-    c.kind-kind.result c.kind-kind.ensures _ c.in-3.is c.note_reads.ensures
+    one_call a.code a.slot a.values a.pass a.graph.now _ c.in-Some.ensures _ (ap number_of_kind c.in-Call.is) c.note_reads.ensures
 
-pub returns-in-5 : goal.returns-in-5
-returns-in-5 c =
+pub returns-in-Load : goal.returns-in-Load
+returns-in-Load c =
     let a = c.args in
-    one_walk a.s.now a.b a.facts.now a.slot a.shapes.now a.eligible.now a.cross.now a.pass a.graph.now
-    c.kind-kind.result c.kind-kind.ensures _ (ap (λ (n : ℕ). eqb n 5 || eqb n 6) c.in-5.is) c.note_place.ensures
+    one_walk a.code a.slot a.values a.pass a.graph.now _ c.in-Some.ensures _
+    (elim c.in-Load.is [
+      | inl p ↦ ap (λ (k : Kind). eqb (number_of_kind k) 5 || eqb (number_of_kind k) 6) p
+      | inr p ↦ ap (λ (k : Kind). eqb (number_of_kind k) 5 || eqb (number_of_kind k) 6) p
+    ])
+    c.note_place.ensures
 
-pub returns-in-6 : goal.returns-in-6
-returns-in-6 c =
+pub returns-in-MakeTuple : goal.returns-in-MakeTuple
+returns-in-MakeTuple c =
     let a = c.args in
-    one_walk a.s.now a.b a.facts.now a.slot a.shapes.now a.eligible.now a.cross.now a.pass a.graph.now
-    c.kind-kind.result c.kind-kind.ensures _ (ap (λ (n : ℕ). eqb n 5 || eqb n 6) c.in-6.is) c.note_place-in-6.ensures
+    one_tuple a.code a.slot a.values a.pass a.graph.now _ c.in-Some.ensures _ c.dest-d.result c.dest-d.ensures c.passes-good.result
+    (ap number_of_kind c.in-MakeTuple.is) c.passes-good.ensures c.note_build.ensures
 
-pub returns-in-10 : goal.returns-in-10
-returns-in-10 c =
+pub returns-in-MakeStruct : goal.returns-in-MakeStruct
+returns-in-MakeStruct c =
     let a = c.args in
-    one_tuple a.s.now a.b a.facts.now a.slot a.shapes.now a.eligible.now a.cross.now a.pass a.graph.now
-    c.kind-kind.result c.kind-kind.ensures _ c.dest-d.result c.dest-d.ensures c.passes-good.result c.in-10.is c.passes-good.ensures
-    c.note_build.ensures
+    one_struct a.code a.slot a.values a.pass a.graph.now _ c.in-Some.ensures _ c.dest.result c.dest.ensures a.pass
+    (ap number_of_kind c.in-MakeStruct.is) refl c.note_build-in-MakeStruct.ensures
 
-pub returns-in-12 : goal.returns-in-12
-returns-in-12 c =
+pub returns-in-MakeFixedArray : goal.returns-in-MakeFixedArray
+returns-in-MakeFixedArray c =
     let a = c.args in
-    one_struct a.s.now a.b a.facts.now a.slot a.shapes.now a.eligible.now a.cross.now a.pass a.graph.now
-    c.kind-kind.result c.kind-kind.ensures _ c.dest-d-in-12.result c.dest-d-in-12.ensures a.pass c.in-12.is refl c.note_build-in-12.ensures
+    one_array a.code a.slot a.values a.pass a.graph.now _ c.in-Some.ensures _ c.dest-d-in-MakeFixedArray.result c.dest-d-in-MakeFixedArray.ensures
+    c.passes-good-in-MakeFixedArray.result (ap number_of_kind c.in-MakeFixedArray.is) c.passes-good-in-MakeFixedArray.ensures
+    c.note_build-in-MakeFixedArray.ensures
 
-pub returns-in-16 : goal.returns-in-16
-returns-in-16 c =
+pub returns-in_default-kind : goal.returns-in_default-kind
+returns-in_default-kind c =
     let a = c.args in
-    one_array a.s.now a.b a.facts.now a.slot a.shapes.now a.eligible.now a.cross.now a.pass a.graph.now
-    c.kind-kind.result c.kind-kind.ensures _ c.dest-d-in-16.result c.dest-d-in-16.ensures c.passes-good-in-16.result c.in-16.is
-    c.passes-good-in-16.ensures c.note_build-in-16.ensures
-
-pub returns-in_default : goal.returns-in_default
-returns-in_default c =
-    let a = c.args in
-    one_idle a.s.now a.b a.facts.now a.slot a.shapes.now a.eligible.now a.cross.now a.pass a.graph.now
-    c.kind-kind.result c.kind-kind.ensures (λ e. omega arith) (λ e. omega arith) (λ e. omega arith) (λ e. omega arith) (λ e. omega arith) (λ e. omega arith)
+    let n = c.in_default-kind in
+    one_idle a.code a.slot a.values a.pass a.graph.now _ c.in-Some.ensures (λ e. n.not-Call (one_kind _ Kind.Call e))
+    (λ e. n.not-Load (one_kind _ Kind.Load e)) (λ e. n.not-Store (one_kind _ Kind.Store e)) (λ e. n.not-MakeTuple (one_kind _ Kind.MakeTuple e))
+    (λ e. n.not-MakeStruct (one_kind _ Kind.MakeStruct e)) (λ e. n.not-MakeFixedArray (one_kind _ Kind.MakeFixedArray e))

@@ -1,3 +1,4 @@
+use Rattle.mir.proofs.Numbers.{shape_tag}
 use Rattle.fold_shapes.proofs.Values.{fill_again}
 use Rattle.fold_shapes.proofs.value_shapes.Goals as goal
 
@@ -5,6 +6,6 @@ pub loop-v-preserved : goal.loop-v-preserved
 loop-v-preserved c =
     let a = c.args in
     let l = c.loop-v in
-    fill_again a.s.now a.types.now a.many a.recorded.now a.next a.settings _ _ l.shapes l.eligible l.v _ _ _ _ _
-    l.invariant c.loop-v-test.true c.recorded_type-t.ensures c.recorded_shape.ensures c.recorded_eligible.ensures c.set_byte.ensures
+    fill_again a.typing a.settings _ _ l.shapes l.eligible l.v _ _ _ _ _ _
+    l.invariant c.loop-v-test.true c.recorded_type-t.ensures c.type_row-row.ensures c.row_shape.ensures c.row_eligible.ensures (rw (shape_tag c.row_shape.result) at c.set_byte.ensures)
     c.set_flag.ensures

@@ -9,18 +9,18 @@ use Rattle.fold_structs.proofs.struct_passes.Goals as goal
 pub returns-then-size-lt2 : goal.returns-then-size-lt2
 returns-then-size-lt2 c =
     let a = c.args in
-    passes_short a.b a.s.now a.facts.now a.settings a.cross.now a.t.now a.size c.if-size-lt2.true
+    passes_short a.code a.settings a.cross.now a.t.now a.size c.if-size-lt2.true
 
 pub returns-then-not-type_eligible : goal.returns-then-not-type_eligible
 returns-then-not-type_eligible c =
     let a = c.args in
-    passes_type a.b a.s.now a.facts.now a.settings a.cross.now a.t.now a.size (typed c.u16_at.result) c.u16_at.ensures c.type_eligible.result
+    passes_type a.code a.settings a.cross.now a.t.now a.size (typed c.u16_at.result) c.u16_at.ensures c.type_eligible.result
     c.type_eligible.ensures c.if-not-type_eligible.true
 
 pub returns-then-flag : goal.returns-then-flag
 returns-then-flag c =
     let a = c.args in
-    passes_marked a.b a.s.now a.facts.now a.settings a.cross.now a.t.now a.size (typed c.u16_at.result) c.u16_at.ensures c.type_eligible.result
+    passes_marked a.code a.settings a.cross.now a.t.now a.size (typed c.u16_at.result) c.u16_at.ensures c.type_eligible.result
     c.type_eligible.ensures c.if-not-type_eligible.false c.u16_at-2.result
     (c.u16_at-2.ensures ∙ ap (λ u. at16 u 0) (c.tail.ensures ∙ ap (λ o. drop o a.t.now) c.fields_place.ensures)) c.flag.result
     c.flag.ensures c.if-flag.true
@@ -28,7 +28,7 @@ returns-then-flag c =
 pub returns : goal.returns
 returns c =
     let a = c.args in
-    passes_told a.b a.s.now a.facts.now a.settings a.cross.now a.t.now a.size (typed c.u16_at.result) c.u16_at.ensures c.type_eligible.result
+    passes_told a.code a.settings a.cross.now a.t.now a.size (typed c.u16_at.result) c.u16_at.ensures c.type_eligible.result
     c.type_eligible.ensures c.if-not-type_eligible.false c.u16_at-2.result
     (c.u16_at-2.ensures ∙ ap (λ u. at16 u 0) (c.tail.ensures ∙ ap (λ o. drop o a.t.now) c.fields_place.ensures)) c.flag.result
     c.flag.ensures c.if-flag.false c.unwrap_or.result

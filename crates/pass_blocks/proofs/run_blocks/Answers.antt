@@ -6,7 +6,7 @@ use Rattle.pass_blocks.proofs.run_blocks.Goals as goal
 
 pub returns-clause-runs : goal.returns-clause-runs
 returns-clause-runs c = λ h.
-    let o = c.args.setup.settings in
+    let o = c.args.run.settings in
     let a = h.accepted in
     let d = c.default.ensures in
     runs_begun a o _ _ (begins _ _ _ _ _ _ _ _ d.1.0 d.1.1.0 d.1.1.1.0 d.1.1.1.1.0 d.1.1.1.1.1.0 d.1.1.1.1.1.1.0 d.1.1.1.1.1.1.1) _ _ _ _ _ _ _

@@ -5,7 +5,7 @@ use Rattle.pass_families.proofs.put_all.Goals as goal
 pub loop-j-init : goal.loop-j-init
 loop-j-init c =
     let a = c.args in
-    (omega arith, omega arith, putting a.named a.s.now a.facts.now a.from.block a.shapes.now a.copies.now a.dynamic.now a.from.slot a.count a.text.now)
+    (omega arith, omega arith, putting a.named a.code a.k.0 a.tables a.slots a.text.now)
 
 pub loop-j-preserved : goal.loop-j-preserved
 loop-j-preserved c =
@@ -14,7 +14,7 @@ loop-j-preserved c =
     let i = l.invariant in (
       omega (arith, c.loop-j-test.true),
       omega (arith, i.1, c.put_one-to.ensures.upper_bound),
-      putting_on a.named a.s.now a.facts.now a.from.block a.shapes.now a.copies.now a.dynamic.now a.from.slot a.count a.text.now
+      putting_on a.named a.code a.k.0 a.tables a.slots a.text.now
           l.text l.to l.j i.2 c.loop-j-test.true c.put_one-to.new.text c.put_one-to.result c.put_one-to.ensures.written,
     )
 
@@ -22,5 +22,5 @@ pub returns-clause-written : goal.returns-clause-written
 returns-clause-written c =
     let a = c.args in
     let l = c.loop-j in
-    puts_all a.named a.s.now a.facts.now a.from.block a.shapes.now a.copies.now a.dynamic.now a.from.slot a.count a.text.now
+    puts_all a.named a.code a.k.0 a.tables a.slots a.text.now
     l.text l.to l.j l.invariant.2 c.loop-j-test.false

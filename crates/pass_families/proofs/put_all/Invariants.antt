@@ -5,6 +5,6 @@ use Rattle.pass_families.proofs.put_all.Given as goal
 
 abbrev pub invariant-loop-j : goal.invariant-loop-j
 invariant-loop-j l =
-    (l.j ≤ l.count)
+    (l.j ≤ l.slots.count)
     × (l.to ≤ line_width * l.j)
-    × Putting l.named l.s l.facts l.from.block l.shapes l.copies l.dynamic l.from.slot l.count l.initial.text l.text l.to l.j
+    × Putting l.named l.code l.k.0 l.tables l.slots l.initial.text l.text l.to l.j

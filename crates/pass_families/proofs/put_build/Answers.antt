@@ -1,3 +1,4 @@
+use Rattle.std.proofs.Common.{arith}
 use mathlib.Core.Path.{refl}
 use Rattle.bytes_sections.proofs.Body.{take_clear}
 use Rattle.pass_families.proofs.Showing.{puts_build}
@@ -6,6 +7,6 @@ use Rattle.pass_families.proofs.put_build.Goals as goal
 pub returns-clause-written : goal.returns-clause-written
 returns-clause-written c =
     let a = c.args in
-    puts_build a.named a.s.now a.facts.now a.at.block a.at.instruction a.at.slot a.shapes.now a.copies.now a.dynamic.now
+    puts_build a.named a.code a.at.block a.at.instruction a.at.slot a.tables
     _ c.find_build-found.new.family _ c.find_build-found.result a.text.now c.put_line.new.text c.put_line.result
-    c.find_build-found.ensures (take_clear _ 256 c.requires) refl c.put_line.ensures.written
+    c.find_build-found.ensures (take_clear _ 256 (omega arith)) refl c.put_line.ensures.written

@@ -8,10 +8,10 @@ pub returns-then-settings-gt-LARGEST : goal.returns-then-settings-gt-LARGEST
 returns-then-settings-gt-LARGEST c = answers_large c.args.settings c.args.input.now c.args.out.now c.if-settings-gt-LARGEST.true
 
 pub lower_read-requires : goal.lower_read-requires
-lower_read-requires c = (
-  accepted_read c.args.input.now _ (λ j. omega (arith, c.type_inv.input j)) _ c.read_routine.ensures _ c.in_ok-bounds.was,
-  c.if-settings-gt-LARGEST.false,
-)
+lower_read-requires c = record {
+  accepted = accepted_read c.args.input.now _ (λ j. omega (arith, c.type_inv.input j)) _ c.read_routine.ensures _ c.in_ok-bounds.was;
+  small = c.if-settings-gt-LARGEST.false;
+}
 
 pub returns-in_err-bounds : goal.returns-in_err-bounds
 returns-in_err-bounds c =

@@ -8,14 +8,10 @@ unfolding with_counts
 returns c =
     simp (
       added_min,
+      c.from-run.ensures,
       c.saturating_add.ensures,
-      c.from.ensures,
       c.saturating_add-2.ensures,
-      c.from-2.ensures,
       c.saturating_add-3.ensures,
-      c.from-3.ensures,
       c.saturating_add-4.ensures,
-      c.from-4.ensures,
       c.saturating_add-5.ensures,
-      c.from-5.ensures,
     )

@@ -7,7 +7,7 @@ use Rattle.pass_write.proofs.write_body.Goals as goal
 pub put_body-requires : goal.put_body-requires
 put_body-requires c =
     let h = c.requires in
-    (omega (arith, h.near), (blocks_few h.measured.chosen.accepted, room_behind h))
+    record { near = omega (arith, h.near); few = blocks_few h.measured.chosen.accepted; room = room_behind h }
 
 pub overflow_add-next : goal.overflow_add-next
 overflow_add-next c = omega (arith, many_few c.requires.measured)
@@ -22,4 +22,4 @@ returns c = λ h.
     let g = c.put_body.ensures m.chosen (begun m) in
     let seen = shelved_written m h.before h.room _ _ _ h.written g _ refl in
     answers_written m h.before h.room _ _ _ h.written g c.reason-reason.result _
-    (c.reason-reason.ensures x (rewritten_blocks c.args.setup.settings x) seen) c.new.ensures
+    (c.reason-reason.ensures x (rewritten_blocks c.args.run.settings x) seen) c.new.ensures

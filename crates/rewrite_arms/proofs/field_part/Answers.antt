@@ -1,4 +1,5 @@
 use Rattle.std.proofs.Common.{arith}
+use Rattle.rewrite.specs.State.{state_of}
 use Rattle.rewrite_arms.proofs.Structs.{field_literal, field_error, field_unknown, field_known}
 use Rattle.rewrite_arms.proofs.field_part.Goals as goal
 
@@ -13,11 +14,12 @@ returns-in_err-found-in-Operand c =
     λ τ used S g w r.
     rw c.from_residual.ensures
     (field_unknown τ _ _ _ c.in-Operand.is
-    (c.in_err-found-in-Operand.ensures c.args.b.list τ (rw c.recorded-recorded.ensures g.known) g.rows (omega (arith, g.values, w.each _ c.in-Operand.is))))
+    (c.in_err-found-in-Operand.ensures c.args.code.bounds.list τ (rw c.recorded-recorded.ensures g.known) g.rows (omega (arith, g.values, w.each _ c.in-Operand.is))))
 
 pub returns-in_ok-found-in-Operand : goal.returns-in_ok-found-in-Operand
+unfolding state_of
 returns-in_ok-found-in-Operand c =
     λ τ used S g w r.
     rw (field_known τ _ _ _ c.in-Operand.is
-    (c.in_ok-found-in-Operand.ensures c.args.b.list τ (rw c.recorded-recorded.ensures g.known) g.rows (omega (arith, g.values, w.each _ c.in-Operand.is))))
-    (rw c.in-Operand.is (c.part.ensures _ _ used S r))
+    (c.in_ok-found-in-Operand.ensures c.args.code.bounds.list τ (rw c.recorded-recorded.ensures g.known) g.rows (omega (arith, g.values, w.each _ c.in-Operand.is))))
+    (rw c.in-Operand.is (c.find_part.ensures _ _ used S r))

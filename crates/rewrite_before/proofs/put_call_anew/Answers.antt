@@ -5,6 +5,6 @@ use Rattle.rewrite_before.proofs.put_call_anew.Goals as goal
 pub returns : goal.returns
 returns c = record {
   upper_bound = omega (arith, c.put_anew.ensures.upper_bound);
-  call_written = call_written_lem _ _ _ _ _ c.args.list _ _ c.args.out.now _ _ _ c.args.to _ c.put_u8.ensures c.put_u8-2.ensures
+  call_written = call_written_lem c.args.values c.args.from _ c.args.out.now _ _ _ _ c.put_u8.ensures c.put_u8-2.ensures
       c.put_anew.ensures.anew_written;
 }

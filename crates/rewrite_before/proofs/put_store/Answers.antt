@@ -10,7 +10,7 @@ pub returns-in_err-q : goal.returns-in_err-q
 returns-in_err-q c = let e = err_from_is_err_and c.from_residual.result c.from_residual.ensures.1 in rw e.1 (record {
   by_index = λ k l. tt;
   work_unchanged = c.put_builds.ensures.work_unchanged;
-  store_put = store_clashed _ _ _ _ _ _ c.args.work.now _ _ _ _ c.place-at.ensures.0 c.tail-t.ensures c.store_list-list.ensures.0 _ _
+  store_put = store_clashed (record { code = c.args.code; fields = c.tail-fields.result; list = c.store_list-list.result; tracked = c.args.tracked }) _ _ c.args.work.now _ _ c.place-at.ensures.0 c.tail-fields.ensures c.store_list-list.ensures.0 _ _
       c.put_builds.new.work c.put_builds.ensures.all_put _ _ c.in_err-q.was;
 })
 
@@ -20,7 +20,7 @@ returns-then-q-p c =
       by_index = λ k l. low_on k _ _ _ _ _ _ c.put_further.ensures l f
           (omega (arith, c.copy_instruction-kept.ensures.upper_bound)) (omega arith) (omega arith);
       work_unchanged = c.put_builds.ensures.work_unchanged;
-      store_put = store_stayed _ _ _ _ _ _ c.args.work.now _ _ _ _ c.place-at.ensures.0 c.tail-t.ensures
+      store_put = store_stayed (record { code = c.args.code; fields = c.tail-fields.result; list = c.store_list-list.result; tracked = c.args.tracked }) _ _ c.args.work.now _ _ c.place-at.ensures.0 c.tail-fields.ensures
           c.store_list-list.ensures.0 _ _ c.put_builds.new.work c.put_builds.ensures.all_put _ _ _ _ c.in_ok-q.was
           c.if-q-p.true c.copy_instruction-kept.ensures.instruction_written c.put_further.ensures;
     }
@@ -30,7 +30,7 @@ returns c =
     let f = c.in_ok-q.ensures.put_few in record {
       by_index = λ k l. low_on k _ _ _ _ _ _ c.put_further-2.ensures l f (omega (arith, c.put_anew-to.ensures.upper_bound)) (omega arith) (omega arith);
       work_unchanged = c.put_builds.ensures.work_unchanged;
-      store_put = store_made _ _ _ _ _ _ c.args.work.now _ _ _ _ c.place-at.ensures.0 c.tail-t.ensures
+      store_put = store_made (record { code = c.args.code; fields = c.tail-fields.result; list = c.store_list-list.result; tracked = c.args.tracked }) _ _ c.args.work.now _ _ c.place-at.ensures.0 c.tail-fields.ensures
           c.store_list-list.ensures.0 _ _ c.put_builds.new.work c.put_builds.ensures.all_put _ _ _ _ _ c.in_ok-q.was
           c.if-q-p.false (c.saturating_sub-end.ensures ∙ ap (λ k. k - c.place-at.result) c.end.ensures.0) c.put_anew-to.ensures.anew_written
           c.put_further-2.ensures;

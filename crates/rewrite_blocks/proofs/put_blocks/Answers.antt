@@ -20,7 +20,7 @@ returns-in_err-q-clause-all_put c =
     let l = c.loop-k in
     let t = c.put_block in
     let e = err_from_is_err_and c.from_residual.result c.from_residual.ensures.1 in
-    λ τ ch ks co fo z en. rw e.1 (laid_clash a.setup a.s.now a.facts.now a.choice.now
+    λ τ ch ks co fo z en. rw e.1 (laid_clash a.run
     (lent_as a.tracked.now a.dropped.now a.work.now a.out.now) a.p (lent_as l.tracked l.dropped l.work l.out) l.q
     l.k l.invariant c.loop-k-test.true (lent_as t.new.tracked t.new.dropped t.new.work t.new.out)
     t.result t.ensures.one_put τ ch ks co fo z en _ _ c.in_err-q.was)
@@ -30,7 +30,7 @@ loop-k-preserved c =
     let a = c.args in
     let l = c.loop-k in
     let t = c.put_block in
-    laid_again a.setup a.s.now a.facts.now a.choice.now (lent_as a.tracked.now a.dropped.now a.work.now a.out.now)
+    laid_again a.run (lent_as a.tracked.now a.dropped.now a.work.now a.out.now)
     a.p (lent_as l.tracked l.dropped l.work l.out) l.q l.k l.invariant c.loop-k-test.true
     (lent_as t.new.tracked t.new.dropped t.new.work t.new.out)
     t.result t.ensures.one_put _ c.in_ok-q.was t.ensures.by_index t.auto.tracked t.auto.dropped t.auto.work t.auto.out
@@ -41,6 +41,6 @@ returns c =
     let l = c.loop-k in
     let q = c.requires in record {
       put_low = low_mono (64 + 130 * l.k) 4300 _ (omega (arith, l.invariant.few, q.1.0)) (l.invariant.low 64 q.0);
-      all_put = laid_all a.setup a.s.now a.facts.now a.choice.now (lent_as a.tracked.now a.dropped.now a.work.now a.out.now) a.p
+      all_put = laid_all a.run (lent_as a.tracked.now a.dropped.now a.work.now a.out.now) a.p
           (lent_as l.tracked l.dropped l.work l.out) l.q l.k l.invariant c.loop-k-test.false;
     }

@@ -6,14 +6,11 @@ use Rattle.rewrite_perform.proofs.Lows.{low_mono}
 use Rattle.rewrite_blocks.proofs.Walks.{walking_long, walking_clash, walking_again, walking_done}
 use Rattle.rewrite_blocks.proofs.put_instructions.Goals as goal
 
-pub overflow_add-slot : goal.overflow_add-slot
-overflow_add-slot c = let r = c.requires in omega (arith, c.loop-j-test.true, r.early, r.most)
-
 pub step-requires : goal.step-requires
 step-requires c = let l = c.loop-j in
     let r = c.requires in (
       low_mono (4801 + l.j) 8000 _ (omega (arith, c.loop-j-test.true, r.most)) (l.invariant.low 4801 r.low),
-      (omega (arith, l.invariant.used, r.used, c.loop-j-test.true, r.most), walking_long _ _ _ _ _ _ _ _ _ _ l.invariant r),
+      (omega (arith, l.invariant.used, r.used, c.loop-j-test.true, r.most), walking_long _ _ _ _ _ _ _ l.invariant r),
     )
 
 pub returns-in_err-v-clause-instructions_put : goal.returns-in_err-v-clause-instructions_put
@@ -24,7 +21,7 @@ returns-in_err-v-clause-instructions_put c = let a = c.args in
     let l₁ = lent_as l.tracked l.dropped l.work l.out in
     let l' = lent_as t.new.tracked t.new.dropped t.new.work t.new.out in
     let e = err_from_is_err_and c.from_residual.result c.from_residual.ensures.1 in
-    rw e.1 (walking_clash a.setup a.s.now a.facts.now a.choice.now a.at l₀ a.w l₁ l.v l.j l.invariant c.requires
+    rw e.1 (walking_clash a.run a.at l₀ a.w l₁ l.v l.j l.invariant c.requires
     c.loop-j-test.true _ c.flag-fold.ensures l' t.result t.ensures.steps_on _ _ c.in_err-v.was)
 
 pub loop-j-preserved : goal.loop-j-preserved
@@ -34,7 +31,7 @@ loop-j-preserved c = let a = c.args in
     let l₀ = lent_as a.tracked.now a.dropped.now a.work.now a.out.now in
     let l₁ = lent_as l.tracked l.dropped l.work l.out in
     let l' = lent_as t.new.tracked t.new.dropped t.new.work t.new.out in
-    walking_again a.setup a.s.now a.facts.now a.choice.now a.at l₀ a.w l₁ l.v l.j l.invariant c.requires
+    walking_again a.run a.at l₀ a.w l₁ l.v l.j l.invariant c.requires
     c.loop-j-test.true _ c.flag-fold.ensures l' t.result t.ensures.steps_on _ c.in_ok-v.was t.ensures.by_index
     t.auto.tracked t.auto.dropped t.auto.work t.auto.out
 
@@ -45,7 +42,7 @@ returns c = let a = c.args in
         low_mono (n + l.j) (n + a.at.count) _ (omega (arith, l.invariant.few)) (l.invariant.low n y),
         omega (arith, l.invariant.used, l.invariant.few),
       );
-      instructions_put = walking_done a.setup a.s.now a.facts.now a.choice.now a.at
+      instructions_put = walking_done a.run a.at
           (lent_as a.tracked.now a.dropped.now a.work.now a.out.now) a.w
           (lent_as l.tracked l.dropped l.work l.out) l.v l.j l.invariant c.loop-j-test.false;
     }

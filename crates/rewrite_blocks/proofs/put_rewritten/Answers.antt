@@ -5,22 +5,21 @@ use Rattle.rewrite_step.specs.declared.Reached.{Reached}
 use Rattle.std.proofs.lemmas.Result.{err_from_is_err_and}
 use Rattle.rewrite_step.specs.Stepping.{lent_as}
 use Rattle.rewrite_perform.proofs.Lows.{low_mono}
-use Rattle.rewrite_blocks.proofs.Laying.{block_clash, block_end_clash, block_end, low_begun, low_walked, low_end}
+use Rattle.rewrite_blocks.proofs.Laying.{block_clash, block_end, low_begun, low_walked, low_end}
 use Rattle.rewrite_blocks.proofs.put_rewritten.Goals as goal
 
 pub put_instructions-requires : goal.put_instructions-requires
 put_instructions-requires c =
     let at = c.block_slots-at.ensures in
     record {
-      early = at.early;
       most = at.most;
       low = low_begun 4800 c.args.p c.moved-body.result c.moved-body.ensures c.requires.0;
       used = refl;
       long = c.requires.1.1;
     }
 
-pub put_end-requires : goal.put_end-requires
-put_end-requires c =
+pub put_end-done-requires : goal.put_end-done-requires
+put_end-done-requires c =
     let t = c.put_instructions in
     let body = c.moved-body in
     low_mono (4800 + 129) 8000 _ (omega arith)
@@ -41,24 +40,9 @@ returns-in_err-q-clause-one_put c = let a = c.args in
     let w : Reached = record { progress = body.result; used = 256 } in
     let l' = lent_as t.new.tracked t.new.dropped t.new.work t.new.out in
     let e = err_from_is_err_and c.from_residual.result c.from_residual.ensures.1 in
-    λ off τ ch ks co fo h z en. rw e.1 (block_clash a.setup a.s.now a.facts.now a.choice.now a.k.0 a.p off at.result at.ensures l w pre.1.1 body.ensures
+    λ off τ ch ks co fo h z en. rw e.1 (block_clash a.run a.k.0 a.p off at.result at.ensures l w pre.1.1 body.ensures
     (λ next s rows x y. cleared.ensures next s rows 256 x (omega arith) pre.1.0 y) refl τ ch ks co fo h en l' t.result
     t.ensures.instructions_put _ _ c.in_err-q.was)
-
-pub returns-in_err-done-clause-one_put : goal.returns-in_err-done-clause-one_put
-returns-in_err-done-clause-one_put c = let a = c.args in
-    let pre = c.requires in
-    let t = c.put_instructions in
-    let body = c.moved-body in
-    let at = c.block_slots-at in
-    let cleared = c.clear in
-    let l = lent_as cleared.new.tracked a.dropped.now a.work.now a.out.now in
-    let w : Reached = record { progress = body.result; used = 256 } in
-    let l' = lent_as t.new.tracked t.new.dropped t.new.work t.new.out in
-    let e = err_from_is_err_and c.from_residual-in_err-done.result c.from_residual-in_err-done.ensures.1 in
-    λ off τ ch ks co fo h z en. rw e.1 (block_end_clash a.setup a.s.now a.facts.now a.choice.now a.k.0 a.p off at.result at.ensures l w pre.1.1
-    body.ensures (λ next s rows x y. cleared.ensures next s rows 256 x (omega arith) pre.1.0 y) refl τ ch ks co fo h en l' t.result
-    t.ensures.instructions_put _ c.put_end.new.work _ _ _ c.in_ok-q.was c.in_err-done.ensures.end_put)
 
 pub returns : goal.returns
 returns c = let a = c.args in
@@ -73,8 +57,8 @@ returns c = let a = c.args in
     let v = c.put_count in record {
       by_index = λ n y. low_end n _ _ v.result
           (low_walked n at.result.count _ _ at.ensures.most (c.in_ok-q.ensures.by_index (n + 1) (low_begun n a.p body.result body.ensures y)))
-          c.in_ok-done.ensures.by_index v.ensures.by_index;
-      one_put = λ off τ ch ks co fo h z en. block_end a.setup a.s.now a.facts.now a.choice.now a.k.0 a.p off at.result at.ensures l w pre.1.1
+          c.put_end-done.ensures.by_index v.ensures.by_index;
+      one_put = λ off τ ch ks co fo h z en. block_end a.run a.k.0 a.p off at.result at.ensures l w pre.1.1
           body.ensures (λ next s rows x y. cleared.ensures next s rows 256 x (omega arith) pre.1.0 y) refl τ ch ks co fo h en l' t.result
-          t.ensures.instructions_put _ c.put_end.new.work _ _ _ v.result c.in_ok-q.was c.in_ok-done.ensures.end_put v.ensures.count_put z;
+          t.ensures.instructions_put _ c.put_end-done.new.work _ _ _ v.result c.in_ok-q.was c.put_end-done.ensures.end_put v.ensures.count_put z;
     }

@@ -4,12 +4,15 @@ use Rattle.rewrite_decide.proofs.Stepping.{insert_field_step, insert_field_unkno
 use Rattle.rewrite_decide.proofs.insert_field.Goals as goal
 
 pub returns-in-None : goal.returns-in-None
-returns-in-None c = λ slot σ τ S folds m i used h w e on. plans_keep
-    (insert_field_unknown h w σ folds m e on _ _ _ _ c.value_end-end.ensures.0 c.u16_at.ensures c.last_type-t.ensures
+returns-in-None c =
+    let from = c.find_source-from.ensures in
+    λ slot σ τ S folds m i used h w e on. plans_keep
+    (insert_field_unknown h w σ folds m e on _ _ _ _ from.end c.u16_at.ensures from.named
     (c.in-None.ensures _ τ.rows h.ground.known.rows h.ground.rows) refl)
 
 pub returns-in-Some : goal.returns-in-Some
-returns-in-Some c = λ slot σ τ S folds m i used h w e on. insert_field_step h w σ folds m e on _ _ _ _
-    c.value_end-end.ensures.0 c.u16_at.ensures c.last_type-t.ensures
-    (c.in-Some.ensures _ τ.rows h.ground.known.rows h.ground.rows) _ _ c.value_at-x.ensures refl
+returns-in-Some c =
+    let from = c.find_source-from.ensures in
+    λ slot σ τ S folds m i used h w e on. insert_field_step h w σ folds m e on _ _ _ _ from.end c.u16_at.ensures from.named
+    (c.in-Some.ensures _ τ.rows h.ground.known.rows h.ground.rows) _ _ from.value refl
     (λ y d v. c.plan_insert.ensures _ _ _ used S i _ y h.rep d v)

@@ -1,4 +1,5 @@
-use mathlib.Core.Path.{refl, ◌∙◌, sym}
+use Rattle.std.proofs.Common.{refl, ◌∙◌, sym, ap}
+use Rattle.mir.specs.Kind.{number_of_kind}
 use Rattle.rewrite_arms.proofs.Actions.{plans_keep}
 use Rattle.rewrite_arms.specs.Decided.{load_kind, make_tuple_kind, extract_element_kind, make_struct_kind}
 use Rattle.rewrite_arms.specs.Decided.{extract_field_kind, insert_field_kind, insert_element_kind, make_array_kind}
@@ -8,56 +9,59 @@ use Rattle.rewrite_decide.proofs.plan.Goals as goal
 
 pub returns-then-not-active : goal.returns-then-not-active
 returns-then-not-active c = let a = c.args in
-    λ τ S folds m i used h w n3 n6 f. plans_keep (off_kept a.settings τ a.fold folds S m i (c.kind-kind.ensures ∙ h.line.kind) f n3 n6
+    λ τ S folds m i used h w n3 n6 f. plans_keep (off_kept a.settings τ a.fold folds S m i (c.in-Some.ensures ∙ h.line.kind) f n3 n6
     c.active.ensures c.if-not-active.true)
 
-pub returns-in-0 : goal.returns-in-0
-returns-in-0 c = let a = c.args in
-    λ τ S folds m i used h w n3 n6 f. c.assign.ensures _ _ a.settings τ S folds m i used h w
-    (sym (c.kind-kind.ensures ∙ h.line.kind) ∙ c.in-0.is) refl
+pub returns-in-Assign : goal.returns-in-Assign
+returns-in-Assign c =
+    λ τ S folds m i used h w n3 n6 f. c.assign.ensures _ c.args.settings τ S folds m i used h w
+    (sym (c.in-Some.ensures ∙ h.line.kind) ∙ ap number_of_kind c.in-Assign.is) refl
 
-pub returns-in-5 : goal.returns-in-5
-returns-in-5 c = let a = c.args in
-    let on = acting a.settings.tuples a.settings.structs a.fold load_kind c.active.ensures c.if-not-active.false c.in-5.is in
-    λ τ S folds m i used h w n3 n6 f. c.load.ensures a.settings τ S folds m i used h w
-    (sym (c.kind-kind.ensures ∙ h.line.kind) ∙ c.in-5.is) on
+pub returns-in-Load : goal.returns-in-Load
+returns-in-Load c = let a = c.args in
+    let is = ap number_of_kind c.in-Load.is in
+    let on = acting a.settings.tuples a.settings.structs a.fold load_kind c.active.ensures c.if-not-active.false is in
+    λ τ S folds m i used h w n3 n6 f. c.load.ensures a.settings τ S folds m i used h w (sym (c.in-Some.ensures ∙ h.line.kind) ∙ is) on
 
-pub returns-in-10 : goal.returns-in-10
-returns-in-10 c = let a = c.args in
-    let on = acting a.settings.tuples a.settings.structs a.fold make_tuple_kind c.active.ensures c.if-not-active.false c.in-10.is in
-    λ τ S folds m i used h w n3 n6 f. tuple_step h w a.settings folds m _ f on (sym (c.kind-kind.ensures ∙ h.line.kind) ∙ c.in-10.is)
+pub returns-in-MakeTuple : goal.returns-in-MakeTuple
+returns-in-MakeTuple c = let a = c.args in
+    let is = ap number_of_kind c.in-MakeTuple.is in
+    let on = acting a.settings.tuples a.settings.structs a.fold make_tuple_kind c.active.ensures c.if-not-active.false is in
+    λ τ S folds m i used h w n3 n6 f. tuple_step h w a.settings folds m _ f on (sym (c.in-Some.ensures ∙ h.line.kind) ∙ is)
 
-pub returns-in-11 : goal.returns-in-11
-returns-in-11 c = let a = c.args in
-    let on = acting a.settings.tuples a.settings.structs a.fold extract_element_kind c.active.ensures c.if-not-active.false c.in-11.is in
-    λ τ S folds m i used h w n3 n6 f. c.extract_element.ensures _ _ a.settings τ S folds m i used h w
-    (sym (c.kind-kind.ensures ∙ h.line.kind) ∙ c.in-11.is) on
+pub returns-in-ExtractTupleElement : goal.returns-in-ExtractTupleElement
+returns-in-ExtractTupleElement c = let a = c.args in
+    let is = ap number_of_kind c.in-ExtractTupleElement.is in
+    let on = acting a.settings.tuples a.settings.structs a.fold extract_element_kind c.active.ensures c.if-not-active.false is in
+    λ τ S folds m i used h w n3 n6 f. c.extract_element.ensures _ a.settings τ S folds m i used h w (sym (c.in-Some.ensures ∙ h.line.kind) ∙ is) on
 
-pub returns-in-12 : goal.returns-in-12
-returns-in-12 c = let a = c.args in
-    let on = acting a.settings.tuples a.settings.structs a.fold make_struct_kind c.active.ensures c.if-not-active.false c.in-12.is in
-    λ τ S folds m i used h w n3 n6 f. struct_step h w a.settings folds m _ f on (sym (c.kind-kind.ensures ∙ h.line.kind) ∙ c.in-12.is) _
-    c.last_type.ensures (λ fs d v l. c.plan_struct.ensures τ S i fs h.ground d v l)
+pub returns-in-MakeStruct : goal.returns-in-MakeStruct
+returns-in-MakeStruct c = let a = c.args in
+    let is = ap number_of_kind c.in-MakeStruct.is in
+    let on = acting a.settings.tuples a.settings.structs a.fold make_struct_kind c.active.ensures c.if-not-active.false is in
+    λ τ S folds m i used h w n3 n6 f. struct_step h w a.settings folds m _ f on (sym (c.in-Some.ensures ∙ h.line.kind) ∙ is) _
+    c.last_type.ensures (λ fs d v l. c.plan_struct.ensures _ refl τ S i fs h.ground d v l)
 
-pub returns-in-13 : goal.returns-in-13
-returns-in-13 c = let a = c.args in
-    let on = acting a.settings.tuples a.settings.structs a.fold extract_field_kind c.active.ensures c.if-not-active.false c.in-13.is in
-    λ τ S folds m i used h w n3 n6 f. c.extract_field.ensures _ a.settings τ S folds m i used h w
-    (sym (c.kind-kind.ensures ∙ h.line.kind) ∙ c.in-13.is) on
+pub returns-in-ExtractStructField : goal.returns-in-ExtractStructField
+returns-in-ExtractStructField c = let a = c.args in
+    let is = ap number_of_kind c.in-ExtractStructField.is in
+    let on = acting a.settings.tuples a.settings.structs a.fold extract_field_kind c.active.ensures c.if-not-active.false is in
+    λ τ S folds m i used h w n3 n6 f. c.extract_field.ensures _ a.settings τ S folds m i used h w (sym (c.in-Some.ensures ∙ h.line.kind) ∙ is) on
 
-pub returns-in-14 : goal.returns-in-14
-returns-in-14 c = let a = c.args in
-    let on = acting a.settings.tuples a.settings.structs a.fold insert_field_kind c.active.ensures c.if-not-active.false c.in-14.is in
-    λ τ S folds m i used h w n3 n6 f. c.insert_field.ensures _ a.settings τ S folds m i used h w
-    (sym (c.kind-kind.ensures ∙ h.line.kind) ∙ c.in-14.is) on
+pub returns-in-InsertField : goal.returns-in-InsertField
+returns-in-InsertField c = let a = c.args in
+    let is = ap number_of_kind c.in-InsertField.is in
+    let on = acting a.settings.tuples a.settings.structs a.fold insert_field_kind c.active.ensures c.if-not-active.false is in
+    λ τ S folds m i used h w n3 n6 f. c.insert_field.ensures _ a.settings τ S folds m i used h w (sym (c.in-Some.ensures ∙ h.line.kind) ∙ is) on
 
-pub returns-in-15 : goal.returns-in-15
-returns-in-15 c = let a = c.args in
-    let on = acting a.settings.tuples a.settings.structs a.fold insert_element_kind c.active.ensures c.if-not-active.false c.in-15.is in
-    λ τ S folds m i used h w n3 n6 f. c.insert_element.ensures _ _ a.settings τ S folds m i used h w
-    (sym (c.kind-kind.ensures ∙ h.line.kind) ∙ c.in-15.is) on
+pub returns-in-InsertTuple : goal.returns-in-InsertTuple
+returns-in-InsertTuple c = let a = c.args in
+    let is = ap number_of_kind c.in-InsertTuple.is in
+    let on = acting a.settings.tuples a.settings.structs a.fold insert_element_kind c.active.ensures c.if-not-active.false is in
+    λ τ S folds m i used h w n3 n6 f. c.insert_element.ensures _ a.settings τ S folds m i used h w (sym (c.in-Some.ensures ∙ h.line.kind) ∙ is) on
 
-pub returns-in-16 : goal.returns-in-16
-returns-in-16 c = let a = c.args in
-    let on = acting a.settings.tuples a.settings.structs a.fold make_array_kind c.active.ensures c.if-not-active.false c.in-16.is in
-    λ τ S folds m i used h w n3 n6 f. array_step h w a.settings folds m _ f on (sym (c.kind-kind.ensures ∙ h.line.kind) ∙ c.in-16.is)
+pub returns-in-MakeFixedArray : goal.returns-in-MakeFixedArray
+returns-in-MakeFixedArray c = let a = c.args in
+    let is = ap number_of_kind c.in-MakeFixedArray.is in
+    let on = acting a.settings.tuples a.settings.structs a.fold make_array_kind c.active.ensures c.if-not-active.false is in
+    λ τ S folds m i used h w n3 n6 f. array_step h w a.settings folds m _ f on (sym (c.in-Some.ensures ∙ h.line.kind) ∙ is)

@@ -5,6 +5,6 @@ use Rattle.rewrite_head.proofs.put_front.Goals as goal
 pub returns : goal.returns
 returns c = (
   omega (arith, c.copy.ensures.0, c.copy-p.ensures.0, c.byte_at-count.ensures),
-  front_written _ _ _ _ _ _ _ _ c.byte_at-count.ensures c.requires.0 _ c.copy-p.ensures.0 c.copy-p.ensures.1 c.put_u16.ensures
+  front_written _ _ _ _ _ _ _ _ c.byte_at-count.ensures c.requires.within _ c.copy-p.ensures.0 c.copy-p.ensures.1 c.put_u16.ensures
       c.copy.ensures.1,
 )

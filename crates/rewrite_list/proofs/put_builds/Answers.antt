@@ -6,15 +6,15 @@ use Rattle.rewrite_list.proofs.put_builds.Goals as goal
 pub returns-in_err-q-clause-all_put : goal.returns-in_err-q-clause-all_put
 returns-in_err-q-clause-all_put c =
     let p = err_from_is_err_and c.from_residual.result c.from_residual.ensures.1 in
-    rw p.1 (building_clash _ _ _ _ _ _ _ _ _ _ _ _ _ _ c.loop-i.invariant _ _ c.put_wanted.new.work _ c.loop-i-test.true
+    rw p.1 (building_clash _ _ _ _ _ _ _ _ _ c.loop-i.invariant _ _ c.put_wanted.new.work _ c.loop-i-test.true
     c.wanted_at-wants.ensures c.in_err-q.ensures.wanted_put _ _ refl)
 
 pub loop-i-preserved : goal.loop-i-preserved
 loop-i-preserved c =
-    building_again _ _ _ _ _ _ _ _ _ _ _ _ _ _ c.loop-i.invariant _ _ _ _ c.loop-i-test.true c.wanted_at-wants.ensures
+    building_again _ _ _ _ _ _ _ _ _ c.loop-i.invariant _ _ _ _ c.loop-i-test.true c.wanted_at-wants.ensures
     c.in_ok-q.ensures.wanted_put _ _ refl c.in_ok-q.ensures.put_few
     c.put_wanted.auto.out c.put_wanted.auto.work
     c.in_ok-q.ensures.work_unchanged c.value_end-here.ensures.0 c.value_end-here.ensures.1
 
 pub returns-clause-all_put : goal.returns-clause-all_put
-returns-clause-all_put c = building_done _ _ _ _ _ _ _ _ _ _ _ _ _ _ c.loop-i.invariant c.loop-i-test.false
+returns-clause-all_put c = building_done _ _ _ _ _ _ _ _ _ c.loop-i.invariant c.loop-i-test.false

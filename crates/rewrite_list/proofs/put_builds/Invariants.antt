@@ -1,6 +1,5 @@
 use Rattle.rewrite_list.proofs.Building.{Building}
-use Rattle.std.proofs.Common.{◌-◌}
 use Rattle.rewrite_list.proofs.put_builds.Given as goal
 
 abbrev pub invariant-loop-i : goal.invariant-loop-i
-invariant-loop-i l = Building l.b l.s l.facts l.t l.tracked l.list l.initial.out l.initial.work l.initial.q l.out l.work l.q l.here l.i
+invariant-loop-i l = Building l.values l.initial.out l.initial.work l.initial.q l.out l.work l.q l.here l.i

@@ -5,6 +5,7 @@ use lib.ListN.{take}
 use Rattle.std.proofs.lemmas.Result.{err_from_is_err_and}
 use Rattle.rewrite_list.proofs.Joining.{one_stays}
 use Rattle.rewrite_list.proofs.Building.{none_put, wanted_clash, wanted_made}
+use Rattle.rewrite_list.proofs.Copying.{moved}
 use Prim.Native.Nat.{◌+◌}
 use Rattle.rewrite_list.proofs.put_wanted.Goals as goal
 
@@ -16,7 +17,7 @@ pub returns-in_err-to-clause-wanted_put : goal.returns-in_err-to-clause-wanted_p
 returns-in_err-to-clause-wanted_put c =
     let a = c.args in
     let p = err_from_is_err_and c.from_residual.result c.from_residual.ensures.1 in
-    rw p.1 (wanted_clash _ _ _ a.work.now _ _ _ a.p c.fresh_value-d.result a.wants c.in-Some.is _ _ c.in_err-to.ensures.tracked_put)
+    rw p.1 (wanted_clash _ a.work.now _ _ _ a.p c.fresh_value-d.result a.wants c.in-Some.is _ _ c.in_err-to.ensures.tracked_put)
 
 pub returns-clause-work_unchanged : goal.returns-clause-work_unchanged
 returns-clause-work_unchanged c =
@@ -26,5 +27,5 @@ returns-clause-work_unchanged c =
 pub returns-clause-wanted_put : goal.returns-clause-wanted_put
 returns-clause-wanted_put c =
     let a = c.args in
-    wanted_made _ _ _ a.work.now _ _ _ a.p _ a.wants c.in-Some.is _ _ _ c.fresh_value-d.ensures
-    c.in_ok-to.ensures.tracked_put c.set_number.ensures c.moved.ensures.0
+    wanted_made _ a.work.now _ _ _ a.p _ a.wants c.in-Some.is _ _ _ c.fresh_value-d.ensures
+    c.in_ok-to.ensures.tracked_put c.set_number.ensures (moved a.p.to _)

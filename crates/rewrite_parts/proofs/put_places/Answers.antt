@@ -8,7 +8,3 @@ loop-i-init c = laying _ _ _ _ _ _
 pub loop-i-preserved : goal.loop-i-preserved
 loop-i-preserved c =
     laid_more c.loop-i.invariant c.loop-i-test.true (omega arith) c.set_place.ensures c.value_end-here.ensures.0 c.value_end-here.ensures.1
-
-pub returns-clause-places_put : goal.returns-clause-places_put
-returns-clause-places_put c =
-    λ next xs v l short r. record { each = λ j h. (c.loop-i.invariant.filled next xs v l short r).each j (omega arith) }

@@ -10,5 +10,5 @@ returns-clause-values_tracked c =
     let p = c.put_places.ensures in
     λ next S xs r q b v l m.
     simp (c.set_number-2.ensures, c.set_flag.ensures)
-    (rep_track r xs _ a.d q b (grown_row a.rows.now a.used a.n e p.grown) l m (row_number a.rows.now a.used a.n (omega (arith, q)) e p.grown)
+    (rep_track r xs _ a.d q b (grown_row a.rows.now a.used a.values.count e p.grown) l m (row_number a.rows.now a.used a.values.count (omega (arith, q)) e p.grown)
     (p.places_put next xs v l r.short (omega (arith, q, c.set_number.auto.l))))

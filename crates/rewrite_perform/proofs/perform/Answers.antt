@@ -8,15 +8,15 @@ use Rattle.rewrite_perform.proofs.perform.Goals as goal
 pub returns-in-Keep-clause-performs : goal.returns-in-Keep-clause-performs
 returns-in-Keep-clause-performs c =
     let a = c.args in
-    λ τ S i q types g line d. does_keep a.b a.s.now S i q a.action d a.out.now _ types a.dropped.now _
-    a.p _ τ a.facts.now a.slot _ _ _ c.in-Keep.is refl g line c.place.ensures.0 c.end.ensures c.between-part.ensures
+    λ τ S i q types g line d. does_keep a.code S i q a.action d a.out.now _ types a.dropped.now _
+    a.p _ τ a.slot _ _ _ c.in-Keep.is refl g line c.place.ensures.0 c.end.ensures c.between-part.ensures
     c.put_part.ensures.part_put
 
 pub returns-in-Track : goal.returns-in-Track
 returns-in-Track c =
     let a = c.args in record {
       by_index = λ k l. rw c.left_out.ensures (low_raised k a.p l c.in-Track.what a.p.to a.p.lines (omega arith) (omega arith));
-      performs = λ τ S i q types g line d. does_track a.b a.s.now S i q a.action d a.out.now _ types a.dropped.now _ a.p _ _ _
+      performs = λ τ S i q types g line d. does_track a.code S i q a.action d a.out.now _ types a.dropped.now _ a.p _ _ _
           c.in-Track.is refl c.set_flag.ensures c.left_out.ensures;
     }
 
@@ -25,6 +25,6 @@ returns-in-Assign c =
     let a = c.args in record {
       by_index = λ k l. rw (c.moved.ensures, c.left_out-q.ensures)
           (low_raised k a.p l Counted.Extract _ _ (assign_low _ _ _ a.p.to _ c.put_assign-to.ensures.0) (omega arith));
-      performs = λ τ S i q types g line d. does_assign a.b a.s.now S i q a.action d a.out.now _ types a.dropped.now _ a.p _ _ _ _ _ _ _
+      performs = λ τ S i q types g line d. does_assign a.code S i q a.action d a.out.now _ types a.dropped.now _ a.p _ _ _ _ _ _ _
           c.in-Assign.is refl c.value_at.ensures c.put_assign-to.ensures c.left_out-q.ensures c.moved.ensures;
     }

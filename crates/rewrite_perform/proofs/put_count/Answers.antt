@@ -4,5 +4,5 @@ use Rattle.rewrite_perform.proofs.put_count.Goals as goal
 pub returns : goal.returns
 returns c =
     let a = c.args in
-    let w = count_went a.p a.q _ a.out.now _ c.put_u16.ensures c.moved.ensures in
-    record { by_index = w.0; count_put = w.1 }
+    let w = count_went a.p c.in_ok-q.q _ a.out.now _ c.put_u16.ensures c.moved.ensures in
+    record { by_index = λ k l. w.0 k (rw c.in_ok-q.was at l); count_put = rw c.in_ok-q.was w.1 }

@@ -11,7 +11,7 @@ returns-in-Does c =
     let a = c.args in record {
       by_index = c.perform-q.ensures.by_index;
       work_unchanged = refl;
-      puts_piece = λ τ S used i q h z bd. put_does a.b a.s.now a.facts.now a.slot τ S used i q
+      puts_piece = λ τ S used i q h z bd. put_does a.code a.slot τ S used i q
           (lent_as a.tracked.now a.dropped.now a.work.now a.out.now) a.p a.rewrite h z _ _ _ _ c.in-Does.is
           c.perform-q.ensures.performs;
     }
@@ -21,7 +21,7 @@ returns-in-Forwarded c =
     let a = c.args in record {
       by_index = λ k l. rw c.left_out.ensures (low_raised k a.p l Counted.Insert a.p.to a.p.lines (omega arith) (omega arith));
       work_unchanged = refl;
-      puts_piece = λ τ S used i q h z bd. put_forwarded a.b a.s.now a.facts.now a.slot τ S used i q
+      puts_piece = λ τ S used i q h z bd. put_forwarded a.code a.slot τ S used i q
           (lent_as a.tracked.now a.dropped.now a.work.now a.out.now) a.p a.rewrite h z _ c.in-Forwarded.is c.left_out.ensures;
     }
 
@@ -30,7 +30,7 @@ returns-in-Call c =
     let a = c.args in record {
       by_index = c.put_call.ensures.by_index;
       work_unchanged = c.put_call.ensures.work_unchanged;
-      puts_piece = λ τ S used i q h z bd. put_called a.b a.s.now a.facts.now a.slot τ S used i q
+      puts_piece = λ τ S used i q h z bd. put_called a.code a.slot τ S used i q
           (lent_as a.tracked.now a.dropped.now a.work.now a.out.now) a.p a.rewrite h z
           (lent_as a.tracked.now a.dropped.now c.put_call.new.work c.put_call.new.out) _ c.in-Call.is
           (λ ds f xs ps rs y k e. c.put_call.ensures.call_put τ S used i ds f xs ps rs a.dropped.now q y k e bd);
@@ -41,7 +41,7 @@ returns-in-Store c =
     let a = c.args in record {
       by_index = c.put_store.ensures.by_index;
       work_unchanged = c.put_store.ensures.work_unchanged;
-      puts_piece = λ τ S used i q h z bd. put_stored a.b a.s.now a.facts.now a.slot τ S used i q
+      puts_piece = λ τ S used i q h z bd. put_stored a.code a.slot τ S used i q
           (lent_as a.tracked.now a.dropped.now a.work.now a.out.now) a.p a.rewrite h z
           (lent_as a.tracked.now a.dropped.now c.put_store.new.work c.put_store.new.out) _ c.in-Store.is
           (λ v x t y k e. c.put_store.ensures.store_put τ S used i v x t a.dropped.now q y k e bd);

@@ -1,4 +1,3 @@
-use Prim.Native.Nat.{◌+◌}
 use mathlib.Core.Path.{refl}
 use Rattle.std.proofs.lemmas.Result.{err_from_is_err_and}
 use Rattle.rewrite_step.specs.Stepping.{lent_as}
@@ -11,7 +10,7 @@ returns-in_err-progress c =
     let e = err_from_is_err_and c.from_residual.result c.from_residual.ensures.1 in
     record {
       by_index = λ k l. rw e.1 tt;
-      steps_on = step_turn a.setup a.s.now a.facts.now a.slot a.fold
+      steps_on = step_turn a.code a.settings a.slot a.fold
           (lent_as a.tracked.now a.dropped.now a.work.now a.out.now) a.w _ _ _ _ _ _ _ _ c.requires.1.1
           c.settle-d.auto.rows c.settle-d.ensures.settles_all c.carry_out.ensures.puts_piece c.carry_out.ensures.work_unchanged
           (clash_too _ _ c.in_err-progress.was e.1);
@@ -21,7 +20,7 @@ pub returns : goal.returns
 returns c =
     let a = c.args in record {
       by_index = λ k l. (c.in_ok-progress.ensures.by_index k l, c.settle-d.ensures.used_bound);
-      steps_on = step_turn a.setup a.s.now a.facts.now a.slot a.fold
+      steps_on = step_turn a.code a.settings a.slot a.fold
           (lent_as a.tracked.now a.dropped.now a.work.now a.out.now) a.w _ _ _ _ _ _ _ _ c.requires.1.1
           c.settle-d.auto.rows c.settle-d.ensures.settles_all c.carry_out.ensures.puts_piece c.carry_out.ensures.work_unchanged
           (went_too _ c.in_ok-progress.was refl);

@@ -1,16 +1,16 @@
 use native.Mathlib.Omega.{arith}
-use mathlib.Core.Path.{◌∙◌, sym}
+use mathlib.Core.Path.{sym}
 use Rattle.mir.specs.Option.{as_option}
 use Rattle.rewrite_wanted.proofs.Asking.{none_other, some_type, recorded_told}
 use Rattle.rewrite_wanted.proofs.asked_type.Goals as goal
 
-pub returns-then-type_shape-eq-OTHER : goal.returns-then-type_shape-eq-OTHER
-returns-then-type_shape-eq-OTHER c = λ τ g l. rw (c.in-Types.is, ← c.tail.ensures, ← c.u16_at-u.ensures)
-    (none_other τ _ _ _ c.if-n-i.false (sym (c.type_shape.ensures _ τ.rows g.known.rows g.rows) ∙ c.if-type_shape-eq-OTHER.true))
+pub returns-in-Other : goal.returns-in-Other
+returns-in-Other c = λ τ g l. rw (c.in-Types.is, ← c.tail.ensures, ← c.u16_at-u.ensures)
+    (none_other τ _ _ _ c.if-n-i.false c.in-Other.is (c.type_shape.ensures _ τ.rows g.known.rows g.rows))
 
-pub returns-else-type_shape-eq-OTHER : goal.returns-else-type_shape-eq-OTHER
-returns-else-type_shape-eq-OTHER c = λ τ g l. rw (c.in-Types.is, ← c.tail.ensures, ← c.u16_at-u.ensures)
-    (some_type τ _ _ _ c.if-n-i.false (λ z. c.if-type_shape-eq-OTHER.false (c.type_shape.ensures _ τ.rows g.known.rows g.rows ∙ z)))
+pub returns-in_default : goal.returns-in_default
+returns-in_default c = λ τ g l. rw (c.in-Types.is, ← c.tail.ensures, ← c.u16_at-u.ensures)
+    (some_type τ _ _ _ c.if-n-i.false c.in_default.not-Other (c.type_shape.ensures _ τ.rows g.known.rows g.rows))
 
 pub returns-in-Recorded : goal.returns-in-Recorded
 returns-in-Recorded c = λ τ g l. rw c.in-Recorded.is

@@ -1,4 +1,4 @@
-use mathlib.Core.Path.{◌∙◌, sym, ap}
+use mathlib.Core.Path.{◌∙◌, sym}
 use native.Mathlib.Omega.{arith}
 use Rattle.mir.specs.declared.Value.{Value}
 use Rattle.rewrite_parts.specs.Rows.{ValueAt}

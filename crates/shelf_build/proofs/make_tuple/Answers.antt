@@ -7,6 +7,6 @@ use Rattle.shelf_build.proofs.make_tuple.Goals as goal
 pub returns : goal.returns
 returns c = λ τ seen i n g e.
     let a = c.args in
-    (make_tuple_agrees a.b a.t.now seen τ (λ d xs u l h. let o = c.id_type-y.ensures _ _ τ d g u in
-    c.both.ensures ∙ and_both (c.has_shape-shaped.ensures _ τ (recorded_type τ d) g o)
+    (make_tuple_agrees a.typing.code.bounds a.t.now seen τ (λ d xs u l h. let o = c.id_type-y.ensures _ _ τ d g u in
+    and_both (c.has_shape-shaped.ensures _ τ (recorded_type τ d) g o)
     (c.parts_fit-all.ensures τ (recorded_type τ d) xs g o l (h ∙ sym c.byte_at-n.ensures)))).each i n e

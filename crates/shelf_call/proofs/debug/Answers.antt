@@ -5,4 +5,4 @@ use Rattle.shelf_call.proofs.debug.Goals as goal
 pub returns : goal.returns
 returns c = λ s types τ seen i n g e.
     let a = c.args in
-    (debug_agrees a.b a.t.now seen τ (λ xs l h. c.all_known.ensures s types τ xs g l (h ∙ sym c.byte_at-n.ensures))).each i n e
+    (debug_agrees a.typing.code.bounds a.t.now seen τ (λ xs l h. c.all_known.ensures s types τ xs g l (h ∙ sym c.byte_at-shown.ensures))).each i n e

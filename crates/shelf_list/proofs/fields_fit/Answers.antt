@@ -25,7 +25,7 @@ returns-then-not-given_fits c = λ τ o fs ss g e l h m k p.
     left_fail (c.loop-i.invariant.1 τ o fs ss g e l h m k p) c.loop-i-test.true
     (λ y q.
     let j : ◌≡◌ {A = NameId} (record { 0 = c.u16_at.result }) y.name = ap (λ z. record { 0 = z }) (c.u16_at.ensures ∙ q.named) in
-    let w : InitAt a.b.next a.t.now (given y.name fs) c.find_init-init.result = rw j at (c.find_init-init.ensures _ fs l h) in
+    let w : InitAt a.typing.code.bounds.next a.list.bytes.now (given y.name fs) c.find_init-init.result = rw j at (c.find_init-init.ensures _ fs l h) in
     c.given_fits.ensures τ (given y.name fs) y.part g w
     (c.part_type-part.ensures τ o g.known.rows g.rows e ∙ q.part))
     c.if-not-given_fits.true
@@ -38,7 +38,7 @@ loop-i-preserved c =
           left_next (c.loop-i.invariant.1 τ o fs ss g e l h m k p) c.loop-i-test.true
           (λ y q.
           let j : ◌≡◌ {A = NameId} (record { 0 = c.u16_at.result }) y.name = ap (λ z. record { 0 = z }) (c.u16_at.ensures ∙ q.named) in
-          let w : InitAt a.b.next a.t.now (given y.name fs) c.find_init-init.result = rw j at (c.find_init-init.ensures _ fs l h) in
+          let w : InitAt a.typing.code.bounds.next a.list.bytes.now (given y.name fs) c.find_init-init.result = rw j at (c.find_init-init.ensures _ fs l h) in
           c.given_fits.ensures τ (given y.name fs) y.part g w
           (c.part_type-part.ensures τ o g.known.rows g.rows e ∙ q.part))
           c.if-not-given_fits.false (omega arith),

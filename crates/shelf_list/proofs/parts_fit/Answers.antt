@@ -8,6 +8,5 @@ use Rattle.shelf_list.proofs.parts_fit.Goals as goal
 pub returns : goal.returns
 unfolding parts_fit
 returns c = λ τ o xs g e l h.
-    c.both.ensures
-    ∙ and_both (c.has_parts-counted.ensures τ o g.known.rows g.rows e ∙ ap (counts (part_count (row_of τ o))) (sym h))
+    and_both (c.has_parts-counted.ensures τ o g.known.rows g.rows e ∙ ap (counts (part_count (row_of τ o))) (sym h))
     (c.all_fit-all.ensures τ o xs g e l h)

@@ -1,5 +1,4 @@
 use Rattle.shelf_marks.proofs.Scanning.{Clearing}
-use Rattle.std.proofs.Common.{◌-◌}
 use Rattle.shelf_marks.proofs.reads_clear.Given as goal
 
 abbrev pub invariant-loop-k : goal.invariant-loop-k

@@ -9,8 +9,8 @@ use Rattle.shelf_memory.proofs.store.Goals as goal
 pub returns : goal.returns
 returns c = λ τ seen i n g e.
     let a = c.args in
-    (store_agrees a.b a.t.now seen τ (λ p x y u v w. let E = c.projections_end-e.ensures.0 ∙ ap
+    (store_agrees a.typing.code.bounds a.t.now seen τ (λ p x y u v w. let E = c.projections_end-e.ensures.0 ∙ ap
     (λ m. after (projection_end a.t.now) m 3) c.byte_at.ensures in
     let o = c.type_at-y.ensures y (type_moved (c.value_end.ensures.0 ∙ ap (value_end a.t.now) E) w) in
-    c.both.ensures ∙ and_both (c.value_fits-value.ensures τ x (some y) g (value_moved E v) o)
+    and_both (c.value_fits-value.ensures τ x (some y) g (value_moved E v) o)
     (c.place_fits-place.ensures τ p y g u o))).each i n e

@@ -15,7 +15,7 @@ loop-i-preserved c = (
     omega arith,
     λ recorded τ o ps g e l h.
         walking_next (c.loop-i.invariant.1.1 recorded τ o ps g e l h) c.loop-i-test.true
-        (λ o' q z w. c.step_type-there.ensures τ o' q g.known.rows g.rows z (c.step_at.ensures q w)) c.projection_end-here.ensures.0,
+        (λ o' q z w. c.step_type-there.ensures τ o' g.known.rows g.rows z q (c.step_at-step.ensures q w)) c.projection_end-here.ensures.0,
   ),
 )
 

@@ -7,13 +7,13 @@ use Rattle.mir.specs.declared.Projection.{Projection}
 use Rattle.mir.specs.declared.TypeId.{TypeId}
 use mathlib.Core.Option.{Option}
 use mathlib.Core.List.{List}
-use Rattle.std.proofs.Common.{◌-◌, ◌≡◌, ℕ, ◌+◌, ◌*◌, ◌≤◌, length}
+use Rattle.std.proofs.Common.{◌≡◌, ℕ, ◌+◌, ◌*◌, ◌≤◌, length}
 use Rattle.shelf.specs.Fits.{place_type}
 use Rattle.shelf_place.proofs.end_type.Given as goal
 
 abbrev pub invariant-loop-i : goal.invariant-loop-i
 invariant-loop-i l =
-    (l.here ≤ l.at + 6 * l.i) × ((l.i ≤ l.n)
-    × ((recorded : List ℕ) (τ : Types) (o : Option TypeId) (ps : List Projection) → Ground l.b l.s l.types recorded τ
-    → Is l.initial.there o → StepsIn l.b.next l.t l.at ps → length ps ≡ l.n
-    → Walking τ l.b.next l.t (place_type τ o ps) l.n l.here l.there l.i))
+    (l.here ≤ l.steps.at + 6 * l.i) × ((l.i ≤ l.steps.count)
+    × ((recorded : List ℕ) (τ : Types) (o : Option TypeId) (ps : List Projection) → Ground l.code.bounds l.code.bytes.now l.code.facts.now recorded τ
+    → Is l.initial.there o → StepsIn l.code.bounds.next l.steps.bytes.now l.steps.at ps → length ps ≡ l.steps.count
+    → Walking τ l.code.bounds.next l.steps.bytes.now (place_type τ o ps) l.steps.count l.here l.there l.i))

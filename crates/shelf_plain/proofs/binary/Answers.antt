@@ -1,4 +1,3 @@
-use mathlib.Core.Path.{◌∙◌}
 use Rattle.shelf_field.proofs.Lines.{and_both}
 use Rattle.shelf_field.proofs.Single.{value_moved}
 use Rattle.shelf_plain.proofs.Short.{binary_agrees}
@@ -6,6 +5,6 @@ use Rattle.shelf_plain.proofs.binary.Goals as goal
 
 pub returns : goal.returns
 returns c = λ τ seen i n g e.
-    (binary_agrees c.args.b c.args.t.now seen τ (λ d x y p q u. c.both.ensures ∙ and_both (c.id_scalar-result.ensures τ d g p)
-    (c.both-operands.ensures ∙ and_both (c.value_scalar-left.ensures τ x g q)
+    (binary_agrees c.args.typing.code.bounds c.args.t.now seen τ (λ d x y p q u. and_both (c.id_scalar-result.ensures τ d g p)
+    (and_both (c.value_scalar-left.ensures τ x g q)
     (c.value_scalar-right.ensures τ y g (value_moved c.value_end.ensures.0 u))))).each i n e

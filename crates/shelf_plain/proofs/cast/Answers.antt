@@ -1,9 +1,5 @@
-use mathlib.Core.Path.{◌∙◌}
-use Rattle.shelf_field.proofs.Lines.{and_both}
 use Rattle.shelf_plain.proofs.Short.{cast_agrees}
 use Rattle.shelf_plain.proofs.cast.Goals as goal
 
 pub returns : goal.returns
-returns c = λ τ seen i n g e.
-    (cast_agrees c.args.b c.args.t.now seen τ (λ d x p q.
-    c.both.ensures ∙ and_both (c.id_scalar-to.ensures τ d g p) (c.value_scalar-from.ensures τ x g q))).each i n e
+returns c = λ τ seen i n g e. (cast_agrees c.args.typing.code.bounds c.args.t.now seen τ (λ d x. c.scalars.ensures τ d x g)).each i n e

@@ -1,12 +1,9 @@
-use native.Mathlib.Omega.{arith}
-use Rattle.shelf_reason1.proofs.Whole.{other_agrees}
+use mathlib.Core.Path.{ap}
+use Rattle.mir.specs.Kind.{number_of_kind}
+use Rattle.shelf_reason1.proofs.Whole.{at_kind, nop_agrees}
 use Rattle.shelf_reason1.proofs.agrees.Goals as goal
 
-pub returns-in_default : goal.returns-in_default
-returns-in_default c = λ τ seen k i n g e.
+pub returns-in-Nop : goal.returns-in-Nop
+returns-in-Nop c = λ τ seen k i n g e.
     let a = c.args in
-    other_agrees a.b seen k τ a.t.now i n a.kind
-    (λ z. omega arith) (λ z. omega arith) (λ z. omega arith) (λ z. omega arith) (λ z. omega arith) (λ z. omega arith)
-    (λ z. omega arith) (λ z. omega arith) (λ z. omega arith) (λ z. omega arith) (λ z. omega arith) (λ z. omega arith)
-    (λ z. omega arith) (λ z. omega arith) (λ z. omega arith) (λ z. omega arith) (λ z. omega arith) (λ z. omega arith)
-    e
+    at_kind a.typing.code.bounds seen k τ a.t.now i n 8 (ap number_of_kind c.in-Nop.is) e (λ q. nop_agrees τ q)

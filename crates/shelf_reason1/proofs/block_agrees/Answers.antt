@@ -1,24 +1,15 @@
-use mathlib.Core.Bool.{not}
-use mathlib.Core.Path.{ap}
-use Rattle.shelf_marks.proofs.Scanning.{passing_again, passing_stop, passing_done}
-use Rattle.shelf_reason1.proofs.Whole.{block_fail, block_end}
+use mathlib.Core.Path.{sym, ◌∙◌}
+use Rattle.std.proofs.Common.{rules}
 use Rattle.shelf.specs.Agrees.{agrees}
+use Rattle.shelf_reason1.proofs.Whole.{block_fail, block_end}
 use Rattle.shelf_reason1.proofs.block_agrees.Goals as goal
 
-pub returns-then-not-one_agrees : goal.returns-then-not-one_agrees
-returns-then-not-one_agrees c =
-    let a = c.args in
-    block_fail a.b a.s.now a.facts.now a.k.0 (passing_stop a.b a.s.now a.facts.now a.k.0 agrees c.last_slot-last.ensures
-    c.loop-slot.invariant c.loop-slot-test.true c.one_agrees.ensures (ap not c.if-not-one_agrees.true))
-
-pub loop-slot-preserved : goal.loop-slot-preserved
-loop-slot-preserved c =
-    let a = c.args in
-    passing_again a.b a.s.now a.facts.now a.k.0 agrees c.last_slot-last.ensures
-    c.loop-slot.invariant c.loop-slot-test.true c.one_agrees.ensures (ap not c.if-not-one_agrees.false)
+pub returns-then-not-each_slot : goal.returns-then-not-each_slot
+returns-then-not-each_slot c =
+    let e = c.each_slot.ensures agrees (λ slot r l h. search rules) in
+    block_fail c.args.code c.args.k.0 (λ τ ks d h. sym c.if-not-each_slot.true ∙ e τ ks d h)
 
 pub returns : goal.returns
 returns c =
-    let a = c.args in
-    block_end a.b a.s.now a.facts.now a.k.0 c.last_slot-last.ensures (passing_done a.b a.s.now a.facts.now a.k.0
-    agrees c.last_slot-last.ensures c.loop-slot.invariant c.loop-slot-test.false) c.end_agrees.ensures
+    let e = c.each_slot.ensures agrees (λ slot r l h. search rules) in
+    block_end c.args.code c.args.k.0 c.last_slot.ensures (λ τ ks d h. sym c.if-not-each_slot.false ∙ e τ ks d h) c.end_agrees.ensures

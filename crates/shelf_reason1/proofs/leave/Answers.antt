@@ -3,5 +3,5 @@ use Rattle.shelf_reason1.proofs.Ends.{return_agrees}
 use Rattle.shelf_reason1.proofs.leave.Goals as goal
 
 pub returns : goal.returns
-returns c = λ s types τ i n g e.
-    (return_agrees c.args.b c.args.t.now τ (λ xs l h. c.all_known.ensures s types τ xs g l (h ∙ sym c.byte_at.ensures))).each i n e
+returns c = λ τ i n g e.
+    (return_agrees c.args.typing.code.bounds c.args.t.now τ (λ xs l h. c.all_known.ensures _ _ τ xs g l (h ∙ sym c.byte_at-count.ensures))).each i n e

@@ -1,4 +1,4 @@
-use mathlib.Core.Path.{ap, ◌∙◌, sym}
+use mathlib.Core.Path.{refl, ap, ◌∙◌, sym}
 use Rattle.shelf_reason1.proofs.Whole.{routine_told, parameters_told}
 use Rattle.std.proofs.Common.{false, ◌+◌, drop, replicate}
 use Rattle.bytes_field.specs.Decode.{defineds_of}
@@ -9,10 +9,10 @@ use Rattle.shelf_reason1.proofs.types_agree.Goals as goal
 pub returns : goal.returns
 returns c =
     let a = c.args in
-    let seen = replicate a.b.next false in
+    let seen = replicate a.code.bounds.next false in
     λ x n e d.
-    let p = c.tail-t.ensures ∙ ap (λ q. drop (q + 6) a.s.now) c.place-behind.ensures in
-    let w = parameters_told a.b c.tail-t.result.now seen x.parameters n (ap (defineds_of a.b.list a.b.next seen) p ∙ d) in
-    routine_told with_debug x c.both.ensures
-    (c.all_typed-known.ensures a.s.now a.facts.now (types_in x) x.parameters (rw c.recorded.ensures e.ground) w.0 (w.1 ∙ sym c.byte_at.ensures))
+    let p = c.tail-t.ensures ∙ ap (λ q. drop (q + 6) a.code.bytes.now) c.number-behind.ensures in
+    let w = parameters_told a.code.bounds c.tail-t.result.now seen x.parameters n (ap (defineds_of a.code.bounds.list a.code.bounds.next seen) p ∙ d) in
+    routine_told with_debug x refl
+    (c.all_typed-known.ensures a.code.bytes.now a.code.facts.now (types_in x) x.parameters (rw c.recorded.ensures e.ground) w.0 (w.1 ∙ sym c.byte_at-count.ensures))
     (c.blocks_agree-fit.ensures (types_in x) x.blocks e)

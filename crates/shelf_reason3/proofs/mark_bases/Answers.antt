@@ -3,7 +3,7 @@ use Rattle.std.proofs.Common.{rules}
 use Rattle.shelf_reason3.proofs.mark_bases.Goals as goal
 
 pub loop-k-preserved : goal.loop-k-preserved
-loop-k-preserved c = let a = c.args in basing_again a.b a.s.now a.facts.now c.loop-k.invariant c.loop-k-test.true c.mark_block.ensures (search rules)
+loop-k-preserved c = basing_again c.args.code c.loop-k.invariant c.loop-k-test.true c.mark_block.ensures (search rules)
 
 pub returns : goal.returns
-returns c = let a = c.args in basing_done a.b a.s.now a.facts.now c.loop-k.invariant c.loop-k-test.false
+returns c = basing_done c.args.code c.loop-k.invariant c.loop-k-test.false

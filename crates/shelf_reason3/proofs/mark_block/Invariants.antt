@@ -1,6 +1,5 @@
 use Rattle.shelf_marks.proofs.Bases.{Based}
-use Rattle.std.proofs.Common.{◌-◌}
 use Rattle.shelf_reason3.proofs.mark_block.Given as goal
 
-abbrev pub invariant-loop-slot : goal.invariant-loop-slot
-invariant-loop-slot l = Based l.b l.s l.facts l.fn.k.0 l.initial.marks l.marks l.slot
+abbrev pub invariant-loop-i : goal.invariant-loop-i
+invariant-loop-i l = Based l.code l.fn.k.0 l.initial.marks l.marks l.i

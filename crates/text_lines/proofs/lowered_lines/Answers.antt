@@ -4,9 +4,9 @@ use Rattle.text.proofs.Laws.{length_hexadecimal}
 use Rattle.text_lines.specs.Lines.{lowered_lines}
 use Rattle.text_lines.proofs.lowered_lines.Goals as goal
 
-pub put_bytes-requires : goal.put_bytes-requires
-put_bytes-requires c =
-    (omega (arith, c.put_hexadecimal-end.ensures.place, length_hexadecimal c.args.bytes.now, c.numbers_line-line.ensures.upper_bound), omega arith)
+pub put_bytes-requires-clause-room : goal.put_bytes-requires-clause-room
+put_bytes-requires-clause-room c =
+    omega (arith, c.put_hexadecimal-end.ensures.place, length_hexadecimal c.args.bytes.now, c.numbers_line-line.ensures.upper_bound)
 
 pub returns-clause-written : goal.returns-clause-written
 unfolding lowered_lines

@@ -1,9 +1,6 @@
-use Rattle.rewrite_chains.proofs.Walks.{going, going_nowhere, going_more, going_ends, going_done, looked}
+use Rattle.rewrite_chains.proofs.Walks.{going_nowhere, going_more, going_ends, going_done, looked}
 use Rattle.std.proofs.Math.Option.{none, some}
 use Rattle.rewrite_chains.proofs.path.walk.Goals as goal
-
-pub loop-i-init : goal.loop-i-init
-loop-i-init c = going
 
 pub returns-in_err-p : goal.returns-in_err-p
 returns-in_err-p c = λ τ S ps w a h l.

@@ -1,0 +1,21 @@
+// Lists of values as the writers go over them.
+use bytes_index::Code;
+use rewrite_wanted::Asks;
+
+// A list of values: where the first stands, how many there are, and the types asked of them. That the first stands near is no
+// fact of the type: the definitions make such lists of any bytes.
+#[derive(Clone, Copy)]
+pub struct ValueList {
+    pub first: usize,
+    pub many: u8,
+    pub asks: Asks,
+}
+
+// A list that stands in the fields of an instruction or a terminator of a routine, and which values are tracked there.
+#[derive(Clone, Copy)]
+pub struct Values<'a> {
+    pub code: Code<'a>,
+    pub fields: &'a [u8],
+    pub list: ValueList,
+    pub tracked: &'a [bool],
+}

@@ -1,0 +1,12 @@
+// A list of an instruction or of a type, as it is read.
+ghost use Rattle.rewrite_parts.specs.Rows.{Addressable};
+
+// So many things that stand one behind another in these bytes, from a place on: the values or the inits of a build, or the names of a
+// type.
+#[derive(Clone, Copy)]
+pub struct Listed<'a> {
+    pub bytes: &'a [u8],
+    pub at: usize,
+    pub count: u8,
+    ghost low: { Addressable at },
+}

@@ -1,7 +1,0 @@
-use Rattle.shelf_marks.proofs.Scanning.{Passing}
-use Rattle.std.proofs.Common.{◌-◌}
-use Rattle.shelf_marks.specs.Tests.{shallow_in}
-use Rattle.shelf_reason4.proofs.shallow_block.Given as goal
-
-abbrev pub invariant-loop-slot : goal.invariant-loop-slot
-invariant-loop-slot l = Passing l.b l.s l.facts l.fn.k.0 (λ τ. shallow_in l.dropped) l.slot

@@ -2,13 +2,14 @@
 use Prim.Native.Nat.{ℕ, zero, suc, ◌+◌, ◌-◌, ◌*◌, ◌≤◌, ◌<◌}
 use mathlib.Core.Path.{◌≡◌, refl, ap, ◌∙◌, sym}
 use mathlib.Core.List.{List, [], ◌∷◌, map}
-use mathlib.Core.Bool.{Bool, true, false, ◌&&◌}
+use mathlib.Core.Bool.{Bool, false, ◌&&◌}
 use native.Mathlib.Nat.{le_trans}
 use native.Mathlib.Omega.{arith}
 use borrow.Author.Tests.{le-leb, lt-leb, leb-true}
 use lib.ListN.{length, get_or, drop, length-drop, get_or-eq_default}
 use lib.Seq.{drop-drop}
 use lib.Dec.{leb}
+use Rattle.std.proofs.lemmas.Bool.{and_parts}
 use Rattle.std.specs.Prelude.{Result, Ok, Err}
 use Rattle.bytes_wire.specs.declared.Read.{Read}
 use Rattle.bytes_wire.specs.declared.Refusal.{Refusal}
@@ -75,12 +76,6 @@ module _ (b : Bounds) (s facts facts' : List ℕ) (seen seen' : List Bool) (slot
   -- it reaches no further than the bytes do
   pub end_size : {q : Result Scan Refusal} → r ≡ q → at + size (as_scan q seen' facts') ≤ length s
   end_size g = omega (arith, ap (λ d. size d) (told g), size_left b row (drop at s), length-drop at s)
-
-  -- it is refused
-  pub end_bad : {q : Result ℕ Refusal} → Behind at r q → TerminatorRead b at slot s (as_part q) facts facts'
-  end_bad (f, (g, y)) =
-      let z = map_bad (leaves row) (terminator_of b (drop at s)) (told g) in
-      rw y record { answers = sym (rw z); filled = λ x n f. absurd (no_ok (sym z ∙ f)) }
 
   module _ {used : Scan} (g : r ≡ Ok used) where
     -- its reads stand behind the row's four numbers
@@ -194,11 +189,6 @@ module _ (m : Mosts) (b : Bounds) (total at first : ℕ) (s : List ℕ) (seen : 
                   ]
             ]
 
--- both tests hold
-both_hold : (x y : Bool) → (x && y) ≡ true → (x ≡ true) × (y ≡ true)
-both_hold true y h = (refl, h)
-both_hold false y h = absurd (let z : ◌≡◌ {A = ℕ} 0 1 = cc in omega arith)
-
 -- a block's count is a u16 that keeps to both mosts
 pub record Counted (m : Mosts) (total : ℕ) (s : List ℕ) (k n : ℕ) : Type 0 where
   pub size : n ≡ 2
@@ -210,7 +200,7 @@ pub block_counted : (m : Mosts) (total : ℕ) (s : List ℕ) {k n : ℕ} → blo
 block_counted m total s {k} {n} e =
     let c = checked_inv Cause.TooMany (λ n. leb n m.block && leb (total + n) m.all) (u16_of s) e in
     let v = number_inv 2 s c.0 in
-    let h = both_hold (leb k m.block) (leb (total + k) m.all) c.1 in
+    let h = and_parts (leb k m.block) (leb (total + k) m.all) c.1 in
     record { size = v.2; there = v.0; own = leb-true k m.block h.0; all = leb-true (total + k) m.all h.1 }
 
 -- it reaches no further than the bytes do

@@ -2,7 +2,7 @@
 use Prim.Native.Nat.{ℕ, zero, suc, ◌+◌, ◌*◌, ◌≤◌, zero-le}
 use mathlib.Core.Path.{◌≡◌, refl, ap, sym}
 use mathlib.Core.List.{List, ◌++◌}
-use mathlib.Core.Bool.{Bool, true, false, not, ◌&&◌, ◌||◌}
+use mathlib.Core.Bool.{Bool, true, false, not, ◌&&◌, ◌||◌, true≢false}
 use native.Mathlib.Nat.{le_refl, suc-mul, mul-le-mul_right}
 use native.Mathlib.Omega.{arith}
 use borrow.Author.Tests.{leb-true}
@@ -21,7 +21,6 @@ use Rattle.bytes_laws.specs.WellFormed.{Wide}
 use Rattle.bytes_laws.proofs.Exact.{Exact, then, last, alone, whole, within, tested, because, number}
 use Rattle.bytes_laws.proofs.EachKind.{fields_most, terminator}
 use Rattle.bytes_laws.proofs.Instruction.{instruction}
-use Rattle.bytes_laws.proofs.Bits.{true_false}
 use Rattle.bytes_block.specs.Decode.{marks, instructions_of, block_count_of, block_of}
 use Rattle.bytes_block.specs.Encode.{block_bytes}
 use Rattle.bytes_block.specs.WellFormed.{FitInstructions, FitCode}
@@ -40,7 +39,7 @@ instructions b seen late (suc k) =
 -- both tests hold
 pub both_true : (p q : Bool) → p && q ≡ true → (p ≡ true) × (q ≡ true)
 both_true true q e = (refl, e)
-both_true false q e = absurd (true_false (sym e))
+both_true false q e = absurd (true≢false (sym e))
 
 -- a count has two mosts
 count : (m : Mosts) (total : ℕ) → Exact (block_count_of m total) (to_bytes 2) (λ n. (n ≤ m.block) × (total + n ≤ m.all)) 2

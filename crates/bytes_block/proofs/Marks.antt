@@ -2,7 +2,7 @@
 use Prim.Native.Nat.{ℕ, zero, suc, ◌<◌}
 use mathlib.Core.Path.{◌≡◌, refl, ap, ◌∙◌, sym}
 use mathlib.Core.List.{List, [], ◌∷◌}
-use mathlib.Core.Bool.{Bool, true, false}
+use mathlib.Core.Bool.{Bool, true, false, true≢false}
 use native.Mathlib.Omega.{arith}
 use borrow.Author.Tests.{eqb-true, eq-eqb}
 use lib.ListN.{length, get_or, length-set}
@@ -12,12 +12,11 @@ use Rattle.mir.specs.declared.ValueId.{ValueId}
 use Rattle.mir.specs.Syntax.{Instruction}
 use Rattle.mir.specs.Reads.{dests}
 use Rattle.bytes_field.specs.Decode.{mark}
-use Rattle.bytes_laws.proofs.Bits.{true_false}
 use Rattle.bytes_block.specs.Decode.{marks, block_marks}
 
 -- a mark that is set stands in the list
 in_list : (l : List Bool) (j : ℕ) → get_or l j false ≡ true → j < length l
-in_list [] j e = absurd (true_false (sym e))
+in_list [] j e = absurd (true≢false (sym e))
 in_list (x ∷ l) zero e = omega arith
 in_list (x ∷ l) (suc j) e = omega (arith, in_list l j e)
 
@@ -27,7 +26,7 @@ mark_stays seen d v h = go (eqb v d.0) refl
   where
     go : (b : Bool) → eqb v d.0 ≡ b → get_or (mark seen d) v false ≡ true
     go true e = let z : v ≡ d.0 = eqb-true v d.0 e in rw z (get_or-set_same seen d.0 true false (in_list seen d.0 (rw z at h)))
-    go false e = get_or-set_other seen d.0 v true false (λ z. true_false (sym (eq-eqb v v refl) ∙ ap (eqb v) z ∙ e)) ∙ h
+    go false e = get_or-set_other seen d.0 v true false (λ z. true≢false (sym (eq-eqb v v refl) ∙ ap (eqb v) z ∙ e)) ∙ h
 
 pub marks_stay : (seen : List Bool) (ds : List ValueId) (v : ℕ) → get_or seen v false ≡ true → get_or (marks seen ds) v false ≡ true
 marks_stay seen [] v h = h

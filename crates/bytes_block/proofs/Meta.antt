@@ -20,11 +20,6 @@ use Rattle.bytes_block.specs.Decode.{skipped}
 abbrev pub numbered : Bool → ℕ → Walk → List ℕ → Parse Walk
 numbered on width w t = map_parse (λ x. w) (skipped on width t)
 
--- it does not stand
-pub absent : (on : Bool) (width : ℕ) (s : List ℕ) (p : Parse Walk) → not on ≡ true → p ≡ and_then s p (numbered on width)
-absent true width s p e = absurd (let z : ◌≡◌ {A = ℕ} 0 1 = cc in omega arith)
-absent false width s p e = sym (and_nothing s p)
-
 -- the bytes t behind `at` end before it does
 pub cut : (on : Bool) (width : ℕ) (w : Walk) (s : List ℕ) (at : ℕ) {t : List ℕ} → not on ≡ false → t ≡ drop at s → length t < width → ◌≡◌ {A = Parse Walk} (bad Cause.Truncated at) (later at (numbered on width w (drop at s)))
 cut true width w s at e h l = simp (number_short width (drop at s) (rw h at l), add-zero)

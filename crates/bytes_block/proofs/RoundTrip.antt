@@ -1,12 +1,12 @@
 -- A block that is written is read back.
 use Prim.Native.Nat.{ℕ, ◌+◌, ◌<◌}
-use mathlib.Core.Path.{◌≡◌}
 use mathlib.Core.List.{List, [], ◌∷◌}
-use mathlib.Core.Bool.{Bool, true, false, not, ◌&&◌, ◌||◌}
+use mathlib.Core.Bool.{Bool, false, not, ◌&&◌, ◌||◌}
 use native.Mathlib.Omega.{arith}
 use borrow.Author.Tests.{le-leb}
 use lib.ListN.{length}
 use lib.Dec.{leb}
+use Rattle.std.specs.Cmp.Derive.{both_true}
 use Rattle.bytes_wire.specs.declared.Cause.{Cause}
 use Rattle.mir.specs.Syntax.{Instruction, Terminator, Block}
 use Rattle.mir.specs.Reads.{dests, is_phi}
@@ -20,10 +20,6 @@ use Rattle.bytes_block.specs.Decode.{marks, instructions_of, block_of}
 use Rattle.bytes_block.specs.Encode.{block_bytes}
 use Rattle.bytes_block.specs.WellFormed.{WideMosts, FitInstructions, FitCode}
 use Rattle.bytes_block.specs.declared.Mosts.{Mosts}
-
--- two tests that hold
-both_hold : (p q : Bool) → p ≡ true → q ≡ true → p && q ≡ true
-both_hold p q e f = rw (e, f)
 
 module _ (m : Mosts) (b : Bounds) (wm : WideMosts m) (w : Wide b) where
   -- an instruction, and a terminator
@@ -47,6 +43,6 @@ module _ (m : Mosts) (b : Bounds) (wm : WideMosts m) (w : Wide b) where
   block_back total seen x h =
       let n = length x.instructions in
       let c : n < 65536 = omega (arith, h.own, wm.block) in
-      then _ (tested Cause.TooMany (λ n. leb n m.block && leb (total + n) m.all) (both_hold _ _ (le-leb n m.block h.own) (le-leb (total + n) m.all h.all)) (number 2 n c))
+      then _ (tested Cause.TooMany (λ n. leb n m.block && leb (total + n) m.all) (both_true (le-leb n m.block h.own) (le-leb (total + n) m.all h.all)) (number 2 n c))
       (then _ (instructions seen false x.instructions h.instructions)
       (last _ (terminator x.terminator h.terminator)))

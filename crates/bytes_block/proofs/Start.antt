@@ -1,11 +1,10 @@
 -- An instruction's bit map and kind, and a walk's answer behind a place.
 use Prim.Native.Nat.{ℕ, ◌≤◌, ◌<◌}
-use mathlib.Core.Path.{◌≡◌, refl, ap, ◌∙◌}
+use mathlib.Core.Path.{◌≡◌, ap, ◌∙◌}
 use mathlib.Core.List.{List}
 use mathlib.Core.Bool.{Bool, true, false, not, ◌&&◌}
-use mathlib.Core.Logic.{◌⊎◌, inl, inr}
 use native.Mathlib.Omega.{arith}
-use borrow.Author.Tests.{lt-ltb, le-ltb, ltb-true, ne_eqb}
+use borrow.Author.Tests.{lt-ltb, le-ltb, ltb-true}
 use lib.ListN.{length, get_or, drop, length-drop}
 use lib.Dec.{ltb, eqb}
 use Rattle.bytes_wire.specs.Parse.{Parse, ok, bad, checked}
@@ -16,11 +15,6 @@ use Rattle.bytes_wire.proofs.Inv.{checked_inv}
 use Rattle.bytes_field.specs.Decode.{defined_bits, kind_of}
 use Rattle.bytes_field.specs.Walk.{Walk}
 use Rattle.bytes_block.specs.Decode.{Head, head_of}
-
--- what is not false is true
-pub twice : (b : Bool) → b ≡ not (not b)
-twice true = refl
-twice false = refl
 
 -- the bits' byte
 first : (s : List ℕ) → 1 ≤ length s → number_of 1 s ≡ ok (get_or s 0 0) 1
@@ -35,11 +29,6 @@ pub kind_below : (late : Bool) (s : List ℕ) {k n : ℕ} → kind_of late s ≡
 kind_below late s {k} e =
     let h = (checked_inv Cause.LatePhi (λ k. not (late && eqb k 9)) (checked Cause.Undefined (λ k. ltb k 19) (u8_of s)) e).0 in
     ltb-true k 19 (checked_inv Cause.Undefined (λ k. ltb k 19) (u8_of s) h).1
-
--- no Phi is late
-pub not_late : (late : Bool) (k : ℕ) → (late ≡ true) × (k ≡ 9 → ⊥) ⊎ late ≡ false → (late && eqb k 9) ≡ false
-not_late late k (inl h) = simp (h.0, ne_eqb k 9 h.1)
-not_late late k (inr h) = simp h
 
 module _ (late : Bool) (s : List ℕ) where
   -- there is no byte for the bits

@@ -5,14 +5,14 @@
 
 ghost use Rattle.std.specs.Prelude.{◌≡◌, List, Bool, true, false, ℕ, ◌+◌, ◌-◌, ◌*◌, ◌≤◌, ◌<◌, length, get_or};
 ghost use Rattle.bytes_wire.specs.Parse.{and_then, map_parse};
-ghost use Rattle.bytes_field.specs.Decode.{bit as bit_of, defined_bits, meta_of, instruction_of, terminator_of};
+ghost use Rattle.bytes_field.specs.Decode.{defined_bits, meta_of, instruction_of, terminator_of};
 ghost use Rattle.bytes_field.specs.Walk.{walk_of, passes, leaves, as_scan, scanned, as_part};
 ghost use Rattle.bytes_block.specs.Decode.{head_of, skipped, as_head, as_block};
 ghost use Rattle.bytes_block.specs.Rows.{row_ended, InstructionsRead, TerminatorRead, CodeRead};
 ghost use Rattle.bytes_index.specs.Table.{row_at, reads_at};
 ghost use Rattle.table.specs.Number.{numbers_below};
 
-use bytes_field::{Bounds, Scan};
+use bytes_field::{Bounds, Scan, WORD};
 use bytes_wire::{Cause, Refusal};
 use mir::kind::Kind;
 use mir::terminator::TerminatorKind;
@@ -46,9 +46,7 @@ pub struct BlockEnd {
 // How many bytes an instruction's bit map and kind take.
 const HEAD: usize = 2;
 
-// The number of a span's end, of an expression's index and of a comment takes four bytes, that of an expression's file eight.
-const WORD: usize = 4;
-
+// The number of an expression's file takes eight bytes; that of a span's end, of an expression's index and of a comment is a u32.
 const LONG: usize = 8;
 
 // A number of `width` bytes, where `on` says that it stands.
@@ -70,13 +68,6 @@ fn then_number(s: &[u8], p: Scan, on: bool, width: usize) -> Result<Scan, Refusa
     })
 }
 
-fn bit(x: u8, k: u8) -> bool
-    requires { k < 4 }
-    ensures { result ≡ bit_of k x }
-{
-    x >> k & 1 == 1
-}
-
 // The span, the expression id and the comment whose bits stand.
 fn then_meta(s: &[u8], p: Scan, bits: u8) -> Result<Scan, Refusal>
     ensures { (seen : List Bool) (buffer : List ℕ) →
@@ -85,9 +76,9 @@ fn then_meta(s: &[u8], p: Scan, bits: u8) -> Result<Scan, Refusal>
     if bits % 8 == 0 {
         return Ok(p);
     }
-    let span = bit(bits, 0);
-    let expression = bit(bits, 1);
-    let comment = bit(bits, 2);
+    let span = bytes_field::bit(bits, 0);
+    let expression = bytes_field::bit(bits, 1);
+    let comment = bytes_field::bit(bits, 2);
     let start = then_number(s, p, span, WORD)?;
     let stop = then_number(s, start, span, WORD)?;
     let index = then_number(s, stop, expression, WORD)?;
@@ -99,42 +90,36 @@ fn then_meta(s: &[u8], p: Scan, bits: u8) -> Result<Scan, Refusal>
 fn defined_bits(s: &[u8], bits: u8) -> bool
     ensures { result ≡ defined_bits s.now bits }
 {
-    if 16 <= bits {
-        return false;
-    }
-    if !bit(bits, 3) {
-        return true;
-    }
-    if s.len() < 2 {
-        return true;
-    }
-    s[1] == Kind::MakeFixedArray as u8
+    bits < 16
+        && (!bytes_field::bit(bits, 3)
+            || s.get(1)
+                .is_none_or(|kind| *kind == Kind::MakeFixedArray as u8))
 }
 
 // The bit map and the kind. `late` is whether another kind than Phi stands before.
 pub fn read_head(s: &[u8], late: bool) -> Result<Head, Refusal>
     ensures { as_head result ≡ head_of late s.now }
 {
-    if s.len() < 1 {
+    let [bits, ..] = s else {
         return Err(Cause::Truncated.at(0));
-    }
-    let bits = s[0];
-    if !defined_bits(s, bits) {
+    };
+    if !defined_bits(s, *bits) {
         return Err(Cause::Undefined.at(0));
     }
-    if s.len() < 2 {
+    let Some(kind) = s.get(1) else {
         return Err(Cause::Truncated.at(1));
-    }
-    let Ok(kind) = Kind::try_from(u16::from(s[1])) else {
+    };
+    let Ok(kind) = Kind::try_from(u16::from(*kind)) else {
         return Err(Cause::Undefined.at(1));
     };
     if late && kind == Kind::Phi {
         return Err(Cause::LatePhi.at(1));
     }
-    Ok(Head { bits, kind })
+    Ok(Head { bits: *bits, kind })
 }
 
 // An instruction, from its bit map on: its bytes, its reads noted, its dests marked.
+// (`n` and `late` are no `Scan`, here and of a terminator: nothing is read yet, so that its size would be passed and not looked at.)
 pub fn read_instruction(
     s: &[u8],
     b: Bounds,
@@ -155,11 +140,12 @@ pub fn read_instruction(
     let p = then_meta(s, start, head.bits)?;
     let row = bytes_kind::row_of_kind(head.kind);
     let many = bytes_wire::byte_at(s, p.size);
-    let q = bytes_row::then_row(s, p, row, many, b, seen, buffer)?;
-    Ok(bytes_kind::after_kind(q, head.kind))
+    let q = bytes_row::row_behind(s, p, row, many, b, seen, buffer)?;
+    Ok(bytes_kind::kind_behind(q, head.kind))
 }
 
 // Ends a slot's row, whose reads stand before `behind`: stores from which place to which it goes, its kind, how many reads.
+// (The kind is a number, as it stands in the bytes: the table has it so, and 0 for a terminator.)
 fn end_row(facts: &mut [u16], slot: u16, from: usize, to: usize, kind: u8, behind: usize)
     requires { reads_at slot ≤ behind }
     ensures { facts.new ≡ row_ended facts.old (row_at slot) from to kind (behind - reads_at slot) }
@@ -167,7 +153,7 @@ fn end_row(facts: &mut [u16], slot: u16, from: usize, to: usize, kind: u8, behin
     let n = bytes_index::row_place(slot, 0);
     table::set_place(facts, n, from);
     table::set_place(facts, n + bytes_index::END, to);
-    table::set_number(facts, n + bytes_index::KIND, kind as u16);
+    table::put(facts, n + bytes_index::KIND, kind as u16);
     table::set_place(
         facts,
         n + bytes_index::COUNT,
@@ -216,10 +202,10 @@ pub fn read_terminator(
     ensures { as_scan result seen.new buffer.new ≡
         map_parse (leaves (walk_of seen.old buffer.old n late)) (terminator_of b s.now) }
 {
-    if s.len() < 1 {
+    let [kind, ..] = s else {
         return Err(Cause::Truncated.at(0));
-    }
-    let Ok(kind) = TerminatorKind::try_from(s[0]) else {
+    };
+    let Ok(kind) = TerminatorKind::try_from(*kind) else {
         return Err(Cause::Undefined.at(0));
     };
     let start = Scan {
@@ -227,7 +213,7 @@ pub fn read_terminator(
         reads: n,
         late,
     };
-    bytes_row::then_row(s, start, bytes_kind::row_of_end(kind), 0, b, seen, buffer)
+    bytes_row::row_behind(s, start, bytes_kind::row_of_end(kind), 0, b, seen, buffer)
 }
 
 // A terminator from `at` on, and its row.

@@ -1,13 +1,12 @@
 -- Stores one after another: a store past the end does nothing, so that no law here asks for room.
-use Prim.Native.Nat.{ℕ, suc, ◌+◌, ◌-◌, ◌*◌, ◌/◌, ◌%◌, ◌≤◌, ◌<◌}
+use Prim.Native.Nat.{ℕ, zero, suc, ◌+◌, ◌≤◌, ◌<◌}
 use mathlib.Core.Path.{◌≡◌, refl, ap, ◌∙◌, sym}
 use mathlib.Core.List.{List, [], ◌∷◌, ◌++◌}
 use native.Mathlib.Nat.{add-zero}
-use native.Mathlib.Numerals.{add-one, add-two}
+use native.Mathlib.Numerals.{add-two}
 use native.Mathlib.Omega.{arith}
-use lib.ListN.{length, set}
-use lib.Seq.{sets, set_comm, slice}
-use Rattle.bytes_wire.specs.Number.{to_bytes}
+use lib.ListN.{length, length-set, take, set}
+use lib.Seq.{sets, set_comm}
 
 -- two runs, the second behind the first, are one
 pub sets_append : {A : Type 0} (l : List A) (i : ℕ) (a b : List A) → sets l i (a ++ b) ≡ sets (sets l i a) (i + length a) b
@@ -30,29 +29,24 @@ sets_front l i (x ∷ a) b =
     let e : i + suc (length a) ≡ suc i + length a = omega arith in
     rw (e, set_sets l i (suc i + length a) x b (omega arith)) (sets_front (set l i x) (suc i) a b)
 
--- multiples of 256 do not change the lowest byte
-low_byte : (a b : ℕ) → (a + 256 * b) % 256 ≡ a % 256
-low_byte a b = omega arith
-
--- the bytes of a u32 are those of its two halves
-pub halves : (x : ℕ) → to_bytes 4 x ≡ to_bytes 2 (x % 65536) ++ to_bytes 2 (x / 65536)
-halves x =
-    let a : x % 256 ≡ x % 65536 % 256 = omega arith in
-    let k : x / 256 ≡ x % 65536 / 256 + 256 * (x / 65536) = omega arith in
-    let b : x / 256 % 256 ≡ x % 65536 / 256 % 256 = ap (λ n. n % 256) k ∙ low_byte (x % 65536 / 256) (x / 65536) in
-    let c : x / 256 / 256 ≡ x / 65536 = omega arith in
-    rw (a, b, c)
-
 -- two bytes, a run of two, and two runs behind them, as an Assign is written
-pub sets_assign : (l : List ℕ) (i a b : ℕ) (ds xs ts : List ℕ) → length ds ≡ 2 → sets (sets (sets (sets (sets l i (a ∷ [])) (i + 1) (b ∷ [])) (i + 2) ds) (i + 4) xs) (i + 4 + length xs) ts ≡ sets l i (a ∷ b ∷ (ds ++ (xs ++ ts)))
+pub sets_assign : (l : List ℕ) (i a b : ℕ) (ds xs ts : List ℕ) → length ds ≡ 2 → sets (sets (sets (sets l i (a ∷ b ∷ [])) (i + 2) ds) (i + 4) xs) (i + 4 + length xs) ts ≡ sets l i (a ∷ b ∷ (ds ++ (xs ++ ts)))
 sets_assign l i a b ds xs ts h =
     let e : i + 4 ≡ i + 2 + length ds = omega arith in
-    sym (rw (sets_append, ← add-two i, ← e, sets_append, ← add-one i))
+    sym (rw (sets_append, ← add-two i, ← e, sets_append))
 
--- the bytes of s from `from` to `end`, of which those before `at` are stored
-pub record Copied (s out₀ : List ℕ) (from end to₀ : ℕ) (out : List ℕ) (at to : ℕ) : Type 0 where
-  pub low : from ≤ at
-  pub high : at ≤ end
-  pub place : to + (end - at) ≡ to₀ + (end - from)
-  pub len : length out ≡ length out₀
-  pub left : sets out to (slice at end s) ≡ sets out₀ to₀ (slice from end s)
+-- past the end nothing is stored
+set_past : {A : Type 0} (l : List A) (i : ℕ) (x : A) → length l ≤ i → set l i x ≡ l
+set_past [] i x h = refl
+set_past (y ∷ l) zero x h = absurd (omega arith)
+set_past (y ∷ l) (suc i) x h = ap (λ t. y ∷ t) (set_past l i x (omega arith))
+
+pub sets_past : {A : Type 0} (l : List A) (i : ℕ) (a : List A) → length l ≤ i → sets l i a ≡ l
+sets_past l i [] h = refl
+sets_past l i (x ∷ a) h = rw (set_past l i x h) (sets_past l (suc i) a (omega arith))
+
+-- so what has no room can be cut off
+pub sets_cut : {A : Type 0} (l : List A) (i n : ℕ) (a : List A) → length l ≤ i + n → sets l i (take n a) ≡ sets l i a
+sets_cut l i zero a h = sym (sets_past l i a (omega arith))
+sets_cut l i (suc n) [] h = refl
+sets_cut l i (suc n) (x ∷ a) h = sets_cut (set l i x) (suc i) n a (omega (arith, length-set l i x))

@@ -1,13 +1,13 @@
 -- What a writer promises, and how far into the output it begins at most.
-use Rattle.std.specs.Prelude.{ℕ, ◌+◌, ◌-◌, ◌≤◌, ◌<◌, ◌≡◌, List, length}
+use Rattle.std.specs.Prelude.{ℕ, ◌+◌, ◌≡◌, List, length}
 use Rattle.std.proofs.lemmas.List.Edits.{sets}
-use Rattle.std.proofs.Math.Seq.{slice}
 
 -- `bytes` are written from `to` on, and r is the place behind them
 abbrev pub Writes : List ℕ → List ℕ → List ℕ → ℕ → ℕ → Type 0
 Writes bytes out out' to r = (r ≡ to + length bytes) × (out' ≡ sets out to bytes)
 
--- No place wraps: each writer begins before a bound that is far below 2^64, and twice as low as that of the writers it calls. A number of two bytes:
+-- No place wraps: each writer begins before a bound that is far below 2^64, and twice as low as that of the writers it calls. Bytes that
+-- are copied, and a number of two bytes:
 abbrev pub number_room : ℕ
 number_room = 4398046511104
 
@@ -15,7 +15,7 @@ number_room = 4398046511104
 abbrev pub word_room : ℕ
 word_room = 2199023255552
 
--- a value, and bytes that are copied
+-- a value
 abbrev pub value_room : ℕ
 value_room = 1099511627776
 
@@ -34,11 +34,3 @@ rebuilt_room = 137438953472
 -- a Call behind its kind
 abbrev pub call_room : ℕ
 call_room = 68719476736
-
--- the bytes of s from `from` to `end` can be copied to the places from `to` on
-abbrev pub Copyable : ℕ → List ℕ → ℕ → ℕ → Type 0
-Copyable to s from end = (to < value_room) × (from ≤ end) × (end ≤ length s) × (end < value_room)
-
--- they are
-abbrev pub Copies : List ℕ → ℕ → ℕ → List ℕ → List ℕ → ℕ → ℕ → Type 0
-Copies s from end out out' to r = (r ≡ to + (end - from)) × (out' ≡ sets out to (slice from end s))

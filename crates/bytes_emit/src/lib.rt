@@ -6,9 +6,10 @@ ghost use Rattle.std.specs.Prelude.{◌≡◌, [], ◌∷◌, ◌+◌, ◌<◌, 
 ghost use Rattle.std.proofs.lemmas.List.Edits.{sets};
 ghost use Rattle.bytes_wire.specs.Number.{to_bytes};
 ghost use Rattle.bytes_wire.specs.Value.{value_bytes};
+ghost use Rattle.mir.specs.Kind.{number_of_kind};
 ghost use Rattle.mir.specs.Syntax.{Assign, plain};
 ghost use Rattle.bytes_field.specs.Encode.{instruction_bytes, value_id_bytes, type_id_bytes, name_id_bytes};
-ghost use Rattle.bytes_emit.specs.Written.{Writes, Copyable, Copies, number_room, word_room, value_room, instruction_room};
+ghost use Rattle.bytes_emit.specs.Written.{Writes, number_room, word_room, value_room, instruction_room};
 
 use bytes_wire::ValueKind;
 use mir::kind::Kind;
@@ -17,27 +18,31 @@ use mir::{Literal, NameId, TypeId, Value, ValueId};
 // The bit map of an instruction with nothing beside it.
 const NO_BITS: u8 = 0;
 
-// A number of one, two and four bytes, the lowest first.
+// A number of one, two and four bytes, the lowest first. (Byte by byte: a copy of the four would ask for the room first.)
 pub fn put_u8(out: &mut [u8], to: usize, b: u8)
     ensures { out.new ≡ sets out.old to (b ∷ []) }
 {
-    table::set_byte(out, to, b)
+    table::put(out, to, b)
 }
 
 pub fn put_u16(out: &mut [u8], to: usize, x: u16)
     requires { to < number_room }
     ensures { out.new ≡ sets out.old to (to_bytes 2 x) }
 {
-    put_u8(out, to, (x % 256) as u8);
-    put_u8(out, to + 1, (x / 256 % 256) as u8);
+    let [low, high] = x.to_le_bytes();
+    put_u8(out, to, low);
+    put_u8(out, to + 1, high);
 }
 
 pub fn put_u32(out: &mut [u8], to: usize, x: u32)
     requires { to < word_room }
     ensures { out.new ≡ sets out.old to (to_bytes 4 x) }
 {
-    put_u16(out, to, (x % 65536) as u16);
-    put_u16(out, to + 2, (x / 65536) as u16);
+    let [a, b, c, d] = x.to_le_bytes();
+    put_u8(out, to, a);
+    put_u8(out, to + 1, b);
+    put_u8(out, to + 2, c);
+    put_u8(out, to + 3, d);
 }
 
 // The numbers of values, types and names. (One function over a trait of the three would be longer than they are.)
@@ -104,13 +109,21 @@ pub fn put_value(out: &mut [u8], to: usize, x: Value) -> usize
     }
 }
 
+// What an instruction without span, expression id and comment begins with: its bit map and its kind.
+pub fn put_kind(out: &mut [u8], to: usize, kind: Kind)
+    requires { to < instruction_room }
+    ensures { out.new ≡ sets out.old to (0 ∷ number_of_kind kind ∷ []) }
+{
+    put_u8(out, to, NO_BITS);
+    put_u8(out, to + 1, kind as u8);
+}
+
 // An Assign without span, expression id and comment; returns the place behind it.
 pub fn put_assign(out: &mut [u8], to: usize, d: ValueId, x: Value, t: TypeId) -> usize
     requires { to < instruction_room }
     ensures { Writes (instruction_bytes (plain (Assign d x t))) out.old out.new to result }
 {
-    put_u8(out, to, NO_BITS);
-    put_u8(out, to + 1, Kind::Assign as u8);
+    put_kind(out, to, Kind::Assign);
     put_value_id(out, to + 2, d);
     let at = put_value(out, to + 4, x);
     put_type_id(out, at, t);
@@ -125,28 +138,16 @@ pub fn copy_whole(s: &[u8], out: &mut [u8], to: usize)
     out[to..to + s.len()].copy_from_slice(s);
 }
 
-// Copies the bytes of s from `from` to `end` one by one, as far as there is room, and returns the place behind them.
-fn copy_cut(out: &mut [u8], to: usize, s: &[u8], from: usize, end: usize) -> usize
-    requires { Copyable to s.now from end }
-    ensures { Copies s.now from end out.old out.new to result }
+// Copies `s` to the places from `to` on, as far as there is room, and returns the place behind it.
+pub fn copy(out: &mut [u8], to: usize, s: &[u8]) -> usize
+    requires { (to < number_room) × (length s.now < number_room) }
+    ensures { Writes s.now out.old out.new to result }
 {
-    let mut p = to;
-    for at in from..end {
-        put_u8(out, p, s[at]);
-        p = p + 1;
-    }
-    p
-}
-
-// Copies the bytes of s from `from` to `end`, and returns the place behind them.
-pub fn copy(out: &mut [u8], to: usize, s: &[u8], from: usize, end: usize) -> usize
-    requires { Copyable to s.now from end }
-    ensures { Copies s.now from end out.old out.new to result }
-{
-    let behind = to + (end - from);
+    let behind = to + s.len();
     if behind <= out.len() {
-        copy_whole(&s[from..end], out, to);
-        return behind;
+        copy_whole(s, out, to);
+    } else if to < out.len() {
+        copy_whole(&s[..out.len() - to], out, to);
     }
-    copy_cut(out, to, s, from, end)
+    behind
 }

@@ -18,10 +18,6 @@ use Rattle.bytes_field.specs.declared.Scan.{Scan}
 pub head : (s : List ℕ) (at : ℕ) → get_or (drop at s) 0 0 ≡ get_or s at 0
 head s at = get_or-drop at s 0 0 ∙ ap (λ i. get_or s i 0) (add-zero at)
 
--- there is one
-pub some : (s : List ℕ) (at : ℕ) → at < length s → 1 ≤ length (drop at s)
-some s at h = omega (arith, length-drop at s)
-
 -- a scan of the bytes t behind `at` answered r, which was counted from the start: that is what f says there
 pub stepped : (s : List ℕ) (at : ℕ) (f : List ℕ → Parse Walk) (seen : List Bool) (buffer : List ℕ) (r : Result Scan Refusal) {t : List ℕ} {d : Parse Walk} → t ≡ drop at s → as_scan r seen buffer ≡ f t → d ≡ later at (as_scan r seen buffer) → d ≡ later at (f (drop at s))
 stepped s at f seen buffer r h e g = g ∙ ap (later at) (e ∙ ap f h)
@@ -43,18 +39,10 @@ pub and_later : {A B : Type 0} (s : List ℕ) (n : ℕ) (d : Parse A) (g : A →
 and_later s n (ok a m) g = sym (rw (drop-drop, later_later))
 and_later s n (bad c o) g = refl
 
--- a step, and then another, are one step
-pub joined : {A B C : Type 0} (s : List ℕ) (p : Parse A) {q : Parse B} {r : Parse C} (f : A → List ℕ → Parse B) (g : B → List ℕ → Parse C) → q ≡ and_then s p f → r ≡ and_then s q g → r ≡ and_then s p (λ a t. and_then t (f a t) g)
-joined s p f g d e = e ∙ ap (λ x. and_then s x g) d ∙ assoc s p f g
-
 -- of `count` things i are behind
 pub record Upto (f : Walk → List ℕ → Parse Walk) (s : List ℕ) (all : Parse Walk) (count i : ℕ) (p : Parse Walk) : Type 0 where
   pub under : i ≤ count
   pub left : all ≡ and_then s p (λ w t. times f (count - i) w t)
-
--- none is behind yet
-pub begin : (f : Walk → List ℕ → Parse Walk) (s : List ℕ) (count : ℕ) (p : Parse Walk) → Upto f s (and_then s p (λ w t. times f count w t)) count 0 p
-begin f s count p = record { under = zero-le; left = rw sub-zero }
 
 module _ (f : Walk → List ℕ → Parse Walk) (s : List ℕ) (all : Parse Walk) (count i : ℕ) (p : Parse Walk) (u : Upto f s all count i p) where
   -- one more is behind

@@ -3,7 +3,6 @@ use Prim.Native.Nat.{ℕ}
 use mathlib.Core.Path.{◌≡◌, sym}
 use mathlib.Core.List.{List}
 use mathlib.Core.Bool.{Bool, true, false}
-use native.Mathlib.Omega.{arith}
 use lib.ListN.{drop}
 use Rattle.bytes_wire.specs.Parse.{Parse, ok, bad, later, and_then, map_parse, checked}
 use Rattle.bytes_wire.specs.Value.{value_id_of}

@@ -1,5 +1,5 @@
 -- The kinds of projections as the code has them, and their numbers.
-use Rattle.std.specs.Prelude.{ℕ, ◌≡◌, ◌<◌, Option, Result, MatchOption, MatchResult}
+use Rattle.std.specs.Prelude.{ℕ, ◌≡◌, ◌<◌, Result, MatchResult}
 use Rattle.bytes_field.specs.declared.projection_kind.ProjectionKind.{ProjectionKind}
 use Rattle.bytes_field.specs.declared.projection_kind.ProjectionKind.TheVariants.{Index, Field, Tuple}
 use Rattle.mir.specs.declared.UnknownNumber.{UnknownNumber}
@@ -13,6 +13,3 @@ number_of_projection_kind Tuple = 2
 -- the kind of a number; past the last there is none
 abbrev pub DecodesProjectionKind : ℕ → Result ProjectionKind UnknownNumber → Type 0
 DecodesProjectionKind n r = MatchResult r (λ k. number_of_projection_kind k ≡ n) (λ e. 2 < n)
-
-abbrev pub NamesProjectionKind : ℕ → Option ProjectionKind → Type 0
-NamesProjectionKind n r = MatchOption r (2 < n) (λ k. number_of_projection_kind k ≡ n)

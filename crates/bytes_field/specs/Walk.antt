@@ -1,7 +1,7 @@
 -- How the code walks over an instruction's bytes: one table of field classes.
 -- Nothing here is believed: the laws of proofs/Rows.antt tie each row to the decoder of its kind.
 use Rattle.std.specs.Prelude.{ℕ, zero, suc, ◌+◌, ◌/◌, ◌%◌, ◌≡◌, List, [], ◌∷◌, map, Bool}
-use Rattle.std.specs.Prelude.{true, false, cond, not, ◌||◌, length, get_or, set, ltb, eqb, Result, Ok, Err}
+use Rattle.std.specs.Prelude.{true, cond, not, ◌||◌, length, get_or, set, ltb, eqb, Option, Some, None, Result, Ok, Err}
 use Rattle.bytes_wire.specs.Parse.{Parse, as_answer, ok, and_then, map_parse, checked}
 pub use Rattle.bytes_wire.specs.Parse.{places}
 use Rattle.bytes_wire.specs.Number.{u16_of, u32_of, below}
@@ -115,19 +115,23 @@ first_of k = get_or (2 ∷ 3 ∷ 1 ∷ 4 ∷ 6 ∷ 3 ∷ []) k 10
 abbrev pub second_of : ℕ → ℕ
 second_of k = get_or (0 ∷ 0 ∷ 0 ∷ 2 ∷ 2 ∷ 0 ∷ []) k 0
 
--- where `exact` stands, a list counts `many` and no other number
+-- where `exact` has a number, a list counts that and no other
+abbrev pub asks : Option ℕ → ℕ → Bool
+asks None n = true
+asks (Some many) n = eqb n many
+
 abbrev pub counts : Lists → ℕ → Bool
-counts l n = not l.exact || eqb n l.many
+counts l n = asks l.exact n
 
 unfoldable pub list_walk : Bounds → Lists → ℕ → ℕ → Walk → List ℕ → Parse Walk
 list_walk b l c d w s =
     and_then s (checked Cause.CallCounts (counts l) (count_of l.most s)) (λ n t. times (pair_walk b c d) n w t)
 
 abbrev pub any_many : ℕ → Lists
-any_many most = record { most = most; exact = false; many = 0 }
+any_many most = record { most = most; exact = None }
 
 abbrev pub exactly : ℕ → ℕ → Lists
-exactly most many = record { most = most; exact = true; many = many }
+exactly most many = record { most = most; exact = Some many }
 
 unfoldable pub place_walk : Bounds → Walk → List ℕ → Parse Walk
 place_walk b w s = and_then s (simple_walk b 7 w s) (λ v t. list_walk b (any_many b.projections) 10 0 v t)

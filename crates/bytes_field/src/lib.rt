@@ -9,7 +9,7 @@ ghost use Rattle.std.specs.Prelude.{◌≡◌, List, Bool, cond, ℕ, ◌+◌, �
 ghost use Rattle.bytes_wire.specs.Parse.{map_parse, later};
 ghost use Rattle.bytes_wire.specs.Number.{number_of, below};
 ghost use Rattle.bytes_wire.specs.Value.{value_of, value_id_of};
-ghost use Rattle.bytes_field.specs.Decode.{defined_of, operation_of, projection_of};
+ghost use Rattle.bytes_field.specs.Decode.{bit as bit_of, defined_of, operation_of, projection_of};
 ghost use Rattle.bytes_field.specs.Walk.{walk_of, walk_before, defines, uses, uses_value, uses_projection, as_scan, bytes_of, places, Skipped, Noted};
 
 use bytes_wire::{Cause, Refusal};
@@ -28,7 +28,7 @@ pub struct Bounds {
 }
 
 // How many bytes a walk took, how many reads it noted, and whether another kind than Phi was met. Of the walk before it a reader of a field
-// does not read the bytes.
+// does not read the bytes. (The buffer is lent, and may be the table of facts: `reads` is the place in it where the next one goes.)
 #[derive(Clone, Copy, PartialEq, Eq, Debug)]
 pub struct Scan {
     pub size: usize,
@@ -36,12 +36,11 @@ pub struct Scan {
     pub late: bool,
 }
 
-// What a list may count: at most `most`; where `exact` stands, `many` and no other.
+// What a list may count: at most `most`; where `exact` has a number, that one and no other.
 #[derive(Clone, Copy)]
 pub struct Lists {
     pub most: u8,
-    pub exact: bool,
-    pub many: u8,
+    pub exact: Option<u8>,
 }
 
 // How many bytes the number of a name, a value, a type or a block takes, and a u32.
@@ -53,11 +52,8 @@ pub const WORD: usize = 4;
 fn note(buffer: &mut [u16], n: usize, v: ValueId) -> usize
     ensures { (result ≡ cond (ltb n (length buffer.old)) (n + 1) n) × (buffer.new ≡ set buffer.old n v.0) }
 {
-    if n < buffer.len() {
-        buffer[n] = v.0;
-        return n + 1;
-    }
-    n
+    table::put(buffer, n, v.0);
+    if n < buffer.len() { n + 1 } else { n }
 }
 
 // Notes the value number that a value is, where it is one.
@@ -65,10 +61,9 @@ fn note_value(buffer: &mut [u16], n: usize, x: Value) -> usize
     ensures { (seen : List Bool) (late : Bool) →
         walk_of seen buffer.new result late ≡ uses_value (walk_of seen buffer.old n late) x }
 {
-    match x {
-        Value::Literal(_) => n,
-        Value::Operand(v) => note(buffer, n, v),
-        Value::Error => n,
+    match x.operand() {
+        Some(v) => note(buffer, n, v),
+        None => n,
     }
 }
 
@@ -132,7 +127,7 @@ pub fn read_defined(s: &[u8], before: Scan, next: u16, seen: &mut [bool]) -> Res
     if table::flag(seen, v) {
         return Err(Cause::Redefined.at(0));
     }
-    table::set_flag(seen, v, true);
+    table::put(seen, v, true);
     Ok(Scan {
         size: x.size,
         ..before
@@ -176,14 +171,16 @@ pub fn tail(s: &[u8], at: usize) -> &[u8]
 pub fn between(s: &[u8], a: usize, e: usize) -> &[u8]
     ensures { result.now ≡ take (e - a) (drop a s.now) }
 {
-    let n = s.len();
-    if n < e {
-        return tail(s, a);
-    }
-    if e < a {
-        return &s[n..];
-    }
-    &s[a..e]
+    let t = tail(s, a);
+    &t[..t.len().min(e.saturating_sub(a))]
+}
+
+// Whether bit k of a byte stands.
+pub fn bit(x: u8, k: u8) -> bool
+    requires { k < 8 }
+    ensures { result ≡ bit_of k x }
+{
+    x >> k & 1 == 1
 }
 
 // A projection: its kind, then a value, a name or an index.

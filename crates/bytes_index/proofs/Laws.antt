@@ -1,6 +1,6 @@
 -- Lookups in the table of facts.
-use Prim.Native.Nat.{ℕ, zero, suc, ◌+◌, ◌*◌, ◌-◌, ◌≤◌, ◌<◌}
-use mathlib.Core.Path.{◌≡◌, refl, ap, ◌∙◌, sym}
+use Prim.Native.Nat.{ℕ, suc, ◌+◌, ◌*◌, ◌-◌, ◌<◌}
+use mathlib.Core.Path.{◌≡◌, ap, ◌∙◌, sym}
 use mathlib.Core.List.{List}
 use mathlib.Core.Option.{Option, none, some}
 use native.Mathlib.Numerals.{add-one}
@@ -28,17 +28,11 @@ module _ (b : Bounds) (s facts : List ℕ) (ks : List Block) (k : ℕ) (c : Code
   next_slot =
       in_section 354 (suc k) facts (t ∙ ap (λ j. get_or facts j 0) (omega arith)) ∙ c.next k h ∙ ap (λ j. j + suc (length (get_or ks k no_block).instructions)) (sym f)
 
-  pub count_none : to ≤ from → 0 ≡ length (get_or ks k no_block).instructions
-  count_none e = omega (arith, next_slot)
-
   pub count_found : to - from - 1 ≡ length (get_or ks k no_block).instructions
   count_found = omega (arith, next_slot)
 
 -- the slot of a terminator
 module _ (facts : List ℕ) (k : ℕ) {behind : ℕ} (e : behind ≡ get_or facts (354 + 1 + k) 0) where
-  pub last_none : behind ≡ 0 → LastSlot facts k 0
-  last_none z b s ks c h = absurd (omega (arith, in_section 354 (suc k) facts (e ∙ ap (λ j. get_or facts j 0) (omega arith)), c.next k h))
-
   pub last_found : LastSlot facts k (behind - 1)
   last_found b s ks c h = omega (arith, in_section 354 (suc k) facts (e ∙ ap (λ j. get_or facts j 0) (omega arith)), c.next k h)
 

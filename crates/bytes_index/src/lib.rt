@@ -62,7 +62,7 @@ pub fn set_block(facts: &mut [u16], k: BlockId, place: usize, total: u16)
     ensures { facts.new ≡ block_set facts.old k.0 place total }
 {
     table::set_place(facts, BLOCKS + k.0 as usize, place);
-    table::set_number(facts, STARTS + k.0 as usize, total + k.0);
+    table::put(facts, STARTS + k.0 as usize, total + k.0);
 }
 
 // Where number `k` of a slot's row stands.
@@ -73,7 +73,7 @@ pub fn row_place(slot: u16, k: usize) -> usize
     ROWS + WIDTH * slot as usize + k
 }
 
-// The place of a slot's instruction or terminator.
+// The place of a slot's instruction or terminator. (`table::place` promises no bound.)
 pub fn place(facts: &[u16], slot: u16) -> usize
     ensures { (result ≡ place_in facts.now slot) × (result < numbers_below) }
 {
@@ -136,21 +136,14 @@ pub fn instruction_count(facts: &[u16], k: BlockId) -> u16
 {
     let from = first_slot(facts, k);
     let to = table::number(facts, STARTS + 1 + k.0 as usize);
-    if to <= from {
-        return 0;
-    }
-    to - from - 1
+    to.saturating_sub(from).saturating_sub(1)
 }
 
 // The slot of block `k`'s terminator: behind those of its instructions.
 pub fn last_slot(facts: &[u16], k: BlockId) -> u16
     ensures { LastSlot facts.now k.0 result }
 {
-    let behind = table::number(facts, STARTS + 1 + k.0 as usize);
-    if behind == 0 {
-        return 0;
-    }
-    behind - 1
+    table::number(facts, STARTS + 1 + k.0 as usize).saturating_sub(1)
 }
 
 // The slots of the instructions of block `k`; none where the table has more than there can be.

@@ -2,7 +2,7 @@
 use Prim.Native.Nat.{ℕ, ◌<◌}
 use mathlib.Core.Path.{◌≡◌, refl, ap, ◌∙◌, sym}
 use mathlib.Core.List.{List, ◌∷◌, ◌++◌, map}
-use mathlib.Core.Bool.{Bool, true, false, not, ◌&&◌}
+use mathlib.Core.Bool.{Bool, true, false, not, ◌&&◌, true≢false}
 use mathlib.Core.Option.{Option, none, some}
 use native.Mathlib.Omega.{arith}
 use borrow.Author.Tests.{lt-ltb}
@@ -24,7 +24,7 @@ use Rattle.bytes_field.specs.declared.Bounds.{Bounds}
 use Rattle.bytes_laws.specs.WellFormed.{Wide, FitKind, FitInstruction, FitTerminator}
 use Rattle.bytes_laws.proofs.Back.{Back, then, last, alone, tested, number, byte, tag}
 use Rattle.bytes_laws.proofs.BackFields.{name, operation, type, block, value, values, types, dest, dests, returns, place, sources, inits, beside}
-use Rattle.bytes_laws.proofs.Bits.{true_false, bits_of_lem, bits_fit}
+use Rattle.bytes_laws.proofs.Bits.{bits_of_lem, bits_fit}
 
 -- the bit tells the boolean
 bool_same : (c k : Bool) → bool_byte c ≡ bool_byte k → c ≡ k
@@ -44,7 +44,7 @@ stands_small (some a) = omega arith
 
 -- a Phi is not late
 not_late : (late t : Bool) → (t ≡ true → late ≡ false) → not (late && t) ≡ true
-not_late true true f = absurd (true_false (f refl))
+not_late true true f = absurd (true≢false (f refl))
 not_late true false f = refl
 not_late false t f = refl
 
@@ -66,7 +66,7 @@ kind_bits (MakeStruct d fs t) = (omega arith, omega arith, λ e. refl)
 kind_bits (ExtractStructField d x n t) = (omega arith, omega arith, λ e. refl)
 kind_bits (InsertField d x n y t) = (omega arith, omega arith, λ e. refl)
 kind_bits (InsertTuple d x k y t) = (omega arith, omega arith, λ e. refl)
-kind_bits (MakeFixedArray d xs t c) = (omega arith, bool_small c, λ e. absurd (true_false e))
+kind_bits (MakeFixedArray d xs t c) = (omega arith, bool_small c, λ e. absurd (true≢false e))
 kind_bits (AssertEq x y) = (omega arith, omega arith, λ e. refl)
 kind_bits (HeapAllocCells d x) = (omega arith, omega arith, λ e. refl)
 

@@ -1,16 +1,12 @@
 -- The bit map of an instruction: the bits that were read are those that are written.
 use Prim.Native.Nat.{ℕ, zero, suc, ◌+◌, ◌*◌, ◌/◌, ◌%◌, ◌^◌, ◌<◌}
-use mathlib.Core.Path.{◌≡◌, refl, ap, sym}
-use mathlib.Core.Bool.{Bool, true, false, not, ◌&&◌}
+use mathlib.Core.Path.{◌≡◌, refl, sym}
+use mathlib.Core.Bool.{Bool, true, false, not, ◌&&◌, true≢false}
 use native.Mathlib.Nat.{div-div-eq-div-mul}
 use native.Mathlib.Omega.{arith}
 use lib.Dec.{eqb}
 use Rattle.bytes_wire.specs.Value.{bool_byte}
 use Rattle.bytes_field.specs.Decode.{bit}
-
--- true is not false
-pub true_false : true ≡ false → ⊥
-true_false e = let z : ◌≡◌ {A = ℕ} 1 0 = ap bool_byte e in omega arith
 
 -- a bit, as a number
 pub small : (y : ℕ) → y < 2 → bool_byte (eqb y 1) ≡ y
@@ -35,9 +31,9 @@ bits_sum x l =
 pub bits_defined : (p q r t : Bool) → p && not (q && (r && not t)) ≡ true → r ≡ true → (p ≡ true) × (q ≡ true → t ≡ true)
 bits_defined true true true true e f = (refl, λ g. refl)
 bits_defined true true true false e f = (refl, λ g. e)
-bits_defined true true false t e f = absurd (true_false (sym f))
-bits_defined true false r t e f = (refl, λ g. absurd (true_false (sym g)))
-bits_defined false q r t e f = absurd (true_false (sym e))
+bits_defined true true false t e f = absurd (true≢false (sym f))
+bits_defined true false r t e f = (refl, λ g. absurd (true≢false (sym g)))
+bits_defined false q r t e f = absurd (true≢false (sym e))
 
 -- the bits of a number that is made of four
 pub bits_of_lem : (x p q r c : ℕ) → p < 2 → q < 2 → r < 2 → c < 2 → x ≡ p + 2 * q + 4 * r + 8 * c → (x < 16) × (p ≡ bool_byte (bit 0 x)) × (q ≡ bool_byte (bit 1 x)) × (r ≡ bool_byte (bit 2 x)) × (c ≡ bool_byte (bit 3 x))
@@ -46,7 +42,7 @@ bits_of_lem x p q r c e f g h i = (omega arith, rw (bit_byte 0 x) (omega arith),
 -- the bit map is defined
 pub bits_fit : (p q r t : Bool) → p ≡ true → (t ≡ false → q ≡ false) → p && not (q && (r && not t)) ≡ true
 bits_fit true true true true e f = refl
-bits_fit true true true false e f = absurd (true_false (f refl))
+bits_fit true true true false e f = absurd (true≢false (f refl))
 bits_fit true true false t e f = refl
 bits_fit true false r t e f = refl
 bits_fit false q r t e f = e

@@ -2,7 +2,7 @@
 use Prim.Native.Nat.{ℕ, ◌+◌, ◌≤◌, ◌<◌}
 use mathlib.Core.Path.{◌≡◌, refl, ◌∙◌, sym}
 use mathlib.Core.List.{List, ◌∷◌, map}
-use mathlib.Core.Bool.{Bool, true, false, not, cond, ◌&&◌}
+use mathlib.Core.Bool.{Bool, true, false, not, cond, ◌&&◌, true≢false}
 use native.Mathlib.Nat.{le_refl}
 use native.Mathlib.Omega.{arith}
 use borrow.Author.Tests.{ltb-true, lt-ltb}
@@ -24,12 +24,12 @@ use Rattle.bytes_laws.specs.WellFormed.{Wide, FitInstruction}
 use Rattle.bytes_laws.proofs.Exact.{Exact, ends, After, then, last, whole, byte}
 use Rattle.bytes_laws.proofs.Fields.{beside}
 use Rattle.bytes_laws.proofs.EachKind.{fields_most, fields, terminator}
-use Rattle.bytes_laws.proofs.Bits.{true_false, bits_sum, bits_defined}
+use Rattle.bytes_laws.proofs.Bits.{bits_sum, bits_defined}
 
 -- bit 3 stands with kind 16 alone
 const_bit_lem : (c t : Bool) → (c ≡ true → t ≡ true) → cond t (bool_byte c) 0 ≡ bool_byte c
 const_bit_lem c true f = refl
-const_bit_lem true false f = absurd (true_false (sym (f refl)))
+const_bit_lem true false f = absurd (true≢false (sym (f refl)))
 const_bit_lem false false f = refl
 
 -- a Phi is not late

@@ -75,7 +75,7 @@ ends p v (suc (suc (suc k))) = refl
 
 -- what is known of an instruction of the kind with number j whose fields are t
 pub record Stands (next : ℕ) (t : List ℕ) (j : ℕ) (i : InstructionKind) : Type 0 where
-  pub operands : Listed (At (value_of next) t) (value_step t 0 (operand_row j).2) (operand_first t j) (operand_fields i)
+  pub operands : Listed (At (value_of next) t) (value_step t 0 (operand_row j).apart) (operand_first t j) (operand_fields i)
   pub values : Listed (λ p. At (value_of next) t (p + (list_row j).before)) (value_step t (list_row j).before 0) (list_at t j + 1) (list_values i)
   pub listed : length (list_values i) ≡ list_count t j
   pub steps : Listed (At (projection_of next) t) (projection_end t) (steps_at j + 1) (place_steps i)
@@ -160,7 +160,7 @@ module _ (b : Bounds) (seen : List Bool) (c : Bool) (t : List ℕ) where
   beside p x = rw add-zero x
 
   -- what is to be shown of a kind
-  stands : {j : ℕ} {i : InstructionKind} → Listed (At (value_of b.next) t) (value_step t 0 (operand_row j).2) (operand_first t j)
+  stands : {j : ℕ} {i : InstructionKind} → Listed (At (value_of b.next) t) (value_step t 0 (operand_row j).apart) (operand_first t j)
       (operand_fields i) → Listed (λ p. Value-at (p + (list_row j).before)) (value_step t (list_row j).before 0) (list_at t j + 1)
       (list_values i) → length (list_values i) ≡ list_count t j → Listed (At (projection_of b.next) t) (projection_end t) (steps_at j + 1)
       (place_steps i) → length (place_steps i) ≡ step_count t j → Stands b.next t j i

@@ -29,7 +29,7 @@ use Rattle.bytes_operands.proofs.Places.{Takes, takes_number, takes_map, takes_a
 use Rattle.bytes_operands.proofs.EachKind.{at, Stands, fields}
 
 -- the code's table counts the operand fields of each kind
-pub operand_many : (i : InstructionKind) → length (operand_fields i) ≡ (operand_row (kind_number i)).0
+pub operand_many : (i : InstructionKind) → length (operand_fields i) ≡ (operand_row (kind_number i)).count
 operand_many (Assign d x t) = refl
 operand_many (UnaryOp op d x) = refl
 operand_many (BinaryOp op d x y) = refl
@@ -135,18 +135,18 @@ module _ (b : Bounds) (seen : List Bool) (late : Bool) (s : List ℕ) (i : Instr
   known : Stands b.next t j i.kind
   known = rw (h, g) (instruction_stands b seen late s i n e)
 
-  many : length (operand_fields i.kind) ≡ (operand_row j).0
-  many = operand_many i.kind ∙ ap (λ m. (operand_row m).0) ((instruction_fields b seen late s i n e).numbered ∙ sym g)
+  many : length (operand_fields i.kind) ≡ (operand_row j).count
+  many = operand_many i.kind ∙ ap (λ m. (operand_row m).count) ((instruction_fields b seen late s i n e).numbered ∙ sym g)
 
   -- past the count there is none
-  pub no_operand : (operand_row j).0 ≤ k → none ≡ get_elem? (operand_fields i.kind) k
+  pub no_operand : (operand_row j).count ≤ k → none ≡ get_elem? (operand_fields i.kind) k
   no_operand l = listed_past (operand_fields i.kind) k (omega (arith, many))
 
   pub no_step : step_count t j ≤ k → none ≡ get_elem? (place_steps i.kind) k
   no_step l = listed_past (place_steps i.kind) k (omega (arith, known.stepped))
 
   -- below it, what stands at the place is the one
-  pub operand_at : {r : Option Value} (p : ℕ) → k < (operand_row j).0 → p ≡ after (value_step t 0 (operand_row j).2) k (operand_first t j) → ((x : Value) (m : ℕ) → value_of b.next (drop p t) ≡ ok x m → r ≡ some x) → r ≡ get_elem? (operand_fields i.kind) k
+  pub operand_at : {r : Option Value} (p : ℕ) → k < (operand_row j).count → p ≡ after (value_step t 0 (operand_row j).apart) k (operand_first t j) → ((x : Value) (m : ℕ) → value_of b.next (drop p t) ≡ ok x m → r ≡ some x) → r ≡ get_elem? (operand_fields i.kind) k
   operand_at p l q f = listed_at known.operands k (λ x y. elim y [ at m u ↦ f x m (rw q u) ]) (omega (arith, many))
 
   pub step_at : {r : Option Projection} (p : ℕ) → k < step_count t j → p ≡ after (projection_end t) k (steps_at j + 1) → ((x : Projection) (m : ℕ) → projection_of b.next (drop p t) ≡ ok x m → r ≡ some x) → r ≡ get_elem? (place_steps i.kind) k

@@ -1,9 +1,8 @@
 -- Laws that the code's functions cite: loops over places, and what is read at one.
-use Prim.Native.Nat.{ℕ, zero, suc, ◌+◌, ◌-◌, ◌≤◌, ◌<◌, zero-le}
+use Prim.Native.Nat.{ℕ, zero, suc, ◌+◌, ◌-◌, ◌≤◌, ◌<◌}
 use mathlib.Core.Path.{◌≡◌, refl, ap, ◌∙◌, sym}
 use mathlib.Core.List.{List, [], ◌∷◌, map}
 use Rattle.std.specs.Prelude.{Option, Some}
-use native.Mathlib.Nat.{sub-zero}
 use native.Mathlib.Omega.{arith}
 use lib.ListN.{get_or, drop}
 use Rattle.bytes_wire.specs.Parse.{Parse, ok, bad, later, map_parse}
@@ -21,10 +20,6 @@ use Rattle.bytes_operands.specs.Fields.{value_end, value_step, after}
 pub record Going (end : ℕ → ℕ) (k at here i : ℕ) : Type 0 where
   pub under : i ≤ k
   pub left : after end k at ≡ after end (k - i) here
-
--- none is yet
-pub going : (end : ℕ → ℕ) (k at : ℕ) → Going end k at at 0
-going end k at = record { under = zero-le; left = rw sub-zero }
 
 -- one more
 pub again : (end : ℕ → ℕ) (k at here i : ℕ) (there : ℕ) → Going end k at here i → i < k → there ≡ end here → Going end k at there (i + 1)

@@ -112,7 +112,7 @@ value_step t before gap at = value_end t (at + before) + gap
 -- of its kind.
 -- Of the operand fields: how many, where the first stands, and how far behind it the second.
 abbrev ops : ℕ → ℕ → ℕ → Operands
-ops many first gap = record { 0 = many; 1 = first; 2 = gap }
+ops many first gap = record { count = many; first = first; apart = gap }
 
 abbrev pub operand_table : List Operands
 operand_table =
@@ -142,7 +142,7 @@ list_row kind = get_or list_table kind (lst false 0 0)
 
 -- a Store's operand stands behind its place, and a Call's list behind its dests
 abbrev pub operand_first : List ℕ → ℕ → ℕ
-operand_first t kind = cond (eqb kind 6) (after (projection_end t) (get_or t 2 0) 3) (operand_row kind).1
+operand_first t kind = cond (eqb kind 6) (after (projection_end t) (get_or t 2 0) 3) (operand_row kind).first
 
 abbrev pub list_at : List ℕ → ℕ → ℕ
 list_at t kind = cond (eqb kind 3) (1 + 2 * get_or t 0 0 + 2) (list_row kind).count

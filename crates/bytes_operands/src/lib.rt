@@ -3,7 +3,7 @@
 // some bytes further, past the bound of a type that held it.)
 #![tactic(auto)]
 
-ghost use Rattle.std.specs.Prelude.{◌≡◌, List, Bool, false, cond, ℕ, ◌+◌, ◌*◌, ◌/◌, ◌%◌, ◌≤◌, ◌<◌, drop, eqb, get_or};
+ghost use Rattle.std.specs.Prelude.{◌≡◌, List, Bool, cond, ℕ, ◌+◌, ◌*◌, ◌≤◌, ◌<◌, drop, get_or};
 ghost use Rattle.mir.specs.Kind.{number_of_kind, NamesKind};
 ghost use Rattle.mir.specs.Option.{as_option};
 ghost use Rattle.std.proofs.Math.ListN.{get_elem?};
@@ -12,7 +12,7 @@ ghost use Rattle.bytes_wire.specs.Value.{value_of};
 ghost use Rattle.mir.specs.declared.Value.{Value as AnyValue};
 ghost use Rattle.mir.specs.declared.Projection.{Projection};
 ghost use Rattle.mir.specs.Syntax.{Instruction};
-ghost use Rattle.bytes_field.specs.Decode.{projection_of, instruction_of};
+ghost use Rattle.bytes_field.specs.Decode.{bit, projection_of, instruction_of};
 ghost use Rattle.bytes_operands.specs.Fields.{ValueAt, operand_fields, place_steps, fields_place, value_size, value_end, projection_end};
 ghost use Rattle.bytes_operands.specs.Fields.{after, value_step, operand_row, operand_first, steps_at, step_count};
 ghost use Rattle.bytes_operands.specs.Reach.{value_reach, step_reach, list_reach, operand_reach};
@@ -25,28 +25,34 @@ use mir::{NameId, Projection, Value};
 // A kind's operand fields, lists and places aside: how many, how far the first stands behind the kind's first field,
 // and how far the second stands behind the first. (A Store's one stands behind its place.)
 #[derive(Clone, Copy)]
-pub struct Operands(pub u8, pub u8, pub u8);
+pub struct Operands {
+    pub count: u8,
+    pub first: u8,
+    pub apart: u8,
+}
 
-pub const OPERANDS: [Operands; 19] = [
-    Operands(1, 2, 0), // Assign
-    Operands(1, 3, 0), // UnaryOp
-    Operands(2, 3, 0), // BinaryOp
-    Operands(0, 0, 0), // Call
-    Operands(1, 2, 0), // Cast
-    Operands(0, 0, 0), // Load
-    Operands(1, 0, 0), // Store
-    Operands(0, 0, 0), // Debug
-    Operands(0, 0, 0), // Nop
-    Operands(0, 0, 0), // Phi
-    Operands(0, 0, 0), // MakeTuple
-    Operands(1, 2, 0), // ExtractTupleElement
-    Operands(0, 0, 0), // MakeStruct
-    Operands(1, 2, 0), // ExtractStructField
-    Operands(2, 2, 2), // InsertField
-    Operands(2, 2, 4), // InsertTuple
-    Operands(0, 0, 0), // MakeFixedArray
-    Operands(2, 0, 0), // AssertEq
-    Operands(1, 2, 0), // HeapAllocCells
+// "One table tells how many operand fields each has": these three of each kind, in `InstructionKind` order. (Rows of numbers: an `Operands`
+// takes five lines where a row takes one.)
+pub const OPERANDS: [(u8, u8, u8); 19] = [
+    (1, 2, 0), // Assign
+    (1, 3, 0), // UnaryOp
+    (2, 3, 0), // BinaryOp
+    (0, 0, 0), // Call
+    (1, 2, 0), // Cast
+    (0, 0, 0), // Load
+    (1, 0, 0), // Store
+    (0, 0, 0), // Debug
+    (0, 0, 0), // Nop
+    (0, 0, 0), // Phi
+    (0, 0, 0), // MakeTuple
+    (1, 2, 0), // ExtractTupleElement
+    (0, 0, 0), // MakeStruct
+    (1, 2, 0), // ExtractStructField
+    (2, 2, 2), // InsertField
+    (2, 2, 4), // InsertTuple
+    (0, 0, 0), // MakeFixedArray
+    (2, 0, 0), // AssertEq
+    (1, 2, 0), // HeapAllocCells
 ];
 
 // The kind of the instruction that the bytes begin with.
@@ -56,19 +62,24 @@ fn kind_of(s: &[u8]) -> Option<Kind>
     Kind::try_from(u16::from(bytes_wire::byte_at(s, 1))).ok()
 }
 
-// The row of a kind.
-fn operands_of(kind: Kind) -> Operands
+// A kind's own.
+pub fn operands_of(kind: Kind) -> Operands
     ensures { result ≡ operand_row (number_of_kind kind) }
 {
-    OPERANDS[kind as usize]
+    let (count, first, apart) = OPERANDS[kind as usize];
+    Operands {
+        count,
+        first,
+        apart,
+    }
 }
 
 // How many bytes a field takes whose bit may stand.
-fn stands(bits: u8, power: u8, size: usize) -> usize
-    requires { (0 < power) × (size < 16) }
-    ensures { (result ≡ cond (eqb (bits / power % 2) 1) size 0) × (result < 16) }
+fn stands(bits: u8, k: u8, size: usize) -> usize
+    requires { (k < 8) × (size < 16) }
+    ensures { (result ≡ cond (bit k bits) size 0) × (result < 16) }
 {
-    if bits / power % 2 == 1 { size } else { 0 }
+    if bytes_field::bit(bits, k) { size } else { 0 }
 }
 
 // Where an instruction's own fields begin: behind the bit map, the kind, and what stands beside it.
@@ -76,7 +87,14 @@ pub fn fields_place(s: &[u8]) -> usize
     ensures { result ≡ fields_place s.now }
 {
     let bits = bytes_wire::byte_at(s, 0);
-    2 + (stands(bits, 1, 8) + (stands(bits, 2, 12) + stands(bits, 4, 4)))
+    2 + (stands(bits, 0, 8) + (stands(bits, 1, 12) + stands(bits, 2, 4)))
+}
+
+// What stands from an instruction's own fields on.
+pub fn own_fields(s: &[u8]) -> &[u8]
+    ensures { result.now ≡ drop (fields_place s.now) s.now }
+{
+    bytes_field::tail(s, fields_place(s))
 }
 
 // How many bytes a value takes, by its kind's number.
@@ -158,7 +176,7 @@ fn operand_first(t: &[u8], kind: Kind) -> usize
     if kind == Kind::Store {
         return projections_end(t, 3, bytes_wire::byte_at(t, 2));
     }
-    operands_of(kind).1 as usize
+    operands_of(kind).first as usize
 }
 
 // Operand field `k` of an instruction.
@@ -168,11 +186,15 @@ pub fn operand(s: &[u8], b: Bounds, k: u8) -> Option<Value>
 {
     let kind = kind_of(s)?;
     let o = operands_of(kind);
-    if o.0 <= k {
+    if o.count <= k {
         return None;
     }
-    let t = bytes_field::tail(s, fields_place(s));
-    found_at(t, values_end(t, operand_first(t, kind), 0, o.2, k), b.next)
+    let t = own_fields(s);
+    found_at(
+        t,
+        values_end(t, operand_first(t, kind), 0, o.apart, k),
+        b.next,
+    )
 }
 
 // The projection that stands at a place.
@@ -199,8 +221,7 @@ fn step_count(t: &[u8], kind: Kind) -> u8
     ensures { result ≡ step_count t.now (number_of_kind kind) }
 {
     match kind {
-        Kind::Load => bytes_wire::byte_at(t, 4),
-        Kind::Store => bytes_wire::byte_at(t, 2),
+        Kind::Load | Kind::Store => bytes_wire::byte_at(t, steps_at(kind)),
         _ => 0,
     }
 }
@@ -211,7 +232,7 @@ pub fn projection(s: &[u8], b: Bounds, k: u8) -> Option<Projection>
         instruction_of b seen late s.now ≡ ok i n → as_option result ≡ get_elem? (place_steps i.kind) k }
 {
     let kind = kind_of(s)?;
-    let t = bytes_field::tail(s, fields_place(s));
+    let t = own_fields(s);
     if step_count(t, kind) <= k {
         return None;
     }

@@ -6,11 +6,11 @@
 
 pub mod class;
 
-ghost use Rattle.std.specs.Prelude.{◌≡◌, List, Bool, not, ◌+◌, ◌≤◌, ◌<◌, length};
+ghost use Rattle.std.specs.Prelude.{◌≡◌, List, Bool, not, length};
 ghost use Rattle.bytes_wire.specs.Parse.{and_then, map_parse};
 ghost use Rattle.bytes_wire.specs.Value.{value_of};
 ghost use Rattle.bytes_field.specs.Walk.{walk_before, uses_value, pair_walk, times, first_of, second_of, counts};
-ghost use Rattle.bytes_row.specs.Class.{number_of_list, number_of_class};
+ghost use Rattle.bytes_row.specs.Class.{number_of_list, number_of_class, number_of_row};
 ghost use Rattle.bytes_field.specs.Walk.{list_walk, place_walk, field_walk, row_walk, as_scan, scanned};
 
 use bytes_field::{Bounds, Lists, Scan};
@@ -26,7 +26,7 @@ const UNARY_OPERATIONS: u8 = 16;
 fn miscounts(count: u8, l: Lists) -> bool
     ensures { result ≡ not (counts l count) }
 {
-    l.exact && count != l.many
+    l.exact.is_some_and(|many| many != count)
 }
 
 // A value, behind what was read.
@@ -66,12 +66,12 @@ fn read_element(
             b.next,
             buffer,
         ),
-        ListKind::Returns => bytes_field::read_below(s, before, b.types),
         ListKind::Projections => bytes_field::read_projection(s, before, b.next, buffer),
     }
 }
 
 // As many elements as a list counts.
+// (A `for`, here and in `read_row`: the closure of a `try_fold` would hold marks and buffer, and a contract would have to say what they become.)
 fn read_elements(
     s: &[u8],
     before: Scan,
@@ -129,37 +129,15 @@ fn read_place(
     let p = bytes_field::read_base(s, before, b.next, buffer)?;
     let l = Lists {
         most: b.projections,
-        exact: false,
-        many: 0,
+        exact: None,
     };
     let t = bytes_field::tail(s, p.size);
     let r = read_list(t, p, l, ListKind::Projections, b, seen, buffer);
     bytes_field::further(r, p.size)
 }
 
-// A list of a row, by its class.
-fn read_listed(
-    s: &[u8],
-    before: Scan,
-    k: ListKind,
-    many: u8,
-    b: Bounds,
-    seen: &mut [bool],
-    buffer: &mut [u16],
-) -> Result<Scan, Refusal>
-    requires { number_of_list k < 6 }
-    ensures { as_scan result seen.new buffer.new ≡
-        field_walk b many (10 + number_of_list k) (walk_before seen.old buffer.old before) s.now }
-{
-    let l = Lists {
-        most: b.list,
-        exact: k == ListKind::Returns,
-        many,
-    };
-    read_list(s, before, l, k, b, seen, buffer)
-}
-
-// One field of a row. `many` is the first byte of the row's fields: a Call's number of dests.
+// One field of a row. `many` is what a Call's return types must count, the first byte of its fields.
+// (A number for any row, though only a Call's is read: an Option would have each reader of a row ask whether it is that of a Call.)
 fn read_field(
     s: &[u8],
     before: Scan,
@@ -169,12 +147,18 @@ fn read_field(
     seen: &mut [bool],
     buffer: &mut [u16],
 ) -> Result<Scan, Refusal>
-    requires { number_of_class c < 16 }
     ensures { as_scan result seen.new buffer.new ≡
         field_walk b many (number_of_class c) (walk_before seen.old buffer.old before) s.now }
 {
+    let any = Lists {
+        most: b.list,
+        exact: None,
+    };
+    let just = Lists {
+        exact: Some(many),
+        ..any
+    };
     match c {
-        Class::Nothing => Ok(Scan { size: 0, ..before }),
         Class::Dest => bytes_field::read_defined(s, before, b.next, seen),
         Class::Value => bytes_field::read_value(s, before, b.next, buffer),
         Class::Type => bytes_field::read_below(s, before, b.types),
@@ -184,50 +168,67 @@ fn read_field(
         Class::Place => read_place(s, before, b, seen, buffer),
         Class::Binary => bytes_field::read_operation(s, before, BINARY_OPERATIONS),
         Class::Unary => bytes_field::read_operation(s, before, UNARY_OPERATIONS),
-        Class::List(k) => read_listed(s, before, k, many, b, seen, buffer),
+        Class::Values => read_list(s, before, any, ListKind::Values, b, seen, buffer),
+        Class::Types => read_list(s, before, any, ListKind::Types, b, seen, buffer),
+        Class::Dests => read_list(s, before, any, ListKind::Dests, b, seen, buffer),
+        Class::Named => read_list(s, before, any, ListKind::Named, b, seen, buffer),
+        Class::Sources => read_list(s, before, any, ListKind::Sources, b, seen, buffer),
+        Class::Returns => read_list(s, before, just, ListKind::Types, b, seen, buffer),
     }
 }
 
-// A row of at most five fields: its hexadecimal digits are their classes, the first field's the lowest.
+// The fields of a row, one after another.
 fn read_row(
     s: &[u8],
     before: Scan,
-    row: u32,
+    row: &[Class],
     many: u8,
     b: Bounds,
     seen: &mut [bool],
     buffer: &mut [u16],
 ) -> Result<Scan, Refusal>
     ensures { as_scan result seen.new buffer.new ≡
-        row_walk b many 5 row (walk_before seen.old buffer.old before) s.now }
+        row_walk b many (length row.now) (number_of_row row.now) (walk_before seen.old buffer.old before) s.now }
 {
     let mut w = Scan { size: 0, ..before };
-    let mut left = row % 0x100000;
-    // The row ends at its last digit that is not 0: a `for` over five digits would go on.
-    while left != 0 {
-        let c = class::class_of((left % 16) as u8);
+    for c in row {
         let t = bytes_field::tail(s, w.size);
-        let r = read_field(t, w, c, many, b, seen, buffer);
+        let r = read_field(t, w, *c, many, b, seen, buffer);
         w = bytes_field::further(r, w.size)?;
-        left = left / 16;
     }
     Ok(w)
 }
 
 // A row behind what was read.
-pub fn then_row(
+pub fn row_behind(
     s: &[u8],
     p: Scan,
-    row: u32,
+    row: &[Class],
     many: u8,
     b: Bounds,
     seen: &mut [bool],
     buffer: &mut [u16],
 ) -> Result<Scan, Refusal>
     ensures { as_scan result seen.new buffer.new ≡
-        and_then s.now (scanned seen.old buffer.old p) (λ w t. row_walk b many 5 row w t) }
+        and_then s.now (scanned seen.old buffer.old p) (λ w t. row_walk b many (length row.now) (number_of_row row.now) w t) }
 {
     let t = bytes_field::tail(s, p.size);
     let r = read_row(t, p, row, many, b, seen, buffer);
     bytes_field::further(r, p.size)
+}
+
+// A row behind what another reader answered.
+pub fn then_row(
+    s: &[u8],
+    p: Result<Scan, Refusal>,
+    row: &[Class],
+    many: u8,
+    b: Bounds,
+    seen: &mut [bool],
+    buffer: &mut [u16],
+) -> Result<Scan, Refusal>
+    ensures { as_scan result seen.new buffer.new ≡
+        and_then s.now (as_scan p seen.old buffer.old) (λ w t. row_walk b many (length row.now) (number_of_row row.now) w t) }
+{
+    row_behind(s, p?, row, many, b, seen, buffer)
 }

@@ -16,7 +16,8 @@ use Rattle.bytes_wire.specs.declared.Cause.{Cause}
 use Rattle.mir.specs.declared.BlockId.{BlockId}
 use Rattle.mir.specs.declared.TypeId.{TypeId}
 use Rattle.mir.specs.declared.ValueId.{ValueId}
-use Rattle.bytes_wire.proofs.Laws.{Behind, Passed, size, map_later, later_later, rest_all, told, told_size}
+use Rattle.std.proofs.lemmas.List.{take_rest}
+use Rattle.bytes_wire.proofs.Laws.{Behind, Passed, size, map_later, later_later, told, told_size}
 use Rattle.bytes_wire.proofs.Inv.{behind, image, later_inv, map_inv, map_bad}
 use Rattle.mir.specs.Syntax.{Block}
 use Rattle.bytes_field.specs.Decode.{defineds_of}
@@ -56,7 +57,7 @@ pub record Marked (b : Bounds) (s : List ℕ) (at k : ℕ) (seen : List Bool) : 
 pub marked : (b : Bounds) (s : List ℕ) (at : ℕ) {k : ℕ} {before seen : List Bool} {r : Result ℕ Refusal} → at ≤ length s → before ≡ clear b → ParametersRead b (take (length s - at) (drop at s)) (as_part r) before seen → r ≡ Ok k → Marked b s at k seen
 marked b s at {k} {before} {seen} {r} h f p g =
     let d = defineds_of b.list b.next before (drop at s) in
-    let q = rw (rest_all at s) at p in
+    let q = rw (take_rest s at) at p in
     elim (map_inv unit d (sym q.answers ∙ ap as_part g)) [
       | image ps e i ↦
           record {

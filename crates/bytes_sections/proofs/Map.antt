@@ -42,7 +42,7 @@ bytes_short (suc k) (a ∷ s) h =
     rw (byte a s, bytes_short k s l, z)
 
 -- the powers of two that a byte has
-pub power : (i : ℕ) → i < 8 → get_or (1 ∷ 2 ∷ 4 ∷ 8 ∷ 16 ∷ 32 ∷ 64 ∷ 128 ∷ []) i 0 ≡ 2 ^ i
+pub power : (i : ℕ) → i < 8 → 1 * 2 ^ i % 256 ≡ 2 ^ i
 power zero h = refl
 power (suc zero) h = refl
 power (suc (suc zero)) h = refl

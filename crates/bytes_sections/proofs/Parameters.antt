@@ -17,7 +17,7 @@ use Rattle.bytes_block.proofs.Laws.{defines_seen}
 use Rattle.bytes_sections.specs.Index.{ParametersRead}
 
 -- the row of one list of defined values
-parameters_row : (b : Bounds) (w : Walk) (s : List ℕ) → row_walk b 0 5 0xc w s ≡ map_parse (fold defines w) (defineds_of b.list b.next w.seen s)
+parameters_row : (b : Bounds) (w : Walk) (s : List ℕ) → row_walk b 0 1 0xc w s ≡ map_parse (fold defines w) (defineds_of b.list b.next w.seen s)
 unfolding row_walk field_walk simple_walk
 parameters_row b w s = simp (and_nothing, defined_list)
 
@@ -26,12 +26,12 @@ pub size_parameters : (b : Bounds) (seen : List Bool) (s : List ℕ) → size (m
 size_parameters b seen s =
     let w = walk_of seen [] 0 false in
     let d = defineds_of b.list b.next seen s in
-    rw (size_map unit d) (rw (parameters_row b w s, size_map (fold defines w) d) at (size_row b 0 5 0xc w s))
+    rw (size_map unit d) (rw (parameters_row b w s, size_map (fold defines w) d) at (size_row b 0 1 0xc w s))
 
-module _ (b : Bounds) (s : List ℕ) (seen : List Bool) (buffer : List ℕ) {r : Parse Walk} (e : r ≡ and_then s (ok (walk_of seen buffer 0 false) 0) (λ w t. row_walk b 0 5 0xc w t)) where
+module _ (b : Bounds) (s : List ℕ) (seen : List Bool) (buffer : List ℕ) {r : Parse Walk} (e : r ≡ and_then s (ok (walk_of seen buffer 0 false) 0) (λ w t. row_walk b 0 1 0xc w t)) where
   -- what the walk answered
   walked : r ≡ map_parse (fold defines (walk_of seen buffer 0 false)) (defineds_of b.list b.next seen s)
-  walked = e ∙ later_zero (row_walk b 0 5 0xc (walk_of seen buffer 0 false) s) ∙ parameters_row b (walk_of seen buffer 0 false) s
+  walked = e ∙ later_zero (row_walk b 0 1 0xc (walk_of seen buffer 0 false) s) ∙ parameters_row b (walk_of seen buffer 0 false) s
 
   -- it is refused
   pub parameters_bad : {c : Cause} {o : ℕ} {after : List Bool} → r ≡ bad c o → ParametersRead b s (bad c o) seen after

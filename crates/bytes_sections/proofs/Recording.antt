@@ -3,15 +3,13 @@ use Prim.Native.Nat.{ℕ, zero, suc, ◌+◌, ◌-◌, ◌≤◌, ◌<◌, zero-
 use mathlib.Core.Path.{◌≡◌, ap, ◌∙◌, sym}
 use mathlib.Core.List.{List, [], ◌∷◌, ◌++◌, append_assoc, append-nil}
 use mathlib.Core.Bool.{Bool, true, false}
-use mathlib.Core.Option.{Option, none, some}
+use mathlib.Core.Option.{Option, none}
 use mathlib.Core.Logic.{⊎_elim}
 use native.Mathlib.Nat.{add-zero, eq-or-lt_of_le}
 use native.Mathlib.Omega.{arith}
-use borrow.Author.Tests.{lt-ltb}
 use lib.ListN.{length, get_or, drop, set, length-append, length-drop, length-set, get_or-append}
 use lib.Seq.{drop-drop, drop-set-add, get_or-drop, get_or_at, get_or-set_same, get_or-set_other}
 use Rattle.bytes_wire.specs.Parse.{ok, bad, later, map_parse}
-use Rattle.bytes_wire.specs.Number.{u16_of}
 use Rattle.bytes_wire.specs.declared.Cause.{Cause}
 use Rattle.mir.specs.declared.TypeId.{TypeId}
 use Rattle.bytes_wire.proofs.Laws.{size, size_map, size_later, size_and, size_below, map_later, map_map, later_later}
@@ -23,21 +21,6 @@ use Rattle.bytes_block.proofs.Filling.{kept_set}
 use Rattle.bytes_sections.specs.Decode.{has_recorded, recorded_type_of, recorded_of}
 use Rattle.bytes_sections.proofs.Laws.{refused, refusal, no_value}
 use Rattle.bytes_sections.specs.Index.{recorded_number, RecordedAt, RecordedOne, RecordedRead}
-
--- the type of one value, by its bit
-module _ (types : ℕ) (at : ℕ) (s before : List ℕ) where
-  -- it stands, and a type follows
-  one_some : (v : ℕ) (b : Bool) (after : List ℕ) {x k : ℕ} → b ≡ true → u16_of (drop at s) ≡ ok x k → x < types → after ≡ set before (65 + v) (x + 1) → (ok tt (at + k) ≡ later at (map_parse unit (recorded_type_of types b (drop at s)))) × ((t : Option TypeId) (n : ℕ) → recorded_type_of types b (drop at s) ≡ ok t n → after ≡ set before (65 + v) (recorded_number t))
-  one_some v false after e g h f = absurd (let z : ◌≡◌ {A = ℕ} 0 1 = cc in omega arith)
-  one_some v true after {x} {k} e g h f =
-      let r : recorded_type_of types true (drop at s) ≡ ok (some (record { 0 = x })) k = simp (g, lt-ltb _ _ h) in
-      (sym (rw r), λ t n q. let z : some (record { 0 = x }) ≡ t = cc in f ∙ ap (λ y. set before (65 + v) (recorded_number y)) z)
-
--- reading one value's type
-module _ (types : ℕ) (map : List ℕ) (v at : ℕ) (s before : List ℕ) where
-  -- it has one
-  pub recorded_some : {after : List ℕ} {x k : ℕ} → has_recorded map v ≡ true → u16_of (drop at s) ≡ ok x k → x < types → after ≡ set before (65 + v) (x + 1) → RecordedOne types map v at s (ok tt (at + k)) before after
-  recorded_some {after} {x} e g h f = let r = one_some types at s before v (has_recorded map v) after e g h f in record { answers = r.0; long = ap length f ∙ length-set before (65 + v) (x + 1); number = r.1 }
 
 -- no such answer reaches further than the bytes do
 size_recorded_type : (types : ℕ) (b : Bool) (s : List ℕ) → size (recorded_type_of types b s) ≤ length s

@@ -10,6 +10,7 @@ ghost use Rattle.mir.specs.Most.{most_blocks};
 use crate::{MOSTS, Sizes};
 use bytes_block::Mosts;
 use bytes_field::{Bounds, Scan};
+use bytes_row::class::Class;
 use bytes_wire::{Cause, Refusal};
 use mir::{BlockId, ValueId};
 
@@ -22,10 +23,7 @@ const ENTRY: usize = 4;
 pub const SIZES: usize = 6;
 
 // The row of the parameters: one list of values defined here.
-const PARAMETERS: u32 = 0xc;
-
-// The bits of a byte.
-const POWERS: [u8; 8] = [1, 2, 4, 8, 16, 32, 64, 128];
+const PARAMETERS: [Class; 1] = [Class::Dests];
 
 // "u16 next value; u16 block count; u16 entry block".
 pub fn read_sizes(s: &[u8], m: Mosts) -> Result<Sizes, Refusal>
@@ -51,14 +49,14 @@ pub fn map_part(s: &[u8], next: u16) -> Result<usize, Refusal>
     if s.len() < whole {
         return Err(Cause::Truncated.at(s.len()));
     }
-    let bits = (next % 8) as usize;
+    let bits = next % 8;
     if bits == 0 {
         return Ok(whole);
     }
-    if s.len() <= whole {
+    let Some(last) = s.get(whole) else {
         return Err(Cause::Truncated.at(whole));
-    }
-    if POWERS[bits] <= s[whole] {
+    };
+    if 1 << bits <= *last {
         return Err(Cause::Undefined.at(whole));
     }
     Ok(whole + 1)
@@ -68,10 +66,8 @@ pub fn map_part(s: &[u8], next: u16) -> Result<usize, Refusal>
 fn map_bit(s: &[u8], map: usize, v: ValueId) -> bool
     ensures { result ≡ has_recorded (drop map s.now) v.0 }
 {
-    let k = (v.0 / 8) as usize;
-    let b = bytes_wire::byte_at(bytes_field::tail(s, map), k);
-    let i = (v.0 % 8) as usize;
-    b / POWERS[i] % 2 == 1
+    let b = bytes_wire::byte_at(bytes_field::tail(s, map), (v.0 / 8) as usize);
+    bytes_field::bit(b, (v.0 % 8) as u8)
 }
 
 // The recorded type of value v, at `here` where it has one: the table is given 1 and its number, else 0.
@@ -88,11 +84,11 @@ fn recorded_one(
 {
     let place = bytes_index::RECORDED + v.0 as usize;
     if !map_bit(s, map, v) {
-        table::set_number(facts, place, 0);
+        table::put(facts, place, 0);
         return Ok(here);
     }
     let t = bytes_wire::read_below(&s[here..], types).map_err(|e| e.behind(here))?;
-    table::set_number(facts, place, t.value + 1);
+    table::put(facts, place, t.value + 1);
     Ok(here + t.size)
 }
 
@@ -125,7 +121,7 @@ pub fn parameters_part(s: &[u8], b: Bounds, seen: &mut [bool]) -> Result<usize, 
         reads: 0,
         late: false,
     };
-    let p = bytes_row::then_row(s, start, PARAMETERS, 0, b, seen, &mut none)?;
+    let p = bytes_row::row_behind(s, start, &PARAMETERS, 0, b, seen, &mut none)?;
     Ok(p.size)
 }
 

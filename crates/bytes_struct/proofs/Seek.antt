@@ -1,14 +1,15 @@
--- The search for a name among a struct type's fields: what is left of it.
-use Prim.Native.Nat.{ℕ, ◌+◌, ◌*◌, ◌≤◌, ◌<◌, zero-le}
+-- The search for a name among a struct type's fields finds the first number whose name is that.
+use Prim.Native.Nat.{ℕ, suc, ◌+◌, ◌*◌, ◌≤◌, ◌<◌}
 use mathlib.Core.Path.{◌≡◌, refl, ap, ◌∙◌, sym}
-use mathlib.Core.List.{List, ◌∷◌}
+use mathlib.Core.List.{List, [], ◌∷◌}
+use mathlib.Core.Bool.{Bool, true, false, cond}
 use mathlib.Core.Option.{none, some}
+use mathlib.Core.Option as M
 use Rattle.std.specs.Prelude.{Option, Some, None}
-use native.Mathlib.Numerals.{add-one}
+use Rattle.std.specs.List.{find, range_with_len}
 use native.Mathlib.Omega.{arith}
-use borrow.Author.Tests.{eq-eqb, ne_eqb}
-use lib.ListN.{length, get_or, get_elem?, drop, drop_of_length-le}
-use lib.Seq.{drop-cons}
+use lib.Dec.{eqb}
+use lib.ListN.{length, get_or, get_elem?, drop}
 use Rattle.table.proofs.Elements.{some_at, none_at}
 use Rattle.bytes_wire.specs.Parse.{ok}
 use Rattle.bytes_wire.specs.Number.{at16}
@@ -19,60 +20,52 @@ use Rattle.bytes_types.specs.Decode.{type_of}
 use Rattle.bytes_types.specs.Index.{TypesAt}
 use Rattle.bytes_struct.specs.declared.FoundField.{FoundField}
 use Rattle.bytes_struct.specs.FindField.{find_from, find_field}
-use Rattle.bytes_struct.specs.Fields.{first_name, no_field, Names}
+use Rattle.bytes_struct.specs.Fields.{first_name, first_part, no_field}
 use Rattle.mir.specs.Option.{as_option}
-use Rattle.bytes_struct.specs.Found.{FoundAmong, FoundInRow}
+use Rattle.bytes_struct.specs.Found.{has_name, first_named, FoundInRow}
 use Rattle.bytes_struct.proofs.Placed.{kind_fields, other_fields}
 
--- the name is not that of the first i of n fields
-pub record Seeking (row : List ℕ) (n : ℕ) (name : NameId) (i : ℕ) : Type 0 where
-  pub under : i ≤ n
-  pub left : (fs : List StructField) → Names row first_name fs → length fs ≡ n → find_from 0 (length fs) name fs ≡ find_from i (length fs) name (drop i fs)
+-- what is found, by the number of the field of that name
+abbrev pub found_at : List ℕ → ℕ → Option ℕ → M.Option FoundField
+found_at row many None = none
+found_at row many (Some i) = some (record { position = i; part = record { 0 = at16 row (first_part + 4 * i) }; fields = many })
 
--- none is looked at yet
-pub seeking : (row : List ℕ) (n : ℕ) (name : NameId) → Seeking row n name 0
-seeking row n name = record { under = zero-le; left = λ fs v l. refl }
+-- the fields from number `at` on stand in the bytes
+abbrev Stands : List ℕ → ℕ → List StructField → Type 0
+Stands row at fs = (k : ℕ) → k < length fs → (at16 row (first_name + 4 * (at + k)) ≡ (get_or fs k no_field).name.0) × (at16 row (first_part + 4 * (at + k)) ≡ (get_or fs k no_field).part.0)
 
-module _ {row : List ℕ} {n : ℕ} {name : NameId} {i : ℕ} (o : Seeking row n name i) where
-  -- the next of them
-  the_next : (fs : List StructField) → Names row first_name fs → length fs ≡ n → i < n → (drop i fs ≡ get_or fs i no_field ∷ drop (i + 1) fs) × (at16 row (4 + 4 * i) ≡ (get_or fs i no_field).name.0)
-  the_next fs v l h = let m : i < length fs = omega arith in (rw add-one (drop-cons fs i no_field m), v.each i m)
-
-  -- another name
-  pub sought_more : i < n → (at16 row (4 + 4 * i) ≡ name.0 → ⊥) → Seeking row n name (i + 1)
-  unfolding find_from
-  sought_more h z =
-      record {
-        under = omega arith;
-        left = λ fs v l.
-            let t = the_next fs v l h in
-            let q = ne_eqb name.0 (get_or fs i no_field).name.0 (λ p. z (t.1 ∙ sym p)) in
-            o.left fs v l ∙ ap (find_from i (length fs) name) t.0 ∙ rw (q, add-one);
-      }
-
-  -- the name
-  pub sought_found : {p : ℕ} → i < n → at16 row (4 + 4 * i) ≡ name.0 → p ≡ at16 row (6 + 4 * i) → FoundAmong row n name (Some (record { position = i; part = record { 0 = p }; fields = n }))
-  unfolding find_from
-  sought_found {p} h z g fs v w l =
-      let t = the_next fs v l h in
-      let m : i < length fs = omega arith in
-      let q = eq-eqb name.0 (get_or fs i no_field).name.0 (sym z ∙ t.1) in
-      let y : (get_or fs i no_field).part.0 ≡ p = sym (g ∙ w.each i m) in
-      let x : (get_or fs i no_field).part ≡ record { 0 = p } = ap (λ (k : ℕ). record { 0 = k }) y in
-      sym (o.left fs v l ∙ ap (find_from i (length fs) name) t.0 ∙ rw (q, x, l) refl)
-
-  -- none has it
-  pub sought_none : n ≤ i → FoundAmong row n name None
-  unfolding find_from
-  sought_none h fs v w l =
-      let m : length fs ≤ i = omega arith in
-      sym (o.left fs v l ∙ ap (find_from i (length fs) name) (drop_of_length-le fs m))
+-- the search among the fields finds the first number whose name is that
+named : (row : List ℕ) (many : ℕ) (name : NameId) (at : ℕ) (fs : List StructField) → Stands row at fs → find_from at many name fs ≡ found_at row many (find (has_name row name) (range_with_len at (length fs)))
+unfolding find_from
+named row many name at [] h = refl
+named row many name at (f ∷ fs) h =
+    let z : at + 0 ≡ at = omega arith in
+    let here = h 0 (omega arith) in
+    let n : at16 row (first_name + 4 * at) ≡ f.name.0 = ap (λ i. at16 row (first_name + 4 * i)) (sym z) ∙ here.0 in
+    let p : at16 row (first_part + 4 * at) ≡ f.part.0 = ap (λ i. at16 row (first_part + 4 * i)) (sym z) ∙ here.1 in
+    let step : suc at ≡ at + 1 = omega arith in
+    let later = named row many name (suc at) fs (λ k l. let e : suc at + k ≡ at + suc k = omega arith in rw e (h (suc k) (omega arith))) in
+    go (has_name row name at) (eqb name.0 f.name.0) (ap (eqb name.0) n) p _ (later ∙ ap (λ j. found_at row many (find (has_name row name) (range_with_len j (length fs)))) step)
+  where
+    go : (b c : Bool) → b ≡ c → at16 row (first_part + 4 * at) ≡ f.part.0 → (rest : Option ℕ) → find_from (suc at) many name fs ≡ found_at row many rest
+        → cond c (some (record { position = at; part = f.part; fields = many })) (find_from (suc at) many name fs) ≡ found_at row many (cond b (Some at) rest)
+    go true true e p rest later = let q : f.part ≡ record { 0 = at16 row (first_part + 4 * at) } = ap (λ (k : ℕ). record { 0 = k }) (sym p) in rw q refl
+    go true false e p rest later = cc
+    go false true e p rest later = cc
+    go false false e p rest later = later
 
 module _ (most own m : ℕ) (row : List ℕ) (T : MirType) (name : NameId) (e : type_of most own row ≡ ok T m) where
   -- a struct's row
-  pub struct_found : (r : Option FoundField) {n : ℕ} → get_or row 0 0 ≡ 4 → n ≡ get_or row 3 0 → FoundAmong row n name r → as_option r ≡ find_field (some T) name
+  struct_found : get_or row 0 0 ≡ 4 → find_field (some T) name ≡ found_at row (get_or row 3 0) (first_named row name (get_or row 3 0))
   unfolding find_field
-  struct_found r h k f = let w = kind_fields most own row e h in f (struct_fields_of (some T)) w.names w.parts (w.many ∙ sym k)
+  struct_found h =
+      let w = kind_fields most own row e h in
+      ap (λ n. find_from 0 n name (struct_fields_of (some T))) w.many
+      ∙ named row (get_or row 3 0) name 0 (struct_fields_of (some T)) (λ k l. let z : 0 + k ≡ k = omega arith in rw z (w.names.each k l, w.parts.each k l))
+      ∙ ap (λ n. found_at row (get_or row 3 0) (first_named row name n)) w.many
+
+  pub among_found : get_or row 0 0 ≡ 4 → (o : Option ℕ) → o ≡ first_named row name (get_or row 3 0) → found_at row (get_or row 3 0) o ≡ find_field (some T) name
+  among_found h o f = ap (found_at row (get_or row 3 0)) f ∙ sym (struct_found h)
 
   -- any other's
   pub other_found : (get_or row 0 0 ≡ 4 → ⊥) → none ≡ find_field (some T) name

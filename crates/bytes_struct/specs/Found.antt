@@ -1,26 +1,26 @@
 -- The promises of the lookup.
-use Rattle.std.specs.Prelude.{ℕ, ◌≡◌, List, length, Option}
+use Rattle.std.specs.Prelude.{ℕ, ◌+◌, ◌*◌, ◌≡◌, Bool, List, length, Option, eqb}
+use Rattle.std.specs.List.{find, range_with_len}
 use Rattle.std.proofs.Math.Option.{some}
 use Rattle.std.proofs.Math.ListN.{get_elem?}
+use Rattle.bytes_wire.specs.Number.{at16}
 use Rattle.bytes_wire.specs.Parse.{ok}
 use Rattle.mir.specs.declared.NameId.{NameId}
 use Rattle.mir.specs.declared.TypeId.{TypeId}
-use Rattle.mir.specs.MirType.{StructField, MirType}
+use Rattle.mir.specs.MirType.{MirType}
 use Rattle.mir.specs.Option.{as_option}
 use Rattle.bytes_types.specs.Decode.{type_of}
 use Rattle.bytes_types.specs.Index.{TypesAt}
 use Rattle.bytes_struct.specs.declared.FoundField.{FoundField}
-use Rattle.bytes_struct.specs.FindField.{find_from, find_field}
-use Rattle.bytes_struct.specs.Fields.{first_name, first_part, Names, PartTypes}
+use Rattle.bytes_struct.specs.FindField.{find_field}
+use Rattle.bytes_struct.specs.Fields.{first_name}
 
--- a name among the fields that stand in the bytes `row` of a struct type
-abbrev pub FoundAmong : List ℕ → ℕ → NameId → Option FoundField → Type 0
-FoundAmong row n name r =
-    (fs : List StructField)
-    → Names row first_name fs
-    → PartTypes row first_part fs
-    → length fs ≡ n
-    → as_option r ≡ find_from 0 (length fs) name fs
+-- whether field i of the struct type whose bytes are `row` has a name, and the first of n fields that has it
+abbrev pub has_name : List ℕ → NameId → ℕ → Bool
+has_name row name i = eqb name.0 (at16 row (first_name + 4 * i))
+
+abbrev pub first_named : List ℕ → NameId → ℕ → Option ℕ
+first_named row name n = find (has_name row name) (range_with_len 0 n)
 
 -- in the type whose bytes are `row`
 abbrev pub FoundInRow : List ℕ → NameId → Option FoundField → Type 0

@@ -7,11 +7,12 @@ use native.Mathlib.Nat.{add-zero, add_assoc, sub-zero}
 use native.Mathlib.Omega.{arith}
 use borrow.Author.Tests.{le-leb, lt-leb}
 use lib.ListN.{length, get_or, drop, length-drop}
+use lib.Dec.{leb}
 use lib.Seq.{drop-drop, get_or-drop}
 use Rattle.std.specs.Prelude.{Result, Ok, Err}
 use Rattle.bytes_wire.specs.declared.Refusal.{Refusal}
 use Rattle.bytes_wire.specs.Parse.{Parse, ok, bad, later, and_then, map_parse}
-use Rattle.bytes_wire.specs.Number.{u16_of, below, at16}
+use Rattle.bytes_wire.specs.Number.{u8_of, u16_of, below, counted, at16}
 use Rattle.bytes_wire.specs.declared.Cause.{Cause}
 use Rattle.mir.specs.declared.NameId.{NameId}
 use Rattle.mir.specs.declared.TypeId.{TypeId}
@@ -104,10 +105,6 @@ pub record FieldsUpto (own : ℕ) (s : List ℕ) (from count i at : ℕ) : Type 
   pub within : at ≤ length s
   pub left : later from (map_parse unit (struct_fields own [] count (drop from s))) ≡ later at (map_parse unit (struct_fields own (names_at s from i) (count - i) (drop at s)))
 
--- none is behind yet
-pub fields_start : (own : ℕ) (s : List ℕ) (from count : ℕ) → from ≤ length s → FieldsUpto own s from count 0 from
-fields_start own s from count h = record { under = zero-le; here = omega arith; within = h; left = rw sub-zero }
-
 -- the name of a field that stands at a place
 name_at : (s : List ℕ) (at : ℕ) → at16 (drop at s) 0 ≡ at16 s at
 name_at s at = rw (get_or-drop at s 0 0, get_or-drop at s 1 0, add-zero)
@@ -158,26 +155,21 @@ module _ (most own : ℕ) (s : List ℕ) where
   unfolding struct_of
   struct_name e = sym (rw e)
 
-  -- there is no byte for the count
-  pub struct_short : {x n : ℕ} → u16_of (drop 1 s) ≡ ok x n → length s ≤ 3 → bad Cause.Truncated 3 ≡ later 1 (map_parse unit (struct_of most own (drop 1 s)))
+  -- the count behind it is refused
+  pub struct_uncounted : {x n o : ℕ} {c : Cause} → u16_of (drop 1 s) ≡ ok x n → counted most (u8_of (drop 3 s)) ≡ bad c o → bad c (3 + o) ≡ later 1 (map_parse unit (struct_of most own (drop 1 s)))
   unfolding struct_of
-  struct_short {x} {n} e h =
+  struct_uncounted {x} {n} {o} {c} e f =
       let z : n ≡ 2 = (number_inv 2 (drop 1 s) e).2 in
-      let k : length (drop 2 (drop 1 s)) < 1 = omega (arith, length-drop 2 (drop 1 s), length-drop 1 s) in
-      sym (simp (e, z, number_short 1 (drop 2 (drop 1 s)) k))
-
-  -- the count passes its most
-  pub struct_many : {x n : ℕ} → u16_of (drop 1 s) ≡ ok x n → 3 < length s → most < get_or s 3 0 → bad Cause.TooMany 3 ≡ later 1 (map_parse unit (struct_of most own (drop 1 s)))
-  unfolding struct_of
-  struct_many {x} {n} e h l =
-      let z : n ≡ 2 = (number_inv 2 (drop 1 s) e).2 in
-      let k : 1 ≤ length (drop 3 s) = omega (arith, length-drop 3 s) in
-      sym (simp (e, z, drop-drop, number_some 1 (drop 3 s) k, from_8 s 3, lt-leb _ _ l))
+      sym (simp (e, z, drop-drop, f) (ap (bad c) (sym (add_assoc 1 2 o))))
 
   -- as many fields as the count says
-  pub struct_some : {x n : ℕ} → u16_of (drop 1 s) ≡ ok x n → 3 < length s → get_or s 3 0 ≤ most → later 4 (map_parse unit (struct_fields own [] (get_or s 3 0) (drop 4 s))) ≡ later 1 (map_parse unit (struct_of most own (drop 1 s)))
+  pub struct_some : {x n k m : ℕ} → u16_of (drop 1 s) ≡ ok x n → counted most (u8_of (drop 3 s)) ≡ ok k m → later 4 (map_parse unit (struct_fields own [] k (drop 4 s))) ≡ later 1 (map_parse unit (struct_of most own (drop 1 s)))
   unfolding struct_of
-  struct_some {x} {n} e h l =
+  struct_some {x} {n} {k} {m} e f =
       let z : n ≡ 2 = (number_inv 2 (drop 1 s) e).2 in
-      let k : 1 ≤ length (drop 3 s) = omega (arith, length-drop 3 s) in
-      sym (simp (e, z, drop-drop, number_some 1 (drop 3 s) k, from_8 s 3, le-leb _ _ l, map_later, map_map, later_later))
+      let y : m ≡ 1 = (number_inv 1 (drop 3 s) (checked_inv Cause.TooMany (λ j. leb j most) (u8_of (drop 3 s)) f).0).2 in
+      sym (simp (e, z, drop-drop, f, y, map_later, map_map, later_later))
+
+  -- the fields begin within the bytes
+  pub struct_long : {k m : ℕ} → counted most (u8_of (drop 3 s)) ≡ ok k m → 4 ≤ length s
+  struct_long f = omega (arith, (number_inv 1 (drop 3 s) (checked_inv Cause.TooMany (λ j. leb j most) (u8_of (drop 3 s)) f).0).0, length-drop 3 s)

@@ -11,6 +11,9 @@ use Rattle.bytes_wire.proofs.Laws.{map_map, map_and, map_later, and_map, and_ok}
 use Rattle.bytes_field.specs.Walk.{Walk, simple_walk, field_walk, row_walk, unit}
 use Rattle.bytes_field.specs.declared.Bounds.{Bounds}
 use Rattle.bytes_field.proofs.Rows.{types_list}
+use Rattle.bytes_row.specs.declared.class.Class.{Class}
+use Rattle.bytes_row.specs.Class.{number_of_row}
+use Rattle.bytes_row.proofs.Rows.{at_most}
 use Rattle.bytes_types.specs.Decode.{struct_of, type_kinds, type_of, type_rows}
 
 -- the kind at the first byte, by the kind's number k
@@ -55,5 +58,7 @@ type_row : (b : Bounds) (w : Walk) (s : List ℕ) → 1 ≤ length s → get_or 
 type_row b w s h l g = kind_type b w (drop 1 s) (get_or s 0 0) l g ∙ sym (ap (map_parse unit) (chosen b.list b.types s h))
 
 -- and what was made of the walk over its row is what is made of the type
-pub read_row : (b : Bounds) (w : Walk) (s : List ℕ) {k row : ℕ} {d : Parse (Unit {0})} {q : Parse Walk} → k ≡ get_or s 0 0 → row ≡ get_or type_rows k 0 → d ≡ map_parse unit q → q ≡ and_then s (ok w 1) (λ v t. row_walk b 0 5 row v t) → 1 ≤ length s → get_or s 0 0 < 11 → (get_or s 0 0 ≡ 4 → ⊥) → d ≡ map_parse unit (type_of b.list b.types s)
-read_row b w s i j e f h l g = e ∙ ap (map_parse unit) (f ∙ ap (λ r. and_then s (ok w 1) (λ v t. row_walk b 0 5 r v t)) (j ∙ ap (λ m. get_or type_rows m 0) i)) ∙ type_row b w s h l g
+pub read_row : (b : Bounds) (w : Walk) (s : List ℕ) {k : ℕ} (row : List Class) {d : Parse (Unit {0})} {q : Parse Walk} → k ≡ get_or s 0 0 → number_of_row row ≡ get_or type_rows k 0 → length row ≤ 5 → d ≡ map_parse unit q → q ≡ and_then s (ok w 1) (λ v t. row_walk b 0 (length row) (number_of_row row) v t) → 1 ≤ length s → get_or s 0 0 < 11 → (get_or s 0 0 ≡ 4 → ⊥) → d ≡ map_parse unit (type_of b.list b.types s)
+read_row b w s row i j few e f h l g =
+    e ∙ ap (map_parse unit) (at_most b 0 s (ok w 1) row 5 few f ∙ ap (λ r. and_then s (ok w 1) (λ v t. row_walk b 0 5 r v t)) (j ∙ ap (λ m. get_or type_rows m 0) i))
+    ∙ type_row b w s h l g

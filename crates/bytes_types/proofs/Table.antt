@@ -8,17 +8,18 @@ use mathlib.Core.Logic.{⊎_elim}
 use native.Mathlib.Numerals.{add-one}
 use native.Mathlib.Nat.{add-zero, sub-zero, eq-or-lt_of_le, mod-eq_of_lt}
 use native.Mathlib.Omega.{arith}
-use borrow.Author.Tests.{le-leb, lt-leb}
+use borrow.Author.Tests.{leb-true}
 use lib.ListN.{length, get_or, drop, set, length-append, length-drop, length-set, get_or-append}
+use lib.Dec.{leb}
 use lib.Seq.{drop-drop, get_or_at, get_or-set_same, get_or-set_other}
 use Rattle.std.specs.Prelude.{Result}
 use Rattle.bytes_wire.specs.declared.Refusal.{Refusal}
 use Rattle.bytes_wire.specs.Parse.{ok, bad, later, map_parse}
-use Rattle.bytes_wire.specs.Number.{u16_of}
+use Rattle.bytes_wire.specs.Number.{u16_of, counted}
 use Rattle.bytes_wire.specs.WellFormed.{Bytes}
 use Rattle.bytes_wire.specs.declared.Cause.{Cause}
 use Rattle.bytes_wire.proofs.Laws.{Behind, was, size, size_map, map_id, map_map, map_later, later_later}
-use Rattle.bytes_wire.proofs.Inv.{no_ok, image, map_inv, number_inv, map_bad}
+use Rattle.bytes_wire.proofs.Inv.{no_ok, image, map_inv, checked_inv, number_inv, map_bad}
 use Rattle.bytes_wire.proofs.Canon.{bytes_drop}
 use Rattle.bytes_field.specs.Walk.{unit, as_part, part_used}
 use Rattle.mir.specs.MirType.{MirType}
@@ -80,27 +81,24 @@ pub read_bad : (limit most : ℕ) (s before starts : List ℕ) {c : Cause} {o : 
 read_bad limit most s before starts h e = record { answers = e; long = h; places = λ ts n f. absurd (no_ok (e ∙ ap (map_parse unit) f)); first = λ ts n f. absurd (no_ok (e ∙ ap (map_parse unit) f)) }
 
 -- the count is refused
-pub count_bad : (limit most : ℕ) (s : List ℕ) {c : Cause} {o : ℕ} → u16_of s ≡ bad c o → bad c o ≡ map_parse unit (types_of limit most s)
+pub count_bad : (limit most : ℕ) (s : List ℕ) {c : Cause} {o : ℕ} → counted limit (u16_of s) ≡ bad c o → bad c o ≡ map_parse unit (types_of limit most s)
 unfolding types_of
 count_bad limit most s e = sym (rw e)
 
--- the count passes its most
-pub count_past : (limit most : ℕ) (s : List ℕ) {x n : ℕ} → u16_of s ≡ ok x n → limit < x → bad Cause.TooMany 0 ≡ map_parse unit (types_of limit most s)
-unfolding types_of
-count_past limit most s e h = sym (simp (e, lt-leb _ _ h))
-
 -- none is behind yet
-pub table_start : (limit most : ℕ) (s entry starts : List ℕ) {x n : ℕ} → u16_of s ≡ ok x n → x ≤ limit → (limit ≤ 64) × (most ≤ 16) × (limit < length entry) → starts ≡ set entry 0 (n % 65536) → Reading limit most s starts starts x 0 n
+pub table_start : (limit most : ℕ) (s entry starts : List ℕ) {x n : ℕ} → counted limit (u16_of s) ≡ ok x n → (limit ≤ 64) × (most ≤ 16) × (limit < length entry) → starts ≡ set entry 0 (n % 65536) → Reading limit most s starts starts x 0 n
 unfolding types_of
-table_start limit most s entry starts {x} {n} e h l q =
-    let v = number_inv 2 s e in
+table_start limit most s entry starts {x} {n} e l q =
+    let i = checked_inv Cause.TooMany (λ j. leb j limit) (u16_of s) e in
+    let h = leb-true x limit i.1 in
+    let v = number_inv 2 s i.0 in
     let w : starts ≡ set entry 0 n = q ∙ ap (set entry 0) (mod-eq_of_lt (omega (arith, v.2))) in
     let g : get_or starts 0 0 ≡ n = ap (λ z. get_or z 0 0) w ∙ get_or-set_same entry 0 n 0 (omega arith) in
     record {
       under = zero-le;
-      few = omega arith;
+      few = omega (arith, h);
       near = omega (arith, v.2);
-      room = omega (arith, ap length w, length-set entry 0 n);
+      room = omega (arith, h, ap length w, length-set entry 0 n);
       long = refl;
       in_s = omega (arith, v.0, v.2);
       here = sym g;
@@ -112,7 +110,7 @@ table_start limit most s entry starts {x} {n} e h l q =
         rises = λ k q. absurd (omega arith);
         within = λ k q. let z : k ≡ 0 = omega arith in rw (z, g) (omega (arith, v.0, v.2));
       };
-      left = simp (e, le-leb _ _ h, map_id, sub-zero);
+      left = simp (e, map_id, sub-zero);
     }
 
 module _ (limit most : ℕ) (s before starts : List ℕ) (count k at : ℕ) (u : Reading limit most s before starts count k at) (h : k < count) where

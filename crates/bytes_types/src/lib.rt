@@ -5,24 +5,40 @@ pub mod layout;
 
 ghost use Rattle.std.specs.Prelude.{◌≡◌, List, [], Bool, ℕ, ◌+◌, ◌*◌, ◌≤◌, ◌<◌, length, get_or, drop};
 ghost use Rattle.bytes_wire.specs.Parse.{map_parse, later};
+ghost use Rattle.bytes_wire.specs.Number.{at16};
 ghost use Rattle.mir.specs.TypeKind.{number_of_type_kind, NamesTypeKind};
 ghost use Rattle.bytes_field.specs.Walk.{as_part, unit};
+ghost use Rattle.bytes_row.specs.Class.{number_of_row};
 ghost use Rattle.bytes_before.specs.Before.{names_at};
 ghost use Rattle.bytes_types.specs.Decode.{struct_fields, struct_of, type_of, type_rows};
 ghost use Rattle.bytes_types.specs.Index.{field_of, TypesRead};
 
 use bytes_field::{Bounds, Scan};
+use bytes_row::class::Class;
+use bytes_row::class::Class::{Number, Type, Types};
 use bytes_wire::{Cause, Refusal};
 use mir::NameId;
 use mir::type_kind::TypeKind;
 
-// The classes of each kind's fields (see `read_field` of bytes_row), in `MirType` order. A Struct has no row: its names
-// differ.
-pub const TYPE_ROWS: [u32; 11] = [0x0, 0x0, 0x0, 0xb, 0x0, 0x53, 0x3, 0x3b, 0x0, 0x0, 0x0];
+// The fields of each kind of type, in `MirType` order. A Struct has no row: its names differ.
+pub const TYPE_ROWS: [&[Class]; 11] = [
+    &[], // Felt
+    &[], // Bool
+    &[], // U32
+    &[Types], // Tuple
+    &[], // Struct
+    &[Type, Number], // FixedArray
+    &[Type], // Pointer
+    &[Types, Type], // Function
+    &[], // Unit
+    &[], // Error
+    &[], // Unknown
+];
 
 // The row of a kind of type.
-fn row_of_type(kind: TypeKind) -> u32
-    ensures { result ≡ get_or type_rows (number_of_type_kind kind) 0 }
+fn row_of_type(kind: TypeKind) -> &'static [Class]
+    ensures told { number_of_row result.now ≡ get_or type_rows (number_of_type_kind kind) 0 }
+    ensures few { length result.now ≤ 5 }
 {
     TYPE_ROWS[kind as usize]
 }
@@ -34,23 +50,39 @@ pub fn kind_of(row: &[u8]) -> Option<TypeKind>
     TypeKind::try_from(bytes_wire::byte_at(row, 0)).ok()
 }
 
+// How many fields the struct type has whose bytes begin here.
+pub fn field_count(row: &[u8]) -> u8
+    ensures { result ≡ get_or row.now 3 0 }
+{
+    bytes_wire::byte_at(row, layout::STRUCT_COUNT)
+}
+
+// The name of field `i` of the struct type whose bytes begin here.
+pub fn field_name(row: &[u8], i: u8) -> NameId
+    ensures { result.0 ≡ at16 row.now (4 + 4 * i) }
+{
+    let at = layout::STRUCT_NAMES + layout::STRUCT_APART * i as usize;
+    NameId(bytes_wire::u16_at(row, at))
+}
+
 // Field `i` of the fields that begin at `from`: a new name, then a type below the struct's own number.
 fn struct_field(s: &[u8], from: usize, i: u8, own: u16) -> Result<usize, Refusal>
     requires { from + 4 * i ≤ length s.now }
     ensures { as_part result ≡ later (from + 4 * i)
         (map_parse unit (field_of own (names_at s.now from i) (drop (from + 4 * i) s.now))) }
 {
-    let at = from + 4 * (i as usize);
+    let at = from + layout::STRUCT_APART * i as usize;
     let x = bytes_wire::read_u16(&s[at..]).map_err(|e| e.behind(at))?;
     if bytes_before::name_before(s, from, i, NameId(x.value)) {
         return Err(Cause::Repeated.at(at));
     }
-    let behind = at + 2;
+    let behind = at + bytes_field::ID;
     let t = bytes_wire::read_below(&s[behind..], own).map_err(|e| e.behind(behind))?;
     Ok(behind + t.size)
 }
 
 // The `count` fields that begin at `from`, one after another; `own` is the number of their struct.
+// (A `try_fold` would hand each field the place that it knows by its number.)
 fn struct_fields(s: &[u8], from: usize, count: u8, own: u16) -> Result<usize, Refusal>
     requires { from ≤ length s.now }
     ensures { as_part result ≡ later from (map_parse unit (struct_fields own [] count (drop from s.now))) }
@@ -68,14 +100,10 @@ fn struct_type(s: &[u8], most: u8, own: u16) -> Result<usize, Refusal>
     ensures { as_part result ≡ later 1 (map_parse unit (struct_of most own (drop 1 s.now))) }
 {
     bytes_wire::read_u16(&s[1..]).map_err(|e| e.behind(1))?;
-    if s.len() <= 3 {
-        return Err(Cause::Truncated.at(3));
-    }
-    let count = s[3];
-    if most < count {
-        return Err(Cause::TooMany.at(3));
-    }
-    struct_fields(s, 4, count, own)
+    let at = layout::STRUCT_COUNT;
+    let counted = bytes_field::tail(s, at);
+    let count = bytes_count::list_count(counted, most).map_err(|e| e.behind(at))?;
+    struct_fields(s, layout::STRUCT_NAMES, count.value, own)
 }
 
 // A type, from its kind on. Its parts stay below its own number.
@@ -105,7 +133,7 @@ pub fn read_type(s: &[u8], most: u8, own: u16) -> Result<usize, Refusal>
         reads: 0,
         late: false,
     };
-    let p = bytes_row::then_row(s, start, row_of_type(kind), 0, b, &mut seen, &mut reads)?;
+    let p = bytes_row::row_behind(s, start, row_of_type(kind), 0, b, &mut seen, &mut reads)?;
     Ok(p.size)
 }
 
@@ -114,10 +142,7 @@ pub fn read_types(s: &[u8], limit: u16, most: u8, starts: &mut [u16]) -> Result<
     requires { (limit ≤ 64) × (most ≤ 16) × (limit < length starts.old) }
     ensures { TypesRead limit most s.now (as_part result) starts.old starts.new }
 {
-    let count = bytes_wire::read_u16(s)?;
-    if limit < count.value {
-        return Err(Cause::TooMany.at(0));
-    }
+    let count = bytes_count::section_count(s, limit)?;
     let mut at = count.size;
     table::set_place(starts, 0, at);
     for k in 0..count.value {

@@ -6,10 +6,11 @@ use mathlib.Core.Bool.{Bool, true, false, cond}
 use native.Mathlib.Nat.{le_trans, le_refl, add-zero, zero-add, add_assoc}
 use native.Mathlib.Omega.{arith}
 use borrow.Author.Tests.{leb-true, lt-leb, le-leb}
-use lib.ListN.{length, get_or, take, drop, length-drop, get_or-eq_default}
-use lib.Seq.{take_all, take-nil, drop-drop, get_or-drop}
+use lib.ListN.{length, get_or, take, drop, length-drop}
+use lib.Seq.{take-nil, drop-drop, get_or-drop}
 use lib.Dec.{leb, ltb}
 use Rattle.std.specs.Prelude.{Result, Err}
+use Rattle.std.proofs.lemmas.List.{take_rest}
 use Rattle.bytes_wire.specs.declared.Refusal.{Refusal}
 use Rattle.bytes_wire.specs.Parse.{Parse, as_answer, ok, bad, later, and_then, map_parse, checked, tagged, seq_of}
 use Rattle.bytes_wire.specs.Number.{from_bytes, number_of, below, at16, at32}
@@ -95,17 +96,13 @@ size_value next s =
     & none)
     s
 
--- a part from n to the end is what is left behind n
-pub rest_all : (n : ℕ) (s : List ℕ) → take (length s - n) (drop n s) ≡ drop n s
-rest_all n s = take_all (length s - n) (drop n s) (omega (arith, length-drop n s))
-
 -- what a reader of the bytes behind n answered, and which variant that was, tell what the definition gives there
 pub told : {R A : Type 0} (view : R → Parse A) (dec : List ℕ → Parse A) (n : ℕ) (s : List ℕ) {r r' : R} → view r ≡ dec (take (length s - n) (drop n s)) → r ≡ r' → dec (drop n s) ≡ view r'
-told view dec n s p q = sym (ap dec (rest_all n s)) ∙ sym p ∙ ap view q
+told view dec n s p q = sym (ap dec (take_rest s n)) ∙ sym p ∙ ap view q
 
 -- what a reader of the bytes behind n answered
 pub there : {R A : Type 0} (view : R → Parse A) (dec : List ℕ → Parse A) (n : ℕ) (s : List ℕ) {r : R} → view r ≡ dec (take (length s - n) (drop n s)) → view r ≡ dec (drop n s)
-there view dec n s p = p ∙ ap dec (rest_all n s)
+there view dec n s p = p ∙ ap dec (take_rest s n)
 
 -- such an answer reaches no further than the bytes do
 pub told_size : {R A : Type 0} (view : R → Parse A) (dec : List ℕ → Parse A) (n : ℕ) (s : List ℕ) {r r' : R} → ((t : List ℕ) → size (dec t) ≤ length t) → n ≤ length s → view r ≡ dec (take (length s - n) (drop n s)) → r ≡ r' → n + size (view r') ≤ length s
@@ -237,20 +234,3 @@ from_16 s at = rw (from_step 1 s at, from_8 s (at + 1))
 
 pub from_32 : (s : List ℕ) (at : ℕ) → from_bytes (take 4 (drop at s)) ≡ at32 s at
 from_32 s at = let e : at + 1 + 1 ≡ at + 2 = omega arith in rw (from_step 3 s at, from_step 2 s (at + 1), e, from_16 s (at + 2)) (omega arith)
-
--- past the end there are only zeros
-pub past_16 : (s : List ℕ) (at : ℕ) → length s ≤ at → ◌≡◌ {A = ℕ} 0 (at16 s at)
-past_16 s at h =
-    let k : length s ≤ at + 1 = omega arith in
-    omega (arith, get_or-eq_default s 0 h, get_or-eq_default s 0 k)
-
-pub past_32 : (s : List ℕ) (at : ℕ) → length s ≤ at → ◌≡◌ {A = ℕ} 0 (at32 s at)
-past_32 s at h =
-    let k : length s ≤ at + 2 = omega arith in
-    omega (arith, past_16 s at h, past_16 s (at + 2) k)
-
--- a u32 of whose bytes two are left
-pub half_32 : (s : List ℕ) (at : ℕ) → at < length s → length s - at ≤ 2 → at16 s at ≡ at32 s at
-half_32 s at h g =
-    let k : length s ≤ at + 2 = omega arith in
-    omega (arith, past_16 s (at + 2) k)

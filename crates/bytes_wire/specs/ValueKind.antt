@@ -1,5 +1,5 @@
 -- The kinds of values as the code has them, and their numbers.
-use Rattle.std.specs.Prelude.{ℕ, ◌≡◌, ◌<◌, Option, Result, MatchOption, MatchResult}
+use Rattle.std.specs.Prelude.{ℕ, ◌≡◌, ◌<◌, Result, MatchResult}
 use Rattle.bytes_wire.specs.declared.value_kind.ValueKind.{ValueKind}
 use Rattle.bytes_wire.specs.declared.value_kind.ValueKind.TheVariants.{Integer, Boolean, Unit, Operand, Error}
 use Rattle.mir.specs.declared.UnknownNumber.{UnknownNumber}
@@ -15,6 +15,3 @@ number_of_value_kind Error = 4
 -- the kind of a number; past the last there is none
 abbrev pub DecodesValueKind : ℕ → Result ValueKind UnknownNumber → Type 0
 DecodesValueKind n r = MatchResult r (λ k. number_of_value_kind k ≡ n) (λ e. 4 < n)
-
-abbrev pub NamesValueKind : ℕ → Option ValueKind → Type 0
-NamesValueKind n r = MatchOption r (4 < n) (λ k. number_of_value_kind k ≡ n)

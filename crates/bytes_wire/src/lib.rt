@@ -177,25 +177,14 @@ pub fn byte_at(s: &[u8], at: usize) -> u8
 pub fn u16_at(s: &[u8], at: usize) -> u16
     ensures { result ≡ at16 s.now at }
 {
-    if s.len() <= at {
-        return 0;
-    }
-    let a = s[at] as u16;
-    let b = byte_at(s, at + 1) as u16;
-    a + 256 * b
+    let t = table::behind(s, at);
+    u16::from_le_bytes([byte_at(t, 0), byte_at(t, 1)])
 }
 
 // The u32 at a place; bytes past the end count as 0.
 pub fn u32_at(s: &[u8], at: usize) -> u32
     ensures { result ≡ at32 s.now at }
 {
-    if s.len() <= at {
-        return 0;
-    }
-    if s.len() - at <= 2 {
-        return u16_at(s, at) as u32;
-    }
-    let low = u16_at(s, at) as u32;
-    let high = u16_at(s, at + 2) as u32;
-    low + 65536 * high
+    let t = table::behind(s, at);
+    u32::from_le_bytes([byte_at(t, 0), byte_at(t, 1), byte_at(t, 2), byte_at(t, 3)])
 }

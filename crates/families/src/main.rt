@@ -18,12 +18,8 @@ fn asks_members<R: Env + Alloc>(rt: &R) -> io::Result<bool> {
     words.next();
     match words.next() {
         None => Ok(false),
-        Some(word) => {
-            if word.as_str() == "members" {
-                return Ok(true);
-            }
-            Err(io::Error::from(io::ErrorKind::InvalidInput))
-        }
+        Some(word) if word.as_str() == "members" => Ok(true),
+        Some(_) => Err(io::Error::from(io::ErrorKind::InvalidInput)),
     }
 }
 
@@ -31,8 +27,7 @@ fn asks_members<R: Env + Alloc>(rt: &R) -> io::Result<bool> {
 fn lent(n: usize, alloc: Global) -> io::Result<Vec<u8>>
     ensures { IfOk result (λ v. length v.items ≡ n) }
 {
-    let bytes = vec![in alloc; 0u8; n]?;
-    Ok(bytes)
+    Ok(vec![in alloc; 0u8; n]?)
 }
 
 fn main(rt: HostRuntime) -> io::Result<()> {

@@ -23,7 +23,3 @@ struct_shape = 2
 
 abbrev pub array_shape : ℕ
 array_shape = 3
-
--- places below this can be added to with no overflow
-abbrev pub most_place : ℕ
-most_place = 16777216

@@ -2,7 +2,7 @@
 use Prim.Native.Nat.{ℕ, ◌+◌, ◌≤◌, ◌<◌}
 use mathlib.Core.Path.{◌≡◌, refl, ◌∙◌, sym, ap}
 use mathlib.Core.List.{List}
-use mathlib.Core.Bool.{Bool, true, false}
+use mathlib.Core.Bool.{Bool, true, false, true≢false}
 use mathlib.Core.Option.{some}
 use native.Mathlib.Omega.{arith}
 use borrow.Author.Tests.{eqb-true, eqb-false}
@@ -13,7 +13,6 @@ use Rattle.mir.specs.declared.ValueId.{ValueId}
 use Rattle.mir.specs.Syntax.{Instruction, Block}
 use Rattle.bytes_index.specs.Table.{starts_in}
 use Rattle.bytes_index.specs.Code.{no_instruction, no_block, SlotsOf}
-use Rattle.bytes_laws.proofs.Bits.{true_false}
 use Rattle.fold.specs.declared.Settings.{Settings}
 use Rattle.mir.specs.Lookup.{Types}
 use Rattle.fold.specs.Family.{Marks, build_dest}
@@ -53,7 +52,7 @@ module _ (σ : Settings) (values : ValueFacts) (code : Code) where
         record {
           old = λ j m n. marks_old j n;
           skip = marks_skip (omega (arith, c.many, c.few)) ∙ z;
-          fold = λ j d n. absurd (let y : ◌≡◌ {A = Bool} true false = sym h ∙ z ∙ n in true_false y);
+          fold = λ j d n. absurd (let y : ◌≡◌ {A = Bool} true false = sym h ∙ z ∙ n in true≢false y);
         }
 
     pub chooses_block : (choice : List Bool) → Flagged at.first marked choice → DecidesBlock σ values room code at marked choice → ChoosesBlock σ values room code k choice₀ choice
@@ -84,9 +83,6 @@ module _ (σ : Settings) (values : ValueFacts) (code : Code) where
     pub done : (τ : Types) (ks : List Block) → Coded code.bounds code.bytes.now code.facts.now τ ks → Fits code.bounds ks → ShapesAt σ τ values.shapes.now values.eligible.now → 320 ≤ length choice₀ → (j : ℕ) → j < k → Stands τ ks choice j
 
   module _ (choice₀ : List Bool) where
-    pub choosing : code.bounds.blocks < 65536 → (graph : List ℕ) → length graph ≡ 6657 → Choosing choice₀ 0 choice₀ graph
-    choosing h graph r = record { low = omega arith; small = h; long = refl; room = r; done = λ τ ks c fits f l j h. absurd (omega arith) }
-
     module _ (k : ℕ) (choice : List Bool) (graph : List ℕ) (inv : Choosing choice₀ k choice graph) where
       pub choosing_on : k < code.bounds.blocks → (choice' : List Bool) → length choice' ≡ length choice → (graph' : List ℕ) → length graph' ≡ length graph → ChoosesBlock σ values (length graph) code k choice choice' → Choosing choice₀ (k + 1) choice' graph'
       choosing_on h choice' long graph' room chooses =

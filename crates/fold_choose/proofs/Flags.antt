@@ -31,9 +31,6 @@ flag_set first j x before here behind f l e =
       old = λ k h. rw e (get_or-set_other here (first + j) k x false (λ z. h (omega arith) (omega arith))) ∙ f.old k h;
     }
 
-pub flag_none : (first : ℕ) (l : List Bool) → Flagged first l l
-flag_none first l = record { size = refl; old = λ j h. refl }
-
 module _ (σ : Settings) (shapes graph : List ℕ) (looked : List Bool) (code : Code) (at : Slots) (choice₀ : List Bool) where
   -- what is known of the block
   pub record Known (τ : Types) (cross : Marks) (all : List Instruction) : Type 0 where
@@ -49,9 +46,6 @@ module _ (σ : Settings) (shapes graph : List ℕ) (looked : List Bool) (code : 
     pub low : j ≤ at.count
     pub flagged : Flagged at.first choice₀ choice
     pub done : (τ : Types) (cross : Marks) (all : List Instruction) → Known τ cross all → (k : ℕ) (d : ValueId) → k < j → build_dest (get_or all k no_instruction).kind ≡ some d → get_or choice (at.first + k) false ≡ folds_in σ τ cross (behind_phis all) d
-
-  pub deciding : Deciding 0 choice₀
-  deciding = record { low = omega arith; flagged = flag_none at.first choice₀; done = λ τ cross all w k d h. absurd (omega arith) }
 
   module _ (j : ℕ) (choice : List Bool) (inv : Deciding j choice) where
     pub deciding_on : at.first + at.count ≤ 288 → j < at.count → (flag given : Bool) → given ≡ get_or looked j false → Answers σ shapes graph given code (at.first + j) flag → (choice' : List Bool) → choice' ≡ set choice (at.first + j) flag → Deciding (j + 1) choice'

@@ -2,9 +2,8 @@
 use Prim.Native.Nat.{ℕ, ◌<◌}
 use mathlib.Core.Path.{◌≡◌, refl, ap, ◌∙◌, sym}
 use mathlib.Core.List.{List}
-use mathlib.Core.Bool.{Bool, true, false, ◌||◌}
+use mathlib.Core.Bool.{Bool, true, false, ◌||◌, true≢false}
 use mathlib.Core.Option.{some, none-ne-some}
-use native.Mathlib.Omega.{arith}
 use borrow.Author.Tests.{eq-eqb, ne_eqb}
 use lib.Dec.{eqb}
 use lib.ListN.{length}
@@ -14,7 +13,6 @@ use Rattle.mir.specs.Syntax.{Assign, UnaryOp, BinaryOp, Call, Cast, Load, Store,
 use Rattle.mir.specs.Syntax.{MakeTuple, ExtractTupleElement, MakeStruct, ExtractStructField, InsertField, InsertTuple, MakeFixedArray, AssertEq, HeapAllocCells}
 use Rattle.mir.specs.Reads.{kind_number}
 use Rattle.bytes_index.specs.declared.code.Code.{Code}
-use Rattle.bytes_laws.proofs.Bits.{true_false}
 use Rattle.bytes_index.specs.Table.{kind_in}
 use Rattle.fold.specs.declared.Settings.{Settings}
 use Rattle.mir.specs.Lookup.{Types}
@@ -24,10 +22,11 @@ use Rattle.rewrite.specs.Run.{folds_build}
 use Rattle.fold_climb.specs.Decided.{Decided, FoldsBy}
 use Rattle.fold_scan.specs.Noted.{dest_in}
 use Rattle.fold_scan.proofs.Placed.{build_kind_lem, build_at, build_place}
-use Rattle.fold_choose.specs.Chosen.{build_kind, Answers}
+use Rattle.mir.specs.Kind.{build_kind}
+use Rattle.fold_choose.specs.Chosen.{Answers}
 
 neither : (t u : Bool) → (t || u) ≡ false → (t ≡ false) × (u ≡ false)
-neither true u h = absurd (true_false h)
+neither true u h = absurd (true≢false h)
 neither false u h = (refl, h)
 
 -- the decision on a value is the one on its build
@@ -62,7 +61,7 @@ pub no_build : (i : InstructionKind) (v : ValueId) (kind : ℕ) → kind ≡ kin
 no_build i v kind k f h =
     let w = neither (eqb kind 10) (eqb kind 12 || eqb kind 16) f in
     let u = neither (eqb kind 12) (eqb kind 16) w.1 in
-    build_kind_lem i v h (λ z. true_false (sym (eq-eqb kind 10 (k ∙ z)) ∙ w.0)) (λ z. true_false (sym (eq-eqb kind 12 (k ∙ z)) ∙ u.0)) (λ z. true_false (sym (eq-eqb kind 16 (k ∙ z)) ∙ u.1))
+    build_kind_lem i v h (λ z. true≢false (sym (eq-eqb kind 10 (k ∙ z)) ∙ w.0)) (λ z. true≢false (sym (eq-eqb kind 12 (k ∙ z)) ∙ u.0)) (λ z. true≢false (sym (eq-eqb kind 16 (k ∙ z)) ∙ u.1))
 
 module _ (σ : Settings) (shapes graph : List ℕ) (looked : Bool) (code : Code) (slot kind : ℕ) (ks : kind ≡ kind_in code.facts.now slot) where
   pub decided : (d : ℕ) → d ≡ dest_in code.bytes.now code.facts.now slot → (r : Bool) → FoldsBy σ shapes graph (record { 0 = d }) kind looked r → Answers σ shapes graph looked code slot r
@@ -78,8 +77,3 @@ module _ (σ : Settings) (shapes graph : List ℕ) (looked : Bool) (code : Code)
 
   pub decided_none : (build : Bool) → build ≡ build_kind kind → build ≡ false → Answers σ shapes graph looked code slot false
   decided_none build bs f τ cross is i v seen l few at h o looks = absurd (no_build i.kind v kind (ks ∙ at.kind) (sym bs ∙ f) h)
-
--- nor is one where no kind stands
-pub decided_past : (σ : Settings) (shapes graph : List ℕ) (looked : Bool) (code : Code) (slot : ℕ) → 18 < kind_in code.facts.now slot → Answers σ shapes graph looked code slot false
-decided_past σ shapes graph looked code slot far τ cross is i v seen l few at h o looks =
-    absurd (build_kind_lem i.kind v h (λ z. omega (arith, at.kind)) (λ z. omega (arith, at.kind)) (λ z. omega (arith, at.kind)))

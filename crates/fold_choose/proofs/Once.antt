@@ -2,7 +2,7 @@
 use Prim.Native.Nat.{ℕ, zero, suc, ◌≤◌, ◌<◌}
 use mathlib.Core.Path.{◌≡◌, refl, ◌∙◌, sym}
 use mathlib.Core.List.{List, [], ◌∷◌}
-use mathlib.Core.Bool.{Bool, true, false, cond, not, ◌||◌}
+use mathlib.Core.Bool.{Bool, true, false, cond, not, ◌||◌, true≢false}
 use mathlib.Core.Option.{Option, none, some, none-ne-some}
 use native.Mathlib.Nat.{le_trans}
 use native.Mathlib.Omega.{arith}
@@ -19,7 +19,6 @@ use Rattle.bytes_field.specs.declared.Bounds.{Bounds}
 use Rattle.bytes_index.specs.declared.code.Code.{Code}
 use Rattle.bytes_index.specs.declared.slots.Slots.{Slots}
 use Rattle.bytes_laws.specs.WellFormed.{FitNew, FitKind}
-use Rattle.bytes_laws.proofs.Bits.{true_false}
 use Rattle.bytes_block.specs.Decode.{marks}
 use Rattle.bytes_block.proofs.Marks.{marks_stay, marks_length}
 use Rattle.bytes_block.specs.WellFormed.{FitInstructions}
@@ -108,7 +107,7 @@ lists_fit b seen late (i ∷ is) f (suc k) h = lists_fit b (marks seen (dests i.
 -- no value that was defined before is a build's dest
 taken : (b : Bounds) (seen : List Bool) (late : Bool) (is : List Instruction) → FitInstructions b seen late is → (v : ValueId) → get_or seen v.0 false ≡ true → (j : ℕ) → j < length is → build_dest (get_or is j no_instruction).kind ≡ some v → ⊥
 taken b seen late [] f v m j h e = absurd (omega arith)
-taken b seen late (i ∷ is) f v m zero h e = true_false (sym m ∙ (build_new b seen i.kind v f.0.1 e).1)
+taken b seen late (i ∷ is) f v m zero h e = true≢false (sym m ∙ (build_new b seen i.kind v f.0.1 e).1)
 taken b seen late (i ∷ is) f v m (suc j) h e = taken b (marks seen (dests i.kind)) (late || not (is_phi i.kind)) is f.1 v (marks_stay seen (dests i.kind) v.0 m) j (omega arith) e
 
 module _ (σ : Settings) (τ : Types) (cross : Marks) where
@@ -145,13 +144,13 @@ module _ (σ : Settings) (τ : Types) (cross : Marks) where
   phi_none (Debug n xs) h = refl
   phi_none Nop h = refl
   phi_none (Phi d t ss) h = refl
-  phi_none (MakeTuple d xs) h = absurd (true_false (sym h))
+  phi_none (MakeTuple d xs) h = absurd (true≢false (sym h))
   phi_none (ExtractTupleElement d x k t) h = refl
-  phi_none (MakeStruct d fs t) h = absurd (true_false (sym h))
+  phi_none (MakeStruct d fs t) h = absurd (true≢false (sym h))
   phi_none (ExtractStructField d x n t) h = refl
   phi_none (InsertField d x n y t) h = refl
   phi_none (InsertTuple d x k y t) h = refl
-  phi_none (MakeFixedArray d xs t c) h = absurd (true_false (sym h))
+  phi_none (MakeFixedArray d xs t c) h = absurd (true≢false (sym h))
   phi_none (AssertEq x y) h = refl
   phi_none (HeapAllocCells d x) h = refl
 

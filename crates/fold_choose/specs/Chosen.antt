@@ -1,5 +1,5 @@
 -- Which builds are folded and which blocks are skipped: the choice that the code makes, and what it finds it by.
-use Rattle.std.specs.Prelude.{ℕ, ◌+◌, ◌≤◌, ◌<◌, ◌≡◌, List, Bool, false, ◌||◌, length, get_or, eqb}
+use Rattle.std.specs.Prelude.{ℕ, ◌+◌, ◌≤◌, ◌<◌, ◌≡◌, List, Bool, false, length, get_or}
 use Rattle.std.proofs.Math.Option.{some}
 use Rattle.mir.specs.declared.ValueId.{ValueId}
 use Rattle.mir.specs.Syntax.{Instruction, Block}
@@ -12,10 +12,11 @@ use Rattle.bytes_index.specs.declared.slots.Slots.{Slots}
 use Rattle.bytes_index.specs.Code.{no_instruction, no_block, InstructionIn, InstructionsIn, CodeIn}
 use Rattle.bytes_operands.specs.Fields.{list_values}
 use Rattle.fold.specs.declared.Settings.{Settings}
+use Rattle.mir.specs.Kind.{build_kind}
 use Rattle.mir.specs.Reads.{kind_number}
 use Rattle.mir.specs.Lookup.{Types}
 use Rattle.mir.specs.Most.{most_values, most_slots, most_blocks, most_instructions}
-use Rattle.fold.specs.Numbers.{tuple_kind, struct_kind, array_kind}
+use Rattle.fold.specs.Numbers.{array_kind}
 use Rattle.fold.specs.Family.{Marks, build_dest, has_dynamic_index}
 use Rattle.fold.specs.Climb.{build_of}
 use Rattle.mir.specs.Phis.{behind_phis}
@@ -44,10 +45,6 @@ pub record Fits (b : Bounds) (ks : List Block) : Type 0 where
   pub mosts : Mosts
   pub short : mosts.block ≤ most_instructions
   pub each : (k : ℕ) → k < length ks → Fitting mosts b (get_or ks k no_block)
-
--- MakeTuple, MakeStruct and MakeFixedArray
-abbrev pub build_kind : ℕ → Bool
-build_kind kind = eqb kind tuple_kind || (eqb kind struct_kind || eqb kind array_kind)
 
 -- none of the slots from one to another holds a build
 abbrev pub NoneBuilds : List ℕ → ℕ → ℕ → Type 0

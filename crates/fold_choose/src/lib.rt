@@ -3,60 +3,44 @@
 #![tactic(auto)]
 
 ghost use Rattle.std.specs.Prelude.{◌≡◌, false, length};
-ghost use Rattle.mir.specs.Kind.{number_of_kind};
-ghost use Rattle.fold_choose.specs.Chosen.{build_kind, NoneBuilds, AllBuildless, Answers, Flagged};
+ghost use Rattle.fold_choose.specs.Chosen.{NoneBuilds, AllBuildless, Answers, Flagged};
 ghost use Rattle.fold_choose.specs.Chosen.{DecidesAll, FillsGraph, DecidesBlock, ChoosesBlock, Chooses};
 
 use bytes_index::{Code, Slots};
 use fold::Settings;
+use fold_climb::View;
 use fold_scan::ValueFacts;
 use mir::kind::Kind;
 use mir::{BlockId, most};
 use rewrite_progress::SKIPS;
 
-// MakeTuple, MakeStruct and MakeFixedArray.
-fn is_build(kind: Kind) -> bool
-    ensures { result ≡ build_kind (number_of_kind kind) }
-{
-    matches!(
-        kind,
-        Kind::MakeTuple | Kind::MakeStruct | Kind::MakeFixedArray
-    )
-}
-
 // Whether a slot of those from one to another holds a build; only the answer that none does says something.
 fn any_build(facts: &[u16], from: u16, to: u16) -> bool
     ensures { result ≡ false → NoneBuilds facts.now from to }
 {
-    fold_looked::any_kind(facts, from, to, is_build)
+    fold_looked::any_kind(facts, from, to, Kind::is_build)
 }
 
 // Whether an instruction of any block is a build; the answer that one is stays free likewise.
-pub fn any_builds(facts: &[u16], many: u16) -> bool
-    ensures { result ≡ false → AllBuildless facts.now many }
+pub fn any_builds(code: Code) -> bool
+    ensures { result ≡ false → AllBuildless code.entry.facts.now code.entry.bounds.blocks }
 {
-    any_build(facts, 0, bytes_index::first_slot(facts, BlockId(many)))
+    let end = bytes_index::first_slot(code.facts, BlockId(code.bounds.blocks));
+    any_build(code.facts, 0, end)
 }
 
 // Whether the build in a slot is folded, where `looked` says of an array whether it is looked into by an index that is not known.
-fn decide_one(
-    code: Code,
-    settings: Settings,
-    slot: u16,
-    shapes: &[u8],
-    graph: &[u16],
-    looked: bool,
-) -> bool
-    ensures { Answers settings shapes.now graph.now looked code.entry slot result }
+fn decide_one(code: Code, settings: Settings, slot: u16, view: View, looked: bool) -> bool
+    ensures { Answers settings view.entry.shapes.now view.entry.graph.now looked code.entry slot result }
 {
     let Some(kind) = bytes_index::instruction_kind(code.facts, slot) else {
         return false;
     };
-    if !is_build(kind) {
+    if !kind.is_build() {
         return false;
     }
     let v = fold_scan::dest(code, slot);
-    fold_climb::folds(v, kind, looked, settings, graph, shapes)
+    fold_climb::folds(v, kind, looked, settings, view)
 }
 
 // Gives each instruction of a block a flag, at its slot: whether it is a build that is folded.
@@ -64,20 +48,19 @@ fn decide_all(
     code: Code,
     settings: Settings,
     slots: Slots,
-    shapes: &[u8],
-    graph: &[u16],
+    view: View,
     looked: &[bool],
     choice: &mut [bool],
 )
     ensures flagged { Flagged slots.first choice.old choice.new }
-    ensures decides_all { DecidesAll settings shapes.now graph.now looked.now code.entry slots
+    ensures decides_all { DecidesAll settings view.entry.shapes.now view.entry.graph.now looked.now code.entry slots
         choice.old choice.new }
 {
     for j in 0..slots.count {
         let slot = slots.first + j;
         let given = table::flag(looked, j as usize);
-        let yes = decide_one(code, settings, slot, shapes, graph, given);
-        table::set_flag(choice, slot as usize, yes);
+        let yes = decide_one(code, settings, slot, view, given);
+        table::put(choice, slot as usize, yes);
     }
 }
 
@@ -109,7 +92,11 @@ fn choose_block(
     fill_graph(code, settings, slots, values, graph);
     let mut looked: [bool; most::INSTRUCTIONS] = [false; most::INSTRUCTIONS];
     fold_looked::fill_looked(code, slots, values.shapes, &mut looked);
-    decide_all(code, settings, slots, values.shapes, graph, &looked, choice);
+    let view = View {
+        graph,
+        shapes: values.shapes,
+    };
+    decide_all(code, settings, slots, view, &looked, choice);
 }
 
 // Block `k`: whether it is skipped, and where it is not, which of its builds are folded.
@@ -126,7 +113,7 @@ fn choose_one(
 {
     let slots = bytes_index::block_slots(code.facts, k);
     let skip = fold_phis::is_skipped(code, slots, values.shapes);
-    table::set_flag(choice, SKIPS + k.0 as usize, skip);
+    table::put(choice, SKIPS + k.0 as usize, skip);
     if skip {
         return;
     }

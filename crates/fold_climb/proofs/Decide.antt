@@ -1,11 +1,12 @@
 -- The decision for each kind of build, from the tables.
-use Prim.Native.Nat.{ℕ, zero, suc, ◌-◌, ◌≤◌, ◌<◌}
+use Prim.Native.Nat.{ℕ, zero, suc, ◌+◌, ◌≤◌, ◌<◌}
 use mathlib.Core.Path.{◌≡◌, refl, ap, sym, ◌∙◌}
 use mathlib.Core.List.{List, [], ◌∷◌}
-use mathlib.Core.Bool.{Bool, true, false, cond, not, ◌&&◌}
+use mathlib.Core.Bool.{Bool, true, false, cond, not, ◌&&◌, ◌||◌, or-true}
 use mathlib.Core.Option.{Option, none, some}
+use native.Mathlib.Nat.{add-zero, zero-add}
 use native.Mathlib.Omega.{arith}
-use borrow.Author.Tests.{eq-eqb, ne_eqb}
+use Rattle.std.specs.List.{list_all, range_with_len}
 use lib.ListN.{length}
 use lib.Dec.{eqb}
 use Rattle.mir.specs.declared.ValueId.{ValueId}
@@ -136,37 +137,27 @@ module _ {σ : Settings} {τ : Types} {cross : Marks} {is : List Instruction} {s
             array = λ n d. absurd (a n);
           }
 
--- the loop over the tuples that take the value as a part
-tuple_down : (g : List ℕ) (i : ℕ) → 0 < i → tuples_down g i ≡ cond (of_tuple g (i - 1)) (edge_in g (i - 1) ∷ tuples_down g (i - 1)) (tuples_down g (i - 1))
-unfolding tuples_down
-tuple_down g zero h = absurd (omega arith)
-tuple_down g (suc k) h = let e : suc k - 1 ≡ k = omega arith in rw e
+-- what holds of n + 1 numbers holds of the last and of the others
+all_last : (t : ℕ → Bool) (a n : ℕ) → list_all t (range_with_len a (suc n)) ≡ (t (a + n) && list_all t (range_with_len a n))
+all_last t a zero = rw add-zero
+all_last t a (suc n) =
+    let e : a + 1 + n ≡ a + suc n = omega arith in
+    rw (all_last t (a + 1) n, e) (swap (t a) (t (a + suc n)) (list_all t (range_with_len (a + 1) n)))
+  where
+    swap : (x y z : Bool) → (x && (y && z)) ≡ (y && (x && z))
+    swap true y z = refl
+    swap false true z = refl
+    swap false false z = refl
 
-pub record Testing (can : ℕ → Bool) (v : ℕ) (g : List ℕ) (many i : ℕ) : Type 0 where
-  pub small : i < 65536
-  pub left : tuples_climb can v (tuples_down g many) ≡ tuples_climb can v (tuples_down g i)
-
-module _ (can : ℕ → Bool) (v : ℕ) (g : List ℕ) (many i : ℕ) (inv : Testing can v g many i) where
-  pub test_done : i ≤ 0 → true ≡ tuples_climb can v (tuples_down g many)
-  unfolding tuples_down tuples_climb
-  test_done h = let z : i ≡ 0 = omega arith in sym (inv.left ∙ rw z)
-
-  module _ (more : 0 < i) where
-    smaller : i - 1 < 65536
-    smaller = omega (arith, inv.small)
-
-    pub test_kind : of_tuple g (i - 1) ≡ false → Testing can v g many (i - 1)
-    test_kind e = record { small = smaller; left = inv.left ∙ simp (tuple_down g i more, e) }
-
-    module _ (kind : of_tuple g (i - 1) ≡ true) where
-      pub test_other : (child_in g (i - 1) ≡ v → ⊥) → Testing can v g many (i - 1)
-      unfolding tuples_climb
-      test_other e = record { small = smaller; left = inv.left ∙ simp (tuple_down g i more, kind, ne_eqb _ _ e) }
-
-      pub test_on : child_in g (i - 1) ≡ v → (p : ℕ) → p ≡ parent_in g (i - 1) → (r : Bool) → r ≡ can p → r ≡ true → Testing can v g many (i - 1)
-      unfolding tuples_climb
-      test_on e p q r k t = let z : can (parent_in g (i - 1)) ≡ true = sym (rw q at k) ∙ t in record { small = smaller; left = inv.left ∙ simp (tuple_down g i more, kind, eq-eqb _ _ e, z) }
-
-      pub test_stop : child_in g (i - 1) ≡ v → (p : ℕ) → p ≡ parent_in g (i - 1) → (r : Bool) → r ≡ can p → r ≡ false → false ≡ tuples_climb can v (tuples_down g many)
-      unfolding tuples_climb
-      test_stop e p q r k t = let z : can (parent_in g (i - 1)) ≡ false = sym (rw q at k) ∙ t in sym (inv.left ∙ simp (tuple_down g i more, kind, eq-eqb _ _ e, z))
+-- the tuples that take the value as a part, among all edges
+pub all_tuples : (can : ℕ → Bool) (v : ℕ) (g : List ℕ) (n : ℕ)
+    → list_all (λ k. not (eqb (child_in g k) v) || (not (of_tuple g k) || can (parent_in g k))) (range_with_len 0 n) ≡ tuples_climb can v (tuples_down g n)
+unfolding tuples_down tuples_climb
+all_tuples can v g zero = refl
+all_tuples can v g (suc n) =
+    let t = λ (k : ℕ). not (eqb (child_in g k) v) || (not (of_tuple g k) || can (parent_in g k)) in
+    all_last t 0 n ∙ rw (zero-add, all_tuples can v g n) (one (of_tuple g n))
+  where
+    one : (b : Bool) → ((not (eqb (child_in g n) v) || (not b || can (parent_in g n))) && tuples_climb can v (tuples_down g n)) ≡ tuples_climb can v (cond b (edge_in g n ∷ tuples_down g n) (tuples_down g n))
+    one true = refl
+    one false = rw or-true

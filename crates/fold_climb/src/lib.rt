@@ -1,12 +1,11 @@
 // Which builds of a block are taken apart: a climb over the builds that take a value as a part.
 #![tactic(auto)]
 
-ghost use Rattle.std.specs.Prelude.{◌≡◌, not, ◌&&◌, ◌<◌};
-ghost use Rattle.mir.specs.Most.{most_values};
+ghost use Rattle.std.specs.Prelude.{◌≡◌, not, ◌&&◌, get_or, eqb};
 ghost use Rattle.mir.specs.Kind.{number_of_kind};
 ghost use Rattle.mir.specs.Option.{as_option};
-ghost use Rattle.fold_climb.specs.Edges.{climb_of};
-ghost use Rattle.fold_climb.specs.Scanned.{sight_of, built_in, barred_in};
+ghost use Rattle.fold_climb.specs.Edges.{climb_of, array_in};
+ghost use Rattle.fold_climb.specs.Scanned.{sight_of, many_in, edge_at, child_in, parent_in, of_tuple, built_in, barred_in};
 ghost use Rattle.fold_climb.specs.Decided.{climbs, tuples_pass, FoldsBy};
 
 use fold::Settings;
@@ -15,13 +14,13 @@ use mir::shape::Shape;
 use mir::{ValueId, most};
 
 // Where the parts of the graph begin, how many numbers an edge takes, and how long the graph is (specs/Scanned.antt). An
-// edge is the child, the parent, and the kind of the parent's build; there are at most so many. (The kind stands there as its
-// number: the graph is one table of u16, in fixed memory.)
+// edge is the child, the parent, and the kind of the parent's build; there are at most so many. (Flags are 1 and 0
+// there and kinds are their numbers: the graph is one table of u16 in the fixed memory of the pass, as specs/Scanned.antt reads it.)
 pub const BUILT: usize = 1;
 
-pub const BARRED: usize = 257;
+pub const BARRED: usize = BUILT + most::VALUES;
 
-pub const EDGES: usize = 513;
+pub const EDGES: usize = BARRED + most::VALUES;
 
 pub const WIDTH: usize = 3;
 
@@ -31,92 +30,134 @@ pub const KIND: usize = 2;
 
 pub const MOST: u16 = 2048;
 
-pub const SIZE: usize = 6657;
+pub const SIZE: usize = EDGES + WIDTH * MOST as usize;
 
-// The value's build passes its own conditions, and nothing wants the value whole.
-fn allowed(graph: &[u16], at: usize) -> bool
-    requires { at < most_values }
-    ensures { result ≡ built_in graph.now at && not (barred_in graph.now at) }
+// Where edge `k` begins.
+#[inline]
+pub fn edge_place(k: u16) -> usize
+    ensures { result ≡ edge_at k }
 {
-    table::number(graph, BUILT + at) == 1 && table::number(graph, BARRED + at) != 1
+    EDGES + WIDTH * k as usize
+}
+
+// A block as the climb looks at it: its graph, and the shapes of the types of all values.
+#[derive(Clone, Copy)]
+pub struct View<'a> {
+    pub graph: &'a [u16],
+    pub shapes: &'a [u8],
+}
+
+impl<'a> View<'a> {
+    // A flag of the graph stands.
+    #[inline]
+    fn stands(self, at: usize) -> bool
+        ensures { result ≡ eqb (get_or self.entry.graph.now at 0) 1 }
+    {
+        table::number(self.graph, at) == 1
+    }
+
+    // The value's build passes its own conditions.
+    fn built(self, v: ValueId) -> bool
+        ensures { result ≡ built_in self.entry.graph.now v.0 }
+    {
+        self.stands(BUILT + v.0 as usize)
+    }
+
+    // That, and nothing wants the value whole.
+    fn allows(self, v: ValueId) -> bool
+        ensures { result ≡ built_in self.entry.graph.now v.0 && not (barred_in self.entry.graph.now v.0) }
+    {
+        self.built(v) && !self.stands(BARRED + v.0 as usize)
+    }
+
+    // The value is an array.
+    fn is_array(self, v: ValueId) -> bool
+        ensures { result ≡ array_in (sight_of self.entry.shapes.now self.entry.graph.now) v.0 }
+    {
+        bytes_wire::byte_at(self.shapes, v.0 as usize) == Shape::FixedArray as u8
+    }
+
+    // How many edges there are.
+    #[inline]
+    fn edge_count(self) -> u16
+        ensures { result ≡ many_in self.entry.graph.now }
+    {
+        table::number(self.graph, 0)
+    }
+
+    // The part of edge `k`.
+    #[inline]
+    fn child(self, k: u16) -> ValueId
+        ensures { result.0 ≡ child_in self.entry.graph.now k }
+    {
+        ValueId(table::number(self.graph, edge_place(k)))
+    }
+
+    // The build that has it as a part.
+    #[inline]
+    fn parent(self, k: u16) -> ValueId
+        ensures { result.0 ≡ parent_in self.entry.graph.now k }
+    {
+        ValueId(table::number(self.graph, edge_place(k) + PARENT))
+    }
+
+    // That is built by a MakeTuple.
+    #[inline]
+    fn of_tuple(self, k: u16) -> bool
+        ensures { result ≡ of_tuple self.entry.graph.now k }
+    {
+        bytes_index::kind_at(self.graph, edge_place(k) + KIND) == Some(Kind::MakeTuple)
+    }
 }
 
 // The values visited, as a climb keeps them: a mark for each value.
 type Visited = [bool; most::VALUES];
 
 // sroa.rs 195, `can_scalarize_aggregate`, over the block's graph: the values visited, if the value can be taken apart.
-fn climb(v: ValueId, graph: &[u16], shapes: &[u8], visited: Visited) -> Option<Visited>
-    ensures { as_option result ≡ climb_of (sight_of shapes.now graph.now) v.0 visited }
+fn climb(v: ValueId, view: View, visited: Visited) -> Option<Visited>
+    ensures { as_option result ≡ climb_of (sight_of view.entry.shapes.now view.entry.graph.now) v.0 visited }
 {
     let at = v.0 as usize;
-    if most::VALUES <= at {
+    if table::at(&visited, at, true) || !view.allows(v) {
         return None;
     }
-    if visited[at] {
-        return None;
-    }
-    if !allowed(graph, at) {
-        return None;
-    }
-    let array = bytes_wire::byte_at(shapes, at) == Shape::FixedArray as u8;
+    let array = view.is_array(v);
     let mut met = visited;
-    met[at] = true;
-    for i in (0..table::number(graph, 0)).rev() {
-        let e = EDGES + WIDTH * i as usize;
-        if table::number(graph, e) == v.0 {
+    table::put(&mut met, at, true);
+    for k in (0..view.edge_count()).rev() {
+        if view.child(k) == v {
             if array {
                 return None;
             }
-            let p = ValueId(table::number(graph, e + PARENT));
-            met = climb(p, graph, shapes, met)?;
+            met = climb(view.parent(k), view, met)?;
         }
     }
     Some(met)
 }
 
 // The climb from a value, with nothing visited.
-fn can_scalarize(v: ValueId, graph: &[u16], shapes: &[u8]) -> bool
-    ensures { result ≡ climbs (sight_of shapes.now graph.now) v.0 }
+fn can_scalarize(v: ValueId, view: View) -> bool
+    ensures { result ≡ climbs (sight_of view.entry.shapes.now view.entry.graph.now) v.0 }
 {
-    climb(v, graph, shapes, [false; most::VALUES]).is_some()
+    climb(v, view, [false; most::VALUES]).is_some()
 }
 
 // Each tuple that takes the value as a part can be taken apart, with a new set of visited values for each.
-fn tuple_parents(v: ValueId, graph: &[u16], shapes: &[u8]) -> bool
-    ensures { result ≡ tuples_pass shapes.now graph.now v.0 }
+fn tuple_parents(v: ValueId, view: View) -> bool
+    ensures { result ≡ tuples_pass view.entry.shapes.now view.entry.graph.now v.0 }
 {
-    for i in (0..table::number(graph, 0)).rev() {
-        let e = EDGES + WIDTH * i as usize;
-        if table::number(graph, e + KIND) == Kind::MakeTuple as u16 {
-            if table::number(graph, e) == v.0 {
-                let p = ValueId(table::number(graph, e + PARENT));
-                if !can_scalarize(p, graph, shapes) {
-                    return false;
-                }
-            }
-        }
-    }
-    true
+    (0..view.edge_count()).all(|k| {
+        view.child(k) != v || !view.of_tuple(k) || can_scalarize(view.parent(k), view)
+    })
 }
 
 // Whether the build of a value is taken apart, by the build's kind; `dynamic`: an array with a dynamic index.
-pub fn folds(
-    v: ValueId,
-    kind: Kind,
-    dynamic: bool,
-    settings: Settings,
-    graph: &[u16],
-    shapes: &[u8],
-) -> bool
-    ensures { FoldsBy settings shapes.now graph.now v (number_of_kind kind) dynamic result }
+pub fn folds(v: ValueId, kind: Kind, dynamic: bool, settings: Settings, view: View) -> bool
+    ensures { FoldsBy settings view.entry.shapes.now view.entry.graph.now v (number_of_kind kind) dynamic result }
 {
     match kind {
-        Kind::MakeStruct => settings.structs && can_scalarize(v, graph, shapes),
-        Kind::MakeFixedArray => settings.tuples && !dynamic && can_scalarize(v, graph, shapes),
-        _ => {
-            settings.tuples
-                && table::number(graph, BUILT + v.0 as usize) == 1
-                && tuple_parents(v, graph, shapes)
-        }
+        Kind::MakeStruct => settings.structs && can_scalarize(v, view),
+        Kind::MakeFixedArray => settings.tuples && !dynamic && can_scalarize(v, view),
+        _ => settings.tuples && view.built(v) && tuple_parents(v, view),
     }
 }

@@ -3,7 +3,7 @@ use Prim.Native.Nat.{ℕ, ◌-◌}
 use mathlib.Core.Path.{◌≡◌, refl, ap, ◌∙◌, sym}
 use mathlib.Core.List.{List, [], ◌∷◌}
 use mathlib.Core.Bool.{Bool, true, false, not, ◌||◌, true≢false}
-use mathlib.Core.Logic.{◌⊎◌, inl, inr, ⊎_elim}
+use mathlib.Core.Logic.{◌⊎◌, ⊎_elim}
 use mathlib.Core.Option.{Option, none, some}
 use native.Mathlib.Omega.{arith}
 use native.Mathlib.Nat.{add_comm}
@@ -185,36 +185,6 @@ row_headed : (code : Code) (row : List ℕ) (i : Instruction) {t : List ℕ} →
 row_headed code row i et a =
     rw (row_at_head code row i 2 a)
     (headed code.bounds code.bytes.now code.facts.now a.slot i (et ∙ ap (λ n. drop n code.bytes.now) (row_at_head code row i 0 a)) a.stands)
-
--- the kinds that copy
-abbrev CopyKind : ℕ → Type 0
-CopyKind k = (k ≡ 0) ⊎ ((k ≡ 14) ⊎ (k ≡ 15))
-
-other_copy : (τ : Types) (i : InstructionKind) → (CopyKind (kind_number i) → ⊥) → none ≡ copy_of τ i
-other_copy τ (Assign d x t) h = absurd (h (inl refl))
-other_copy τ (UnaryOp op d x) h = refl
-other_copy τ (BinaryOp op d x y) h = refl
-other_copy τ (Call ds c xs ps rs) h = refl
-other_copy τ (Cast d x t u) h = refl
-other_copy τ (Load d p t) h = refl
-other_copy τ (Store p x t) h = refl
-other_copy τ (Debug n xs) h = refl
-other_copy τ Nop h = refl
-other_copy τ (Phi d t ss) h = refl
-other_copy τ (MakeTuple d xs) h = refl
-other_copy τ (ExtractTupleElement d x k t) h = refl
-other_copy τ (MakeStruct d fs t) h = refl
-other_copy τ (ExtractStructField d x n t) h = refl
-other_copy τ (InsertField d x n y t) h = absurd (h (inr (inl refl)))
-other_copy τ (InsertTuple d x k y t) h = absurd (h (inr (inr refl)))
-other_copy τ (MakeFixedArray d xs t c) h = refl
-other_copy τ (AssertEq x y) h = refl
-other_copy τ (HeapAllocCells d x) h = refl
-
-pub found_none : (code : Code) (row : List ℕ) → (CopyKind (get_or row 2 0) → ⊥) → CopyFound code row none
-found_none code row h most τ i w m a =
-    let e : get_or row 2 0 ≡ kind_number i.kind = row_at_head code row i 2 a ∙ a.stands.kind in
-    other_copy τ i.kind (λ k. h (rw e k))
 
 -- the fields of the instruction at the head of t, its kind being known
 pub fields_of : (b : Bounds) (t : List ℕ) {u : List ℕ} {fp kind : ℕ} (j : ℕ) → fp ≡ fields_place t → u ≡ drop fp t → (i : Instruction) → Headed b t kind i → kind ≡ j → FieldsRead b t u j i.kind

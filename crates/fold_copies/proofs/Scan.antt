@@ -203,7 +203,6 @@ module _ (code : Code) (first count : ℕ) (l₀ : List ℕ) (dyn₀ : Marks) wh
     pub under : k ≤ count
     pub few : n ≤ k
     pub long : length l ≡ length l₀
-    pub long_dyn : length dyn ≡ length dyn₀
     pub left : (most : ℕ) (τ : Types) (is : List Instruction) → TypesAt most code.bytes.now code.facts.now τ.rows → length τ.rows ≡ code.bounds.types → Here is → length is ≡ count → l₀ ≡ replicate table_size 0 → Left τ is l n dyn₀ dyn k
 
   pub scan_start : Scanning l₀ dyn₀ 0 0
@@ -212,7 +211,6 @@ module _ (code : Code) (first count : ℕ) (l₀ : List ℕ) (dyn₀ : Marks) wh
         under = zero-le;
         few = zero-le;
         long = refl;
-        long_dyn = refl;
         left = λ most τ is a m p q r. record { done = []; noted = rw r rows_none; many = refl; rest = refl; dynamic = refl };
       }
 
@@ -225,14 +223,12 @@ module _ (code : Code) (first count : ℕ) (l₀ : List ℕ) (dyn₀ : Marks) wh
       → CopyNoted o n n' l l'
       → DynamicNoted code row dyn dyn'
       → length l' ≡ length l
-      → length dyn' ≡ length dyn
       → Scanning l' dyn' n' (k + 1)
-  scan_again l dyn n k row l' dyn' n' o u h er ec hn ef ey ll ly =
+  scan_again l dyn n k row l' dyn' n' o u h er ec hn ef ey ll =
       record {
         under = omega arith;
         few = omega (arith, u.few);
         long = ll ∙ u.long;
-        long_dyn = ly ∙ u.long_dyn;
         left = λ most τ is a m p q r.
             let g : k < length is = omega arith in
             let i : RowOf code row (get_or is k no_instruction) = record { slot = first + k; behind = er; stands = p k g } in

@@ -4,12 +4,10 @@
 
 ghost use Rattle.std.specs.Prelude.{◌≡◌, ◌+◌, ◌≤◌, ◌<◌, ◌||◌, drop, eqb, get_or};
 ghost use Rattle.mir.specs.Option.{as_option};
-ghost use Rattle.mir.specs.Lookup.{is_integer};
 ghost use Rattle.mir.specs.Most.{most_instructions};
 ghost use Rattle.bytes_wire.specs.Parse.{as_parse};
 ghost use Rattle.bytes_wire.specs.Value.{value_of};
 ghost use Rattle.bytes_index.specs.Table.{row_at};
-ghost use Rattle.bytes_operands.specs.Fields.{fields_place};
 ghost use Rattle.fold_family.specs.Copies.{dynamic_step};
 ghost use Rattle.fold_copies.specs.Found.{asked_number, as_copy, ValueCopy, AssignCopy, CopyFound, CopyNoted, DynamicNoted, ScanCopies};
 
@@ -17,7 +15,7 @@ use bytes_index::Code;
 use bytes_wire::{Read, Refusal};
 use mir::kind::Kind;
 use mir::shape::Shape;
-use mir::{Literal, Projection, TypeId, Value, ValueId, most};
+use mir::{Projection, TypeId, Value, ValueId, most};
 
 // What makes `dest` a member where `source` is one, for a root of the shape asked for; for any root where none is.
 #[derive(Clone, Copy)]
@@ -27,7 +25,8 @@ pub struct BlockCopy {
     pub asked: Option<Shape>,
 }
 
-// The rows of the table from that of slot `first + k` on; the sum can pass what 16 bits hold, so no slot is given as a u16.
+// The rows of the table from that of slot `first + k` on; the sum can pass what 16 bits hold, so no slot is given as a u16. (Cut at each
+// instruction, and not once into chunks: a table may end in front of the last row, of which 0 is read then.)
 fn rows(facts: &[u16], first: u16, k: u16) -> &[u16]
     ensures { result.now ≡ drop (row_at (first + k)) facts.now }
 {
@@ -35,18 +34,11 @@ fn rows(facts: &[u16], first: u16, k: u16) -> &[u16]
     table::behind(facts, bytes_index::ROWS + bytes_index::WIDTH * slot)
 }
 
-// The bytes from a row's instruction on.
+// The bytes from a row's instruction on. (By the row, and not by the slot as `Code::instruction` of bytes_index: a slot here may pass 16 bits.)
 fn instruction<'a>(code: Code<'a>, row: &[u16]) -> &'a [u8]
     ensures { result.now ≡ drop (get_or row.now 0 0) code.entry.bytes.now }
 {
     bytes_field::tail(code.bytes, table::place(row, 0))
-}
-
-// The own fields of the instruction at the head of `t`.
-fn own_fields(t: &[u8]) -> &[u8]
-    ensures { result.now ≡ drop (fields_place t.now) t.now }
-{
-    bytes_field::tail(t, bytes_operands::fields_place(t))
 }
 
 // The value that stands behind a dest at the head of the fields.
@@ -60,34 +52,23 @@ fn source(u: &[u8], next: u16) -> Result<Read<Value>, Refusal>
 fn copied(u: &[u8], x: Result<Read<Value>, Refusal>, asked: Option<Shape>) -> Option<BlockCopy>
     ensures { ValueCopy u.now x (asked_number asked) (as_copy result) }
 {
-    match x {
-        Ok(
-            Read {
-                value: Value::Operand(source),
-                ..
-            },
-        ) => Some(BlockCopy {
-            source,
-            dest: ValueId(bytes_wire::u16_at(u, 0)),
-            asked,
-        }),
-        _ => None,
-    }
+    let source = x.ok()?.value.operand()?;
+    Some(BlockCopy {
+        source,
+        dest: ValueId(bytes_wire::u16_at(u, 0)),
+        asked,
+    })
 }
 
 // The copy that an Assign makes, whose fields are `u` and whose value is `x`: its type stands behind the value.
 fn assigned(code: Code, u: &[u8], x: Result<Read<Value>, Refusal>) -> Option<BlockCopy>
     ensures { AssignCopy code.entry u.now x (as_copy result) }
 {
-    match x {
-        Err(_) => None,
-        Ok(r) => {
-            let t = TypeId(bytes_wire::u16_at(bytes_field::tail(u, r.size), 2));
-            match fold_shapes::type_shape(code, t) {
-                Shape::Other => None,
-                shape => copied(u, x, Some(shape)),
-            }
-        }
+    let Ok(r) = x else { return None };
+    let t = TypeId(bytes_wire::u16_at(bytes_field::tail(u, r.size), 2));
+    match fold_shapes::type_shape(code, t) {
+        Shape::Other => None,
+        shape => copied(u, x, Some(shape)),
     }
 }
 
@@ -98,11 +79,11 @@ fn copy_at(code: Code, row: &[u16]) -> Option<BlockCopy>
     let kind = bytes_index::kind_at(row, bytes_index::KIND)?;
     match kind {
         Kind::Assign => {
-            let u = own_fields(instruction(code, row));
+            let u = bytes_operands::own_fields(instruction(code, row));
             assigned(code, u, source(u, code.bounds.next))
         }
         Kind::InsertField | Kind::InsertTuple => {
-            let u = own_fields(instruction(code, row));
+            let u = bytes_operands::own_fields(instruction(code, row));
             copied(u, source(u, code.bounds.next), None)
         }
         _ => None,
@@ -129,25 +110,18 @@ fn note_copy(c: Option<BlockCopy>, n: u16, copies: &mut [u16]) -> u16
     let Some(c) = c else { return n };
     let at = fold_family::WIDTH * n as usize;
     let head = fold_family::FIRSTS + c.source.0 as usize;
-    table::set_number(copies, at + fold_family::DEST, c.dest.0);
-    table::set_number(copies, at + fold_family::ASKED, asked_number(c.asked));
-    table::set_number(copies, at + fold_family::NEXT, table::number(copies, head));
-    table::set_number(copies, head, n + 1);
+    table::put(copies, at + fold_family::DEST, c.dest.0);
+    table::put(copies, at + fold_family::ASKED, asked_number(c.asked));
+    table::put(copies, at + fold_family::NEXT, table::number(copies, head));
+    table::put(copies, head, n + 1);
     n + 1
-}
-
-#[tactic(auto, unfolding(mir::specs::Lookup::is_integer))]
-fn is_integer(x: Value) -> bool
-    ensures { result ≡ is_integer x }
-{
-    matches!(x, Value::Literal(Literal::Integer(_)))
 }
 
 // The step is an Index that is no Integer literal.
 fn is_dynamic(p: Option<Projection>) -> bool
     ensures { result ≡ dynamic_step (as_option p) }
 {
-    matches!(p, Some(Projection::Index(x)) if !is_integer(x))
+    matches!(p, Some(Projection::Index(x)) if !x.is_integer())
 }
 
 // A Load or a Store looks into a value, by a place.
@@ -174,7 +148,7 @@ fn note_dynamic(code: Code, row: &[u16], dynamic: &mut [bool])
     let t = instruction(code, row);
     if is_dynamic(bytes_operands::projection(t, code.bounds, 0)) {
         let base = table::number(row, bytes_index::READS);
-        table::set_flag(dynamic, base as usize, true);
+        table::put(dynamic, base as usize, true);
     }
 }
 

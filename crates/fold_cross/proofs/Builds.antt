@@ -2,10 +2,12 @@
 use Prim.Native.Nat.{ℕ, ◌<◌}
 use mathlib.Core.Path.{◌≡◌, refl, ap, ◌∙◌, sym}
 use mathlib.Core.List.{List, []}
-use mathlib.Core.Bool.{Bool, true, false, cond, not, true≢false}
+use mathlib.Core.Bool.{Bool, true, false, cond, not, ◌||◌, true≢false}
 use mathlib.Core.Logic.{◌⊎◌, inl, inr, ⊎_elim}
 use mathlib.Core.Option.{Option, none, some}
 use native.Mathlib.Omega.{arith}
+use borrow.Author.Tests.{eqb-true}
+use lib.Dec.{eqb}
 use lib.ListN.{length, get_or, drop, replicate, length-replicate}
 use Rattle.table.proofs.Elements.{clear_at}
 use Rattle.bytes_wire.specs.Parse.{ok, and_then, map_parse}
@@ -17,8 +19,7 @@ use Rattle.bytes_wire.proofs.Inv.{both, image, and_inv, map_inv, checked_inv, be
 use Rattle.mir.specs.Syntax.{Instruction, InstructionKind, Block}
 use Rattle.mir.specs.Syntax.{Assign, UnaryOp, BinaryOp, Call, Cast, Load, Store, Debug, Nop, Phi}
 use Rattle.mir.specs.Syntax.{MakeTuple, ExtractTupleElement, MakeStruct, ExtractStructField, InsertField, InsertTuple, MakeFixedArray, AssertEq, HeapAllocCells}
-use Rattle.mir.specs.declared.kind.Kind.{Kind}
-use Rattle.mir.specs.Kind.{number_of_kind}
+use Rattle.mir.specs.Kind.{build_kind}
 use Rattle.mir.specs.Reads.{kind_number}
 use Rattle.bytes_field.specs.Decode.{defined_of, type_id_of, list_of, field_init_of, make_tuple_of, make_struct_of, make_array_of, bit}
 use Rattle.bytes_field.specs.declared.Bounds.{Bounds}
@@ -37,6 +38,7 @@ use Rattle.fold_family.specs.declared.Found.{Found}
 use Rattle.fold_family.proofs.Closed.{copies_few}
 use Rattle.fold_family.proofs.Finding.{size_clear}
 use Rattle.fold_copies.proofs.Fields.{Headed, dest_at, fields_of}
+use Rattle.std.specs.Bool.{then_some}
 use Rattle.std.specs.Prelude.{Some, None, Option as Answered}
 use Rattle.fold_cross.specs.Cross.{Root, Idle, Built, family_read, FamilyRead}
 use Rattle.fold_cross.proofs.Uniting.{union_clear}
@@ -95,15 +97,20 @@ array_at b c u e =
 abbrev BuildKind : ℕ → Type 0
 BuildKind k = (k ≡ 10) ⊎ ((k ≡ 12) ⊎ (k ≡ 16))
 
-pub build_kind : (k : Kind) {n : ℕ} → number_of_kind k ≡ n → (k ≡ Kind.MakeTuple) ⊎ ((k ≡ Kind.MakeStruct) ⊎ (k ≡ Kind.MakeFixedArray)) → BuildKind n
-build_kind k e h =
-    ⊎_elim (λ z. inl (sym e ∙ ap number_of_kind z)) (⊎_elim (λ z. inr (inl (sym e ∙ ap number_of_kind z))) (λ z. inr (inr (sym e ∙ ap number_of_kind z)))) h
+pub one_of_three : (n : ℕ) → build_kind n ≡ true → BuildKind n
+one_of_three n h = go (eqb n 10) refl (eqb n 12) refl (eqb n 16) refl h
+  where
+    go : (a : Bool) → eqb n 10 ≡ a → (b : Bool) → eqb n 12 ≡ b → (c : Bool) → eqb n 16 ≡ c → (a || (b || c)) ≡ true → BuildKind n
+    go true e b f c g h = inl (eqb-true n 10 e)
+    go false e true f c g h = inr (inl (eqb-true n 12 f))
+    go false e false f true g h = inr (inr (eqb-true n 16 g))
+    go false e false f false g h = absurd (true≢false (sym h))
 
-other_build : (i : InstructionKind) → (BuildKind (kind_number i) → ⊥) → build_dest i ≡ none
+other_build : (i : InstructionKind) → build_kind (kind_number i) ≡ false → build_dest i ≡ none
 unfolding build_dest
-other_build (MakeTuple e vs) f = absurd (f (inl refl))
-other_build (MakeStruct e fs t) f = absurd (f (inr (inl refl)))
-other_build (MakeFixedArray e vs t c) f = absurd (f (inr (inr refl)))
+other_build (MakeTuple e vs) f = absurd (true≢false f)
+other_build (MakeStruct e fs t) f = absurd (true≢false f)
+other_build (MakeFixedArray e vs t c) f = absurd (true≢false f)
 other_build (Assign e v t) f = refl
 other_build (UnaryOp op e v) f = refl
 other_build (BinaryOp op e v w) f = refl
@@ -122,49 +129,50 @@ other_build (AssertEq v w) f = refl
 other_build (HeapAllocCells e v) f = refl
 
 -- what eligible_build finds: another kind,
-pub found_none : (code : Code) (slot : ℕ) (eligible : List Bool) → (BuildKind (kind_in code.facts.now slot) → ⊥) → (i : Instruction)
+pub found_none : (code : Code) (slot : ℕ) (eligible : List Bool) → build_kind (kind_in code.facts.now slot) ≡ false → (i : Instruction)
     → InstructionIn code.bounds code.bytes.now code.facts.now slot i → Built eligible code.bounds.next None i.kind
 found_none code slot eligible f i a =
     record {
       dest = λ v e. absurd (let z : ◌≡◌ {A = ℕ} 0 1 = cc in omega arith);
       idle = λ e. record {
         each = λ v g.
-            let y : none ≡ some v = sym (other_build i.kind (λ k. f (rw a.kind k))) ∙ g in
+            let y : none ≡ some v = sym (other_build i.kind (rw a.kind at f)) ∙ g in
             absurd (let z : ◌≡◌ {A = ℕ} 0 1 = cc in omega arith);
       };
     }
 
 -- or a build, whose fields are u
-module _ (b : Bounds) (t u : List ℕ) (fp kind : ℕ) (dest : ValueId) (eligible : List Bool) (on : Bool) (ef : fp ≡ fields_place t) (eu : u ≡ drop fp t)
+module _ (b : Bounds) (t u : List ℕ) (kind : ℕ) (dest : ValueId) (eligible : List Bool) (on : Bool) (eu : u ≡ drop (fields_place t) t)
     (ed : dest.0 ≡ at16 u 0) (eo : on ≡ get_or eligible dest.0 false) (k : BuildKind kind) (i : Instruction) (a : Headed b t kind i) where
   build_at : BuildAt b.next u i.kind
   build_at =
-      ⊎_elim (λ h. tuple_at b u (fields_of b t 10 ef eu i a h).read)
-      (⊎_elim (λ h. struct_at b u (fields_of b t 12 ef eu i a h).read) (λ h. array_at b (bit 3 (get_or t 0 0)) u (fields_of b t 16 ef eu i a h).read)) k
+      ⊎_elim (λ h. tuple_at b u (fields_of b t 10 refl eu i a h).read)
+      (⊎_elim (λ h. struct_at b u (fields_of b t 12 refl eu i a h).read) (λ h. array_at b (bit 3 (get_or t 0 0)) u (fields_of b t 16 refl eu i a h).read)) k
 
   root : Root eligible b.next dest.0 on i.kind
   root = record { dest = build_at.dest ∙ ap (λ x. some (record { 0 = x })) (sym ed); low = omega (arith, build_at.low); fits = sym eo }
 
-  pub found_root : on ≡ true → Built eligible b.next (Some dest) i.kind
-  found_root h =
-      record {
-        dest = λ v e. let z : dest ≡ v = cc in rw (← z, ← h) root;
-        idle = λ e. absurd (let z : ◌≡◌ {A = ℕ} 0 1 = cc in omega arith);
-      }
-
-  pub found_idle : on ≡ false → Built eligible b.next None i.kind
-  found_idle h =
-      record {
-        dest = λ v e. absurd (let z : ◌≡◌ {A = ℕ} 0 1 = cc in omega arith);
-        idle = λ e.
-            record {
-              each = λ v g.
-                  let y : some dest ≡ some v = sym root.dest ∙ g in
-                  let z : dest ≡ v = cc in
-                  let q : dest.0 ≡ v.0 = ap (λ x. x.0) z in
-                  rw (← q, ← h) root;
-            };
-      }
+  pub found_build : Built eligible b.next (then_some on dest) i.kind
+  found_build = go on refl
+    where
+      go : (w : Bool) → on ≡ w → Built eligible b.next (then_some w dest) i.kind
+      go true h =
+          record {
+            dest = λ v e. let z : dest ≡ v = cc in rw (← z, ← h) root;
+            idle = λ e. absurd (let z : ◌≡◌ {A = ℕ} 0 1 = cc in omega arith);
+          }
+      go false h =
+          record {
+            dest = λ v e. absurd (let z : ◌≡◌ {A = ℕ} 0 1 = cc in omega arith);
+            idle = λ e.
+                record {
+                  each = λ v g.
+                      let y : some dest ≡ some v = sym root.dest ∙ g in
+                      let z : dest ≡ v = cc in
+                      let q : dest.0 ≡ v.0 = ap (λ x. x.0) z in
+                      rw (← q, ← h) root;
+                };
+          }
 
 -- what was read of an instruction: no root, or one, whose family is held to the readers
 module _ (σ : Settings) (τ : Types) (shapes : List ℕ) (eligible : List Bool) (next : ℕ) (a : ShapesAt σ τ shapes eligible)

@@ -22,42 +22,42 @@ use Rattle.fold_readers.specs.Readers.{read_blocks}
 use Rattle.std.specs.Prelude.{Option as Answered}
 use Rattle.mir.specs.declared.ValueId.{ValueId}
 use Rattle.fold_family.proofs.Listed.{first_listed}
-use Rattle.fold_cross.specs.declared.values.Values.{Values}
+use Rattle.fold_cross.specs.declared.cross_facts.CrossFacts.{CrossFacts}
 use Rattle.fold_cross.specs.Cross.{Ready, Built, IdleAll, cross_block, family_read, MembersCrossed, FamilyRead, CrossMarks}
 use Rattle.fold_cross.proofs.Builds.{read_crossed, read_length}
 use Rattle.fold_cross.proofs.Idle.{idle_builds}
 
-module _ (values : Values) where
+module _ (known : CrossFacts) where
   abbrev b : Bounds
-  b = values.code.bounds
+  b = known.code.bounds
 
   abbrev facts : List ℕ
-  facts = values.code.facts.now
+  facts = known.code.facts.now
 
   -- some instructions in these slots
   abbrev Here : Slots → List Instruction → Type 0
-  Here slots is = InstructionsIn b values.code.bytes.now facts slots.first is
+  Here slots is = InstructionsIn b known.code.bytes.now facts slots.first is
 
   -- block k, and the slots of its instructions
   module _ (k : ℕ) (slots : Slots) (es : SlotsOf facts k slots) where
-    standing : (σ : Settings) (τ : Types) (ks : List Block) → Ready values σ τ ks → k < length ks → Here slots (get_or ks k no_block).instructions
+    standing : (σ : Settings) (τ : Types) (ks : List Block) → Ready known σ τ ks → k < length ks → Here slots (get_or ks k no_block).instructions
     standing σ τ ks a h = rw (es b _ ks a.coded.code h).0 (a.coded.code.each k h).instructions
 
-    counted : (σ : Settings) (τ : Types) (ks : List Block) → Ready values σ τ ks → k < length ks → slots.count ≡ length (get_or ks k no_block).instructions
+    counted : (σ : Settings) (τ : Types) (ks : List Block) → Ready known σ τ ks → k < length ks → slots.count ≡ length (get_or ks k no_block).instructions
     counted σ τ ks a h = (es b _ ks a.coded.code h).1
 
     -- it has no root
     pub block_idle : (c : Marks)
-        → ((is : List Instruction) → Here slots is → length is ≡ slots.count → IdleAll values.eligible.now b.next is)
-        → (σ : Settings) (τ : Types) (ks : List Block) → Ready values σ τ ks → k < length ks → c ≡ cross_block σ τ ks k c
+        → ((is : List Instruction) → Here slots is → length is ≡ slots.count → IdleAll known.eligible.now b.next is)
+        → (σ : Settings) (τ : Types) (ks : List Block) → Ready known σ τ ks → k < length ks → c ≡ cross_block σ τ ks k c
     block_idle c f σ τ ks a h =
         let x = get_or ks k no_block in
-        sym (idle_builds σ τ values.shapes.now values.eligible.now b.next a.given a.coded.ground.values ks k x c x.instructions
+        sym (idle_builds σ τ known.shapes.now known.eligible.now b.next a.given a.coded.ground.values ks k x c x.instructions
         (f x.instructions (standing σ τ ks a h) (sym (counted σ τ ks a h))))
 
     -- its copies
-    pub block_copies : (room table : List ℕ) (before after : Marks) → ScanCopies values.code slots.first slots.count room table before after → room ≡ replicate table_size 0
-        → (σ : Settings) (τ : Types) (ks : List Block) → Ready values σ τ ks → k < length ks
+    pub block_copies : (room table : List ℕ) (before after : Marks) → ScanCopies known.code slots.first slots.count room table before after → room ≡ replicate table_size 0
+        → (σ : Settings) (τ : Types) (ks : List Block) → Ready known σ τ ks → k < length ks
         → RowsAt table (copies τ (get_or ks k no_block).instructions)
     block_copies room table before after f clear σ τ ks a h =
         let e = counted σ τ ks a h in
@@ -67,7 +67,7 @@ module _ (values : Values) where
   module _ (table : List ℕ) (k : ℕ) (slots : Slots) where
     -- what is given of block k: a routine that stands so, its copies in the table, clear marks for a family, and a mark for each value
     pub record Given (f₀ c₀ : Marks) (σ : Settings) (τ : Types) (ks : List Block) : Type 0 where
-      pub ready : Ready values σ τ ks
+      pub ready : Ready known σ τ ks
       pub inside : k < length ks
       pub rows : RowsAt table (copies τ (get_or ks k no_block).instructions)
       pub clear : f₀ ≡ replicate b.next false
@@ -87,8 +87,8 @@ module _ (values : Values) where
     module _ (own : ℕ) (eo : k < 254 → own ≡ k) (es : SlotsOf facts k slots) (f₀ c₀ : Marks) where
       -- one more: its build d, the family f' of that, and its n members
       module _ (f c : Marks) (members : List ℕ) (j : ℕ) (u : Building f₀ f c₀ c members j) (h : j < slots.count) (d : Answered ValueId)
-          (eb : (i : Instruction) → InstructionIn b values.code.bytes.now facts (slots.first + j) i → Built values.eligible.now b.next d i.kind)
-          (f' : Marks) (members' : List ℕ) (n : ℕ) (em : FamilyRead d table values.shapes.now f f' members members' n)
+          (eb : (i : Instruction) → InstructionIn b known.code.bytes.now facts (slots.first + j) i → Built known.eligible.now b.next d i.kind)
+          (f' : Marks) (members' : List ℕ) (n : ℕ) (em : FamilyRead d table known.shapes.now f f' members members' n)
           (lm : length members' ≡ length members) (listed : List ℕ) (el : listed ≡ take n members') where
         -- of a routine that stands so
         module _ (σ : Settings) (τ : Types) (ks : List Block) (a : Given f₀ c₀ σ τ ks) where
@@ -104,12 +104,12 @@ module _ (values : Values) where
           valued : length τ.recorded ≡ b.next
           valued = a.ready.coded.ground.values
 
-          built : Built values.eligible.now b.next d i.kind
+          built : Built known.eligible.now b.next d i.kind
           built = eb i (standing k slots es σ τ ks a.ready a.inside j (omega (arith, many)))
 
           found : (f' ≡ family_read τ x.instructions d) × Members members' n f'
           found =
-              em σ τ x.instructions i.kind values.eligible.now b.next a.rows (a.ready.coded.small k a.inside) a.ready.given built (sym valued)
+              em σ τ x.instructions i.kind known.eligible.now b.next a.rows (a.ready.coded.small k a.inside) a.ready.given built (sym valued)
               a.ready.coded.ground.few u.wide (u.clear σ τ ks a)
 
           sized : length f' ≡ b.next
@@ -118,16 +118,16 @@ module _ (values : Values) where
           all : Members listed (length listed) f'
           all = rw el (first_listed members' n f' found.1 (omega (arith, sized, valued, u.wide, a.ready.coded.ground.few)))
 
-          step : {c' : Marks} → MembersCrossed own listed (length listed) values.readers.now c c' → c' ≡ cross_build σ τ ks k x (build_dest i.kind) c
+          step : {c' : Marks} → MembersCrossed own listed (length listed) known.readers.now c c' → c' ≡ cross_build σ τ ks k x (build_dest i.kind) c
           step g =
               let o : own ≡ k = eo (omega (arith, a.ready.coded.many, a.ready.coded.few)) in
               let l : length c ≡ b.next = u.long ∙ a.each in
               g f' ks all (sized ∙ sym l) (a.ready.readers ∙ ap (λ y. read_blocks 0 (replicate y 0) ks) (sym sized))
               ∙ ap (λ y. cond (read_elsewhere y own 0 ks) (union y c) c) found.0
-              ∙ read_crossed σ τ values.shapes.now values.eligible.now b.next a.ready.given valued ks own x c i.kind d built l
+              ∙ read_crossed σ τ known.shapes.now known.eligible.now b.next a.ready.given valued ks own x c i.kind d built l
               ∙ ap (λ y. cross_build σ τ ks y x (build_dest i.kind) c) o
 
-        pub building_again : (c' f'' : Marks) → MembersCrossed own listed (length listed) values.readers.now c c' → length c' ≡ length c → ClearsMembers listed (length listed) f' f''
+        pub building_again : (c' f'' : Marks) → MembersCrossed own listed (length listed) known.readers.now c c' → length c' ≡ length c → ClearsMembers listed (length listed) f' f''
             → Building f₀ f'' c₀ c' members' (j + 1)
         unfolding cross_builds
         building_again c' f'' g lc w =
@@ -159,14 +159,14 @@ module _ (values : Values) where
     pub long : length c ≡ length c₀
     pub left :
         (σ : Settings) (τ : Types) (ks : List Block)
-        → Ready values σ τ ks
+        → Ready known σ τ ks
         → length c₀ ≡ b.next
         → cross_blocks σ τ ks 0 ks c₀ ≡ cross_blocks σ τ ks k (drop k ks) c
 
   pub crossing_again : (c₀ c c' : Marks) (k : ℕ)
       → Crossing c₀ c k
       → k < b.blocks
-      → ((σ : Settings) (τ : Types) (ks : List Block) → Ready values σ τ ks → k < length ks → length c ≡ b.next
+      → ((σ : Settings) (τ : Types) (ks : List Block) → Ready known σ τ ks → k < length ks → length c ≡ b.next
       → c' ≡ cross_block σ τ ks k c)
       → length c' ≡ length c
       → Crossing c₀ c' (k + 1)
@@ -186,7 +186,7 @@ module _ (values : Values) where
       }
 
   pub crossing_done : (c₀ c : Marks) (k : ℕ) → Crossing c₀ c k → b.blocks ≤ k
-      → (σ : Settings) (τ : Types) (ks : List Block) → Ready values σ τ ks → length c₀ ≡ b.next → c ≡ cross_blocks σ τ ks 0 ks c₀
+      → (σ : Settings) (τ : Types) (ks : List Block) → Ready known σ τ ks → length c₀ ≡ b.next → c ≡ cross_blocks σ τ ks 0 ks c₀
   unfolding cross_blocks
   crossing_done c₀ c k u h σ τ ks a l =
       let q : k ≡ length ks = omega (arith, u.under, a.coded.many) in
@@ -195,11 +195,11 @@ module _ (values : Values) where
   -- the whole: the readers are noted, then the builds of all blocks are held to them
   pub crossed_all : (r₀ : List ℕ) (c₀ c : Marks)
       → r₀ ≡ replicate b.next 0
-      → ((b' : Bounds) (s : List ℕ) (ks : List Block) → CodeIn b' s facts ks → length ks ≡ b.blocks → b.blocks < 254 → values.readers.now ≡ read_blocks 0 r₀ ks)
-      → ((σ : Settings) (τ : Types) (ks : List Block) → Ready values σ τ ks → length c₀ ≡ b.next → c ≡ cross_blocks σ τ ks 0 ks c₀)
-      → CrossMarks values.code values.shapes.now values.eligible.now c₀ c
+      → ((b' : Bounds) (s : List ℕ) (ks : List Block) → CodeIn b' s facts ks → length ks ≡ b.blocks → b.blocks < 254 → known.readers.now ≡ read_blocks 0 r₀ ks)
+      → ((σ : Settings) (τ : Types) (ks : List Block) → Ready known σ τ ks → length c₀ ≡ b.next → c ≡ cross_blocks σ τ ks 0 ks c₀)
+      → CrossMarks known.code known.shapes.now known.eligible.now c₀ c
   unfolding cross_block_aggregates
   crossed_all r₀ c₀ c e0 er f σ τ ks a g ec =
       let l : length c₀ ≡ b.next = ap (λ y. length y) ec ∙ length-replicate (length τ.recorded) false ∙ a.ground.values in
-      let r : values.readers.now ≡ read_blocks 0 (replicate b.next 0) ks = er b _ ks a.code a.many (omega (arith, a.few)) ∙ ap (λ y. read_blocks 0 y ks) e0 in
+      let r : known.readers.now ≡ read_blocks 0 (replicate b.next 0) ks = er b _ ks a.code a.many (omega (arith, a.few)) ∙ ap (λ y. read_blocks 0 y ks) e0 in
       f σ τ ks (record { coded = a; given = g; readers = r }) l ∙ ap (λ y. cross_blocks σ τ ks 0 ks y) ec

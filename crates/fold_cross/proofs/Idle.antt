@@ -1,12 +1,13 @@
 -- A block without a build of an eligible type has nothing that is used across blocks.
-use Prim.Native.Nat.{ℕ, suc, ◌+◌, ◌≤◌, ◌<◌}
-use mathlib.Core.Path.{◌≡◌, refl, ap, ◌∙◌}
+use Prim.Native.Nat.{ℕ, suc, ◌+◌, ◌<◌, zero-le}
+use mathlib.Core.Path.{◌≡◌, refl, ap, ◌∙◌, subst}
 use mathlib.Core.List.{List, [], ◌∷◌}
-use mathlib.Core.Bool.{Bool, true≢false, false}
-use mathlib.Core.Logic.{⊎_elim}
-use native.Mathlib.Nat.{eq-or-lt_of_le}
+use mathlib.Core.Bool.{Bool}
 use native.Mathlib.Omega.{arith}
+use native.Mathlib.Nat.{zero-add}
 use lib.ListN.{length, get_or}
+use Rattle.std.specs.List.{AllWithin, range_with_len}
+use Rattle.std.proofs.lemmas.List.FromFn.{get_or-range_with_len, length-range_with_len}
 use Rattle.mir.specs.Syntax.{Instruction, Block}
 use Rattle.bytes_index.specs.declared.code.Code.{Code}
 use Rattle.bytes_index.specs.declared.slots.Slots.{Slots}
@@ -15,42 +16,23 @@ use Rattle.mir.specs.Lookup.{Types}
 use Rattle.fold.specs.Tables.{ShapesAt}
 use Rattle.fold.specs.Family.{Marks, cross_builds}
 use Rattle.fold.specs.declared.Settings.{Settings}
-use Rattle.std.specs.Prelude.{Some, None, Option as Answered, is_some}
-use Rattle.mir.specs.declared.ValueId.{ValueId}
-use Rattle.fold_cross.specs.Cross.{Built, Idle, IdleAll}
+use Rattle.fold_cross.specs.Cross.{Idle, IdleAll}
 use Rattle.fold_cross.proofs.Builds.{idle_build}
 
--- an answer that is not there
-pub none_left : {A : Type 0} (r : Answered A) → is_some r ≡ false → r ≡ None
-none_left (Some x) h = absurd (true≢false h)
-none_left None h = refl
-
 module _ (code : Code) (slots : Slots) (eligible : List Bool) where
-  -- k instructions are behind, and none of them is one
-  pub record Idling (k : ℕ) : Type 0 where
-    pub under : k ≤ slots.count
-    pub each :
-        (is : List Instruction)
-        → InstructionsIn code.bounds code.bytes.now code.facts.now slots.first is
-        → length is ≡ slots.count
-        → (j : ℕ)
-        → j < k
-        → Idle eligible code.bounds.next (get_or is j no_instruction).kind
+  -- instruction k of those in the slots is none
+  abbrev pub IdleAt : ℕ → Type 0
+  IdleAt k = (i : Instruction) → InstructionIn code.bounds code.bytes.now code.facts.now (slots.first + k) i → Idle eligible code.bounds.next i.kind
 
-  pub idling_again : (k : ℕ) (r : Answered ValueId)
-      → Idling k
-      → k < slots.count
-      → ((i : Instruction) → InstructionIn code.bounds code.bytes.now code.facts.now (slots.first + k) i → Built eligible code.bounds.next r i.kind)
-      → r ≡ None
-      → Idling (k + 1)
-  idling_again k r u h f e =
+  -- where each of them is so, none is one
+  pub idle_all : AllWithin IdleAt (range_with_len 0 slots.count) 0 (length (range_with_len 0 slots.count)) → (is : List Instruction)
+      → InstructionsIn code.bounds code.bytes.now code.facts.now slots.first is → length is ≡ slots.count → IdleAll eligible code.bounds.next is
+  idle_all f is a l =
       record {
-        under = omega arith;
-        each = λ is a l j q.
-            let y : j ≤ k = omega arith in
-            let i = get_or is k no_instruction in
-            let here : Idle eligible code.bounds.next i.kind = (f i (a k (omega arith))).idle e in
-            ⊎_elim (λ z. rw z here) (λ z. u.each is a l j z) (eq-or-lt_of_le y);
+        each = λ k h.
+            let p : k < slots.count = omega arith in
+            let q : get_or (range_with_len 0 slots.count) k 0 ≡ k = get_or-range_with_len 0 slots.count k 0 p ∙ zero-add k in
+            subst IdleAt q (f k 0 zero-le (omega (arith, length-range_with_len 0 slots.count))) (get_or is k no_instruction) (a k h);
       }
 
 -- such instructions change nothing

@@ -1,10 +1,10 @@
 -- A family that is marked beside the marks that stand already.
-use Prim.Native.Nat.{ℕ, zero, suc, ◌≤◌, ◌<◌}
+use Prim.Native.Nat.{ℕ, zero, suc, ◌<◌}
 use mathlib.Core.Path.{◌≡◌, refl, ap, ◌∙◌, sym}
 use mathlib.Core.List.{List, [], ◌∷◌}
 use mathlib.Core.Bool.{Bool, true, false, ◌||◌, true≢false}
 use native.Mathlib.Omega.{arith}
-use lib.ListN.{length, get_or, replicate, take}
+use lib.ListN.{length, get_or, replicate}
 use lib.Seq.{ext_get_or}
 use Rattle.fold.specs.Family.{Marks, union}
 use Rattle.fold_family.specs.Search.{Listed, listed_at, Members, Flagged, kept, listed, Storing}
@@ -46,9 +46,3 @@ unites members n c₀ c m u a l =
       where
         none : Listed members n x → true ≡ false
         none (listed_at i j w) = sym (a.marked i j) ∙ ap (λ y. get_or m y false) w ∙ e
-
--- a part of a clear table is clear
-pub clear_part : {A : Type 0} (a : A) (n k : ℕ) → n ≤ k → take n (replicate k a) ≡ replicate n a
-clear_part a zero k h = refl
-clear_part a (suc n) zero h = absurd (omega arith)
-clear_part a (suc n) (suc k) h = ap (λ x. a ∷ x) (clear_part a n k (omega arith))

@@ -13,13 +13,13 @@ use Rattle.fold.specs.declared.Settings.{Settings}
 use Rattle.fold_family.specs.Copies.{copies, RowsAt}
 use Rattle.fold_family.specs.Search.{Members}
 use Rattle.fold_readers.specs.Readers.{read_blocks}
-use Rattle.fold_cross.specs.declared.values.Values.{Values}
+use Rattle.fold_cross.specs.declared.cross_facts.CrossFacts.{CrossFacts}
 
 -- a routine's code, the shapes of its values, and the block that reads each
-pub record Ready (values : Values) (σ : Settings) (τ : Types) (ks : List Block) : Type 0 where
-  pub coded : Coded values.code.bounds values.code.bytes.now values.code.facts.now τ ks
-  pub given : ShapesAt σ τ values.shapes.now values.eligible.now
-  pub readers : values.readers.now ≡ read_blocks 0 (replicate values.code.bounds.next 0) ks
+pub record Ready (known : CrossFacts) (σ : Settings) (τ : Types) (ks : List Block) : Type 0 where
+  pub coded : Coded known.code.bounds known.code.bytes.now known.code.facts.now τ ks
+  pub given : ShapesAt σ τ known.shapes.now known.eligible.now
+  pub readers : known.readers.now ≡ read_blocks 0 (replicate known.code.bounds.next 0) ks
 
 -- a build of v, whether its type is eligible
 pub record Root (eligible : List Bool) (next v : ℕ) (on : Bool) (i : InstructionKind) : Type 0 where
@@ -72,11 +72,11 @@ FamilyRead d table shapes clear m room members n =
     → (m ≡ family_read τ is d) × Members members n m
 
 -- what f says of a routine's code,
-abbrev pub Crossed : Types → List Block → (Settings → Marks → Marks) → Values → Marks → Marks → Type 0
-Crossed τ ks f values before after =
+abbrev pub Crossed : Types → List Block → (Settings → Marks → Marks) → CrossFacts → Marks → Marks → Type 0
+Crossed τ ks f known before after =
     (σ : Settings)
-    → Ready values σ τ ks
-    → length before ≡ values.code.bounds.next
+    → Ready known σ τ ks
+    → length before ≡ known.code.bounds.next
     → after ≡ f σ before
 
 -- and the whole

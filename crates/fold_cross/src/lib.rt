@@ -1,7 +1,7 @@
 // Aggregates that are used across blocks: a build's family is, with all its members, where another block reads one.
 #![tactic(auto)]
 
-pub mod values;
+pub mod cross_facts;
 
 ghost use Rattle.std.specs.Prelude.{◌≡◌, List, false, ◌<◌, ◌≤◌, length, get_or, replicate};
 ghost use Rattle.mir.specs.Syntax.{Instruction, Block};
@@ -13,13 +13,9 @@ ghost use Rattle.fold_family.specs.Copies.{copies as copies_of, RowsAt};
 ghost use Rattle.fold_cross.specs.Cross.{Built, IdleAll, cross_block, MembersCrossed, FamilyRead, Crossed, CrossMarks};
 
 use bytes_index::{Code, Slots};
+pub use cross_facts::CrossFacts;
 use fold_readers::BlockNumber;
-use mir::kind::Kind;
 use mir::{BlockId, ValueId, most};
-pub use values::Values;
-
-// How many values a routine has at most, as the bounds count them.
-const VALUES: u16 = most::VALUES as u16;
 
 // The dest of the build in a slot, where its type is eligible.
 fn eligible_build(code: Code, slot: u16, eligible: &[bool]) -> Option<ValueId>
@@ -27,18 +23,12 @@ fn eligible_build(code: Code, slot: u16, eligible: &[bool]) -> Option<ValueId>
         → Built eligible.now code.entry.bounds.next result i.kind }
 {
     let kind = bytes_index::instruction_kind(code.facts, slot)?;
-    match kind {
-        Kind::MakeTuple | Kind::MakeStruct | Kind::MakeFixedArray => {
-            let t = bytes_field::tail(code.bytes, bytes_index::place(code.facts, slot));
-            let u = bytes_field::tail(t, bytes_operands::fields_place(t));
-            let dest = ValueId(bytes_wire::u16_at(u, 0));
-            if table::flag(eligible, dest.0 as usize) {
-                return Some(dest);
-            }
-            None
-        }
-        _ => None,
+    if !kind.is_build() {
+        return None;
     }
+    let u = bytes_operands::own_fields(code.instruction(slot));
+    let dest = ValueId(bytes_wire::u16_at(u, 0));
+    table::flag(eligible, dest.0 as usize).then_some(dest)
 }
 
 // Whether a block, whose instructions stand in these slots, has such a build. Only the answer that it has none says something: the
@@ -48,12 +38,7 @@ fn has_build(code: Code, slots: Slots, eligible: &[bool]) -> bool
         → InstructionsIn code.entry.bounds code.entry.bytes.now code.entry.facts.now slots.first is
         → length is ≡ slots.count → IdleAll eligible.now code.entry.bounds.next is }
 {
-    for k in 0..slots.count {
-        if eligible_build(code, slots.first + k, eligible).is_some() {
-            return true;
-        }
-    }
-    false
+    (0..slots.count).any(|k| eligible_build(code, slots.first + k, eligible).is_some())
 }
 
 // Marks the members of a family of block `own` where another block reads one.
@@ -88,47 +73,53 @@ fn find_family(
 
 // Marks the families of the builds of block `k` that another block reads; the block's copies stand in `copies`, and the marks
 // of `family` are clear.
-fn cross_builds(values: Values, k: BlockId, copies: &[u16], family: &mut [bool], marks: &mut [bool])
+fn cross_builds(
+    known: CrossFacts,
+    k: BlockId,
+    copies: &[u16],
+    family: &mut [bool],
+    marks: &mut [bool],
+)
     ensures { (τ : Types) (ks : List Block) → k.0 < length ks
         → RowsAt copies.now (copies_of τ (get_or ks k.0 no_block).instructions)
-        → family.old ≡ replicate values.entry.code.bounds.next false
-        → Crossed τ ks (λ σ m. cross_block σ τ ks k.0 m) values.entry marks.old marks.new }
+        → family.old ≡ replicate known.entry.code.bounds.next false
+        → Crossed τ ks (λ σ m. cross_block σ τ ks k.0 m) known.entry marks.old marks.new }
 {
     let own = fold_readers::block_number(k);
-    let slots = bytes_index::block_slots(values.code.facts, k);
+    let slots = bytes_index::block_slots(known.code.facts, k);
     let mut members: [u16; most::VALUES] = [0; most::VALUES];
     for j in 0..slots.count {
-        let d = eligible_build(values.code, slots.first + j, values.eligible);
-        let n = find_family(d, copies, values.shapes, family, &mut members);
+        let d = eligible_build(known.code, slots.first + j, known.eligible);
+        let n = find_family(d, copies, known.shapes, family, &mut members);
         let listed = fold_family::first_members(&members, n);
-        unite_abroad(own, listed, values.readers, marks);
+        unite_abroad(own, listed, known.readers, marks);
         fold_family::unmark(listed, family);
     }
 }
 
 // Marks the families of the builds of block `k` that another block reads; its copies are looked for only where it has a
 // build of an eligible type.
-fn cross_block(values: Values, k: BlockId, marks: &mut [bool])
+fn cross_block(known: CrossFacts, k: BlockId, marks: &mut [bool])
     ensures { (τ : Types) (ks : List Block) → k.0 < length ks
-        → Crossed τ ks (λ σ m. cross_block σ τ ks k.0 m) values.entry marks.old marks.new }
+        → Crossed τ ks (λ σ m. cross_block σ τ ks k.0 m) known.entry marks.old marks.new }
 {
-    let slots = bytes_index::block_slots(values.code.facts, k);
-    if !has_build(values.code, slots, values.eligible) {
+    let slots = bytes_index::block_slots(known.code.facts, k);
+    if !has_build(known.code, slots, known.eligible) {
         return;
     }
     let mut copies: [u16; fold_family::SIZE] = [0; fold_family::SIZE];
-    fold_copies::scan_copies(values.code, slots.first, slots.count, &mut copies, &mut []);
+    fold_copies::scan_copies(known.code, slots.first, slots.count, &mut copies, &mut []);
     let mut family: [bool; most::VALUES] = [false; most::VALUES];
-    let n = values.code.bounds.next as usize;
-    cross_builds(values, k, &copies, &mut family[..n], marks);
+    let n = known.code.bounds.next as usize;
+    cross_builds(known, k, &copies, &mut family[..n], marks);
 }
 
 // Marks the families of all builds that another block reads, block by block.
-fn cross_read(values: Values, marks: &mut [bool])
-    ensures { (τ : Types) (ks : List Block) → Crossed τ ks (λ σ m. cross_blocks σ τ ks 0 ks m) values.entry marks.old marks.new }
+fn cross_read(known: CrossFacts, marks: &mut [bool])
+    ensures { (τ : Types) (ks : List Block) → Crossed τ ks (λ σ m. cross_blocks σ τ ks 0 ks m) known.entry marks.old marks.new }
 {
-    for k in 0..values.code.bounds.blocks {
-        cross_block(values, BlockId(k), marks);
+    for k in 0..known.code.bounds.blocks {
+        cross_block(known, BlockId(k), marks);
     }
 }
 
@@ -144,14 +135,14 @@ fn cross_blocks(
     ensures { readers.old ≡ replicate code.entry.bounds.next 0
         → CrossMarks code.entry shapes.now eligible.now marks.old marks.new }
 {
-    fold_readers::note_readers(code.facts, code.bounds.blocks, readers);
-    let values = Values {
+    fold_readers::note_readers(code, readers);
+    let known = CrossFacts {
         code,
         shapes,
         eligible,
         readers,
     };
-    cross_read(values, marks);
+    cross_read(known, marks);
 }
 
 // Marks in `marks`, which are clear, one for each value, the aggregates that are used across blocks. Where there is one block,
@@ -162,7 +153,7 @@ pub fn cross_marks(code: Code, shapes: &[u8], eligible: &[bool], marks: &mut [bo
     if code.bounds.blocks < 2 {
         return;
     }
-    if VALUES < code.bounds.next {
+    if most::VALUES < code.bounds.next as usize {
         return;
     }
     let mut table: [u8; most::VALUES] = [0; most::VALUES];

@@ -1,7 +1,7 @@
 -- As many rounds as there are copies end with a set that no further round changes: a family is closed.
 use Prim.Native.Nat.{ℕ, zero, suc, ◌+◌, ◌≤◌, ◌<◌}
 use mathlib.Core.Path.{◌≡◌, refl, ap, ◌∙◌, sym, subst}
-use mathlib.Core.List.{List, [], ◌∷◌, ◌++◌}
+use mathlib.Core.List.{List, [], ◌∷◌, ◌++◌, append_assoc}
 use mathlib.Core.Bool.{Bool, true, false, cond, ◌||◌}
 use mathlib.Core.Logic.{◌⊎◌, inl, inr}
 use mathlib.Core.Option.{Option, none, some}
@@ -17,11 +17,11 @@ use Rattle.fold.specs.Family.{Marks, mark, family}
 use Rattle.fold_family.specs.Copies.{Copy, copy_of, before, copies, joining, join_all, rounds}
 use Rattle.fold_family.proofs.Sweeps.{family_copies, rounds_still}
 
--- a mark that stands already
-pub set_still : (m : Marks) (v : ℕ) → get_or m v false ≡ true → set m v true ≡ m
-set_still [] v h = refl
-set_still (a ∷ m) zero h = ap (λ x. x ∷ m) (sym h)
-set_still (a ∷ m) (suc v) h = ap (λ x. a ∷ x) (set_still m v h)
+-- a mark that stands already, whatever is read past the end
+pub set_still : (past : Bool) (m : Marks) (v : ℕ) → get_or m v past ≡ true → set m v true ≡ m
+set_still past [] v h = refl
+set_still past (a ∷ m) zero h = ap (λ x. x ∷ m) (sym h)
+set_still past (a ∷ m) (suc v) h = ap (λ x. a ∷ x) (set_still past m v h)
 
 -- marks only come
 pub record Below (m n : Marks) : Type 0 where
@@ -61,7 +61,7 @@ joins root m c = go (eqb c.asked 0 || eqb c.asked root) (get_or m c.source false
     room false e f = subst (Joins m c) (sym (set_out m d true (ltb-false d (length m) e))) still
 
     fresh : (b : Bool) → get_or m d false ≡ b → Joins m c (set m d true)
-    fresh true e = subst (Joins m c) (sym (set_still m d e)) still
+    fresh true e = subst (Joins m c) (sym (set_still false m d e)) still
     fresh false e = room (ltb d (length m)) refl e
 
     go : (a b : Bool) → Joins m c (cond a (cond b (set m d true) m) m)
@@ -123,15 +123,11 @@ pub data Round (all : List Copy) (m : Marks) : Marks → Type 0 where
   same : Round all m m
   fewer : (n : Marks) → unmarked n all < unmarked m all → Round all m n
 
-assoc : (pre cs : List Copy) (c : Copy) → (pre ++ (c ∷ [])) ++ cs ≡ pre ++ (c ∷ cs)
-assoc [] cs c = refl
-assoc (a ∷ pre) cs c = ap (λ r. a ∷ r) (assoc pre cs c)
-
 pub a_round : (root : ℕ) (pre cs : List Copy) (m : Marks) → Round (pre ++ cs) m (join_all root m cs)
 unfolding join_all
 a_round root pre [] m = same
 a_round root pre (c ∷ cs) m =
-    go (joining root m c) (joins root m c) (λ n. subst (λ all. Round all n (join_all root n cs)) (assoc pre cs c) (a_round root (pre ++ (c ∷ [])) cs n))
+    go (joining root m c) (joins root m c) (λ n. subst (λ all. Round all n (join_all root n cs)) (append_assoc pre (c ∷ []) cs) (a_round root (pre ++ (c ∷ [])) cs n))
   where
     go : (n : Marks) → Joins m c n → ((n : Marks) → Round (pre ++ (c ∷ cs)) n (join_all root n cs))
         → Round (pre ++ (c ∷ cs)) m (join_all root n cs)

@@ -5,9 +5,9 @@ use mathlib.Core.List.{List, [], ◌∷◌}
 use mathlib.Core.Bool.{Bool, true, false, not, ◌&&◌, ◌||◌, true≢false}
 use native.Mathlib.Omega.{arith}
 use native.Mathlib.Numerals.{add-one}
-use borrow.Author.Tests.{ltb-true, ltb-false, eqb-true, eqb-false, eq-eqb}
+use borrow.Author.Tests.{ltb-true, ltb-false, eqb-true, eqb-false}
 use lib.ListN.{length, get_or, set, replicate, length-set, length-replicate}
-use lib.Seq.{get_or-set_same, get_or-set_other, set_out}
+use lib.Seq.{get_or-set_same, get_or-set_other}
 use lib.Dec.{eqb, ltb}
 use Rattle.table.proofs.Elements.{clear_at}
 use Rattle.mir.specs.declared.ValueId.{ValueId}
@@ -15,7 +15,8 @@ use Rattle.mir.specs.Most.{most_values}
 use Rattle.fold.specs.Family.{Marks, mark, family}
 use Rattle.fold_family.specs.Copies.{Copy, copies, rounds, last, row_at, firsts_at, RowsAt}
 use Rattle.fold_family.specs.Turns.{one, size, copied_from, turns_of}
-use Rattle.fold_family.specs.Search.{most_turns, joins_at, Join, Turn, is_open, FindsFamily}
+use Rattle.std.proofs.Common.{Some, None, is_some, Option as Answered}
+use Rattle.fold_family.specs.Search.{most_turns, row_number, joins_at, Join, Turn, is_open, FindsFamily}
 use Rattle.fold_family.specs.declared.Search.{Search}
 use Rattle.fold_family.specs.declared.Found.{Found}
 use Rattle.fold_family.proofs.Sweeps.{family_copies}
@@ -50,39 +51,33 @@ marked_low (a ∷ m) zero h = omega arith
 marked_low (a ∷ m) (suc x) h = omega (arith, marked_low m x h)
 
 -- where a search is open, and where it is over
-both : (a b : Bool) → (a || b) ≡ false → (a ≡ false) × (b ≡ false)
-both true b h = absurd (true≢false h)
-both false b h = (refl, h)
+pub open_takes : (q : Search) → q.copy ≡ None → is_open q ≡ true → q.taken < q.found
+open_takes q z h = ltb-true q.taken q.found (rw z at h)
 
-pub open_takes : (q : Search) → q.row ≡ 0 → is_open q ≡ true → q.taken < q.found
-open_takes q z h = ltb-true q.taken q.found (sym (ap (λ b. not b || ltb q.taken q.found) (eq-eqb q.row 0 z)) ∙ h)
-
-pub over_row : (q : Search) → is_open q ≡ false → q.row ≡ 0
-over_row q h = go (eqb q.row 0) refl (both (not (eqb q.row 0)) (ltb q.taken q.found) h).0
+pub over_row : (q : Search) → is_open q ≡ false → (row_number q.copy ≡ 0) × (q.found ≤ q.taken)
+over_row q h = go q.copy h
   where
-    go : (b : Bool) → eqb q.row 0 ≡ b → not (eqb q.row 0) ≡ false → q.row ≡ 0
-    go true e f = eqb-true q.row 0 e
-    go false e f = absurd (true≢false (sym (ap not e) ∙ f))
-
-pub over_taken : (q : Search) → is_open q ≡ false → q.found ≤ q.taken
-over_taken q h = omega (arith, ltb-false q.taken q.found (both (not (eqb q.row 0)) (ltb q.taken q.found) h).1)
+    go : (o : Answered ℕ) → (is_some o || ltb q.taken q.found) ≡ false → (row_number o ≡ 0) × (q.found ≤ q.taken)
+    go None f = (refl, omega (arith, ltb-false q.taken q.found f))
+    go (Some k) f = absurd (true≢false f)
 
 -- a copy joins where it asks for the root's shape, or for any, and its dest is a value that is not marked
-abbrev unmarked_dest : Marks → Copy → Bool
-unmarked_dest m c = ltb c.dest (length m) && not (get_or m c.dest false)
-
 abbrev entering : ℕ → Marks → Copy → Bool
-entering root m c = asks root c && unmarked_dest m c
+entering root m c = asks root c && not (get_or m c.dest true)
+
+-- a value that is not marked
+unmarked_new : (m : Marks) (d : ℕ) → get_or m d true ≡ false → (d < length m) × (get_or m d false ≡ false)
+unmarked_new [] d h = absurd (true≢false h)
+unmarked_new (a ∷ m) zero h = (omega arith, h)
+unmarked_new (a ∷ m) (suc d) h = let r = unmarked_new m d h in (omega (arith, r.0), r.1)
 
 -- one that does not join adds nothing
 idle_passed : (root : ℕ) (m : Marks) (c : Copy) → entering root m c ≡ false → asks root c ≡ true → Idle m c
-idle_passed root m c h a =
-    go (ltb c.dest (length m)) refl (get_or m c.dest false) refl (sym (ap (λ b. b && unmarked_dest m c) a) ∙ h)
+idle_passed root m c h a = go (get_or m c.dest true) refl (sym (ap (λ b. b && not (get_or m c.dest true)) a) ∙ h)
   where
-    go : (b : Bool) → ltb c.dest (length m) ≡ b → (g : Bool) → get_or m c.dest false ≡ g → unmarked_dest m c ≡ false → Idle m c
-    go false e g f k = set_out m c.dest true (ltb-false _ _ e)
-    go true e true f k = set_still m c.dest f
-    go true e false f k = absurd (true≢false (sym (rw (e, f) refl) ∙ k))
+    go : (b : Bool) → get_or m c.dest true ≡ b → not b ≡ false → Idle m c
+    go true e f = set_still true m c.dest e
+    go false e f = absurd (true≢false f)
 
 -- one that joins
 record Joining (root : ℕ) (m : Marks) (c : Copy) : Type 0 where
@@ -91,14 +86,12 @@ record Joining (root : ℕ) (m : Marks) (c : Copy) : Type 0 where
   new : get_or m c.dest false ≡ false
 
 joining_at : (root : ℕ) (m : Marks) (c : Copy) → entering root m c ≡ true → Joining root m c
-joining_at root m c h = go (asks root c) refl (ltb c.dest (length m)) refl (get_or m c.dest false) refl h
+joining_at root m c h = go (asks root c) refl (get_or m c.dest true) refl h
   where
-    go : (a : Bool) → asks root c ≡ a → (b : Bool) → ltb c.dest (length m) ≡ b → (g : Bool) → get_or m c.dest false ≡ g → (a && (b && not g)) ≡ true
-        → Joining root m c
-    go true ea true eb false eg k = record { asked = ea; low = ltb-true _ _ eb; new = eg }
-    go true ea true eb true eg k = absurd (true≢false (sym k))
-    go true ea false eb g eg k = absurd (true≢false (sym k))
-    go false ea b eb g eg k = absurd (true≢false (sym k))
+    go : (a : Bool) → asks root c ≡ a → (b : Bool) → get_or m c.dest true ≡ b → (a && not b) ≡ true → Joining root m c
+    go true ea false eb k = let r = unmarked_new m c.dest eb in record { asked = ea; low = r.0; new = r.1 }
+    go true ea true eb k = absurd (true≢false (sym k))
+    go false ea b eb k = absurd (true≢false (sym k))
 
 -- a search under way, `clear` the marks and `room` the members before it
 pub record Going (table : List ℕ) (root v : ℕ) (clear : Marks) (room : List ℕ) (q : Search) (m : Marks) (members : List ℕ) (turns : ℕ) : Type 0 where
@@ -110,12 +103,12 @@ pub record Going (table : List ℕ) (root v : ℕ) (clear : Marks) (room : List 
   pub searching :
       (cs : List Copy) (n : ℕ)
       → RowsAt table cs → v < n → n ≤ most_values → most_values ≤ length room → clear ≡ replicate n false
-      → Searching root cs v m members q.found q.taken q.row turns
+      → Searching root cs v m members q.found q.taken (row_number q.copy) turns
   pub has : (n : ℕ) → v < n → clear ≡ replicate n false → get_or m v false ≡ true
 
 module _ (table : List ℕ) (root v : ℕ) (clear : Marks) (room : List ℕ) where
   pub going_start : {m : Marks} {members : List ℕ} → m ≡ set clear v true → members ≡ set room 0 v
-      → Going table root v clear room (record { found = 1; taken = 0; row = 0 }) m members 0
+      → Going table root v clear room (record { found = 1; taken = 0; copy = None }) m members 0
   going_start {m} {members} em el =
       record {
         under = omega arith;
@@ -131,27 +124,27 @@ module _ (table : List ℕ) (root v : ℕ) (clear : Marks) (room : List ℕ) whe
 
   module _ (q : Search) (m : Marks) (members : List ℕ) (turns : ℕ) (u : Going table root v clear room q m members turns) (few : turns ≤ most_turns) where
     -- the next member is taken
-    taken_on : {r : Search} {m' : Marks} {members' : List ℕ} → is_open q ≡ true → q.row ≡ 0
-        → r ≡ record { found = q.found; taken = q.taken + 1; row = get_or table (firsts_at + get_or members q.taken 0) 0 } → m' ≡ m → members' ≡ members
+    taken_on : {r : Search} {m' : Marks} {members' : List ℕ} → is_open q ≡ true → q.copy ≡ None → r.found ≡ q.found → r.taken ≡ q.taken + 1
+        → row_number r.copy ≡ get_or table (firsts_at + get_or members q.taken 0) 0 → m' ≡ m → members' ≡ members
         → Going table root v clear room r m' members' (turns + 1)
-    taken_on o z er em el =
-        rw (er, em, el) record {
+    taken_on {r} o z ef et er em el =
+        rw (em, el) record {
           under = omega arith;
           found_few = omega (arith, u.found_few);
           taken_few = omega (arith, u.taken_few);
           long = u.long;
           wide = u.wide;
-          searching = λ cs n r lt most w ec.
-              let s = u.searching cs n r lt most w ec in
+          searching = λ cs n rows lt most w ec.
+              let s = u.searching cs n rows lt most w ec in
               let x = get_or members q.taken 0 in
               let low : x < most_values = omega (arith, s.low q.taken (open_takes q z o), u.long, ap length ec, length-replicate n false) in
               let t = search_take root cs v m members q.found q.taken turns (rw z at s) (open_takes q z o) in
-              rw (r.first x low, add-one q.taken, add-one turns) t;
+              rw (ef, et, er, rows.first x low, add-one q.taken, add-one turns) t;
           has = u.has;
         }
 
     -- copy k is looked at
-    module _ (k : ℕ) (ek : q.row ≡ suc k) where
+    module _ (k : ℕ) (ek : q.copy ≡ Some k) where
       -- the search at that copy, the row of the copy before it of the same source, and that the row is one of its own
       behind : (cs : List Copy) (n : ℕ) → RowsAt table cs → n ≤ most_values → clear ≡ replicate n false
           → (s : Searching root cs v m members q.found q.taken (suc k) turns) → last cs s.u k ≡ get_or table (row_at k + 2) 0
@@ -163,7 +156,7 @@ module _ (table : List ℕ) (root v : ℕ) (clear : Marks) (room : List ℕ) whe
       said : (cs : List Copy) → RowsAt table cs → k < length cs → joins_at table k root m ≡ entering root m (copy_at cs k)
       said cs r h = rw (r.dest k h, r.asked k h) refl
 
-      looked_on : {r : Search} {m' : Marks} {members' : List ℕ} → r.taken ≡ q.taken → r.row ≡ get_or table (row_at k + 2) 0
+      looked_on : {r : Search} {m' : Marks} {members' : List ℕ} → r.taken ≡ q.taken → row_number r.copy ≡ get_or table (row_at k + 2) 0
           → Join table k root q.found m m' members members' r.found → Going table root v clear room r m' members' (turns + 1)
       looked_on {r} et er (Join.passes j em el ef) =
           rw (em, el) record {
@@ -173,7 +166,7 @@ module _ (table : List ℕ) (root v : ℕ) (clear : Marks) (room : List ℕ) whe
             long = u.long;
             wide = u.wide;
             searching = λ cs n rows lt most w ec.
-                let s = rw ek at (u.searching cs n rows lt most w ec) in
+                let s = rw (ek, add-one k) at (u.searching cs n rows lt most w ec) in
                 rw (ef, et, er, ← (behind cs n rows most ec s), add-one turns)
                 (search_pass root cs v m members q.found q.taken turns k s (idle_passed root m (copy_at cs k) (sym (said cs rows s.inside) ∙ j)));
             has = u.has;
@@ -186,7 +179,7 @@ module _ (table : List ℕ) (root v : ℕ) (clear : Marks) (room : List ℕ) whe
             long = length-set m (get_or table (row_at k) 0) true ∙ u.long;
             wide = length-set members q.found (get_or table (row_at k) 0) ∙ u.wide;
             searching = λ cs n rows lt most w ec.
-                let s = rw ek at (u.searching cs n rows lt most w ec) in
+                let s = rw (ek, add-one k) at (u.searching cs n rows lt most w ec) in
                 let c = copy_at cs k in
                 let a = joining_at root m c (sym (said cs rows s.inside) ∙ j) in
                 let h : q.found < length members =
@@ -198,7 +191,7 @@ module _ (table : List ℕ) (root v : ℕ) (clear : Marks) (room : List ℕ) whe
 
     pub going_on : {r : Search} {m' : Marks} {members' : List ℕ} → is_open q ≡ true → Turn table root q r m m' members members'
         → Going table root v clear room r m' members' (turns + 1)
-    going_on o (Turn.takes z er em el) = taken_on o z er em el
+    going_on o (Turn.takes z ef et er em el) = taken_on o z ef et er em el
     going_on o (Turn.looks k ek et er j) = looked_on k ek et er j
 
   -- a search that is over
@@ -209,10 +202,10 @@ module _ (table : List ℕ) (root v : ℕ) (clear : Marks) (room : List ℕ) whe
         let n = length τ.recorded in
         let cs = copies τ is in
         let low' : v < n = rw ev low in
-        let s = rw (over_row q o) at (u.searching cs n rows low' most wide ec) in
+        let s = rw (over_row q o).0 at (u.searching cs n rows low' most wide ec) in
         let start : Marks = set clear v true in
         let b : get_or start v false ≡ true = get_or-set_same clear v true false (rw (ec, length-replicate n false) low') in
-        let d = search_done root cs v start m members q.found q.taken turns s (over_taken q o)
+        let d = search_done root cs v start m members q.found q.taken turns s (over_row q o).1
         (length-set clear v true ∙ sym u.long) b (only_one n ec) (u.has n low' ec) in
         let same : m ≡ family τ w is =
         d.same (length is) (copies_few τ is)

@@ -74,30 +74,19 @@ first_listed members n m a l =
     go : (x : ℕ) → Listed members n x → Listed (take n members) (length (take n members)) x
     go x (listed_at i h e) = listed_at i (omega (arith, z)) (get_or-take n members i 0 h ∙ e)
 
--- the flags of k members are stored
-pub record Flagging (members : List ℕ) (on : Bool) (m₀ m : Marks) (k : ℕ) : Type 0 where
-  pub under : k ≤ length members
-  pub storing : Storing members k on m₀ m
-
--- one more
-pub flag_again : (members : List ℕ) (on : Bool) (m₀ m : Marks) (k d : ℕ) {m' : Marks} → Flagging members on m₀ m k → k < length members
-    → d ≡ get_or members k 0 → m' ≡ set m d on → Flagging members on m₀ m' (k + 1)
-flag_again members on m₀ m k d f h ed em =
+-- the flags of k members are stored, and of one more
+pub flag_again : (members : List ℕ) (on : Bool) (m₀ m : Marks) (k d : ℕ) {m' : Marks} → Storing members k on m₀ m → k < length members
+    → d ≡ get_or members k 0 → m' ≡ set m d on → Storing members (k + 1) on m₀ m'
+flag_again members on m₀ m k d u h ed em =
     rw em record {
-      under = omega arith;
-      storing = record {
-        long = length-set m d on ∙ u.long;
-        stored = λ i q l. ⊎_elim
-            (λ z. let e : d ≡ get_or members i 0 = ed ∙ ap (λ y. get_or members y 0) (sym z) in rw e (get_or-set_same m _ on false (omega (arith, u.long))))
-            (λ z. same _ (omega (arith, u.long)) (u.stored i z l) (eqb (get_or members i 0) d) refl)
-            (newest i k (omega arith));
-        each = λ x. more x (eqb x d) refl (ltb x (length m)) refl;
-      };
+      long = length-set m d on ∙ u.long;
+      stored = λ i q l. ⊎_elim
+          (λ z. let e : d ≡ get_or members i 0 = ed ∙ ap (λ y. get_or members y 0) (sym z) in rw e (get_or-set_same m _ on false (omega (arith, u.long))))
+          (λ z. same _ (omega (arith, u.long)) (u.stored i z l) (eqb (get_or members i 0) d) refl)
+          (newest i k (omega arith));
+      each = λ x. more x (eqb x d) refl (ltb x (length m)) refl;
     }
   where
-    u : Storing members k on m₀ m
-    u = f.storing
-
     same : (x : ℕ) → x < length m → get_or m x false ≡ on → (b : Bool) → eqb x d ≡ b → get_or (set m d on) x false ≡ on
     same x l e true z = rw (← eqb-true x d z) (get_or-set_same m x on false l)
     same x l e false z = get_or-set_other m d x on false (eqb-false x d z) ∙ e

@@ -177,7 +177,7 @@ module _ (root : ℕ) (cs : List Copy) (v : ℕ) (m : Marks) (q : List ℕ) (fou
     again k e = go (eqb d (copy_at cs k).dest) refl
       where
         go : (b : Bool) → eqb d (copy_at cs k).dest ≡ b → Idle n (copy_at cs k)
-        go true z = set_still n (copy_at cs k).dest (ap (λ i. get_or n i false) (sym (eqb-true _ _ z)) ∙ marked_d)
+        go true z = set_still false n (copy_at cs k).dest (ap (λ i. get_or n i false) (sym (eqb-true _ _ z)) ∙ marked_d)
         go false z = set_comm m d (copy_at cs k).dest true true (eqb-false _ _ z) ∙ ap (λ l. set l d true) e
 
     find : (x : ℕ) → get_or n x false ≡ true → (b : Bool) → eqb x d ≡ b → Listed r (suc found) x
@@ -231,7 +231,7 @@ module _ (root : ℕ) (cs : List Copy) (v : ℕ) (m : Marks) (q : List ℕ) (fou
           inside = short;
           own = λ i e. last_own cs s.u j i e;
           mine = λ i e. s.mine j refl;
-          shut = stands n (λ z. set_still n d marked_d) again;
+          shut = stands n (λ z. set_still false n d marked_d) again;
           sound = λ F l c h. record { each = λ x y. within F l c h x y (eqb x d) refl };
           turned = turn_more;
         }

@@ -1,5 +1,6 @@
 -- A search for a family, as the code makes it: what it leaves, and what it promises.
-use Rattle.std.specs.Prelude.{ℕ, suc, ◌+◌, ◌≤◌, ◌<◌, ◌≡◌, List, Bool, true, false, not, ◌&&◌, ◌||◌, length, get_or, set, replicate, eqb, ltb}
+use Rattle.std.specs.Prelude.{Option, Some, None, is_some, ℕ, ◌+◌, ◌≤◌, ◌<◌, ◌≡◌, List, length, get_or, set, replicate}
+use Rattle.std.specs.Prelude.{Bool, true, false, not, ◌&&◌, ◌||◌, eqb, ltb}
 use Rattle.mir.specs.declared.ValueId.{ValueId}
 use Rattle.mir.specs.Syntax.{Instruction}
 use Rattle.mir.specs.Lookup.{Types, value_row, shape}
@@ -14,12 +15,17 @@ use Rattle.fold_family.specs.declared.Found.{Found}
 abbrev pub most_turns : ℕ
 most_turns = most_values + most_instructions
 
+-- the row of a copy, as the table has it: 0 for none
+abbrev pub row_number : Option ℕ → ℕ
+row_number (Some k) = k + 1
+row_number None = 0
+
 -- whether copy k of the table joins: it asks for the root's shape, or for any, and its dest is a value that is not marked yet
 abbrev pub joins_at : List ℕ → ℕ → ℕ → Marks → Bool
 joins_at table k root m =
     let d = get_or table (row_at k) 0 in
     let asked = get_or table (row_at k + 1) 0 in
-    (eqb asked any_shape || eqb asked root) && (ltb d (length m) && not (get_or m d false))
+    (eqb asked any_shape || eqb asked root) && not (get_or m d true)
 
 -- what looking at copy k does to the marks and to the members, of which `found` are found: it passes, or its dest joins
 pub data Join (table : List ℕ) (k root found : ℕ) (m after : Marks) (members behind : List ℕ) (r : ℕ) : Type 0 where
@@ -35,22 +41,24 @@ pub data Join (table : List ℕ) (k root found : ℕ) (m after : Marks) (members
 -- and the one before it of the same source is next
 pub data Turn (table : List ℕ) (root : ℕ) (q r : Search) (m after : Marks) (members behind : List ℕ) : Type 0 where
   takes :
-      q.row ≡ 0
-      → r ≡ record { found = q.found; taken = q.taken + 1; row = get_or table (firsts_at + get_or members q.taken 0) 0 }
+      q.copy ≡ None
+      → r.found ≡ q.found
+      → r.taken ≡ q.taken + 1
+      → row_number r.copy ≡ get_or table (firsts_at + get_or members q.taken 0) 0
       → after ≡ m
       → behind ≡ members
       → Turn table root q r m after members behind
   looks :
       (k : ℕ)
-      → q.row ≡ suc k
+      → q.copy ≡ Some k
       → r.taken ≡ q.taken
-      → r.row ≡ get_or table (row_at k + 2) 0
+      → row_number r.copy ≡ get_or table (row_at k + 2) 0
       → Join table k root q.found m after members behind r.found
       → Turn table root q r m after members behind
 
 -- a search goes on while a copy is to be looked at, or a member to be taken
 abbrev pub is_open : Search → Bool
-is_open q = not (eqb q.row 0) || ltb q.taken q.found
+is_open q = is_some q.copy || ltb q.taken q.found
 
 -- x is among the first n of a table
 pub data Listed (table : List ℕ) (n x : ℕ) : Type 0 where

@@ -4,13 +4,14 @@
 
 ghost use Rattle.std.specs.Prelude.{◌≡◌, ◌+◌, ◌≤◌, ◌<◌, ◌&&◌, ◌||◌, ℕ, suc, false, eqb, get_or, length, take};
 ghost use Rattle.fold_family.specs.Copies.{any_shape, row_at, firsts_at, meets};
-ghost use Rattle.fold_family.specs.Search.{most_turns, joins_at, Join, Turn, is_open};
+ghost use Rattle.fold_family.specs.Search.{most_turns, row_number, joins_at, Join, Turn, is_open};
 ghost use Rattle.fold_family.specs.Search.{FindsFamily, Storing, ClearsMembers, IsAlone, DynamicIndex, MemberIndexed};
 
 use mir::{ValueId, most};
 
 // Where in the table of a block's copies what stands (specs/Copies.antt): a copy takes three numbers, its dest, the shape asked
-// for, and the row before it of the same source. A row is one more than the copy's number, 0 for none.
+// for, and the row before it of the same source. A row is one more than the copy's number, 0 for none. (One table of u16 in fixed
+// memory, as the laws read it, and no array of structs: the rows of the values stand in it too.)
 pub const WIDTH: usize = 3;
 
 pub const DEST: usize = 0;
@@ -30,13 +31,13 @@ pub const ANY: u16 = 0;
 // The most turns that a search takes: one for each value, and one for each copy of a block.
 const TURNS: u16 = (most::VALUES + most::INSTRUCTIONS) as u16;
 
-// Where a search stands: how many members are found, and how many of them are taken; and the row of the copy that is to be
-// looked at next, 0 where a member is to be taken.
+// Where a search stands: how many members are found, and how many of them are taken; and the copy that is to be looked at next, none
+// where a member is to be taken.
 #[derive(Clone, Copy)]
 pub struct Search {
     pub found: u16,
     pub taken: u16,
-    pub row: u16,
+    pub copy: Option<u16>,
 }
 
 // What a search found: how many members, and the turns that it took.
@@ -54,13 +55,20 @@ fn asks(wanted: u16, shape: u8) -> bool
     wanted == ANY || wanted == shape as u16
 }
 
+// The copy whose row stands at a place of the table, if one does.
+fn copy_at(copies: &[u16], at: usize) -> Option<u16>
+    ensures { row_number result ≡ get_or copies.now at 0 }
+{
+    table::number(copies, at).checked_sub(1)
+}
+
 // Copy `k` joins where it asks for the root's shape, and its dest is a value that is not marked yet.
 fn joins(copies: &[u16], k: u16, shape: u8, marks: &[bool]) -> bool
     ensures { result ≡ joins_at copies.now k shape marks.now }
 {
     let at = WIDTH * k as usize;
     let dest = table::place(copies, at + DEST);
-    asks(table::number(copies, at + ASKED), shape) && dest < marks.len() && !marks[dest]
+    asks(table::number(copies, at + ASKED), shape) && !table::at(marks, dest, true)
 }
 
 // Looks at copy `k`, `found` members being found; how many are found then. (The list grows while it is searched, so it is no slice
@@ -80,8 +88,8 @@ fn join(
         return found;
     }
     let dest = table::number(copies, WIDTH * k as usize + DEST);
-    table::set_flag(marks, dest as usize, true);
-    table::set_number(members, found as usize, dest);
+    table::put(marks, dest as usize, true);
+    table::put(members, found as usize, dest);
     found + 1
 }
 
@@ -90,20 +98,23 @@ fn turn(q: Search, copies: &[u16], shape: u8, marks: &mut [bool], members: &mut 
     requires { (q.found ≤ most_turns + 1) × (q.taken ≤ most_turns) }
     ensures { Turn copies.now shape q result marks.old marks.new members.old members.new }
 {
-    if q.row == 0 {
-        let v = table::number(members, q.taken as usize);
-        return Search {
-            found: q.found,
-            taken: q.taken + 1,
-            row: table::number(copies, FIRSTS + v as usize),
-        };
-    }
-    let k = q.row - 1;
-    let found = join(copies, k, shape, q.found, marks, members);
-    Search {
-        found,
-        taken: q.taken,
-        row: table::number(copies, WIDTH * k as usize + NEXT),
+    match q.copy {
+        None => {
+            let v = table::place(members, q.taken as usize);
+            Search {
+                taken: q.taken + 1,
+                copy: copy_at(copies, FIRSTS + v),
+                ..q
+            }
+        }
+        Some(k) => {
+            let found = join(copies, k, shape, q.found, marks, members);
+            Search {
+                found,
+                copy: copy_at(copies, WIDTH * k as usize + NEXT),
+                ..q
+            }
+        }
     }
 }
 
@@ -111,7 +122,7 @@ fn turn(q: Search, copies: &[u16], shape: u8, marks: &mut [bool], members: &mut 
 fn is_open(q: Search) -> bool
     ensures { result ≡ is_open q }
 {
-    q.row != 0 || q.taken < q.found
+    q.copy.is_some() || q.taken < q.found
 }
 
 // Marks the family of `v`, whose recorded type has the shape `shape`, in `marks`, which are clear, one for each value, and
@@ -125,12 +136,12 @@ pub fn family(
 ) -> Found
     ensures { FindsFamily copies.now shape v marks.old marks.new members.old members.new result }
 {
-    table::set_flag(marks, v.0 as usize, true);
-    table::set_number(members, 0, v.0);
+    table::put(marks, v.0 as usize, true);
+    table::put(members, 0, v.0);
     let mut q = Search {
         found: 1,
         taken: 0,
-        row: 0,
+        copy: None,
     };
     for turns in 0..=TURNS {
         if !is_open(q) {
@@ -155,16 +166,12 @@ pub fn is_alone(copies: &[u16], v: ValueId) -> bool
     (v.0 as usize) < most::VALUES && table::number(copies, FIRSTS + v.0 as usize) == 0
 }
 
-// The `n` members that a search has listed; the whole list where it is shorter.
+// The `n` members that a search has listed; the whole list where it is shorter. (A list and a number, since the search writes into the
+// caller's list, in fixed memory, and says how many it wrote.)
 pub fn first_members(members: &[u16], n: u16) -> &[u16]
     ensures { result.now ≡ take n members.now }
 {
-    let n = n as usize;
-    if n < members.len() {
-        &members[..n]
-    } else {
-        members
-    }
+    &members[..members.len().min(n as usize)]
 }
 
 // Marks the members, or clears their marks.
@@ -172,7 +179,7 @@ pub fn mark_members(members: &[u16], on: bool, marks: &mut [bool])
     ensures { Storing members.now (length members.now) on marks.old marks.new }
 {
     for v in members {
-        table::set_flag(marks, *v as usize, on);
+        table::put(marks, *v as usize, on);
     }
 }
 

@@ -18,14 +18,7 @@ pub fn any_kind<F: Fn(Kind) -> bool>(facts: &[u16], from: u16, to: u16, test: F)
     requires { F.IsAlwaysCallable test }
     ensures { result ≡ false → NonePasses (λ kind. F.post test kind false) facts.now from to }
 {
-    for slot in from..to {
-        if let Some(kind) = bytes_index::instruction_kind(facts, slot) {
-            if test(kind) {
-                return true;
-            }
-        }
-    }
-    false
+    (from..to).any(|slot| bytes_index::instruction_kind(facts, slot).is_some_and(|kind| test(kind)))
 }
 
 // Whether one of those slots holds a MakeFixedArray.
@@ -71,7 +64,7 @@ fn look_all(code: Code, slots: Slots, tables: Tables, family: &mut [bool], looke
     let mut members: [u16; most::VALUES] = [0; most::VALUES];
     for j in 0..slots.count {
         let yes = look(code, slots.first + j, tables, family, &mut members);
-        table::set_flag(looked, j as usize, yes);
+        table::put(looked, j as usize, yes);
     }
 }
 

@@ -1,13 +1,14 @@
 -- The phis in front of a block.
-use Prim.Native.Nat.{ℕ, suc, ◌+◌, ◌-◌, ◌≤◌, ◌<◌}
+use Prim.Native.Nat.{ℕ, suc, ◌+◌, ◌-◌, ◌<◌}
 use mathlib.Core.Path.{◌≡◌, refl, ap, ◌∙◌, sym}
-use mathlib.Core.List.{List, []}
+use mathlib.Core.List.{List, [], ◌∷◌}
 use mathlib.Core.Bool.{Bool, true, false, cond, ◌||◌}
+use native.Mathlib.Nat.{add-zero}
 use native.Mathlib.Omega.{arith}
-use borrow.Author.Tests.{ne_eqb}
-use lib.ListN.{length, get_or, drop, drop_of_length-le}
-use lib.Seq.{drop-cons}
+use borrow.Author.Tests.{eqb-true, eqb-false}
+use lib.ListN.{length, get_or, drop}
 use lib.Dec.{eqb}
+use Rattle.std.specs.List.{list_any, prefix_len, range_with_len}
 use Rattle.bytes_wire.specs.Parse.{ok}
 use Rattle.bytes_wire.specs.Number.{at16}
 use Rattle.mir.specs.declared.ValueId.{ValueId}
@@ -23,12 +24,7 @@ use Rattle.bytes_operands.specs.Fields.{fields_place}
 use Rattle.bytes_operands.proofs.Instruction.{instruction_fields}
 use Rattle.bytes_index.specs.Table.{place_in, end_in, kind_in}
 use Rattle.bytes_index.specs.declared.code.Code.{Code}
-use Rattle.bytes_index.specs.declared.slots.Slots.{Slots}
-use Rattle.bytes_index.specs.Code.{no_instruction, InstructionsIn}
-use Rattle.std.specs.Prelude.{Some, Option as Answered}
-use Rattle.mir.specs.declared.kind.Kind.{Kind}
-use Rattle.mir.specs.Kind.{NamesKind}
-use Rattle.mir.proofs.Numbers.{names_one}
+use Rattle.bytes_index.specs.Code.{InstructionIn, InstructionsIn}
 use Rattle.fold.specs.declared.Settings.{Settings}
 use Rattle.mir.specs.Lookup.{Types, value_row, shape, is_tuple, is_struct, any}
 use Rattle.fold.specs.Tables.{ShapesAt}
@@ -36,7 +32,7 @@ use Rattle.mir.specs.Phis.{behind_phis}
 use Rattle.fold.specs.Fold.{aggregate_phi, skipped}
 use Rattle.fold_climb.proofs.Found.{dest_at}
 use Rattle.fold_scan.specs.Noted.{dest_in}
-use Rattle.fold_phis.specs.Skipped.{TellsPhi, Skips, PhisIn}
+use Rattle.fold_phis.specs.Skipped.{phi_in, tells_phi}
 
 -- a phi's dest is its first field
 data PhiAt (next : ℕ) (t : List ℕ) (i : InstructionKind) : Type 0 where
@@ -78,98 +74,47 @@ no_phi τ (MakeFixedArray d xs t c) h = refl
 no_phi τ (AssertEq x y) h = refl
 no_phi τ (HeapAllocCells d x) h = refl
 
--- what the code says of the instruction in a slot
-module _ (code : Code) (slot : ℕ) (shapes : List ℕ) (o : Answered Kind) (named : NamesKind (kind_in code.facts.now slot) o) where
-  pub tells_none : (o ≡ Some Kind.Phi → ⊥) → TellsPhi code slot shapes false
-  tells_none l b σ τ eligible i f m at = no_phi τ i.kind (λ z. l (names_one _ o Kind.Phi named (at.kind ∙ z)))
+-- the instructions behind the first
+later : (b : Bounds) (s facts : List ℕ) (i : Instruction) (is : List Instruction) (first : ℕ) → InstructionsIn b s facts first (i ∷ is) → InstructionsIn b s facts (first + 1) is
+later b s facts i is first at k h = let e : first + suc k ≡ first + 1 + k = omega arith in rw e at (at (suc k) (omega arith))
 
-  pub tells_phi : o ≡ Some Kind.Phi → (d x : ℕ) → d ≡ dest_in code.bytes.now code.facts.now slot → x ≡ get_or shapes d 0 → (r : Bool) → r ≡ (eqb x 1 || eqb x 2) → TellsPhi code slot shapes r
+-- what the table and the shapes say of an instruction
+module _ (b : Bounds) (code : Code) (shapes : List ℕ) (σ : Settings) (τ : Types) (eligible : List Bool) (f : ShapesAt σ τ shapes eligible) (m : length τ.recorded ≡ b.next) where
+  tells : (slot : ℕ) (i : Instruction) → InstructionIn b code.bytes.now code.facts.now slot i → tells_phi code shapes slot ≡ aggregate_phi τ i.kind
   unfolding aggregate_phi is_tuple is_struct
-  tells_phi z d x p q r rs b σ τ eligible i f m at =
-      let t = drop (place_in code.facts.now slot) code.bytes.now in
-      let w = instruction_fields b [] false t i (end_in code.facts.now slot - place_in code.facts.now slot) at.read in
-      let nine : get_or t 1 0 ≡ 9 = sym w.numbered ∙ sym at.kind ∙ sym (rw z at named) in
-      elim (phi_dest b [] (drop (fields_place t) t) i.kind w.size (rw nine at w.read)) [
-        | phi_at v y ss g a l ↦
-            let o : d ≡ v.0 = p ∙ sym a in
-            let h : x ≡ shape (value_row τ v) = q ∙ ap (λ c. get_or shapes c 0) o ∙ f.shaped v.0 (rw m l) in
-            rs ∙ rw (g, h) refl
-      ]
+  tells slot i at = go (phi_in code.facts.now slot) refl
+    where
+      go : (p : Bool) → phi_in code.facts.now slot ≡ p → tells_phi code shapes slot ≡ aggregate_phi τ i.kind
+      go false p = rw p (no_phi τ i.kind (λ z. eqb-false (kind_in code.facts.now slot) 9 p (at.kind ∙ z)))
+      go true p =
+          let t = drop (place_in code.facts.now slot) code.bytes.now in
+          let w = instruction_fields b [] false t i (end_in code.facts.now slot - place_in code.facts.now slot) at.read in
+          let nine : get_or t 1 0 ≡ 9 = sym w.numbered ∙ sym at.kind ∙ eqb-true (kind_in code.facts.now slot) 9 p in
+          elim (phi_dest b [] (drop (fields_place t) t) i.kind w.size (rw nine at w.read)) [
+            | phi_at v y ss g a l ↦
+                let h : get_or shapes (dest_in code.bytes.now code.facts.now slot) 0 ≡ shape (value_row τ v) = ap (λ c. get_or shapes c 0) (sym a) ∙ f.shaped v.0 (rw m l) in
+                rw (p, g, h) refl
+          ]
 
--- the instructions before k are no phi of a tuple or struct
-pub record Skipping (code : Code) (slots : Slots) (shapes : List ℕ) (k : ℕ) : Type 0 where
-  pub low : k ≤ slots.count
-  pub left :
-      (b : Bounds) (σ : Settings) (τ : Types) (eligible : List Bool) (is : List Instruction) → ShapesAt σ τ shapes eligible → length τ.recorded ≡ b.next → InstructionsIn b code.bytes.now code.facts.now slots.first is → length is ≡ slots.count
-      → skipped τ is ≡ skipped τ (drop k is)
+  pub any_phi : (first : ℕ) (is : List Instruction) → InstructionsIn b code.bytes.now code.facts.now first is → list_any (λ slot. tells_phi code shapes slot) (range_with_len first (length is)) ≡ skipped τ is
+  unfolding skipped any
+  any_phi first [] at = refl
+  any_phi first (i ∷ is) at =
+      let here : InstructionIn b code.bytes.now code.facts.now first i = rw add-zero at (at 0 (omega arith)) in
+      rw (tells first i here) (ap (λ (x : Bool). aggregate_phi τ i.kind || x) (any_phi (first + 1) is (later b _ _ i is first at)))
 
-module _ {code : Code} {slots : Slots} {shapes : List ℕ} where
-  pub skipping : Skipping code slots shapes 0
-  skipping = record { low = omega arith; left = λ b σ τ eligible is f m a l. refl }
-
-  module _ {k : ℕ} (inv : Skipping code slots shapes k) where
-    -- the instruction at k, in front of those behind it
-    head : k < slots.count → (r : Bool) → TellsPhi code (slots.first + k) shapes r
-        → (b : Bounds) (σ : Settings) (τ : Types) (eligible : List Bool) (is : List Instruction) → ShapesAt σ τ shapes eligible → length τ.recorded ≡ b.next → InstructionsIn b code.bytes.now code.facts.now slots.first is → length is ≡ slots.count
-        → skipped τ is ≡ (r || skipped τ (drop (suc k) is))
-    unfolding skipped any
-    head h r tell b σ τ eligible is f m a l =
-        let g : k < length is = omega (arith, l) in
-        let e = tell b σ τ eligible (get_or is k no_instruction) f m (a k g) in
-        inv.left b σ τ eligible is f m a l ∙ rw (drop-cons is k no_instruction g) (ap (λ (x : Bool). x || skipped τ (drop (suc k) is)) (sym e))
-
-    pub skip_on : k < slots.count → (r : Bool) → TellsPhi code (slots.first + k) shapes r → r ≡ false → Skipping code slots shapes (k + 1)
-    skip_on h r tell n =
-        let z : suc k ≡ k + 1 = omega arith in
-        record { low = omega arith; left = λ b σ τ eligible is f m a l. rw (n, z) at (head h r tell b σ τ eligible is f m a l) }
-
-    pub skip_found : k < slots.count → (r : Bool) → TellsPhi code (slots.first + k) shapes r → r ≡ true → Skips code slots shapes true
-    skip_found h r tell n b σ τ eligible is f m a l = sym (rw n at (head h r tell b σ τ eligible is f m a l))
-
-    pub skip_none : slots.count ≤ k → Skips code slots shapes false
-    unfolding skipped any
-    skip_none h b σ τ eligible is f m a l =
-        let g : length is ≤ k = omega (arith, l) in
-        sym (rw (drop_of_length-le is g) at (inv.left b σ τ eligible is f m a l))
-
--- the instructions before k are phis
-pub record Counting (facts : List ℕ) (slots : Slots) (k : ℕ) : Type 0 where
-  pub low : k ≤ slots.count
-  pub left : (b : Bounds) (s : List ℕ) (is : List Instruction) → InstructionsIn b s facts slots.first is → length is ≡ slots.count → behind_phis is ≡ behind_phis (drop k is)
-
-module _ {facts : List ℕ} {slots : Slots} where
-  pub counting : Counting facts slots 0
-  counting = record { low = omega arith; left = λ b s is a l. refl }
-
-  module _ {k : ℕ} (inv : Counting facts slots k) where
-    -- the instruction at k
-    one : k < slots.count → (kind : ℕ) → kind ≡ kind_in facts (slots.first + k) → (b : Bounds) (s : List ℕ) (is : List Instruction) → InstructionsIn b s facts slots.first is → length is ≡ slots.count
-        → behind_phis is ≡ cond (eqb kind 9) (behind_phis (drop (suc k) is)) (drop k is)
-    unfolding behind_phis
-    one h kind z b s is a l =
-        let g : k < length is = omega (arith, l) in
-        let c : kind_number (get_or is k no_instruction).kind ≡ kind = sym (z ∙ (a k g).kind) in
-        let d = drop-cons is k no_instruction g in
-        inv.left b s is a l ∙ rw (d, c) refl
-
-    pub count_on : k < slots.count → (o : Answered Kind) → NamesKind (kind_in facts (slots.first + k)) o → o ≡ Some Kind.Phi → Counting facts slots (k + 1)
-    count_on h o named n =
-        let y : suc k ≡ k + 1 = omega arith in
-        record { low = omega arith; left = λ b s is a l. rw y at (one h 9 (rw n at named) b s is a l) }
-
-    pub count_stop : k < slots.count → (o : Answered Kind) → NamesKind (kind_in facts (slots.first + k)) o → (o ≡ Some Kind.Phi → ⊥) → PhisIn facts slots k
-    count_stop h o named n b s is a l =
-        let z : kind_in facts (slots.first + k) ≡ 9 → ⊥ = λ e. n (names_one _ o Kind.Phi named e) in
-        rw (ne_eqb (kind_in facts (slots.first + k)) 9 z) at (one h (kind_in facts (slots.first + k)) refl b s is a l)
-
-    all : slots.count ≤ k → PhisIn facts slots k
-    unfolding behind_phis
-    all h b s is a l =
-        let g : length is ≤ k = omega (arith, l) in
-        let d = drop_of_length-le is g in
-        inv.left b s is a l ∙ rw d refl
-
-    pub count_all : slots.count ≤ k → PhisIn facts slots slots.count
-    count_all h b s is a l =
-        let z : slots.count ≡ k = omega (arith, inv.low) in
-        rw z (all h b s is a l)
+-- the phis in front
+module _ (b : Bounds) (s facts : List ℕ) where
+  pub front_phis : (first : ℕ) (is : List Instruction) → InstructionsIn b s facts first is → behind_phis is ≡ drop (prefix_len (phi_in facts) (range_with_len first (length is))) is
+  unfolding behind_phis
+  front_phis first [] at = refl
+  front_phis first (i ∷ is) at =
+      let here : InstructionIn b s facts first i = rw add-zero at (at 0 (omega arith)) in
+      rw here.kind (go (front_phis (first + 1) is (later b _ _ i is first at)) (eqb (kind_number i.kind) 9))
+    where
+      go : behind_phis is ≡ drop (prefix_len (phi_in facts) (range_with_len (first + 1) (length is))) is → (p : Bool) → cond p (behind_phis is) (i ∷ is) ≡ drop (cond p (1 + prefix_len (phi_in facts) (range_with_len (first + 1) (length is))) 0) (i ∷ is)
+      go ih true =
+          let n = prefix_len (phi_in facts) (range_with_len (first + 1) (length is)) in
+          let e : 1 + n ≡ suc n = omega arith in
+          rw e ih
+      go ih false = refl

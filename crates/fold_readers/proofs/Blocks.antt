@@ -19,15 +19,13 @@ use Rattle.fold_readers.specs.Readers.{read_via, read_instruction, read_instruct
 module _ (own : ℕ) (facts : List ℕ) (slots : Slots) where
   pub record Reading (r₀ r : List ℕ) (k : ℕ) : Type 0 where
     pub under : k ≤ slots.count
-    pub long : length r ≡ length r₀
     pub left : (b : Bounds) (s : List ℕ) (is : List Instruction) → InstructionsIn b s facts slots.first is → length is ≡ slots.count → read_instructions own r₀ is ≡ read_instructions own r (drop k is)
 
-  pub reading_again : (r₀ r r' : List ℕ) (k : ℕ) → Reading r₀ r k → k < slots.count → ((b : Bounds) (s : List ℕ) (i : Instruction) → InstructionIn b s facts (slots.first + k) i → r' ≡ read_instruction own r i.kind) → length r' ≡ length r → Reading r₀ r' (k + 1)
+  pub reading_again : (r₀ r r' : List ℕ) (k : ℕ) → Reading r₀ r k → k < slots.count → ((b : Bounds) (s : List ℕ) (i : Instruction) → InstructionIn b s facts (slots.first + k) i → r' ≡ read_instruction own r i.kind) → Reading r₀ r' (k + 1)
   unfolding read_instructions
-  reading_again r₀ r r' k u h f l =
+  reading_again r₀ r r' k u h f =
       record {
         under = omega arith;
-        long = l ∙ u.long;
         left = λ b s is a m.
             let p : k < length is = omega arith in
             let q : drop k is ≡ get_or is k no_instruction ∷ drop (k + 1) is = rw (add-one k) (drop-cons is k no_instruction p) in
@@ -46,7 +44,6 @@ module _ (own : ℕ) (facts : List ℕ) (slots : Slots) where
 module _ (facts : List ℕ) (many : ℕ) where
   pub record Noting (r₀ r : List ℕ) (k : ℕ) : Type 0 where
     pub under : k ≤ many
-    pub long : length r ≡ length r₀
     pub left : (b : Bounds) (s : List ℕ) (xs : List Block) → CodeIn b s facts xs → length xs ≡ many → many < 254 → read_blocks 0 r₀ xs ≡ read_blocks k r (drop k xs)
 
   pub noting_again : (r₀ r r' : List ℕ) (k own : ℕ) (slots : Slots)
@@ -55,13 +52,11 @@ module _ (facts : List ℕ) (many : ℕ) where
       → (k < 254 → own ≡ k)
       → SlotsOf facts k slots
       → ((b : Bounds) (s : List ℕ) (x : Block) → BlockIn b s facts slots.first x → length x.instructions ≡ slots.count → r' ≡ read_block own r x)
-      → length r' ≡ length r
       → Noting r₀ r' (k + 1)
   unfolding read_blocks
-  noting_again r₀ r r' k own slots u h eo es g lr =
+  noting_again r₀ r r' k own slots u h eo es g =
       record {
         under = omega arith;
-        long = lr ∙ u.long;
         left = λ b s xs a l f.
             let x = get_or xs k no_block in
             let p : k < length xs = omega arith in

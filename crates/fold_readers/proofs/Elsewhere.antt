@@ -8,6 +8,7 @@ use borrow.Author.Tests.{eqb-true, eqb-false, eq-eqb, ne_eqb}
 use lib.ListN.{length, get_or, set, replicate, length-set, length-replicate}
 use lib.Dec.{eqb}
 use Rattle.std.specs.List.{list_any, zip}
+use Rattle.std.proofs.lemmas.List.{length-map}
 use Rattle.mir.specs.declared.ValueId.{ValueId}
 use Rattle.mir.specs.Syntax.{InstructionKind, Instruction, Block}
 use Rattle.mir.specs.Reads.{reads, counted, terminator_reads}
@@ -84,10 +85,6 @@ unfolding read_instructions
 instructions_length own r [] = refl
 instructions_length own r (i ∷ is) = instructions_length own (read_instruction own r i.kind) is ∙ instruction_length own r i.kind
 
-foreign_length : (own : ℕ) (r : List ℕ) → length (foreigners own r) ≡ length r
-foreign_length own [] = refl
-foreign_length own (x ∷ r) = ap suc (foreign_length own r)
-
 -- a law of and, or
 spread : (x g a b : Bool) → ((x || (g && a)) || (g && b)) ≡ (x || (g && (a || b)))
 spread x true a b = or_assoc x a b
@@ -103,7 +100,7 @@ module _ (m : Marks) (own : ℕ) (l : own < 254) where
     where
       go : (b : Bool) → meets m (cond b (foreigners own r) (set (foreigners own r) v.0 true)) ≡ (seen r || (not b && marked m v))
       go true = sym (or-false (seen r))
-      go false = meets_set m (foreigners own r) v.0 (foreign_length own r ∙ h)
+      go false = meets_set m (foreigners own r) v.0 (length-map r (λ x. foreign own x) ∙ h)
 
   via_read : (k : ℕ) (r : List ℕ) (vs : List ValueId) → length r ≡ length m → seen (read_via k r vs) ≡ (seen r || (not (eqb k own) && any (marked m) vs))
   unfolding read_via any

@@ -18,16 +18,14 @@ module _ (own : ℕ) (facts : List ℕ) (slot n : ℕ) where
   pub record Via (r₀ r : List ℕ) (k : ℕ) : Type 0 where
     pub under : k ≤ n
     pub count : n ≡ read_count facts slot
-    pub long : length r ≡ length r₀
     pub left : (vs : List ValueId) → ReadsIn facts slot vs → read_via own r₀ vs ≡ read_via own r (drop k vs)
 
-  pub via_again : (r₀ r r' : List ℕ) (k x : ℕ) → Via r₀ r k → k < n → x ≡ read_in facts slot k → r' ≡ note_reader own r x → length r' ≡ length r → Via r₀ r' (k + 1)
+  pub via_again : (r₀ r r' : List ℕ) (k x : ℕ) → Via r₀ r k → k < n → x ≡ read_in facts slot k → r' ≡ note_reader own r x → Via r₀ r' (k + 1)
   unfolding read_via
-  via_again r₀ r r' k x u h ex f l =
+  via_again r₀ r r' k x u h ex f =
       record {
         under = omega arith;
         count = u.count;
-        long = l ∙ u.long;
         left = λ vs a.
             let p : k < length vs = omega (arith, u.count, a.many) in
             let d : drop k vs ≡ get_or vs k no_value ∷ drop (k + 1) vs = rw (add-one k) (drop-cons vs k no_value p) in

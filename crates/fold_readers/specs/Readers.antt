@@ -5,6 +5,7 @@ use Rattle.mir.specs.Syntax.{InstructionKind, Instruction, Block}
 use Rattle.mir.specs.Reads.{reads, counted, terminator_reads}
 use Rattle.fold.specs.Family.{Marks, read_elsewhere}
 use Rattle.fold_family.specs.Search.{Members}
+use Rattle.fold_readers.specs.declared.Readers.{Readers}
 
 -- the number of a value that several blocks read; blocks below the limit have one of their own
 abbrev pub several : ℕ
@@ -13,7 +14,13 @@ several = 255
 abbrev pub block_limit : ℕ
 block_limit = 254
 
--- a value's number in the table, behind a read in block own: 0 for none, k + 1 for block k alone
+-- what a value's number in the table says: 0 for none, k + 1 for block k alone
+abbrev pub readers_number : Readers → ℕ
+readers_number Readers.None = 0
+readers_number (Readers.One k) = k + 1
+readers_number Readers.Several = several
+
+-- a value's number in the table, behind a read in block own
 abbrev pub seen_by : ℕ → ℕ → ℕ
 seen_by own x = cond (eqb x 0) (own + 1) (cond (eqb x (own + 1)) x several)
 

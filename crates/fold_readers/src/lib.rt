@@ -10,29 +10,49 @@ ghost use Rattle.bytes_field.specs.declared.Bounds.{Bounds};
 ghost use Rattle.bytes_index.specs.Table.{ReadsIn};
 ghost use Rattle.bytes_index.specs.Code.{InstructionIn, BlockIn, CodeIn};
 ghost use Rattle.fold_family.specs.Copies.{meets};
-ghost use Rattle.fold_readers.specs.Readers.{block_limit, seen_by, note_reader, read_via, read_instruction};
+ghost use Rattle.fold_readers.specs.Readers.{block_limit, readers_number, seen_by, note_reader, read_via, read_instruction};
 ghost use Rattle.fold_readers.specs.Readers.{read_block, read_blocks, foreign, foreigners, MemberAbroad, ReadElsewhere};
 
-use bytes_index::Slots;
+use bytes_index::{Code, Slots};
 use mir::kind::Kind;
 use mir::{BlockId, ValueId};
 pub use number::BlockNumber;
 
-// The table has a number for each value: 0 where no block reads it, k + 1 where block k alone does, and this where several do. (A byte for
-// each value and no enum: it is a table of numbers, as the graph and the facts are, and the laws read it as one.)
+// The table has a number for each value: 0 where no block reads it, k + 1 where block k alone does, and this where several do. (One byte
+// for each value, in fixed memory: a table of `Readers` would take two, and the laws read numbers.)
 const SEVERAL: u8 = 255;
+
+// Which blocks read a value.
+#[derive(Clone, Copy)]
+pub enum Readers {
+    None,
+    One(u8),
+    Several,
+}
 
 // Blocks below this have a number in the table.
 const BLOCKS: u16 = 254;
+
+// What a value's number in the table says.
+fn readers_of(x: u8) -> Readers
+    ensures { readers_number result ≡ x }
+{
+    match x {
+        0 => Readers::None,
+        SEVERAL => Readers::Several,
+        _ => Readers::One(x - 1),
+    }
+}
 
 // A value's number in the table, behind a read in block `own`.
 fn seen_by(own: BlockNumber, x: u8) -> u8
     ensures { result ≡ seen_by own.number x }
 {
-    if x == 0 || x == own.number + 1 {
-        return own.number + 1;
+    match readers_of(x) {
+        Readers::None => own.number + 1,
+        Readers::One(k) if k == own.number => x,
+        _ => SEVERAL,
     }
-    SEVERAL
 }
 
 // Notes a read of `v` in block `own`.
@@ -40,9 +60,7 @@ fn note_reader(own: BlockNumber, readers: &mut [u8], v: ValueId)
     ensures { readers.new ≡ note_reader own.number readers.old v.0 }
 {
     let i = v.0 as usize;
-    if i < readers.len() {
-        readers[i] = seen_by(own, readers[i]);
-    }
+    table::put(readers, i, seen_by(own, bytes_wire::byte_at(readers, i)));
 }
 
 // Notes the reads of a slot as reads in block `own`.
@@ -77,7 +95,7 @@ fn note_block(own: BlockNumber, facts: &[u16], slots: Slots, readers: &mut [u8])
     note_reads(own, facts, slots.first + slots.count, readers);
 }
 
-// A block's number as the table has it.
+// A block's number as the table has it; 0 for one past those that it has room for, which no accepted routine has.
 pub fn block_number(k: BlockId) -> BlockNumber
     ensures { k.0 < block_limit → result.number ≡ k.0 }
 {
@@ -87,19 +105,15 @@ pub fn block_number(k: BlockId) -> BlockNumber
     BlockNumber { number: 0 }
 }
 
-// Notes in `readers`, for each value, which of the `many` blocks reads it.
-pub fn note_readers(facts: &[u16], many: u16, readers: &mut [u8])
-    ensures { (b : Bounds) (s : List ℕ) (ks : List Block) → CodeIn b s facts.now ks → length ks ≡ many → many < block_limit
-        → readers.new ≡ read_blocks 0 readers.old ks }
+// Notes in `readers`, for each value, which of the routine's blocks reads it.
+pub fn note_readers(code: Code, readers: &mut [u8])
+    ensures { (b : Bounds) (s : List ℕ) (ks : List Block) → CodeIn b s code.entry.facts.now ks → length ks ≡ code.entry.bounds.blocks
+        → code.entry.bounds.blocks < block_limit → readers.new ≡ read_blocks 0 readers.old ks }
 {
-    for k in 0..many {
+    for k in 0..code.bounds.blocks {
         let k = BlockId(k);
-        note_block(
-            block_number(k),
-            facts,
-            bytes_index::block_slots(facts, k),
-            readers,
-        );
+        let slots = bytes_index::block_slots(code.facts, k);
+        note_block(block_number(k), code.facts, slots, readers);
     }
 }
 
@@ -107,7 +121,11 @@ pub fn note_readers(facts: &[u16], many: u16, readers: &mut [u8])
 pub fn is_foreign(own: BlockNumber, x: u8) -> bool
     ensures { result ≡ foreign own.number x }
 {
-    x != 0 && x != own.number + 1
+    match readers_of(x) {
+        Readers::None => false,
+        Readers::One(k) => k != own.number,
+        Readers::Several => true,
+    }
 }
 
 // Whether some block other than `own` reads one of the members of a family.

@@ -8,7 +8,7 @@ ghost use Rattle.fold.specs.Tables.{ShapesAt};
 ghost use Rattle.mir.specs.Lookup.{types_in};
 ghost use Rattle.fold_routine.specs.Folds.{Chooses};
 
-use bytes_index::{Code, Typing};
+use bytes_index::Code;
 use fold::Settings;
 use fold_scan::ValueFacts;
 use mir::most;
@@ -42,11 +42,7 @@ pub fn choose_folds(code: Code, settings: Settings, choice: &mut [bool])
 {
     let mut shapes: [u8; most::VALUES] = [0; most::VALUES];
     let mut eligible: [bool; most::VALUES] = [false; most::VALUES];
-    let typing = Typing {
-        code,
-        recorded: bytes_index::recorded(code.facts),
-    };
-    fold_shapes::value_shapes(typing, settings, &mut shapes, &mut eligible);
+    fold_shapes::value_shapes(code.typing(), settings, &mut shapes, &mut eligible);
     let mut marks: [bool; most::VALUES] = [false; most::VALUES];
     let n = code.bounds.next as usize;
     choose_crossed(code, settings, &shapes, &eligible, &mut marks[..n], choice);

@@ -4,10 +4,9 @@ use mathlib.Core.Path.{◌≡◌, refl, ap, ◌∙◌, sym}
 use mathlib.Core.List.{List, [], ◌∷◌}
 use mathlib.Core.Bool.{Bool, true, false, cond, ◌||◌}
 use mathlib.Core.Option.{Option}
-use mir.Val.{bool_byte}
 use native.Mathlib.Nat.{le_refl, le_trans}
 use native.Mathlib.Omega.{arith}
-use borrow.Author.Tests.{eqb-true, eqb-false, lt-ltb, le-ltb, ltb-true, ltb-false, ne_eqb}
+use borrow.Author.Tests.{eqb-true, eqb-false, lt-ltb, ltb-true, ltb-false, ne_eqb}
 use lib.ListN.{length, get_or, get_elem?, set, drop, length-set, drop_of_length-le}
 use lib.Seq.{drop-cons, get_or-set_same, get_or-set_other}
 use lib.Dec.{eqb, ltb}
@@ -26,11 +25,6 @@ use Rattle.fold_climb.specs.Edges.{Edge, edge, part_edges, varies_first}
 use Rattle.fold_climb.specs.Scanned.{many_in, built_in, barred_in, edges_down, tuples_down, Each}
 use Rattle.fold_climb.proofs.Depth.{both_arms}
 use Rattle.fold_scan.specs.Noted.{pushed, barring, noted_read, noted_reads, varies_found, PlaceNoted}
-
--- a flag as a number
-pub as_number : (b : Bool) → bool_byte b ≡ cond b 1 0
-as_number true = refl
-as_number false = refl
 
 -- whether a build passes its conditions, at every value
 pub built_at : (g : List ℕ) (d v : ℕ) (good : Bool) → v < 256 → 513 ≤ length g → built_in (set g (1 + d) (cond good 1 0)) v ≡ cond (eqb d v) good (built_in g v)
@@ -293,24 +287,13 @@ first_step (Index x ∷ ps) = refl
 first_step (Field n ∷ ps) = refl
 first_step (Tuple k ∷ ps) = refl
 
--- a read of a build, as the code notes it
-module _ (kind d w : ℕ) (g : List ℕ) (m : ℕ) (e : m ≡ many_in g) (build : kind ≡ 3 → ⊥) (other : w ≡ d → ⊥) where
-  pub read_pushed : m < 2048 → (x y z u : List ℕ) → x ≡ set g (513 + 3 * m) w → y ≡ set x (513 + 3 * m + 1) d → z ≡ set y (513 + 3 * m + 2) kind → u ≡ set z 0 (m + 1) → u ≡ noted_read kind d g w
-  read_pushed l x y z u p q r s =
-      let n : many_in g < 2048 = omega arith in
-      let t : u ≡ set (set (set (set g (513 + 3 * m) w) (513 + 3 * m + 1) d) (513 + 3 * m + 2) kind) 0 (m + 1) = rw (s, r, q, p) refl in
-      rw (ne_eqb kind 3 build, ne_eqb w d other, lt-ltb (many_in g) 2048 n) (t ∙ ap (λ (n : ℕ). set (set (set (set g (513 + 3 * n) w) (513 + 3 * n + 1) d) (513 + 3 * n + 2) kind) 0 (n + 1)) e)
-
-  pub read_full : 2048 ≤ m → g ≡ noted_read kind d g w
-  read_full l = let n : 2048 ≤ many_in g = omega arith in rw (ne_eqb kind 3 build, ne_eqb w d other, le-ltb (many_in g) 2048 n)
-
 -- the place of a Load or Store, whose first projection was found
-module _ (code : Code) (slot : ℕ) (g : List ℕ) (place : ℕ) (p : place ≡ place_in code.facts.now slot) (t : List ℕ) (q : t ≡ drop place code.bytes.now)
+module _ (code : Code) (slot : ℕ) (g : List ℕ) (t : List ℕ) (q : t ≡ drop (place_in code.facts.now slot) code.bytes.now)
     (x : Option Projection) (found : (seen : List Bool) (late : Bool) (i : Instruction) (n : ℕ) → instruction_of code.bounds seen late t ≡ ok i n → x ≡ get_elem? (place_steps i.kind) 0)
   where
     found_first : (i : Instruction) → InstructionIn code.bounds code.bytes.now code.facts.now slot i → varies_first (place_steps i.kind) ≡ varies_found x
     found_first i h =
-        let r : instruction_of code.bounds [] false t ≡ ok i (end_in code.facts.now slot - place_in code.facts.now slot) = rw (q, p) h.read in
+        let r : instruction_of code.bounds [] false t ≡ ok i (end_in code.facts.now slot - place_in code.facts.now slot) = rw q h.read in
         sym (first_step (place_steps i.kind)) ∙ ap varies_found (sym (found [] false i _ r))
 
     pub place_barred : varies_found x ≡ true → (w : ℕ) → w ≡ read_in code.facts.now slot 0 → (u : List ℕ) → u ≡ barring w g → PlaceNoted code slot g u

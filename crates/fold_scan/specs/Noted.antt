@@ -78,6 +78,12 @@ BuildNoted facts slot kind d good before behind =
 abbrev pub passes_by : ValueFacts → ℕ → ℕ → Bool
 passes_by values v shape = eqb (get_or values.shapes.now v 0) shape && (get_or values.eligible.now v false && not (get_or values.cross.now v false))
 
+-- the same of the build in a slot, whose type has to have a shape
+abbrev pub ShapedNoted : Code → ℕ → ℕ → ℕ → ValueFacts → List ℕ → List ℕ → Type 0
+ShapedNoted code slot kind shape values before behind =
+    let d = dest_in code.bytes.now code.facts.now slot in
+    BuildNoted code.facts.now slot kind (record { 0 = d }) (passes_by values d shape) before behind
+
 -- the graph has room, and the instructions' values are those that have a recorded type
 pub record Ready (b : Bounds) (τ : Types) (graph : List ℕ) : Type 0 where
   pub next : b.next ≡ length τ.recorded

@@ -6,13 +6,13 @@ ghost use Rattle.mir.specs.Option.{as_option};
 ghost use Rattle.mir.specs.Kind.{number_of_kind};
 ghost use Rattle.mir.specs.Shape.{number_of_shape};
 ghost use Rattle.fold_climb.specs.Scanned.{edges_from};
-ghost use Rattle.fold_scan.specs.Noted.{dest_in, barring, noted_read, varies_found, passes_by};
-ghost use Rattle.fold_scan.specs.Noted.{ReadsNoted, PlaceNoted, BuildNoted, OneScanned, BlockScanned};
+ghost use Rattle.fold_scan.specs.Noted.{dest_in, barring, pushed, noted_read, varies_found, passes_by};
+ghost use Rattle.fold_scan.specs.Noted.{ReadsNoted, PlaceNoted, BuildNoted, ShapedNoted, OneScanned, BlockScanned};
 
 use bytes_index::{Code, Slots};
 use mir::kind::Kind;
 use mir::shape::Shape;
-use mir::{Literal, Projection, Value, ValueId, most};
+use mir::{Projection, ValueId, most};
 
 // What is known of all values: the shapes of their types, which types are eligible, which values are aggregates that are used
 // across blocks. (Lists by value, and shapes by their numbers, as the laws of fold/specs read them.)
@@ -27,9 +27,8 @@ pub struct ValueFacts<'a> {
 pub fn dest(code: Code, slot: u16) -> ValueId
     ensures { result.0 ≡ dest_in code.entry.bytes.now code.entry.facts.now slot }
 {
-    let t = bytes_field::tail(code.bytes, bytes_index::place(code.facts, slot));
-    let u = bytes_field::tail(t, bytes_operands::fields_place(t));
-    ValueId(bytes_wire::u16_at(u, 0))
+    let t = bytes_operands::own_fields(code.instruction(slot));
+    ValueId(bytes_wire::u16_at(t, 0))
 }
 
 // Notes that a value is wanted whole.
@@ -38,7 +37,21 @@ fn bar(graph: &mut [u16], v: ValueId)
 {
     let at = v.0 as usize;
     if at < most::VALUES {
-        table::set_number(graph, fold_climb::BARRED + at, 1);
+        table::put(graph, fold_climb::BARRED + at, 1);
+    }
+}
+
+// Notes that a value `w` is a part of a build `d` of a kind, while there is room for another edge.
+fn push_edge(graph: &mut [u16], kind: Kind, d: ValueId, w: ValueId)
+    ensures { graph.new ≡ pushed w.0 d.0 (number_of_kind kind) graph.old }
+{
+    let many = table::number(graph, 0);
+    if many < fold_climb::MOST {
+        let at = fold_climb::edge_place(many);
+        table::put(graph, at, w.0);
+        table::put(graph, at + fold_climb::PARENT, d.0);
+        table::put(graph, at + fold_climb::KIND, kind as u16);
+        table::put(graph, 0, many + 1);
     }
 }
 
@@ -49,18 +62,8 @@ fn note_read(graph: &mut [u16], kind: Kind, d: ValueId, w: ValueId)
 {
     if kind == Kind::Call {
         bar(graph, w);
-        return;
-    }
-    if w.0 == d.0 {
-        return;
-    }
-    let many = table::number(graph, 0);
-    if many < fold_climb::MOST {
-        let at = fold_climb::EDGES + fold_climb::WIDTH * many as usize;
-        table::set_number(graph, at, w.0);
-        table::set_number(graph, at + fold_climb::PARENT, d.0);
-        table::set_number(graph, at + fold_climb::KIND, kind as u16);
-        table::set_number(graph, 0, many + 1);
+    } else if w != d {
+        push_edge(graph, kind, d, w);
     }
 }
 
@@ -75,13 +78,14 @@ fn note_reads(graph: &mut [u16], facts: &[u16], slot: u16, kind: Kind, d: ValueI
 }
 
 // A first projection that is no Integer literal.
-#[tactic(auto, unfolding(fold_climb::specs::Edges::varies_first, mir::specs::Lookup::is_integer))]
+#[tactic(auto, unfolding(fold_climb::specs::Edges::varies_first))]
 fn varies(p: Option<Projection>) -> bool
     ensures { result ≡ varies_found (as_option p) }
 {
     match p {
-        None | Some(Projection::Index(Value::Literal(Literal::Integer(_)))) => false,
-        _ => true,
+        Some(Projection::Index(x)) => !x.is_integer(),
+        Some(_) => true,
+        None => false,
     }
 }
 
@@ -89,8 +93,7 @@ fn varies(p: Option<Projection>) -> bool
 fn note_place(code: Code, slot: u16, graph: &mut [u16])
     ensures { PlaceNoted code.entry slot graph.old graph.new }
 {
-    let t = bytes_field::tail(code.bytes, bytes_index::place(code.facts, slot));
-    if varies(bytes_operands::projection(t, code.bounds, 0)) {
+    if varies(bytes_operands::projection(code.instruction(slot), code.bounds, 0)) {
         bar(graph, bytes_index::read(code.facts, slot, 0));
     }
 }
@@ -100,18 +103,32 @@ fn passes(d: ValueId, shape: Shape, values: ValueFacts) -> bool
     ensures { result ≡ passes_by values.entry d.0 (number_of_shape shape) }
 {
     let at = d.0 as usize;
-    if bytes_wire::byte_at(values.shapes, at) != shape as u8 {
-        return false;
-    }
-    table::flag(values.eligible, at) && !table::flag(values.cross, at)
+    bytes_wire::byte_at(values.shapes, at) == shape as u8
+        && table::flag(values.eligible, at)
+        && !table::flag(values.cross, at)
 }
 
 // Notes a build `d` of a kind, and whether it passes its conditions.
 fn note_build(graph: &mut [u16], facts: &[u16], slot: u16, kind: Kind, d: ValueId, good: bool)
     ensures { BuildNoted facts.now slot (number_of_kind kind) d good graph.old graph.new }
 {
-    table::set_number(graph, fold_climb::BUILT + d.0 as usize, good as u16);
+    table::put(graph, fold_climb::BUILT + d.0 as usize, good as u16);
     note_reads(graph, facts, slot, kind, d);
+}
+
+// Notes the build in a slot, a tuple or an array: by its kind and the shape that its type has to have.
+fn note_shaped(
+    code: Code,
+    slot: u16,
+    kind: Kind,
+    shape: Shape,
+    values: ValueFacts,
+    graph: &mut [u16],
+)
+    ensures { ShapedNoted code.entry slot (number_of_kind kind) (number_of_shape shape) values.entry graph.old graph.new }
+{
+    let d = dest(code, slot);
+    note_build(graph, code.facts, slot, kind, d, passes(d, shape, values));
 }
 
 // Notes what the instruction in a slot adds to the graph; `pass`: a MakeStruct passes its conditions.
@@ -124,17 +141,9 @@ fn scan_one(code: Code, slot: u16, values: ValueFacts, pass: bool, graph: &mut [
     match kind {
         Kind::Call => note_reads(graph, code.facts, slot, kind, ValueId(0)),
         Kind::Load | Kind::Store => note_place(code, slot, graph),
-        Kind::MakeTuple => {
-            let d = dest(code, slot);
-            let good = passes(d, Shape::Tuple, values);
-            note_build(graph, code.facts, slot, kind, d, good);
-        }
+        Kind::MakeTuple => note_shaped(code, slot, kind, Shape::Tuple, values, graph),
         Kind::MakeStruct => note_build(graph, code.facts, slot, kind, dest(code, slot), pass),
-        Kind::MakeFixedArray => {
-            let d = dest(code, slot);
-            let good = passes(d, Shape::FixedArray, values);
-            note_build(graph, code.facts, slot, kind, d, good);
-        }
+        Kind::MakeFixedArray => note_shaped(code, slot, kind, Shape::FixedArray, values, graph),
         _ => {}
     }
 }

@@ -1,15 +1,12 @@
 -- A type's row says its shape and its number of parts.
-use Prim.Native.Nat.{ℕ, zero, suc, ◌<◌}
+use Prim.Native.Nat.{ℕ, zero, suc, ◌≤◌, ◌<◌}
 use mathlib.Core.Path.{◌≡◌, refl, ◌∙◌, sym}
 use mathlib.Core.List.{List, [], ◌∷◌}
 use mathlib.Core.Bool.{true, false, cond}
 use mathlib.Core.Bool as B
-use mathlib.Core.Option.{Option, none, some}
+use mathlib.Core.Option.{none, some}
 use native.Mathlib.Omega.{arith}
-use borrow.Author.Tests.{ltb-true, ltb-false}
-use lib.ListN.{length, get_or, get_elem?, drop}
-use lib.Seq.{drop-length}
-use lib.Dec.{ltb}
+use lib.ListN.{length, get_or, drop}
 use Rattle.table.proofs.Elements.{some_at, none_at}
 use Rattle.bytes_wire.specs.Parse.{Parse, ok, and_then, map_parse, seq_of}
 use Rattle.bytes_wire.specs.Number.{u32_of, below, at32}
@@ -20,13 +17,12 @@ use Rattle.bytes_field.specs.Decode.{type_id_of, count_of, list_of}
 use Rattle.bytes_field.proofs.Rows.{count_first}
 use Rattle.mir.specs.MirType.{MirType}
 use Rattle.bytes_types.specs.Decode.{struct_of, type_kinds, type_of}
-use Rattle.bytes_types.specs.Index.{TypesAt}
 use Rattle.bytes_struct.proofs.Placed.{StructAt, struct_at, struct_stands}
 use Rattle.bytes_index.specs.declared.code.Code.{Code}
 use Rattle.fold.specs.declared.Settings.{Settings}
 use Rattle.mir.specs.Lookup.{Types, row_of, shape}
 use Rattle.fold.specs.Scalarizable.{is_scalarizable}
-use Rattle.fold_shapes.specs.Shapes.{row_shape, row_eligible, row_at, Said, OfType, RowSays}
+use Rattle.fold_shapes.specs.Shapes.{row_shape, row_eligible, Said, OfType, RowSays}
 
 -- a list has as many as its first byte says
 list_length : {A : Type 0} (most : ℕ) (dec : List ℕ → Parse A) (s : List ℕ) {xs : List A} {n : ℕ} → list_of most dec s ≡ ok xs n → length xs ≡ get_or s 0 0
@@ -98,20 +94,21 @@ type_said most own (suc (suc (suc (suc (suc (suc (suc (suc (suc (suc zero)))))))
 type_said most own (suc (suc (suc (suc (suc (suc (suc (suc (suc (suc (suc a)))))))))) ∷ t) e =
     absurd (no_ok (tagged_inv (type_kinds most own) (suc (suc (suc (suc (suc (suc (suc (suc (suc (suc (suc a)))))))))) ∷ t) e).1)
 
--- the row of a type says its shapes, and where there is no row nothing is said
-pub row_said : (most many t : ℕ) (s types : List ℕ) (ts : List MirType) → TypesAt most s types ts → length ts ≡ many → Said (get_elem? ts t) (drop (cond (ltb t many) (get_or types t 0) (length s)) s)
-unfolding shape is_scalarizable
-row_said most many t s types ts a m = go (ltb t many) refl
-  where
-    go : (b : B.Bool) → ltb t many ≡ b → Said (get_elem? ts t) (drop (cond b (get_or types t 0) (length s)) s)
-    go true e = let p : t < length ts = omega (arith, ltb-true t many e) in rw (some_at ts t MirType.Unit p) (type_said most t (drop (get_or types t 0) s) (a.each t p))
-    go false e = rw (drop-length s, none_at ts t (omega (arith, ltb-false t many e))) record { shaped = refl; fits = λ σ. refl }
+-- the row of a type says its shapes
+pub row_says : (code : Code) (t : TypeId) {u : List ℕ} → t.0 < code.bounds.types → u ≡ drop (get_or code.facts.now t.0 0) code.bytes.now → RowSays code (some t) u
+unfolding row_of
+row_says code t h f most τ a m =
+    let p : t.0 < length τ.rows = omega (arith, h) in
+    rw (f, some_at τ.rows t.0 MirType.Unit p) (type_said most t.0 (drop (get_or code.facts.now t.0 0) code.bytes.now) (a.each t.0 p))
 
--- and so does that of an Option
-pub row_says : (code : Code) (o : Option TypeId) {at : ℕ} {u : List ℕ} → at ≡ row_at code o → u ≡ drop at code.bytes.now → RowSays code o u
+-- where there is no row nothing is said
+pub none_says : (code : Code) → RowSays code none []
 unfolding row_of shape is_scalarizable
-row_says code none e f most τ a m = rw (f, e, drop-length code.bytes.now) record { shaped = refl; fits = λ σ. refl }
-row_says code (some t) e f most τ a m = rw (f, e) (row_said most code.bounds.types t.0 code.bytes.now code.facts.now τ.rows a m)
+none_says code most τ a m = record { shaped = refl; fits = λ σ. refl }
+
+pub other_says : (code : Code) (t : TypeId) → code.bounds.types ≤ t.0 → RowSays code (some t) []
+unfolding row_of shape is_scalarizable
+other_says code t h most τ a m = rw (none_at τ.rows t.0 (omega (arith, h))) record { shaped = refl; fits = λ σ. refl }
 
 -- what is said of a type is what its row says
 abbrev types_of : List MirType → Types
@@ -124,13 +121,3 @@ shape_found code t e f most ts a m = e ∙ sym (f most (types_of ts) a m).shaped
 pub eligible_found : (code : Code) (t : TypeId) (σ : Settings) {r : B.Bool} {u : List ℕ} → r ≡ row_eligible σ u → RowSays code (some t) u → OfType (is_scalarizable σ) code t r
 unfolding row_of
 eligible_found code t σ e f most ts a m = e ∙ sym ((f most (types_of ts) a m).fits σ)
-
--- a kind that is none of the three
-pub other_kind : {A : Type 0} (d a b c : A) (k : ℕ) → (k ≡ 3 → ⊥) → (k ≡ 4 → ⊥) → (k ≡ 5 → ⊥) → d ≡ get_or (d ∷ d ∷ d ∷ a ∷ b ∷ c ∷ []) k d
-other_kind d a b c zero f g h = refl
-other_kind d a b c (suc zero) f g h = refl
-other_kind d a b c (suc (suc zero)) f g h = refl
-other_kind d a b c (suc (suc (suc zero))) f g h = absurd (f refl)
-other_kind d a b c (suc (suc (suc (suc zero)))) f g h = absurd (g refl)
-other_kind d a b c (suc (suc (suc (suc (suc zero))))) f g h = absurd (h refl)
-other_kind d a b c (suc (suc (suc (suc (suc (suc k)))))) f g h = refl

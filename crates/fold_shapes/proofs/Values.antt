@@ -1,5 +1,5 @@
 -- The shapes of values, one after another.
-use Prim.Native.Nat.{ℕ, suc, ◌+◌, ◌≤◌, ◌<◌, zero-le}
+use Prim.Native.Nat.{ℕ, suc, ◌+◌, ◌≤◌, ◌<◌}
 use mathlib.Core.Path.{◌≡◌, refl, ap, ◌∙◌, sym}
 use mathlib.Core.List.{List}
 use mathlib.Core.Bool.{Bool, false}
@@ -16,7 +16,7 @@ use Rattle.fold.specs.declared.Settings.{Settings}
 use Rattle.mir.specs.Lookup.{Types, row_of, recorded_type, value_row, shape}
 use Rattle.fold.specs.Scalarizable.{is_scalarizable}
 use Rattle.fold.specs.Tables.{Known}
-use Rattle.fold_shapes.specs.Shapes.{row_shape, row_eligible, RowSays, FillsShapes}
+use Rattle.fold_shapes.specs.Shapes.{row_shape, row_eligible, RowSays}
 
 -- a recorded type's number, taken apart again
 pub recorded_back : (o : Option TypeId) → recorded_from (recorded_number o) ≡ o
@@ -25,7 +25,6 @@ recorded_back (some t) = let z : t.0 + 1 ≡ suc t.0 = omega arith in ap recorde
 
 -- v values have their shapes
 pub record Filling (typing : Typing) (σ : Settings) (shapes₀ : List ℕ) (eligible₀ : List Bool) (shapes : List ℕ) (eligible : List Bool) (v : ℕ) : Type 0 where
-  pub under : v ≤ typing.code.bounds.next
   pub long_shapes : length shapes ≡ length shapes₀
   pub long_eligible : length eligible ≡ length eligible₀
   pub shaped : (most : ℕ) (τ : Types) → Known most typing.code.bytes.now typing.code.facts.now typing.recorded.now τ → length τ.rows ≡ typing.code.bounds.types → length τ.recorded ≡ typing.code.bounds.next → typing.code.bounds.next ≤ length shapes₀ → (j : ℕ) → j < v → get_or shapes j 0 ≡ shape (value_row τ (record { 0 = j }))
@@ -52,7 +51,6 @@ pub fill_again : (typing : Typing) (σ : Settings) (shapes₀ : List ℕ) (eligi
 unfolding value_row recorded_type
 fill_again typing σ shapes₀ eligible₀ shapes eligible v o row a b shapes₁ eligible₁ u h e s f g p q =
     rw (p, q) record {
-      under = omega arith;
       long_shapes = length-set shapes v a ∙ u.long_shapes;
       long_eligible = length-set eligible v b ∙ u.long_eligible;
       shaped = λ most τ k m l r.

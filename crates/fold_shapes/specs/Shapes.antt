@@ -1,6 +1,6 @@
 -- What the code reads off the bytes of a type's row, and what it promises. proofs/Rows.antt ties the bytes to the types.
-use Rattle.std.specs.Prelude.{ℕ, ◌≤◌, ◌≡◌, List, [], ◌∷◌, Bool, false, cond, ◌&&◌, length, get_or, leb, ltb}
-use Rattle.std.proofs.Math.Option.{Option, none, some}
+use Rattle.std.specs.Prelude.{ℕ, ◌≤◌, ◌≡◌, List, [], ◌∷◌, Bool, false, ◌&&◌, length, get_or, leb}
+use Rattle.std.proofs.Math.Option.{Option}
 use Rattle.std.proofs.Math.ListN.{get_elem?}
 use Rattle.bytes_wire.specs.Number.{at32}
 use Rattle.mir.specs.declared.TypeId.{TypeId}
@@ -31,11 +31,6 @@ row_eligible σ t =
     ∷ [])
     (get_or t 0 0)
     false
-
--- where a type's row begins: at the end of the bytes where there is no such type, or none
-abbrev pub row_at : Code → Option TypeId → ℕ
-row_at code none = length code.bytes.now
-row_at code (some t) = cond (ltb t.0 code.bounds.types) (get_or code.facts.now t.0 0) (length code.bytes.now)
 
 -- what a row says of its type, and the empty one of none
 pub record Said (o : Option MirType) (t : List ℕ) : Type 0 where

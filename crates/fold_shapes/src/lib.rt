@@ -1,5 +1,6 @@
 // The shapes of types and values, as tables, and which types are eligible under the settings.
-// (Shapes stand in tables by their numbers: `ShapesAt` of fold/specs, which stands word for word, speaks of a list of numbers.)
+// (Shapes stand in tables by their numbers, as `ShapesAt` of fold/specs reads them: with a table of `Shape` each clause over one, in all
+// crates that are lent it, would speak of `map number_of_shape shapes.now`, which is no plainer.)
 #![tactic(auto)]
 
 ghost use Rattle.std.specs.Prelude.{◌≡◌, ◌&&◌, get_or, leb};
@@ -7,7 +8,7 @@ ghost use Rattle.mir.specs.Lookup.{shape};
 ghost use Rattle.mir.specs.Option.{as_option};
 ghost use Rattle.mir.specs.Shape.{number_of_shape};
 ghost use Rattle.fold.specs.Scalarizable.{is_scalarizable};
-ghost use Rattle.fold_shapes.specs.Shapes.{row_shape, row_eligible, row_at, OfType, RowSays, FillsShapes};
+ghost use Rattle.fold_shapes.specs.Shapes.{row_shape, row_eligible, OfType, RowSays, FillsShapes};
 
 use bytes_index::{Code, Typing};
 use bytes_types::layout;
@@ -47,21 +48,14 @@ fn row_eligible(t: &[u8], settings: Settings) -> bool
     on && size <= settings.most as u32
 }
 
-// Where the row of a type begins; the end of the bytes where there is no such type, or none.
-fn row_place(code: Code, t: Option<TypeId>) -> usize
-    ensures { result ≡ row_at code.entry (as_option t) }
-{
-    match t {
-        Some(t) if t.0 < code.bounds.types => bytes_lookup::type_place(code.facts, t),
-        _ => code.bytes.len(),
-    }
-}
-
 // The row of a type, which is empty where there is no such type, or none.
-fn type_row(code: Code, t: Option<TypeId>) -> &[u8]
+fn type_row<'a>(code: Code<'a>, t: Option<TypeId>) -> &'a [u8]
     ensures { RowSays code.entry (as_option t) result.now }
 {
-    bytes_field::tail(code.bytes, row_place(code, t))
+    match t {
+        Some(t) if t.0 < code.bounds.types => code.type_row(t),
+        _ => &[],
+    }
 }
 
 // The shape of type `t`; that of any other type where there is no such type.
@@ -85,7 +79,7 @@ pub fn value_shapes(typing: Typing, settings: Settings, shapes: &mut [u8], eligi
     for v in 0..typing.code.bounds.next {
         let t = bytes_lookup::recorded_type(typing.recorded, ValueId(v));
         let row = type_row(typing.code, t);
-        table::set_byte(shapes, v as usize, row_shape(row) as u8);
-        table::set_flag(eligible, v as usize, row_eligible(row, settings));
+        table::put(shapes, v as usize, row_shape(row) as u8);
+        table::put(eligible, v as usize, row_eligible(row, settings));
     }
 }

@@ -1,15 +1,13 @@
 -- The conditions of a MakeStruct, found in its bytes.
-use Prim.Native.Nat.{ℕ, zero, suc, ◌+◌, ◌-◌, ◌/◌, ◌%◌, ◌^◌, ◌≤◌, ◌<◌}
+use Prim.Native.Nat.{ℕ, zero, suc, ◌+◌, ◌-◌, ◌≤◌, ◌<◌}
 use mathlib.Core.Path.{◌≡◌, refl, ap, ◌∙◌, sym}
 use mathlib.Core.List.{List, [], ◌∷◌}
-use mathlib.Core.Bool.{Bool, true, false, cond}
+use mathlib.Core.Bool.{Bool, true, false}
 use mathlib.Core.Option.{Option, none, some}
-use native.Mathlib.Nat.{zero-add}
 use native.Mathlib.Omega.{arith}
-use borrow.Author.Tests.{ne_eqb, eqb-true, eqb-false}
-use lib.ListN.{length, get_or, set, get_elem?, drop, length-set}
-use lib.Seq.{drop-drop, get_or-set_same, get_or-set_other}
-use lib.Dec.{eqb}
+use borrow.Author.Tests.{ne_eqb}
+use lib.ListN.{length, get_or, get_elem?, drop}
+use lib.Seq.{drop-drop}
 use Rattle.bytes_wire.specs.Parse.{ok}
 use Rattle.bytes_wire.specs.Number.{at16, below}
 use Rattle.mir.specs.declared.ValueId.{ValueId}
@@ -31,23 +29,19 @@ use Rattle.fold.specs.Scalarizable.{is_scalarizable}
 use Rattle.fold.specs.Family.{Marks}
 use Rattle.mir.specs.Parts.{or_else, struct_row, from_struct_fields, struct_parts}
 use Rattle.fold.specs.Climb.{buildable}
-use Rattle.bytes_index.specs.Table.{recorded_in, place_in, end_in, kind_in}
-use Rattle.bytes_index.specs.Code.{no_instruction}
+use Rattle.bytes_index.specs.Table.{recorded_in}
 use Rattle.bytes_index.specs.declared.code.Code.{Code}
 use Rattle.bytes_index.specs.declared.slots.Slots.{Slots}
-use Rattle.mir.specs.declared.kind.Kind.{Kind}
-use Rattle.mir.specs.Kind.{NamesKind}
 use Rattle.rewrite_parts.specs.Rows.{Inits}
 use Rattle.bytes_struct.specs.Fields.{Names}
-use Rattle.rewrite_parts.proofs.Builds.{build_inits}
+use Rattle.rewrite_parts.proofs.Builds.{own_inits}
 use Rattle.bytes_struct.proofs.Placed.{type_fields}
 use Rattle.fold.specs.Tables.{Ground, CodeGround}
 use Rattle.std.specs.Prelude.{Some, None, Option as Answered, unwrap_or}
 use Rattle.mir.specs.Option.{as_option}
 use Rattle.fold_shapes.proofs.Values.{recorded_back}
-use Rattle.fold_structs.specs.Told.{goes_by, TellsRow, Passes, StructTold, StructsTold}
+use Rattle.fold_structs.specs.Told.{goes_by, TellsRow, Passes, StructTold}
 use Rattle.fold_climb.proofs.Found.{dest_at}
-use Rattle.mir.proofs.Numbers.{names_one}
 
 -- a type's number at a place
 type_at : (types : ℕ) (t : List ℕ) (p : ℕ) {y : TypeId} {n : ℕ} → type_id_of types (drop p t) ≡ ok y n → (y.0 ≡ at16 t p) × (y.0 < types) × (n ≡ 2)
@@ -72,16 +66,6 @@ goes_told (Some t) y = refl
 -- a number behind some bytes
 behind_16 : (o : ℕ) (t : List ℕ) (p : ℕ) → at16 (drop o t) p ≡ at16 t (o + p)
 behind_16 o t p = sym (from_16 (drop o t) p) ∙ rw (drop-drop p o t) (from_16 t (o + p))
-
--- where the fields begin is near
-few : (b : Bool) (x y : ℕ) → x ≤ y → cond b x 0 ≤ y
-few true x y h = h
-few false x y h = omega arith
-
-pub fields_low : (t : List ℕ) → fields_place t < 64
-fields_low t =
-    let x = get_or t 0 0 in
-    omega (arith, few (eqb (x / 2 ^ 0 % 2) 1) 8 8 (omega arith), few (eqb (x / 2 ^ 1 % 2) 1) 12 12 (omega arith), few (eqb (x / 2 ^ 2 % 2) 1) 4 4 (omega arith))
 
 -- a struct build of n bytes: its dest stands first, its type last
 data StructAt (next types : ℕ) (t : List ℕ) (i : InstructionKind) (n : ℕ) : Type 0 where
@@ -165,32 +149,30 @@ struct_row_of MirType.Unit e = absurd (omega arith)
 struct_row_of MirType.Error e = absurd (omega arith)
 struct_row_of MirType.Unknown e = absurd (omega arith)
 
--- the same of the lists themselves
-abbrev EachGiven : List ℕ → ℕ → ℕ → List ℕ → ℕ → ℕ → Bool → Type 0
-EachGiven t at n u names m answer =
+-- each name of a struct's row is given among so many inits at a place
+abbrev EachGiven : List ℕ → ℕ → ℕ → List ℕ → Bool → Type 0
+EachGiven t at count row answer =
     (next : ℕ) (fs : List FieldInit) (ts : List StructField)
-    → Inits next t at fs → length fs ≡ n → Names u names ts → length ts ≡ m → answer ≡ is_some (from_struct_fields fs ts)
+    → Inits next t at fs → length fs ≡ count → Names row 4 ts → length ts ≡ get_or row 3 0 → answer ≡ is_some (from_struct_fields fs ts)
 
-module _ (code : Code) (y : TypeId) (t : List ℕ) (shp : ℕ) (tells : OfType shape code y shp) where
-  pub told_none : (shp ≡ 2 → ⊥) → TellsRow code y t false
+module _ (code : Code) (y : TypeId) (own : List ℕ) (shp : ℕ) (tells : OfType shape code y shp) where
+  pub told_none : (shp ≡ 2 → ⊥) → TellsRow code y own false
   unfolding row_of is_struct is_some
-  told_none h b τ i n d fs x at l e k = let z = ne_eqb (shape (get_elem? τ.rows y.0)) 2 (λ q. h (tells b.list τ.rows at l ∙ q)) in rw z refl
+  told_none h next most τ fs at l a m = let z = ne_eqb (shape (get_elem? τ.rows y.0)) 2 (λ q. h (tells most τ.rows at l ∙ q)) in rw z refl
 
-  pub told_all : shp ≡ 2 → (place : ℕ) → place ≡ get_or code.facts.now y.0 0 → (u : List ℕ) → u ≡ drop place code.bytes.now → (off : ℕ) → off ≡ fields_place t → (c : ℕ) → c ≡ get_or t (off + 2) 0 → (m : ℕ) → m ≡ get_or u 3 0 → (r : Bool) → EachGiven t (off + 3) c u 4 m r → TellsRow code y t r
+  pub told_all : shp ≡ 2 → (count : ℕ) → count ≡ get_or own 2 0 → (row : List ℕ) → row ≡ drop (get_or code.facts.now y.0 0) code.bytes.now → (r : Bool) → EachGiven own 3 count row r → TellsRow code y own r
   unfolding row_of is_struct is_some struct_fields_of shape
-  told_all h place pl u us off os c cs m ms r all b τ i n d fs x at l e k =
-      let z : shape (get_elem? τ.rows y.0) ≡ 2 = sym (tells b.list τ.rows at l) ∙ h in
+  told_all h count cs row us r all next most τ fs at l a m =
+      let z : shape (get_elem? τ.rows y.0) ≡ 2 = sym (tells most τ.rows at l) ∙ h in
       let w = row_there τ.rows y.0 z in
-      let row = get_or τ.rows y.0 MirType.Unit in
-      let q : shape (some row) ≡ 2 = sym (ap shape w.1) ∙ z in
-      let v : drop (get_or code.facts.now y.0 0) code.bytes.now ≡ u = sym (us ∙ ap (λ a. drop a code.bytes.now) pl) in
-      let p = rw v at (at.each y.0 w.0) in
-      let f = build_inits b [] false t 0 i n {d = d} {fs = fs} {y = x} e k off (os ∙ sym (zero-add (fields_place t))) in
-      elim (struct_row_of row q) [
+      let x = get_or τ.rows y.0 MirType.Unit in
+      let q : shape (some x) ≡ 2 = sym (ap shape w.1) ∙ z in
+      let p = rw (sym us) at (at.each y.0 w.0) in
+      elim (struct_row_of x q) [
         | is_struct_lem nm ts g ↦
-            let o = type_fields b.list y.0 u p g in
-            let a : r ≡ is_some (from_struct_fields fs ts) = all b.next fs ts f.0 (f.1 ∙ sym cs) o.names (o.many ∙ sym ms) in
-            rw (w.1, g) a
+            let o = type_fields most y.0 row p g in
+            let e : r ≡ is_some (from_struct_fields fs ts) = all next fs ts a (m ∙ sym cs) o.names o.many in
+            rw (w.1, g) e
       ]
 
 -- what the code says of a MakeStruct
@@ -218,7 +200,7 @@ module _ (code : Code) (σ : Settings) (cross : Marks) (t : List ℕ) (n : ℕ) 
                 rw (p, eligible_named τ g y u, ok_type, z) refl
           ]
 
-      pub passes_told : marked ≡ false → (w : TypeId) → w ≡ goes_by (recorded_from (get_or (recorded_in code.facts.now) d 0)) named → (r : Bool) → TellsRow code w t r → Passes code σ cross t n r
+      pub passes_told : marked ≡ false → (w : TypeId) → w ≡ goes_by (recorded_from (get_or (recorded_in code.facts.now) d 0)) named → (r : Bool) → TellsRow code w (drop (fields_place t) t) r → Passes code σ cross t n r
       unfolding buildable struct_parts
       passes_told h w ws r tells τ i g e k =
           elim (find_struct code.bounds t i n e k) [
@@ -226,49 +208,13 @@ module _ (code : Code) (σ : Settings) (cross : Marks) (t : List ℕ) (n : ℕ) 
                 let same : v.0 ≡ d = a ∙ sym ds in
                 let z : get_or cross v.0 false ≡ false = ap (λ c. get_or cross c false) same ∙ sym ms ∙ h in
                 let o : w ≡ goes_by (recorded_from (get_or (recorded_in code.facts.now) v.0 0)) y = ws ∙ ap (λ c. goes_by (recorded_from (get_or (recorded_in code.facts.now) c 0)) named) (sym same) ∙ ap (λ x. goes_by (recorded_from (get_or (recorded_in code.facts.now) v.0 0)) (typed x)) (ns ∙ sym u) in
-                let q = tells code.bounds τ i n v fs y g.known.rows g.rows e p in
+                let f = own_inits code.bounds [] false t i n {d = v} {fs = fs} {y = y} e p in
+                let q = tells code.bounds.next code.bounds.list τ fs g.known.rows g.rows f.0 f.1 in
                 rw (p, eligible_named τ g y u, ok_type, z, struct_row_lem code.bounds code.bytes.now code.facts.now (recorded_in code.facts.now) τ g v y l, ← o) q
           ]
-
--- the instruction in a slot
-module _ (code : Code) (σ : Settings) (cross : Marks) (slot : ℕ) where
-  pub told_other : (kind : Answered Kind) → NamesKind (kind_in code.facts.now slot) kind → (kind ≡ Some Kind.MakeStruct → ⊥) → StructTold code σ cross slot false
-  told_other kind e h τ i g at z = absurd (h (names_one _ kind Kind.MakeStruct e (at.kind ∙ z)))
-
-  module _ (place end : ℕ) (ps : place ≡ place_in code.facts.now slot) (es : end ≡ end_in code.facts.now slot) where
-    pub told_short : end < place → StructTold code σ cross slot false
-    told_short h τ i g at z = absurd (omega (arith, at.rises))
-
-    pub told_struct : (t : List ℕ) → t ≡ drop place code.bytes.now → (r : Bool) → Passes code σ cross t (end - place) r → StructTold code σ cross slot r
-    told_struct t ts r passes τ i g at z = passes τ i g (rw (ts, ps, es) at.read) z
 
 -- the first k flags stand
 pub record Filling (code : Code) (slots : Slots) (σ : Settings) (cross : Marks) (structs₀ : List Bool) (k : ℕ) (structs : List Bool) : Type 0 where
   pub low : k ≤ slots.count
   pub long : length structs ≡ length structs₀
   pub told : slots.count ≤ length structs₀ → (j : ℕ) → j < k → StructTold code σ cross (slots.first + j) (get_or structs j false)
-
-module _ {code : Code} {slots : Slots} {σ : Settings} {cross : Marks} {structs₀ : List Bool} where
-  pub filling : Filling code slots σ cross structs₀ 0 structs₀
-  filling = record { low = omega arith; long = refl; told = λ r j h. absurd (omega arith) }
-
-  pub filling_on : {k : ℕ} {structs structs' : List Bool} → Filling code slots σ cross structs₀ k structs → k < slots.count → (r : Bool) → StructTold code σ cross (slots.first + k) r → structs' ≡ set structs k r → Filling code slots σ cross structs₀ (k + 1) structs'
-  filling_on {k} {structs} {structs'} inv h r one e =
-      record {
-        low = omega arith;
-        long = ap length e ∙ length-set structs k r ∙ inv.long;
-        told = λ room j l. go room j l (eqb j k) refl;
-      }
-    where
-      go : slots.count ≤ length structs₀ → (j : ℕ) → j < k + 1 → (c : Bool) → eqb j k ≡ c → StructTold code σ cross (slots.first + j) (get_or structs' j false)
-      go room j l true q =
-          let z : j ≡ k = eqb-true j k q in
-          let w : k < length structs = omega (arith, inv.long) in
-          rw (e, z, get_or-set_same structs k r false w) one
-      go room j l false q =
-          let n : j ≡ k → ⊥ = λ z. eqb-false j k q z in
-          let m : j < k = omega (arith, n) in
-          rw (e, get_or-set_other structs k j r false n) (inv.told room j m)
-
-  pub filled : {k : ℕ} {structs : List Bool} → Filling code slots σ cross structs₀ k structs → slots.count ≤ k → StructsTold code slots σ cross structs₀ structs
-  filled inv h τ all g at l room j m e = inv.told room j (omega (arith, l)) τ (get_or all j no_instruction) g (at j m) e

@@ -1,15 +1,14 @@
 -- Which MakeStructs pass their conditions: what the code finds it by.
-use Rattle.std.specs.Prelude.{ℕ, ◌≤◌, ◌≡◌, List, [], Bool, false, cond, length}
+use Rattle.std.specs.Prelude.{ℕ, ◌≤◌, ◌≡◌, List, [], Bool, false, cond, length, get_or}
 use Rattle.std.proofs.Math.Option.{Option, none, some}
 use Rattle.bytes_wire.specs.Parse.{ok}
-use Rattle.mir.specs.declared.ValueId.{ValueId}
+use Rattle.mir.specs.declared.NameId.{NameId}
 use Rattle.mir.specs.declared.TypeId.{TypeId}
 use Rattle.mir.specs.MirType.{StructField, MirType}
 use Rattle.bytes_types.specs.Index.{TypesAt}
-use Rattle.mir.specs.Syntax.{FieldInit, Instruction, MakeStruct}
+use Rattle.mir.specs.Syntax.{FieldInit, Instruction}
 use Rattle.mir.specs.Reads.{kind_number}
 use Rattle.bytes_field.specs.Decode.{instruction_of}
-use Rattle.bytes_field.specs.declared.Bounds.{Bounds}
 use Rattle.bytes_index.specs.declared.code.Code.{Code}
 use Rattle.bytes_index.specs.declared.slots.Slots.{Slots}
 use Rattle.bytes_index.specs.Code.{InstructionIn, InstructionsIn}
@@ -18,7 +17,7 @@ use Rattle.mir.specs.Lookup.{Types, row_of, is_struct, struct_fields_of, is_some
 use Rattle.fold.specs.Numbers.{struct_kind}
 use Rattle.fold.specs.Family.{Marks}
 use Rattle.fold.specs.Climb.{buildable}
-use Rattle.mir.specs.Parts.{from_struct_fields}
+use Rattle.mir.specs.Parts.{given, from_struct_fields}
 use Rattle.fold.specs.Tables.{CodeGround}
 use Rattle.rewrite_parts.specs.declared.listed.Listed.{Listed}
 use Rattle.rewrite_parts.specs.Rows.{Inits}
@@ -34,24 +33,32 @@ abbrev pub goes_by : Option TypeId → TypeId → TypeId
 goes_by none named = named
 goes_by (some t) named = t
 
--- whether each of a type's names is given among the inits of a MakeStruct
-abbrev pub AllGiven : Listed → Listed → Bool → Type 0
-AllGiven inits names answer =
+-- whether a name is given among the inits of a MakeStruct
+abbrev pub Gives : Listed → NameId → Bool → Type 0
+Gives inits name answer =
+    (next : ℕ) (fs : List FieldInit)
+    → Inits next inits.bytes.now inits.at fs
+    → length fs ≡ inits.count
+    → answer ≡ is_some (given name fs)
+
+-- whether each name of a struct's row is
+abbrev pub AllGiven : Listed → List ℕ → Bool → Type 0
+AllGiven inits row answer =
     (next : ℕ) (fs : List FieldInit) (ts : List StructField)
     → Inits next inits.bytes.now inits.at fs
     → length fs ≡ inits.count
-    → Names names.bytes.now names.at ts
-    → length ts ≡ names.count
+    → Names row 4 ts
+    → length ts ≡ get_or row 3 0
     → answer ≡ is_some (from_struct_fields fs ts)
 
--- whether type y is a struct whose fields the MakeStruct at t gives
+-- whether type y is a struct whose fields are given in the MakeStruct with these fields of its own
 abbrev pub TellsRow : Code → TypeId → List ℕ → Bool → Type 0
-TellsRow code y t answer =
-    (b : Bounds) (τ : Types) (i : Instruction) (n : ℕ) (d : ValueId) (fs : List FieldInit) (x : TypeId)
-    → TypesAt b.list code.bytes.now code.facts.now τ.rows
+TellsRow code y own answer =
+    (next most : ℕ) (τ : Types) (fs : List FieldInit)
+    → TypesAt most code.bytes.now code.facts.now τ.rows
     → length τ.rows ≡ code.bounds.types
-    → instruction_of b [] false t ≡ ok i n
-    → i.kind ≡ MakeStruct d fs x
+    → Inits next own 3 fs
+    → length fs ≡ get_or own 2 0
     → answer ≡ told_by (row_of τ (some y)) fs
 
 -- whether the MakeStruct of n bytes at t passes its conditions

@@ -3,7 +3,7 @@ use Prim.Native.Nat.{ℕ, ◌≤◌}
 use mathlib.Core.Path.{◌≡◌, refl, ap, ◌∙◌, sym}
 use mathlib.Core.Option.{some}
 use mathlib.Core.List.{List, [], ◌∷◌, ◌++◌}
-use mathlib.Core.Bool.{true, false, not, ◌||◌}
+use mathlib.Core.Bool.{true, false, not, ◌||◌, true≢false}
 use mathlib.Core.Bool as B
 use native.Mathlib.Omega.{arith}
 use lib.Dec.{T, eqb, eqb→eq, eqb_refl}
@@ -19,7 +19,6 @@ use Rattle.mir.specs.Reads.{dests, is_phi}
 use Rattle.bytes_field.specs.Decode.{mark}
 use Rattle.bytes_field.specs.declared.Bounds.{Bounds}
 use Rattle.bytes_laws.specs.WellFormed.{FitNews}
-use Rattle.bytes_laws.proofs.Bits.{true_false}
 use Rattle.bytes_block.specs.Decode.{marks}
 use Rattle.bytes_block.specs.WellFormed.{FitInstructions}
 use Rattle.mir.specs.Lookup.{struct_fields_of}
@@ -97,7 +96,7 @@ marked_new b seen (d ∷ ds) v h e =
     nor_i (eqb v d.0) (among v ds) (differs (eqb v d.0) (λ t. eqb→eq v d.0 t)) (marked_new b (mark seen d) ds v h.1 (mark_stays seen d v e))
   where
     differs : (b : B.Bool) → (T b → v ≡ d.0) → T (not b)
-    differs true f = absurd (true_false (sym e ∙ ap (λ k. get_or seen k false) (f tt) ∙ h.0.1))
+    differs true f = absurd (true≢false (sym e ∙ ap (λ k. get_or seen k false) (f tt) ∙ h.0.1))
     differs false f = tt
 
 among_append : (v : ℕ) (xs ys : List ValueId) → T (not (among v xs)) → T (not (among v ys)) → T (not (among v (xs ++ ys)))
@@ -159,7 +158,7 @@ no_phi_late b seen late (i ∷ is) e h =
     (no_phi_late b (marks seen (dests i.kind)) (late || not (is_phi i.kind)) is (ap (λ x. x || not (is_phi i.kind)) e) h.1)
   where
     other : (x : B.Bool) → (x ≡ true → late ≡ false) → T (not x)
-    other true f = absurd (true_false (sym e ∙ f refl))
+    other true f = absurd (true≢false (sym e ∙ f refl))
     other false f = tt
 
 pub phis_first_lem : (b : Bounds) (seen : List B.Bool) (late : B.Bool) (is : List Instruction) → FitInstructions b seen late is → T (no_phi (behind_phis is))

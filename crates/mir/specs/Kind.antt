@@ -1,5 +1,5 @@
 -- The kinds of instructions as the code has them, and their numbers.
-use Rattle.std.specs.Prelude.{ℕ, ◌≡◌, ◌<◌, Option, Result, MatchOption, MatchResult}
+use Rattle.std.specs.Prelude.{ℕ, ◌≡◌, ◌<◌, Bool, ◌||◌, eqb, Option, Result, MatchOption, MatchResult}
 use Rattle.mir.specs.declared.kind.Kind.{Kind}
 use Rattle.mir.specs.declared.kind.Kind.TheVariants.{Assign, UnaryOp, BinaryOp, Call, Cast, Load, Store, Debug, Nop, Phi}
 use Rattle.mir.specs.declared.kind.Kind.TheVariants.{MakeTuple, ExtractTupleElement, MakeStruct, ExtractStructField}
@@ -34,3 +34,7 @@ DecodesKind n r = MatchResult r (λ k. number_of_kind k ≡ n) (λ e. 18 < n)
 
 abbrev pub NamesKind : ℕ → Option Kind → Type 0
 NamesKind n r = MatchOption r (18 < n) (λ k. number_of_kind k ≡ n)
+
+-- a kind's number is that of MakeTuple, MakeStruct or MakeFixedArray
+abbrev pub build_kind : ℕ → Bool
+build_kind kind = eqb kind 10 || (eqb kind 12 || eqb kind 16)

@@ -6,6 +6,7 @@ pub mod Lookup
 pub mod Parts
 pub mod Phis
 pub mod Most
+pub mod Operand
 pub mod Option
 pub mod Lists
 pub mod Kind

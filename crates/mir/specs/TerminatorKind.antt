@@ -1,5 +1,5 @@
 -- The kinds of terminators as the code has them, and their numbers.
-use Rattle.std.specs.Prelude.{ℕ, ◌≡◌, ◌<◌, Option, Result, MatchOption, MatchResult}
+use Rattle.std.specs.Prelude.{ℕ, ◌≡◌, ◌<◌, Result, MatchResult}
 use Rattle.mir.specs.declared.terminator.TerminatorKind.{TerminatorKind}
 use Rattle.mir.specs.declared.terminator.TerminatorKind.TheVariants.{Jump, If, BranchCmp, Return, Unreachable}
 use Rattle.mir.specs.declared.UnknownNumber.{UnknownNumber}
@@ -15,6 +15,3 @@ number_of_terminator_kind Unreachable = 4
 -- the kind of a number; past the last there is none
 abbrev pub DecodesTerminatorKind : ℕ → Result TerminatorKind UnknownNumber → Type 0
 DecodesTerminatorKind n r = MatchResult r (λ k. number_of_terminator_kind k ≡ n) (λ e. 4 < n)
-
-abbrev pub NamesTerminatorKind : ℕ → Option TerminatorKind → Type 0
-NamesTerminatorKind n r = MatchOption r (4 < n) (λ k. number_of_terminator_kind k ≡ n)

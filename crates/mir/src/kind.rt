@@ -1,6 +1,7 @@
 // The kinds of instructions: "u8 kind in `InstructionKind` order (0 to 18)" (`kind_number` of specs/Reads).
 // (TryFrom by hand, here and of the other kinds: a derive writes no ghost member, and clauses go by `try_from_gives`.)
-ghost use Rattle.mir.specs.Kind.{DecodesKind};
+ghost use Rattle.std.specs.Prelude.{◌≡◌};
+ghost use Rattle.mir.specs.Kind.{DecodesKind, number_of_kind, build_kind};
 
 use crate::UnknownNumber;
 
@@ -25,6 +26,18 @@ pub enum Kind {
     MakeFixedArray,
     AssertEq,
     HeapAllocCells,
+}
+
+impl Kind {
+    // MakeTuple, MakeStruct and MakeFixedArray.
+    pub fn is_build(self) -> bool
+        ensures { result ≡ build_kind (number_of_kind self) }
+    {
+        matches!(
+            self,
+            Kind::MakeTuple | Kind::MakeStruct | Kind::MakeFixedArray
+        )
+    }
 }
 
 impl TryFrom<u16> for Kind {

@@ -8,9 +8,9 @@ use fold::Settings;
 use pass_answers::{Lowered, Refused};
 use pass_numbers::Totals;
 
-// For any caller: a flag is on when its number is not 0. For every input and every number, `answer` is given the refusal's
-// number and offset, the result, the five counts, the shelf reason and the length of the rewritten routine, as far as it has room for
-// them; `output` is given the rewritten routine, or stays as it was.
+// For any caller, in numbers, as the C interface takes and gives them: a flag is on when its number is not 0. For every input and
+// every number, `answer` is given the refusal's number and offset, the result, the five counts, the shelf reason and the length of
+// the rewritten routine, as far as it has room for them; `output` is given the rewritten routine, or stays as it was.
 pub fn lower(
     input: &[u8],
     output: &mut [u8],

@@ -77,10 +77,7 @@ fn refusal_of(r: Refused) -> Numbers
     Numbers {
         number: number as u64,
         offset: offset as u64,
-        result: 0,
-        counts: Totals::default(),
-        reason: 0,
-        size: 0,
+        ..Numbers::default()
     }
 }
 
@@ -91,17 +88,16 @@ pub fn numbers_of(a: Result<Lowered, Refused>) -> Numbers
     match a {
         Err(r) => refusal_of(r),
         Ok(l) => Numbers {
-            number: 0,
-            offset: 0,
             result: l.result as u64,
             counts: Totals::from(l.counts),
             reason: shelf_test::reason_number(l.reason) as u64,
             size: l.size as u64,
+            ..Numbers::default()
         },
     }
 }
 
-// The totals after an answer: a refusal counts nothing.
+// The totals after an answer: a refusal counts nothing. (A match, whose proof the check finds; that of `map_or` it does not.)
 pub fn totals_after(t: Totals, a: Result<Lowered, Refused>) -> Totals
     ensures { result ≡ after_answer t a }
 {

@@ -1,6 +1,7 @@
 // The blocks of the output. A run over them tells how long they are and which fresh numbers they take; behind the head they are
 // copied from where it wrote them, or run over again.
-// (The tables are lent one by one, as in rewrite_step. How long they are stays a clause: a longer one may be lent.)
+// (The tables are lent one by one, as in rewrite_step. How long they are and how many blocks there are stay clauses: longer ones may be
+// lent, and a run that has few blocks in its type would be a narrower parameter.)
 #![tactic(auto)]
 
 ghost use Rattle.std.specs.Prelude.{◌≡◌, ◌+◌, ◌≤◌, length};

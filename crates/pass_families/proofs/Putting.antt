@@ -2,20 +2,21 @@
 use Prim.Native.Nat.{ℕ, ◌+◌, ◌-◌, ◌≤◌, ◌<◌}
 use mathlib.Core.Path.{◌≡◌, refl, ap, ◌∙◌, sym}
 use mathlib.Core.List.{List, [], ◌++◌}
-use mathlib.Core.Bool.{Bool, false}
+use mathlib.Core.Bool.{Bool, true, false, ◌||◌}
 use mathlib.Core.Logic.{◌⊎◌, inl, inr, ⊎_elim}
 use mathlib.Core.Option.{Option, none, some, none-ne-some}
 use native.Mathlib.Numerals.{add-one}
 use native.Mathlib.Omega.{arith}
 use lib.ListN.{length, get_or, drop, replicate, length-replicate, drop_of_length-le}
+use lib.Dec.{eqb}
 use lib.Seq.{drop-cons}
+use borrow.Author.Tests.{eqb-true}
 use borrow.Rule.Slice.PartMut.{mid_of, put_mid}
 use Rattle.bytes_wire.specs.Parse.{bad, number_of_cause}
 use Rattle.bytes_wire.specs.declared.Cause.{Cause}
 use Rattle.mir.specs.declared.ValueId.{ValueId}
 use Rattle.mir.specs.Syntax.{Instruction, InstructionKind, Block}
-use Rattle.mir.specs.declared.kind.Kind.{Kind}
-use Rattle.mir.specs.Kind.{number_of_kind}
+use Rattle.mir.specs.Kind.{build_kind}
 use Rattle.mir.specs.Reads.{kind_number}
 use Rattle.mir.specs.Lookup.{Types, types_in}
 use Rattle.bytes_field.specs.declared.Bounds.{Bounds}
@@ -32,7 +33,6 @@ use Rattle.fold_copies.specs.Found.{ScanCopies}
 use Rattle.fold_climb.proofs.Found.{DestAt, dest, tuple_place, struct_place, array_place}
 use Rattle.fold_scan.proofs.Placed.{build_kind_lem}
 use Rattle.bytes_index.proofs.Rising.{roomy}
-use Rattle.mir.proofs.Numbers.{one_kind}
 use Rattle.text.specs.Written.{Written}
 use Rattle.text.proofs.Writing.{Writing, writing_start, writing_on, writing_done}
 use Rattle.text_lines.specs.Lines.{checked_line}
@@ -45,9 +45,18 @@ use Rattle.pass_families.specs.Shown.{Prepared, PutsBuild, PutsOne, PutsAll, Put
 use Rattle.fold_looked.specs.declared.tables.Tables.{Tables}
 use Rattle.pass_families.proofs.Parts.{part_written}
 
--- the kinds of builds
-abbrev pub BuildKind : Kind → Type 0
-BuildKind kind = (kind ≡ Kind.MakeTuple) ⊎ ((kind ≡ Kind.MakeStruct) ⊎ (kind ≡ Kind.MakeFixedArray))
+-- a number that is that of a build's kind, and one that is not
+one_of_three : (n : ℕ) → build_kind n ≡ true → (n ≡ 10) ⊎ ((n ≡ 12) ⊎ (n ≡ 16))
+one_of_three n h = go (eqb n 10) (eqb n 12) (eqb n 16) refl refl refl h
+  where
+    go : (x y z : Bool) → eqb n 10 ≡ x → eqb n 12 ≡ y → eqb n 16 ≡ z → x || (y || z) ≡ true → (n ≡ 10) ⊎ ((n ≡ 12) ⊎ (n ≡ 16))
+    go true y z e f g h = inl (eqb-true n 10 e)
+    go false true z e f g h = inr (inl (eqb-true n 12 f))
+    go false false true e f g h = inr (inr (eqb-true n 16 g))
+    go false false false e f g h = cc
+
+other : (m : ℕ) {n : ℕ} → build_kind m ≡ true → n ≡ m → build_kind n ≡ false → ⊥
+other m {n} on e off = cc (ap build_kind e)
 
 -- a build has a dest
 has_dest : {next : ℕ} {t : List ℕ} {i : InstructionKind} → DestAt next t i → build_dest i ≡ none → ⊥
@@ -63,34 +72,26 @@ module _ (named : Bool) (code : Code) (k : ℕ) (tables : Tables) where
         go none e = record { place = omega arith; stored = refl }
         go (some d) e = absurd (h i.kind d at.kind e)
 
-    pub puts_past : 18 < kind_in code.facts.now slot → PutsOne named code k j slot tables text text 0
-    puts_past far = no_line (λ i d z e. build_kind_lem i d e (λ q. omega arith) (λ q. omega arith) (λ q. omega arith))
+    pub puts_none : build_kind (kind_in code.facts.now slot) ≡ false → PutsOne named code k j slot tables text text 0
+    puts_none h =
+        no_line (λ i d z e. build_kind_lem i d e (λ q. other 10 refl (z ∙ q) h) (λ q. other 12 refl (z ∙ q) h) (λ q. other 16 refl (z ∙ q) h))
 
-    module _ (kind : Kind) (ks : number_of_kind kind ≡ kind_in code.facts.now slot) where
-      pub puts_none : (BuildKind kind → ⊥) → PutsOne named code k j slot tables text text 0
-      puts_none h =
-          no_line (λ i d z e. build_kind_lem i d e (λ q. h (inl (one_kind kind Kind.MakeTuple (ks ∙ z ∙ q))))
-          (λ q. h (inr (inl (one_kind kind Kind.MakeStruct (ks ∙ z ∙ q))))) (λ q. h (inr (inr (one_kind kind Kind.MakeFixedArray (ks ∙ z ∙ q))))))
+    -- and a build has its line
+    pub puts_one : (after : List ℕ) (n : ℕ) → build_kind (kind_in code.facts.now slot) ≡ true → PutsBuild named code k j slot tables text after n → PutsOne named code k j slot tables text after n
+    puts_one after n h puts τ is i p at = go (build_dest i.kind) refl
+      where
+        t : List ℕ
+        t = drop (place_in code.facts.now slot) code.bytes.now
 
-      -- and a build has its line
-      pub puts_one : (after : List ℕ) (n : ℕ) → BuildKind kind → PutsBuild named code k j slot tables text after n → PutsOne named code k j slot tables text after n
-      puts_one after n h puts τ is i p at = go (build_dest i.kind) refl
-        where
-          t : List ℕ
-          t = drop (place_in code.facts.now slot) code.bytes.now
+        built : build_dest i.kind ≡ none → ⊥
+        built e =
+            ⊎_elim (λ q. has_dest (tuple_place code.bounds [] false t i _ at.read (sym at.kind ∙ q)) e)
+            (⊎_elim (λ q. has_dest (struct_place code.bounds [] false t i _ at.read (sym at.kind ∙ q)) e)
+            (λ q. has_dest (array_place code.bounds [] false t i _ at.read (sym at.kind ∙ q)) e)) (one_of_three _ h)
 
-          numbered : (c : Kind) → kind ≡ c → kind_number i.kind ≡ number_of_kind c
-          numbered c q = sym (ks ∙ at.kind) ∙ ap number_of_kind q
-
-          built : build_dest i.kind ≡ none → ⊥
-          built e =
-              ⊎_elim (λ q. has_dest (tuple_place code.bounds [] false t i _ at.read (numbered Kind.MakeTuple q)) e)
-              (⊎_elim (λ q. has_dest (struct_place code.bounds [] false t i _ at.read (numbered Kind.MakeStruct q)) e)
-              (λ q. has_dest (array_place code.bounds [] false t i _ at.read (numbered Kind.MakeFixedArray q)) e)) h
-
-          go : (o : Option ValueId) → build_dest i.kind ≡ o → Written (build_line named τ is k j o) 0 text after n
-          go none e = absurd (built e)
-          go (some d) e = puts τ is i d p at e
+        go : (o : Option ValueId) → build_dest i.kind ≡ o → Written (build_line named τ is k j o) 0 text after n
+        go none e = absurd (built e)
+        go (some d) e = puts τ is i d p at e
 
   -- instruction j's line comes first of those that are left
   first_line : (τ : Types) (is all : List Instruction) (j : ℕ) → j < length all

@@ -1,5 +1,7 @@
 // What the program `families` prints of bytes: a line for each build of a routine, or the refusal.
-// (The text is another part of the caller's at each call, and comes from the heap: how long it is stays a clause.)
+// (The text is another part of the caller's at each call, and comes from the heap: how long it is stays a clause. A block's code and
+// tables and whether members are named stay three parameters: a record of them would be made once, and taken apart in each of the three
+// functions that have them all.)
 #![tactic(auto)]
 
 ghost use Rattle.std.specs.Prelude.{◌*◌, ◌≤◌, length};
@@ -12,10 +14,9 @@ ghost use Rattle.pass_families.specs.Widths.{line_width, longest_text};
 ghost use Rattle.pass_families.specs.Lines.{marked_from, families_of};
 ghost use Rattle.pass_families.specs.Shown.{found_numbers, FindsBuild, PutsBuild, PutsOne, PutsAll, PutsBlock, PutsBlocks, PutsRoutine};
 
-use bytes_index::{Code, Slots, Typing};
+use bytes_index::{Code, Slots};
 use fold::Settings;
 use fold_looked::Tables;
-use mir::kind::Kind;
 use mir::{BlockId, ValueId, most};
 
 // The numbers of a line: block, instruction, dest, how many members the family has, how many turns the search for them took, and 1
@@ -36,7 +37,7 @@ const ANY: Settings = Settings {
 
 // Where an instruction stands: its block, its number there, and its slot.
 #[derive(Clone, Copy)]
-struct Spot {
+struct Site {
     block: u16,
     instruction: u16,
     slot: u16,
@@ -92,27 +93,30 @@ fn list_members(family: &[bool], line: &mut [u64]) -> usize
 }
 
 // The line of what was found of a build, whose family has these marks; where `named`, with its members. Answers its length.
-fn put_line(at: Spot, found: BuildFamily, family: &[bool], named: bool, text: &mut [u8]) -> usize
+fn put_line(at: Site, found: BuildFamily, family: &[bool], named: bool, text: &mut [u8]) -> usize
     requires { length family.now ≤ most_values }
     ensures written { Written (numbers_line (found_numbers named at.block at.instruction found family.now)) 0 text.old text.new result }
     ensures upper_bound { result ≤ line_width }
 {
-    let mut line: [u64; LINE] = [0; LINE];
-    line[0] = at.block as u64;
-    line[1] = at.instruction as u64;
-    line[2] = found.dest.0 as u64;
-    line[3] = found.members as u64;
-    line[4] = found.turns as u64;
-    line[5] = found.looked as u64;
+    let numbers: [u64; NUMBERS] = [
+        at.block as u64,
+        at.instruction as u64,
+        found.dest.0 as u64,
+        found.members as u64,
+        found.turns as u64,
+        found.looked as u64,
+    ];
     if !named {
-        return text_lines::numbers_line(text, &line[..NUMBERS]);
+        return text_lines::numbers_line(text, &numbers);
     }
+    let mut line: [u64; LINE] = [0; LINE];
+    line[..NUMBERS].copy_from_slice(&numbers);
     let many = list_members(family, &mut line[NUMBERS..]);
     text_lines::numbers_line(text, &line[..NUMBERS + many])
 }
 
 // The line of the build in a slot.
-fn put_build(code: Code, at: Spot, tables: Tables, named: bool, text: &mut [u8]) -> usize
+fn put_build(code: Code, at: Site, tables: Tables, named: bool, text: &mut [u8]) -> usize
     ensures written { PutsBuild named code.entry at.block at.instruction at.slot tables.entry
         text.old text.new result }
     ensures upper_bound { result ≤ line_width }
@@ -125,7 +129,7 @@ fn put_build(code: Code, at: Spot, tables: Tables, named: bool, text: &mut [u8])
 }
 
 // The line of an instruction that is a build; nothing of any other.
-fn put_one(code: Code, at: Spot, tables: Tables, named: bool, text: &mut [u8]) -> usize
+fn put_one(code: Code, at: Site, tables: Tables, named: bool, text: &mut [u8]) -> usize
     ensures written { PutsOne named code.entry at.block at.instruction at.slot tables.entry
         text.old text.new result }
     ensures upper_bound { result ≤ line_width }
@@ -133,12 +137,10 @@ fn put_one(code: Code, at: Spot, tables: Tables, named: bool, text: &mut [u8]) -
     let Some(kind) = bytes_index::instruction_kind(code.facts, at.slot) else {
         return 0;
     };
-    match kind {
-        Kind::MakeTuple | Kind::MakeStruct | Kind::MakeFixedArray => {
-            put_build(code, at, tables, named, text)
-        }
-        _ => 0,
+    if !kind.is_build() {
+        return 0;
     }
+    put_build(code, at, tables, named, text)
 }
 
 // The lines of block `k`.
@@ -156,7 +158,7 @@ fn put_all(
 {
     let mut to = 0;
     for j in 0..slots.count {
-        let at = Spot {
+        let at = Site {
             block: k.0,
             instruction: j,
             slot: slots.first + j,
@@ -214,11 +216,7 @@ fn put_routine(code: Code, named: bool, text: &mut [u8]) -> usize
 {
     let mut shapes: [u8; most::VALUES] = [0; most::VALUES];
     let mut eligible: [bool; most::VALUES] = [false; most::VALUES];
-    let typing = Typing {
-        code,
-        recorded: bytes_index::recorded(code.facts),
-    };
-    fold_shapes::value_shapes(typing, ANY, &mut shapes, &mut eligible);
+    fold_shapes::value_shapes(code.typing(), ANY, &mut shapes, &mut eligible);
     put_blocks(code, &shapes, named, text)
 }
 

@@ -17,6 +17,7 @@ pub fn lower_same(code: Code, settings: Settings, out: &mut [u8]) -> Result<Lowe
     ensures { Answers (given settings (length out.old) code.entry.bytes.now) result out.old out.new }
 {
     let size = code.bytes.len();
+    // (A test, and no `?` behind `get_mut`: the library says of that nothing of what the slice ends as, so that what is copied would not be known.)
     if out.len() < size {
         return Err(Refused::NoRoom);
     }

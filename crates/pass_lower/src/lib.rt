@@ -18,7 +18,7 @@ fn lower_read(code: Code, settings: Settings, out: &mut [u8]) -> Result<Lowered,
     requires small { settings.most ≤ 16 }
     ensures { Answers (given settings (length out.old) code.entry.bytes.now) result out.old out.new }
 {
-    if !fold_choose::any_builds(code.facts, code.bounds.blocks) {
+    if !fold_choose::any_builds(code) {
         return pass_keep::lower_same(code, settings, out);
     }
     let mut choice: [bool; FLAGS] = [false; FLAGS];

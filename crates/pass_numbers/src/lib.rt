@@ -39,8 +39,9 @@ impl From<Counts> for Totals {
     }
 }
 
-// A refusal's number and offset, the result, the five counts, the shelf reason, and how many bytes the rewritten routine has.
-#[derive(Clone, Copy)]
+// A refusal's number and offset, the result, the five counts, the shelf reason, and how many bytes the rewritten routine has. (Numbers
+// all ten, since the C interface hands them on as ten u64.)
+#[derive(Clone, Copy, Default)]
 pub struct Numbers {
     pub number: u64,
     pub offset: u64,
@@ -50,7 +51,7 @@ pub struct Numbers {
     pub size: u64,
 }
 
-// A flag is on when its number is not 0.
+// A flag is on when its number is not 0. (Numbers, since the C interface takes a setting as a u64.)
 pub fn settings_of(tuples: u64, structs: u64, most: u64) -> Settings
     ensures { (room : ℕ) (s : List ℕ) → given result room s ≡ given (settings_of tuples structs most) room s }
 {

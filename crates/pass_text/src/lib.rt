@@ -12,7 +12,7 @@ const LENT: usize = 65536;
 
 pub const LONGEST: usize = 131328;
 
-// The usual settings.
+// The usual settings, as numbers: the entry for C, which is called, takes no others.
 const ON: u64 = 1;
 
 const MOST: u64 = 8;

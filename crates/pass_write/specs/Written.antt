@@ -28,7 +28,9 @@ pub record Measured (run : Run) (trial : Trial) : Type 0 where
   pub zeros : List ℕ
   pub table : List ℕ
   pub room : fresh_places ≤ length zeros
-  pub ran : Ran (rewritten_blocks run.settings chosen.accepted.routine) 0 buffer zeros (replicate 256 false) trial.body.now table trial.dropped.now trial.progress
+  pub ran :
+      Ran (rewritten_blocks run.settings chosen.accepted.routine) 0 buffer zeros (replicate 256 false) trial.body.now table trial.dropped.now
+      trial.progress
   pub fresh : trial.fresh.now ≡ take trial.progress.fresh table
   pub low : trial.progress.to ≤ longest_body
 
@@ -41,5 +43,7 @@ pub record Headed (run : Run) (trial : Trial) (out : List ℕ) (to : ℕ) : Type
   pub measured : Measured run trial
   pub before : List ℕ
   pub near : to ≤ longest_head
-  pub room : length (head_of measured.chosen.accepted.routine (rewritten_blocks run.settings measured.chosen.accepted.routine)) + trial.progress.to ≤ length before
+  pub room :
+      length (head_of measured.chosen.accepted.routine (rewritten_blocks run.settings measured.chosen.accepted.routine)) + trial.progress.to
+      ≤ length before
   pub written : Writes (head_of measured.chosen.accepted.routine (rewritten_blocks run.settings measured.chosen.accepted.routine)) before out 0 to

@@ -43,10 +43,10 @@ fn write_measured(run: Run, trial: Trial, out: &mut [u8]) -> Result<Lowered, Ref
     requires { Measured run trial }
     ensures { Answers (given run.entry.settings (length out.old) run.entry.code.bytes.now) result out.old out.new }
 {
-    match rewrite_opening::put_opening(run.code, trial.fresh, trial.progress.to, out) {
-        None => Err(Refused::NoRoom),
-        Some(to) => Ok(write_body(run, trial, out, to)),
-    }
+    let to = rewrite_opening::put_opening(run.code, trial.fresh, trial.progress.to, out).ok_or(
+        Refused::NoRoom,
+    )?;
+    Ok(write_body(run, trial, out, to))
 }
 
 // Runs over the blocks, then writes the output.

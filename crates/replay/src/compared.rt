@@ -3,12 +3,6 @@
 // What an output is filled with before the call.
 pub const FILL: u8 = 165;
 
-// The part of the bytes that has `n` of them, from `from` on; what there is of it.
-pub fn part(s: &[u8], from: usize, n: usize) -> &[u8] {
-    let rest = &s[from.min(s.len())..];
-    &rest[..n.min(rest.len())]
-}
-
 // The ten numbers of an answer are those that stand at the head of `told`.
 pub fn same_numbers(answer: &[u64; 10], told: &[u8]) -> bool {
     let mut numbers = answer.iter().enumerate();

@@ -28,27 +28,46 @@ const SIZE: usize = 36;
 // The most bytes that are lent for an output.
 const MOST_LENT: usize = 65536;
 
-// Calls the pass; whether it answers as is told. `row` begins with the settings.
-fn replayed(row: &[u8], input: &[u8], told: &[u8], bytes: &[u8], out: &mut [u8]) -> bool {
-    let mut answer: [u64; 10] = [0; 10];
-    let tuples = bytes_wire::byte_at(row, 0) as u64;
-    let structs = bytes_wire::byte_at(row, 1) as u64;
-    let most = bytes_wire::byte_at(row, 2) as u64;
-    pass::lower(input, out, tuples, structs, most, &mut answer);
-    compared::same_numbers(&answer, told) && compared::same_bytes(out, bytes)
+// A row: what it begins with, its input, the ten numbers that were answered, and the bytes of the output.
+#[derive(Clone, Copy)]
+struct Row<'a> {
+    call: &'a [u8],
+    input: &'a [u8],
+    told: &'a [u8],
+    bytes: &'a [u8],
 }
 
-// Replays the row at the head of `row`, whose input has `n` bytes and whose output has `size`, with an output of its own, of the
-// length that was lent: whether it is answered as is told.
-fn answers_alike(row: &[u8], n: usize, size: usize) -> bool
-    requires { n < 4294967296 }
+// The row at the head of `s`, as far as it stands there, and what is behind it.
+fn first_row<'a>(s: &'a [u8]) -> (Row<'a>, &'a [u8])
+    ensures { 0 < length s.now → length result.1.now < length s.now }
 {
-    let input = compared::part(row, INPUT, n);
-    let told = compared::part(row, INPUT + n, TOLD);
-    let bytes = compared::part(row, INPUT + n + TOLD, size);
+    let told_at = INPUT + bytes_wire::u32_at(s, INPUT_LENGTH) as usize;
+    let bytes_at = told_at + TOLD;
+    let end = bytes_at + bytes_wire::u32_at(s, told_at + SIZE) as usize;
+    let row = Row {
+        call: s,
+        input: bytes_field::between(s, INPUT, told_at),
+        told: bytes_field::between(s, told_at, bytes_at),
+        bytes: bytes_field::between(s, bytes_at, end),
+    };
+    (row, bytes_field::tail(s, end))
+}
+
+// Calls the pass, which is lent `out`; whether it answers as the row tells.
+fn replayed(row: Row, out: &mut [u8]) -> bool {
+    let mut answer: [u64; 10] = [0; 10];
+    let tuples = bytes_wire::byte_at(row.call, 0) as u64;
+    let structs = bytes_wire::byte_at(row.call, 1) as u64;
+    let most = bytes_wire::byte_at(row.call, 2) as u64;
+    pass::lower(row.input, out, tuples, structs, most, &mut answer);
+    compared::same_numbers(&answer, row.told) && compared::same_bytes(out, row.bytes)
+}
+
+// Replays a row with an output of its own, of the length that was lent: whether it is answered as is told.
+fn answers_alike(row: Row) -> bool {
     let mut out = [compared::FILL; MOST_LENT];
-    let lent = bytes_wire::u32_at(row, LENT) as usize;
-    lent <= MOST_LENT && replayed(row, input, told, bytes, &mut out[..lent])
+    let lent = bytes_wire::u32_at(row.call, LENT) as usize;
+    lent <= MOST_LENT && replayed(row, &mut out[..lent])
 }
 
 // How many rows there are, and how many were answered otherwise.
@@ -65,13 +84,12 @@ fn replay(s: &[u8]) -> Tally
     let mut rest = s;
     // A row tells how long it is: no index is counted, and an iterator over rows would be this loop with a state of its own.
     while !rest.is_empty() {
-        let n = bytes_wire::u32_at(rest, INPUT_LENGTH) as usize;
-        let size = bytes_wire::u32_at(rest, INPUT + n + SIZE) as usize;
-        if !answers_alike(rest, n, size) {
+        let (row, behind) = first_row(rest);
+        if !answers_alike(row) {
             tally.others += 1;
         }
         tally.rows += 1;
-        rest = &rest[(INPUT + n + TOLD + size).min(rest.len())..];
+        rest = behind;
     }
     tally
 }

@@ -89,7 +89,7 @@ next_bound_by σ c r a b h d = bound_with _ r (bound_blocks σ (types_in r) c r.
 -- "the output may pass these; its next value is at most 4,864"
 pub next_bound : (σ : Settings) (r : Routine) → instruction_count r.blocks ≤ 256 → length r.blocks ≤ 32 → ListsWithin 16 r.blocks → r.next ≤ 256 → (rewrite σ r).next ≤ 4864
 unfolding rewrite rewritten_blocks
-next_bound σ r a b h d = bound_with _ r (bound_blocks σ (types_in r) (choice σ r) r.next r.blocks h) a b d
+next_bound σ r = next_bound_by σ (choice σ r) r
 
 -- ## What stays
 

@@ -76,7 +76,7 @@ lowers_by σ c r = lowers_blocks σ (types_in r) c r.next r.blocks
 -- "every output instruction is an input instruction kept or rewritten, in order, or a rebuild directly before what needs it"
 pub lowers : (σ : Settings) (r : Routine) → LowersAll r.next r.blocks (rewrite σ r).blocks (rewritten_blocks σ r).dropped (rewrite σ r).next
 unfolding rewritten_blocks rewrite rewrite_with
-lowers σ r = lowers_blocks σ (types_in r) (choice σ r) r.next r.blocks
+lowers σ r = lowers_by σ (choice σ r) r
 
 -- ## The closing sum
 
@@ -141,4 +141,4 @@ closing_sum_by σ c r = sum_blocks σ (types_in r) c r.next r.blocks
 -- "output plus left out equals input plus rebuilt"
 pub closing_sum : (σ : Settings) (r : Routine) → instruction_count (rewrite σ r).blocks + left_out_blocks σ (types_in r) (choice σ r) r.next r.blocks ≡ instruction_count r.blocks + rebuilt_blocks σ (types_in r) (choice σ r) r.next r.blocks
 unfolding rewrite rewrite_with rewritten_blocks
-closing_sum σ r = sum_blocks σ (types_in r) (choice σ r) r.next r.blocks
+closing_sum σ r = closing_sum_by σ (choice σ r) r

@@ -180,7 +180,7 @@ result_count_by σ c r = result_blocks σ (types_in r) c r.next r.blocks
 -- the result is 1 exactly where the first count is not 0
 pub result_count : (σ : Settings) (r : Routine) → (rewritten_blocks σ r).changed ≡ not (eqb (rewritten_blocks σ r).counts.builds 0)
 unfolding rewritten_blocks
-result_count σ r = result_blocks σ (types_in r) (choice σ r) r.next r.blocks
+result_count σ r = result_count_by σ (choice σ r) r
 
 -- where the choice folds no build, nothing changes
 quiet_first : (folds : ValueId → Bool) (n : ℕ) (i : Instruction) (p : Piece) → First folds i p → ((v : ValueId) → folds v ≡ false) → (rest : AggStates → ℕ → Walked) → (rest no_states n).changed ≡ false → (glue p (rest p.states (n + length p.fresh))).changed ≡ false

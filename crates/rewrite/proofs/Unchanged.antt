@@ -119,4 +119,4 @@ unchanged_by σ c r e = unchanged_with _ r (unchanged_blocks σ (types_in r) c r
 -- "a false result means an unchanged routine"
 pub unchanged : (σ : Settings) (r : Routine) → (rewritten_blocks σ r).changed ≡ false → rewrite σ r ≡ r
 unfolding rewritten_blocks rewrite
-unchanged σ r e = unchanged_with _ r (unchanged_blocks σ (types_in r) (choice σ r) r.next r.blocks e)
+unchanged σ r = unchanged_by σ (choice σ r) r

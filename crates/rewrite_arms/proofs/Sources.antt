@@ -12,13 +12,13 @@ use denote.Enum.Bare.{sameb}
 use Rattle.mir.specs.contracts.shape.Shape.{the_type}
 use Rattle.mir.specs.declared.shape.Shape.{Shape}
 use Rattle.mir.specs.Shape.{number_of_shape}
-use Rattle.mir.specs.declared.Literal.{Literal}
 use Rattle.mir.specs.declared.Value.{Value}
 use Rattle.mir.specs.declared.ValueId.{ValueId}
 use Rattle.mir.specs.declared.TypeId.{TypeId}
 use Rattle.mir.specs.MirType.{MirType, Felt, Bool, U32, Tuple, Struct, FixedArray, Pointer, Function, Unit, Error, Unknown}
 use Rattle.bytes_field.specs.declared.Bounds.{Bounds}
 use Rattle.bytes_sections.specs.Index.{recorded_from}
+use Rattle.mir.specs.Operand.{operand_of}
 use Rattle.mir.specs.Lookup.{Types, row_of, recorded_type, value_row, shape, is_tuple, is_struct, is_array, is_aggregate, is_some}
 use Rattle.mir.specs.Parts.{or_else, struct_row}
 use Rattle.rewrite.specs.State.{AggStates, state_of}
@@ -27,16 +27,21 @@ use Rattle.table.proofs.Elements.{some_at}
 use Rattle.rewrite_chains.proofs.Fields.{recorded_of_lem}
 use Rattle.rewrite_arms.specs.Decided.{SourceOf, found, nothing}
 use Rattle.std.specs.Prelude.{Some, None, Option as Answered, unwrap_or}
+use Rattle.std.specs.Bool.{then_some}
 use Rattle.mir.specs.Option.{as_option}
 
--- a literal, and Error, have no parts
-pub literal_source : (S : AggStates) {x : Value} {l : Literal} → x ≡ Value.Literal l → SourceOf S (state_of S x) None
-unfolding state_of
-literal_source S e = nothing (ap (state_of S) e)
+-- the operand that a value is
+pub operand_is : (x : Value) {v : ValueId} → Some v ≡ operand_of x → x ≡ Value.Operand v
+operand_is (Value.Literal l) e = absurd (let z : ◌≡◌ {A = ℕ} 0 1 = cc in omega arith)
+operand_is (Value.Operand u) {v} e = let z : u ≡ v = cc in rw z
+operand_is Value.Error e = absurd (let z : ◌≡◌ {A = ℕ} 0 1 = cc in omega arith)
 
-pub error_source : (S : AggStates) {x : Value} → x ≡ Value.Error → SourceOf S (state_of S x) None
+-- a literal, and Error, have no parts
+pub no_operand : (S : AggStates) (x : Value) → None ≡ operand_of x → state_of S x ≡ none
 unfolding state_of
-error_source S e = nothing (ap (state_of S) e)
+no_operand S (Value.Literal l) e = refl
+no_operand S (Value.Operand v) e = absurd (let z : ◌≡◌ {A = ℕ} 0 1 = cc in omega arith)
+no_operand S Value.Error e = refl
 
 -- an operand has them where it is marked
 marked_source : (S : AggStates) (v : ValueId) (o : Option (List Value)) → S v.0 ≡ o → is_some o ≡ B.true → SourceOf S (S v.0) (Some v)
@@ -44,18 +49,15 @@ unfolding is_some
 marked_source S v none f e = absurd (let z : ◌≡◌ {A = ℕ} 0 1 = cc in omega arith)
 marked_source S v (some xs) f e = found v xs f f
 
-pub operand_source : (S : AggStates) {x : Value} {v : ValueId} {m : B.Bool} → x ≡ Value.Operand v → m ≡ is_some (S v.0) → m ≡ B.true → SourceOf S (state_of S x) (Some v)
-unfolding state_of
-operand_source S {x} {v} {m} e f h = rw e (marked_source S v (S v.0) refl (sym f ∙ h))
-
 clear_source : (S : AggStates) (v : ValueId) (o : Option (List Value)) → S v.0 ≡ o → is_some o ≡ B.false → SourceOf S (S v.0) None
 unfolding is_some
 clear_source S v none f e = nothing f
 clear_source S v (some xs) f e = absurd (let z : ◌≡◌ {A = ℕ} 0 1 = cc in omega arith)
 
-pub operand_untracked : (S : AggStates) {x : Value} {v : ValueId} {m : B.Bool} → x ≡ Value.Operand v → m ≡ is_some (S v.0) → m ≡ B.false → SourceOf S (state_of S x) None
+pub operand_source : (S : AggStates) {x : Value} {v : ValueId} (m : B.Bool) → x ≡ Value.Operand v → m ≡ is_some (S v.0) → SourceOf S (state_of S x) (then_some m v)
 unfolding state_of
-operand_untracked S {x} {v} {m} e f h = rw e (clear_source S v (S v.0) refl (sym f ∙ h))
+operand_source S {x} {v} B.true e f = rw e (marked_source S v (S v.0) refl (sym f))
+operand_source S {x} {v} B.false e f = rw e (clear_source S v (S v.0) refl (sym f))
 
 -- a shape is Other, or is no Struct's, as its number says
 pub is_other : (k : Shape) → not (sameb the_type k Shape.Other) ≡ not (eqb (number_of_shape k) 0)

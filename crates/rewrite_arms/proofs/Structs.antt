@@ -7,7 +7,8 @@ use native.Mathlib.Omega.{arith}
 use borrow.Author.Tests.{ne_eqb}
 use lib.ListN.{length, get_or, get_elem?, drop}
 use Rattle.bytes_wire.specs.Parse.{ok}
-use Rattle.mir.specs.declared.Literal.{Literal}
+use Rattle.std.specs.Prelude.{None}
+use Rattle.mir.specs.Operand.{operand_of}
 use Rattle.mir.specs.declared.Value.{Value}
 use Rattle.mir.specs.declared.ValueId.{ValueId}
 use Rattle.mir.specs.declared.TypeId.{TypeId}
@@ -35,13 +36,14 @@ use Rattle.rewrite_arms.specs.declared.spot.Spot.{Spot}
 
 module _ (τ : Types) (x : Value) (f : NameId) (g : ℕ → Option Value) where
   -- only an operand has fields
-  pub field_literal : {l : Literal} → x ≡ Value.Literal l → on_some (extract_index τ x f) g ≡ none
+  pub field_none : None ≡ operand_of x → on_some (extract_index τ x f) g ≡ none
   unfolding on_some extract_index
-  field_literal e = rw e refl
-
-  pub field_error : x ≡ Value.Error → on_some (extract_index τ x f) g ≡ none
-  unfolding on_some extract_index
-  field_error e = rw e refl
+  field_none = go x
+    where
+      go : (y : Value) → None ≡ operand_of y → on_some (extract_index τ y f) g ≡ none
+      go (Value.Literal l) e = refl
+      go (Value.Operand v) e = absurd (let z : ◌≡◌ {A = ℕ} 0 1 = cc in omega arith)
+      go Value.Error e = refl
 
   -- by the name's position
   pub field_unknown : {v : ValueId} → x ≡ Value.Operand v → none ≡ find_field (value_row τ v) f → on_some (extract_index τ x f) g ≡ none

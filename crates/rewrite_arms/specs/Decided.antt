@@ -142,7 +142,7 @@ AssignPlanned x whole marks r =
 abbrev pub InsertPlanned : Value → ℕ → ℕ → Parts → Plan → Type 0
 InsertPlanned x k place parts r =
     (next : ℕ) (s facts : List ℕ) (used : ℕ) (S : AggStates) (i : Instruction) (p : Spot) (y : Value)
-    → Rep next s parts.marks.now parts.rows.now used S
+    → Rep next s parts.tracked.now parts.rows.now used S
     → p.dest.0 < next
     → ValueAt next s place y
     → Planned next s facts S i p (step_insert S i p.dest (on_some (state_of S x) (λ xs. replaced xs k y))) r
@@ -179,7 +179,7 @@ FieldPart code parts x name r =
     (τ : Types) (used : ℕ) (S : AggStates)
     → CodeGround code τ
     → Below code.bounds.next x
-    → Rep code.bounds.next code.bytes.now parts.marks.now parts.rows.now used S
+    → Rep code.bounds.next code.bytes.now parts.tracked.now parts.rows.now used S
     → InitAt code.bounds.next code.bytes.now (on_some (extract_index τ x name) (λ k. on_some (state_of S x) (λ xs. get_elem? xs k))) r
 
 -- the numbers of the kinds that are rewritten, in the order of `InstructionKind`

@@ -16,7 +16,7 @@ ghost use Rattle.rewrite.specs.State.{AggStates, state_of};
 ghost use Rattle.rewrite_parts.specs.Rows.{row_most, used_below, Rep, InitAt};
 ghost use Rattle.rewrite_arms.specs.Decided.{SourceOf, FieldPart, TakePlanned, AssignPlanned, InsertPlanned, StructPlanned, ListedAt, FieldsBuilt};
 
-use bytes_index::{Code, Typing};
+use bytes_index::Code;
 use bytes_types::layout;
 use mir::shape::Shape;
 use mir::{NameId, TypeId, Value, ValueId};
@@ -25,12 +25,9 @@ pub use spot::Spot;
 
 // How many bytes the dest has that an instruction's own fields begin with; behind it a build has the number of its parts,
 // and then these.
-pub const DEST_BYTES: usize = 2;
+pub const DEST_BYTES: usize = rewrite_parts::COUNT;
 
-pub const PARTS: usize = 3;
-
-// The type of two bytes that stands last in an instruction.
-const TYPE_BYTES: usize = 2;
+pub const PARTS: usize = rewrite_parts::PARTS;
 
 // What an instruction that is left out counts as.
 #[derive(Clone, Copy)]
@@ -42,7 +39,8 @@ pub enum Counted {
 }
 
 // The instruction stays; or it is left out and its dest is tracked: the dest, and what it counts as; or an Assign stands
-// for it: the dest, the place of the input where the assigned value stands, and the type.
+// for it: the dest, the place of the input where the assigned value stands, and the type. (A value and no closure: one crate settles it,
+// another puts it out, which is lent the output.)
 #[derive(Clone, Copy)]
 pub enum Action {
     Keep,
@@ -99,26 +97,15 @@ pub fn tracked_source(tracked: &[bool], x: Value, whole: bool) -> Option<ValueId
     if !whole {
         return None;
     }
-    match x {
-        Value::Literal(_) => None,
-        Value::Error => None,
-        Value::Operand(v) => {
-            if rewrite_parts::tracked(tracked, v) {
-                return Some(v);
-            }
-            None
-        }
-    }
+    let v = x.operand()?;
+    rewrite_parts::tracked(tracked, v).then_some(v)
 }
 
 // The type that an instruction's last two bytes name.
 pub fn last_type(s: &[u8], end: usize) -> TypeId
     ensures { 2 ≤ end → result.0 ≡ at16 s.now (end - 2) }
 {
-    if end < TYPE_BYTES {
-        return TypeId(0);
-    }
-    TypeId(bytes_wire::u16_at(s, end - TYPE_BYTES))
+    TypeId(bytes_wire::u16_at(s, end.saturating_sub(bytes_field::ID)))
 }
 
 // The type is an aggregate.
@@ -173,11 +160,11 @@ pub fn build_fields(
     ensures fields_built { FieldsBuilt code.entry p t tracked.old rows.old used
         tracked.new rows.new result }
 {
-    let row = bytes_field::tail(code.bytes, bytes_lookup::type_place(code.facts, t));
+    let row = code.type_row(t);
     let names = Listed {
         bytes: row,
         at: layout::STRUCT_NAMES,
-        count: bytes_wire::byte_at(row, layout::STRUCT_COUNT),
+        count: bytes_types::field_count(row),
     };
     match rewrite_parts::track_named(tracked, rows, used, p.dest, listed(code, p), names) {
         Some(end) => Decision {
@@ -198,7 +185,7 @@ pub fn build_fields(
 pub fn plan_insert(x: Value, k: u32, place: usize, parts: Parts) -> Plan
     ensures { InsertPlanned x k place parts.entry result }
 {
-    match tracked_source(parts.marks, x, true) {
+    match tracked_source(parts.tracked, x, true) {
         None => Plan::Keep,
         Some(v) => {
             if rewrite_parts::part_count(parts.rows, v) as u32 <= k {
@@ -214,32 +201,22 @@ pub fn plan_insert(x: Value, k: u32, place: usize, parts: Parts) -> Plan
 }
 
 // Where part `k` of a tracked value stands.
-#[tactic(auto, unfolding(rewrite::specs::State::state_of, mir::specs::Lookup::on_some))]
 pub fn part(parts: Parts, x: Value, k: u32) -> Option<usize>
     ensures { (next : ℕ) (s : List ℕ) (used : ℕ) (S : AggStates)
-        → Rep next s parts.entry.marks.now parts.entry.rows.now used S
+        → Rep next s parts.entry.tracked.now parts.entry.rows.now used S
         → InitAt next s (on_some (state_of S x) (λ xs. get_elem? xs k)) result }
 {
-    match x {
-        Value::Literal(_) => None,
-        Value::Error => None,
-        Value::Operand(v) => rewrite_parts::find_part(parts, v, k),
-    }
+    let v = x.operand()?;
+    rewrite_parts::find_part(parts, v, k)
 }
 
 // Where the part of a tracked value stands that a name stands for, by the value's recorded type.
 pub fn field_part(code: Code, parts: Parts, x: Value, name: NameId) -> Option<usize>
     ensures { FieldPart code.entry parts.entry x name result }
 {
-    match x {
-        Value::Literal(_) => None,
-        Value::Error => None,
-        Value::Operand(v) => {
-            let recorded = bytes_index::recorded(code.facts);
-            let found = rewrite_chains::value_field(Typing { code, recorded }, v, name)?;
-            rewrite_parts::find_part(parts, v, found.position)
-        }
-    }
+    let v = x.operand()?;
+    let found = rewrite_chains::value_field(code.typing(), v, name)?;
+    rewrite_parts::find_part(parts, v, found.position)
 }
 
 // A part that is taken: a tracked one hands its parts on, any other is assigned.

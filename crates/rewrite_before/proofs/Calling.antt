@@ -30,14 +30,14 @@ use Rattle.rewrite.specs.declared.Clash.{Clash}
 use Rattle.rewrite_progress.specs.Effect.{output_of, rebuilt_effect, piece_effect, Puts}
 use Rattle.rewrite_wanted.specs.Asked.{Setting, asked_list}
 use Rattle.rewrite_list.specs.declared.values.ValueList.{ValueList}
-use Rattle.rewrite_list.specs.declared.values.Values.{Values}
+use Rattle.rewrite_list.specs.declared.values.ListedValues.{ListedValues}
 use Rattle.rewrite_list.specs.Lists.{AllPut}
 use Rattle.rewrite_before.specs.Materialized.{onward, call_list, call_behind, with_values, Around, CallWritten, InstructionWritten, CallPut}
 use Rattle.rewrite_before.proofs.Standing.{CallKnown, call_known}
 use Rattle.rewrite_before.proofs.Effects.{Idle, idle, clash_put, went_put, spent, as_many, call_clash, call_fresh, call_kept, call_anew}
 
-module _ (vs : Values) (slot : ℕ) (out work : List ℕ) (p : Progress) (at : ℕ) (t : List ℕ) (place : ℕ)
-    (ha : at ≡ place_in vs.code.facts.now slot) (ht : t ≡ drop at vs.code.bytes.now) (hp : place ≡ fields_place t) (hf : vs.fields.now ≡ drop place t) (hl : vs.list ≡ call_list vs.fields.now)
+module _ (vs : ListedValues) (slot : ℕ) (out work : List ℕ) (p : Progress) (t : List ℕ)
+    (there : t ≡ drop (place_in vs.code.facts.now slot) vs.code.bytes.now) (hf : vs.fields.now ≡ drop (fields_place t) t) (hl : vs.list ≡ call_list vs.fields.now)
     (r : Result Progress Clash) (out₁ work₁ : List ℕ) (u : AllPut vs out work p out₁ work₁ r) where
   -- what is known in each case
   module _ (τ : Types) (S : AggStates) (used : ℕ) (i : Instruction) (ds : List ValueId) (g : ℕ) (xs : List Value) (ps rs : List TypeId) (dropped : Marks) (q : Piece) (a : Here vs.code.bounds vs.code.bytes.now vs.code.facts.now slot vs.tracked.now (rows_in work) used τ S i) (k : i.kind ≡ Call ds g xs ps rs)
@@ -48,9 +48,6 @@ module _ (vs : Values) (slot : ℕ) (out work : List ℕ) (p : Progress) (at : �
     abbrev R : Rebuilt
     R = rebuild_all τ S (vs.code.bounds.next + p.fresh) (asked_list τ vs.fields.now (call_list vs.fields.now).asks 0 xs)
 
-    there : t ≡ drop (place_in vs.code.facts.now slot) vs.code.bytes.now
-    there = ht ∙ ap (λ j. drop j vs.code.bytes.now) ha
-
     bs : Bytes t
     bs = rw there (bytes_drop vs.code.bytes.now (place_in vs.code.facts.now slot) a.ground.bytes)
 
@@ -58,7 +55,7 @@ module _ (vs : Values) (slot : ℕ) (out work : List ℕ) (p : Progress) (at : �
     te = ap (instruction_of vs.code.bounds [] false) there ∙ a.line.read
 
     known : CallKnown vs.code.bounds.next n vs.fields.now (fields_place t) ds g xs ps rs (call_list vs.fields.now).first (call_list vs.fields.now).many (call_behind vs.fields.now)
-    known = let z : vs.fields.now ≡ drop (fields_place t) t = hf ∙ ap (λ j. drop j t) hp in rw z (call_known vs.code.bounds t i n bs te ds g xs ps rs k)
+    known = rw hf (call_known vs.code.bounds t i n bs te ds g xs ps rs k)
 
     same : q ≡ step_call S i ds g ps rs R R.fresh
     same = y ∙ ap (λ ws. step_call S i ds g ps rs (rebuild_all τ S (vs.code.bounds.next + p.fresh) ws) (rebuild_all τ S (vs.code.bounds.next + p.fresh) ws).fresh) (sym (known.asked τ))
@@ -91,11 +88,10 @@ module _ (vs : Values) (slot : ℕ) (out work : List ℕ) (p : Progress) (at : �
         went_put out (fresh_in work) dropped p R r out₁ (fresh_in work₁) puts q' (instruction_bytes i) out₂ to 1 0 _ _ s' z (v τ i a.ground a.line) o (call_kept S i ds g ps rs R none calm ∙ ap piece_effect (sym same)) clash_same
 
     -- else it is built anew
-    anew_case : (q' s' : Progress) (out₂ : List ℕ) (to end : ℕ) → r ≡ Ok q' → (q'.fresh ≡ p.fresh → ⊥) → end ≡ end_in vs.code.facts.now slot - (at + place) → vs.list.first ≤ 1024 → CallWritten vs (record { to = q'.to; fresh = p.fresh }) end out₁ out₂ to → s' ≡ onward q' to 1 (q'.fresh - p.fresh)
+    anew_case : (q' s' : Progress) (out₂ : List ℕ) (to end : ℕ) → r ≡ Ok q' → (q'.fresh ≡ p.fresh → ⊥) → end ≡ end_in vs.code.facts.now slot - place_in vs.code.facts.now slot - fields_place t → vs.list.first ≤ 1024 → CallWritten vs (record { to = q'.to; fresh = p.fresh }) end out₁ out₂ to → s' ≡ onward q' to 1 (q'.fresh - p.fresh)
         → Puts (output_of out (fresh_in work) dropped p) (piece_effect q) q.clash out₂ (fresh_in work₁) dropped (Ok s')
     anew_case q' s' out₂ to end z c he hs v o =
-        let e : end ≡ n - fields_place t = omega (arith, he, ha, hp) in
-        let v' = subst (λ m. CallWritten (record { code = vs.code; fields = vs.fields; list = m; tracked = vs.tracked }) (record { to = q'.to; fresh = p.fresh }) (n - fields_place t) out₁ out₂ to) hl (subst (λ j. CallWritten vs (record { to = q'.to; fresh = p.fresh }) j out₁ out₂ to) e v) in
+        let v' = subst (λ m. CallWritten (record { code = vs.code; fields = vs.fields; list = m; tracked = vs.tracked }) (record { to = q'.to; fresh = p.fresh }) (n - fields_place t) out₁ out₂ to) hl (subst (λ j. CallWritten vs (record { to = q'.to; fresh = p.fresh }) j out₁ out₂ to) he v) in
         let around : Around vs.fields.now (call_list vs.fields.now) (n - fields_place t) = record { before = omega (arith, ap (λ (m : ValueList). m.first) hl); behind = omega (arith, short) } in
         let W : List ℕ = 0 ∷ 3 ∷ with_values vs.fields.now (call_list vs.fields.now) (n - fields_place t) R.values in
         let made : q'.fresh ≡ p.fresh + length R.fresh = spent out (fresh_in work) dropped p R r out₁ (fresh_in work₁) puts q' z in
@@ -112,5 +108,5 @@ module _ (vs : Values) (slot : ℕ) (out work : List ℕ) (p : Progress) (at : �
   pub call_stayed : (q' s' : Progress) (out₂ : List ℕ) (to : ℕ) → r ≡ Ok q' → q'.fresh ≡ p.fresh → InstructionWritten vs.code slot out₁ out₂ q'.to to → s' ≡ onward q' to 1 0 → CallPut vs.code slot vs.tracked.now out work p out₂ work₁ (Ok s')
   call_stayed q' s' out₂ to z c v o = λ τ S used i ds g xs ps rs dropped q a k y h. kept_case τ S used i ds g xs ps rs dropped q a k y h q' s' out₂ to z c v o
 
-  pub call_built : (q' s' : Progress) (out₂ : List ℕ) (to end : ℕ) → r ≡ Ok q' → (q'.fresh ≡ p.fresh → ⊥) → end ≡ end_in vs.code.facts.now slot - (at + place) → vs.list.first ≤ 1024 → CallWritten vs (record { to = q'.to; fresh = p.fresh }) end out₁ out₂ to → s' ≡ onward q' to 1 (q'.fresh - p.fresh) → CallPut vs.code slot vs.tracked.now out work p out₂ work₁ (Ok s')
+  pub call_built : (q' s' : Progress) (out₂ : List ℕ) (to end : ℕ) → r ≡ Ok q' → (q'.fresh ≡ p.fresh → ⊥) → end ≡ end_in vs.code.facts.now slot - place_in vs.code.facts.now slot - fields_place t → vs.list.first ≤ 1024 → CallWritten vs (record { to = q'.to; fresh = p.fresh }) end out₁ out₂ to → s' ≡ onward q' to 1 (q'.fresh - p.fresh) → CallPut vs.code slot vs.tracked.now out work p out₂ work₁ (Ok s')
   call_built q' s' out₂ to end z c he hs v o = λ τ S used i ds g xs ps rs dropped q a k y h. anew_case τ S used i ds g xs ps rs dropped q a k y h q' s' out₂ to end z c he hs v o

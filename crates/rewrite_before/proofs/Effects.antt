@@ -1,20 +1,18 @@
 -- The builds, then the instruction or terminator that needs them, as one effect.
-use Prim.Native.Nat.{ℕ, suc, ◌+◌, ◌-◌, ◌≤◌}
+use Prim.Native.Nat.{ℕ, suc, ◌+◌}
 use mathlib.Core.Path.{◌≡◌, refl, ap, ◌∙◌, sym}
 use mathlib.Core.List.{List, [], ◌∷◌, ◌++◌, append-nil}
-use mathlib.Core.Bool.{Bool, true, false, cond}
+use mathlib.Core.Bool.{Bool, true, false}
 use mathlib.Core.Option.{Option, none, some}
 use native.Mathlib.Nat.{add-zero, zero-add}
 use native.Mathlib.Omega.{arith}
-use lib.ListN.{length, get_or, length-append}
+use lib.ListN.{length, length-append}
 use Rattle.bytes_wire.specs.Value.{value_bytes}
 use Rattle.mir.specs.declared.ValueId.{ValueId}
 use Rattle.mir.specs.declared.TypeId.{TypeId}
 use Rattle.mir.specs.declared.Value.{Value}
 use Rattle.mir.specs.Syntax.{Place, Instruction, Call, Store, Return, plain}
 use Rattle.bytes_field.specs.Encode.{each_bytes, instruction_bytes, terminator_bytes}
-use Rattle.bytes_field.specs.Decode.{bit}
-use Rattle.bytes_operands.specs.Fields.{fields_place}
 use Rattle.mir.specs.Lookup.{Types, is_aggregate, row_of, on_some}
 use Rattle.fold.specs.Family.{Marks}
 use Rattle.rewrite.specs.State.{AggStates, state_of}
@@ -25,11 +23,10 @@ use Rattle.bytes_emit.specs.Written.{Writes}
 use Rattle.rewrite_progress.specs.declared.Progress.{Progress}
 use Rattle.std.specs.Prelude.{Result, Ok, Err}
 use Rattle.rewrite.specs.declared.Clash.{Clash}
-use Rattle.rewrite_progress.specs.Effect.{Effect, output_of, type_numbers, mark_all, further, behind, then_effect, rebuilt_effect, piece_effect, walked_effect, Puts, Low}
+use Rattle.rewrite_progress.specs.Effect.{Effect, output_of, type_numbers, mark_all, further, behind, then_effect, rebuilt_effect, piece_effect, walked_effect, Puts}
 use Rattle.rewrite_progress.proofs.Laws.{each_append, behind_then}
 use Rattle.rewrite_wanted.specs.declared.Asks.{Asks}
 use Rattle.rewrite_wanted.specs.Asked.{asked_list}
-use Rattle.rewrite_list.specs.Lists.{Few}
 use Rattle.rewrite_before.specs.Materialized.{onward}
 
 -- what stands behind the builds
@@ -193,44 +190,3 @@ module _ (S : AggStates) (i : Instruction) (l : Place) (x : Value) (u : TypeId) 
 pub return_effect : (R : Rebuilt) (w : List ℕ) → w ≡ terminator_bytes (Return R.values) → then_effect (rebuilt_effect R) (line w 0 (length R.fresh)) ≡ walked_effect (returned R)
 unfolding then_effect rebuilt_effect walked_effect returned
 return_effect R w e = same_effect (ap (λ z. each_bytes instruction_bytes R.before ++ z) e) (add-zero (length R.before)) (append-nil R.fresh) (zero-add (length R.fresh))
-
--- the numbers stay low
-pub low_on : (k : ℕ) (p q s : Progress) (to lines made : ℕ) → s ≡ onward q to lines made → Low k p → Few p 255 q → to ≤ q.to + 5000 → lines ≤ 1 → made ≤ 255 → Low (k + 1) s
-low_on k p q s to lines made e l f t a m =
-    let c1 : q.counts.builds ≡ p.counts.builds = ap (λ c. c.builds) f.counts in
-    let c2 : q.counts.extracts ≡ p.counts.extracts = ap (λ c. c.extracts) f.counts in
-    let c3 : q.counts.inserts ≡ p.counts.inserts = ap (λ c. c.inserts) f.counts in
-    let c4 : q.counts.assigns ≡ p.counts.assigns = ap (λ c. c.assigns) f.counts in
-    let c5 : q.counts.materializations ≡ p.counts.materializations = ap (λ c. c.materializations) f.counts in
-    rw e (record {
-      to = omega (arith, l.to, f.to);
-      lines = omega (arith, l.lines, f.lines);
-      fresh = omega (arith, l.fresh, f.fresh);
-      builds = omega (arith, l.builds);
-      extracts = omega (arith, l.extracts);
-      inserts = omega (arith, l.inserts);
-      assigns = omega (arith, l.assigns);
-      materializations = omega (arith, l.materializations);
-    })
-
--- what was taken
-pub made_few : (p q : Progress) → Few p 255 q → q.fresh - p.fresh ≤ 255
-made_few p q f = omega (arith, f.fresh)
-
--- counts with none added but materializations
-pub onward_same : (p : Progress) (to lines made : ℕ) → record { to = to; lines = p.lines + lines; fresh = p.fresh; counts = record { builds = p.counts.builds; extracts = p.counts.extracts; inserts = p.counts.inserts; assigns = p.counts.assigns; materializations = p.counts.materializations + made } } ≡ onward p to lines made
-onward_same p to lines made = sym (rw (add-zero p.counts.builds, add-zero p.counts.extracts, add-zero p.counts.inserts, add-zero p.counts.assigns) refl)
-
--- the fields begin within 26 bytes
-pub place_near : (t : List ℕ) → fields_place t ≤ 26
-place_near t = go (bit 0 (get_or t 0 0)) (bit 1 (get_or t 0 0)) (bit 2 (get_or t 0 0))
-  where
-    go : (x y z : Bool) → 2 + (cond x 8 0 + (cond y 12 0 + cond z 4 0)) ≤ 26
-    go true true true = omega arith
-    go true true false = omega arith
-    go true false true = omega arith
-    go true false false = omega arith
-    go false true true = omega arith
-    go false true false = omega arith
-    go false false true = omega arith
-    go false false false = omega arith

@@ -29,7 +29,7 @@ use Rattle.rewrite.specs.declared.Clash.{Clash}
 use Rattle.rewrite_progress.specs.Effect.{output_of, rebuilt_effect, piece_effect, Puts}
 use Rattle.rewrite_wanted.specs.declared.Asks.{Asks}
 use Rattle.rewrite_wanted.specs.Asked.{Setting, asked_at, asked_list}
-use Rattle.rewrite_list.specs.declared.values.Values.{Values}
+use Rattle.rewrite_list.specs.declared.values.ListedValues.{ListedValues}
 use Rattle.rewrite_list.specs.Lists.{AllPut}
 use Rattle.rewrite_before.specs.Materialized.{onward, store_first, store_list, list_end, with_values, Around, AnewWritten, InstructionWritten, StorePut}
 use Rattle.rewrite_before.proofs.Standing.{StoreKnown, store_known}
@@ -39,8 +39,8 @@ one_listed : (τ : Types) (t : List ℕ) (a : Asks) (x : Value) → asked_list �
 unfolding asked_list
 one_listed τ t a x = refl
 
-module _ (vs : Values) (slot : ℕ) (out work : List ℕ) (p : Progress) (at : ℕ)
-    (ha : at ≡ place_in vs.code.facts.now slot) (ht : vs.fields.now ≡ drop at vs.code.bytes.now) (hl : vs.list ≡ store_list vs.fields.now)
+module _ (vs : ListedValues) (slot : ℕ) (out work : List ℕ) (p : Progress)
+    (there : vs.fields.now ≡ drop (place_in vs.code.facts.now slot) vs.code.bytes.now) (hl : vs.list ≡ store_list vs.fields.now)
     (r : Result Progress Clash) (out₁ work₁ : List ℕ) (u : AllPut vs out work p out₁ work₁ r) where
   -- what is known in each case
   module _ (τ : Types) (S : AggStates) (used : ℕ) (i : Instruction) (to' : Place) (x : Value) (ty : TypeId) (dropped : Marks) (q : Piece) (a : Here vs.code.bounds vs.code.bytes.now vs.code.facts.now slot vs.tracked.now (rows_in work) used τ S i) (k : i.kind ≡ Store to' x ty)
@@ -50,9 +50,6 @@ module _ (vs : Values) (slot : ℕ) (out work : List ℕ) (p : Progress) (at : �
 
     abbrev R : Rebuilt
     R = rebuild_all τ S (vs.code.bounds.next + p.fresh) (asked_list τ vs.fields.now (store_list vs.fields.now).asks 0 (x ∷ []))
-
-    there : vs.fields.now ≡ drop (place_in vs.code.facts.now slot) vs.code.bytes.now
-    there = ht ∙ ap (λ j. drop j vs.code.bytes.now) ha
 
     bs : Bytes vs.fields.now
     bs = rw there (bytes_drop vs.code.bytes.now (place_in vs.code.facts.now slot) a.ground.bytes)
@@ -90,12 +87,11 @@ module _ (vs : Values) (slot : ℕ) (out work : List ℕ) (p : Progress) (at : �
         went_put out (fresh_in work) dropped p R r out₁ (fresh_in work₁) puts q' (instruction_bytes i) out₂ to 1 0 _ _ s' z (v τ i a.ground a.line) o (store_kept_lem S i to' x ty R q cases none) clash_same
 
     -- else its value is a fresh number
-    anew_case : (q' s' : Progress) (out₂ : List ℕ) (to end : ℕ) → r ≡ Ok q' → (q'.fresh ≡ p.fresh → ⊥) → end ≡ end_in vs.code.facts.now slot - at → AnewWritten vs (record { to = q'.to; fresh = p.fresh }) end out₁ out₂ to → s' ≡ onward q' to 1 0
+    anew_case : (q' s' : Progress) (out₂ : List ℕ) (to end : ℕ) → r ≡ Ok q' → (q'.fresh ≡ p.fresh → ⊥) → end ≡ end_in vs.code.facts.now slot - place_in vs.code.facts.now slot → AnewWritten vs (record { to = q'.to; fresh = p.fresh }) end out₁ out₂ to → s' ≡ onward q' to 1 0
         → Puts (output_of out (fresh_in work) dropped p) (piece_effect q) q.clash out₂ (fresh_in work₁) dropped (Ok s')
     unfolding after
     anew_case q' s' out₂ to end z c he v o =
-        let e : end ≡ n = he ∙ ap (λ j. end_in vs.code.facts.now slot - j) ha in
-        let v' = subst (λ m. AnewWritten (record { code = vs.code; fields = vs.fields; list = m; tracked = vs.tracked }) (record { to = q'.to; fresh = p.fresh }) n out₁ out₂ to) hl (subst (λ j. AnewWritten vs (record { to = q'.to; fresh = p.fresh }) j out₁ out₂ to) e v) in
+        let v' = subst (λ m. AnewWritten (record { code = vs.code; fields = vs.fields; list = m; tracked = vs.tracked }) (record { to = q'.to; fresh = p.fresh }) n out₁ out₂ to) hl (subst (λ j. AnewWritten vs (record { to = q'.to; fresh = p.fresh }) j out₁ out₂ to) he v) in
         let around : Around vs.fields.now (store_list vs.fields.now) n = record { before = omega (arith, known.near, short); behind = omega (arith, short) } in
         let W = with_values vs.fields.now (store_list vs.fields.now) n R.values in
         let made : q'.fresh ≡ p.fresh + length R.fresh = spent out (fresh_in work) dropped p R r out₁ (fresh_in work₁) puts q' z in
@@ -111,5 +107,5 @@ module _ (vs : Values) (slot : ℕ) (out work : List ℕ) (p : Progress) (at : �
   pub store_stayed : (q' s' : Progress) (out₂ : List ℕ) (to : ℕ) → r ≡ Ok q' → q'.fresh ≡ p.fresh → InstructionWritten vs.code slot out₁ out₂ q'.to to → s' ≡ onward q' to 1 0 → StorePut vs.code slot vs.tracked.now out work p out₂ work₁ (Ok s')
   store_stayed q' s' out₂ to z c v o = λ τ S used i to' x ty dropped q a k y h. kept_case τ S used i to' x ty dropped q a k y h q' s' out₂ to z c v o
 
-  pub store_made : (q' s' : Progress) (out₂ : List ℕ) (to end : ℕ) → r ≡ Ok q' → (q'.fresh ≡ p.fresh → ⊥) → end ≡ end_in vs.code.facts.now slot - at → AnewWritten vs (record { to = q'.to; fresh = p.fresh }) end out₁ out₂ to → s' ≡ onward q' to 1 0 → StorePut vs.code slot vs.tracked.now out work p out₂ work₁ (Ok s')
+  pub store_made : (q' s' : Progress) (out₂ : List ℕ) (to end : ℕ) → r ≡ Ok q' → (q'.fresh ≡ p.fresh → ⊥) → end ≡ end_in vs.code.facts.now slot - place_in vs.code.facts.now slot → AnewWritten vs (record { to = q'.to; fresh = p.fresh }) end out₁ out₂ to → s' ≡ onward q' to 1 0 → StorePut vs.code slot vs.tracked.now out work p out₂ work₁ (Ok s')
   store_made q' s' out₂ to end z c he v o = λ τ S used i to' x ty dropped q a k y h. anew_case τ S used i to' x ty dropped q a k y h q' s' out₂ to end z c he v o

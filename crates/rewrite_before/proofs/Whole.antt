@@ -25,13 +25,13 @@ use Rattle.fold.specs.Tables.{CodeGround}
 use Rattle.rewrite_progress.specs.Effect.{output_of, rebuilt_effect, walked_effect, Puts}
 use Rattle.rewrite_wanted.specs.declared.Asks.{Asks}
 use Rattle.rewrite_wanted.specs.Asked.{Setting, asked_list}
-use Rattle.rewrite_list.specs.declared.values.Values.{Values}
+use Rattle.rewrite_list.specs.declared.values.ListedValues.{ListedValues}
 use Rattle.rewrite_list.specs.Lists.{Lies, AllPut}
 use Rattle.rewrite_before.specs.Materialized.{onward, return_list, with_values, AnewWritten, ReturnPut}
 use Rattle.rewrite_before.proofs.Returning.{asked_returns, return_many, return_around, return_bytes, return_lies}
 use Rattle.rewrite_before.proofs.Effects.{clash_put, went_put, spent, as_many, return_effect}
 
-module _ (vs : Values) (slot : ℕ) (out work : List ℕ) (p : Progress) (at : ℕ) (ha : at ≡ place_in vs.code.facts.now slot) (ht : vs.fields.now ≡ drop at vs.code.bytes.now) (hl : vs.list ≡ return_list vs.fields.now) (r : Result Progress Clash) (out₁ work₁ : List ℕ) (u : AllPut vs out work p out₁ work₁ r) where
+module _ (vs : ListedValues) (slot : ℕ) (out work : List ℕ) (p : Progress) (there : vs.fields.now ≡ drop (place_in vs.code.facts.now slot) vs.code.bytes.now) (hl : vs.list ≡ return_list vs.fields.now) (r : Result Progress Clash) (out₁ work₁ : List ℕ) (u : AllPut vs out work p out₁ work₁ r) where
   -- what is known in each case
   module _ (τ : Types) (S : AggStates) (used : ℕ) (xs : List Value) (dropped : Marks) (w : Walked) (g : CodeGround vs.code τ) (a : Rep vs.code.bounds.next vs.code.bytes.now vs.tracked.now (rows_in work) used S) (e : TerminatorIn vs.code.bounds vs.code.bytes.now vs.code.facts.now slot (Return xs)) (k : w ≡ finish τ S (vs.code.bounds.next + p.fresh) (Return xs)) (h : vs.code.bounds.next + p.fresh + length w.fresh < 65536) where
     abbrev R : Rebuilt
@@ -48,9 +48,6 @@ module _ (vs : Values) (slot : ℕ) (out work : List ℕ) (p : Progress) (at : �
     clash_same : w.clash ≡ R.clash
     unfolding returned
     clash_same = ap (λ z. z.clash) same
-
-    there : vs.fields.now ≡ drop (place_in vs.code.facts.now slot) vs.code.bytes.now
-    there = ht ∙ ap (λ j. drop j vs.code.bytes.now) ha
 
     bs : Bytes vs.fields.now
     bs = rw there (bytes_drop vs.code.bytes.now (place_in vs.code.facts.now slot) g.bytes)

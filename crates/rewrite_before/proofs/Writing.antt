@@ -1,11 +1,10 @@
 -- What is written behind the builds: an instruction as it stands, or bytes with other values put in.
-use Prim.Native.Nat.{ℕ, zero, suc, ◌+◌, ◌*◌, ◌-◌, ◌≤◌}
+use Prim.Native.Nat.{ℕ, zero, suc, ◌+◌, ◌-◌, ◌≤◌}
 use mathlib.Core.Path.{◌≡◌, refl, ap, ◌∙◌, sym}
 use mathlib.Core.List.{List, [], ◌∷◌, ◌++◌}
 use mathlib.Core.Bool.{false}
-use native.Mathlib.Numerals.{add-one, add-two}
 use native.Mathlib.Omega.{arith}
-use lib.ListN.{length, get_or, take, drop}
+use lib.ListN.{length, take, drop}
 use lib.Seq.{sets}
 use Rattle.bytes_wire.specs.Value.{value_bytes}
 use Rattle.bytes_wire.specs.WellFormed.{Bytes}
@@ -13,19 +12,17 @@ use Rattle.bytes_wire.proofs.Canon.{bytes_drop}
 use Rattle.bytes_field.specs.Encode.{each_bytes}
 use Rattle.bytes_index.specs.declared.code.Code.{Code}
 use Rattle.bytes_index.specs.Table.{place_in, end_in}
-use Rattle.bytes_operands.specs.Fields.{fields_place, value_end, projection_end, value_step, after}
+use Rattle.bytes_operands.specs.Fields.{value_step, after}
 use Rattle.bytes_operands.proofs.Loops.{plain_values}
 use Rattle.bytes_laws.proofs.Instruction.{instruction_size}
 use Rattle.rewrite.specs.Rebuild.{rebuild_all}
 use Rattle.bytes_emit.specs.Written.{Writes}
-use Rattle.rewrite_wanted.specs.declared.Asks.{Asks}
 use Rattle.rewrite_wanted.specs.Asked.{asked_list}
-use Rattle.rewrite_list.specs.declared.values.ValueList.{ValueList}
-use Rattle.rewrite_list.specs.declared.values.Values.{Values}
+use Rattle.rewrite_list.specs.declared.values.ListedValues.{ListedValues}
 use Rattle.rewrite_list.specs.declared.Written.{Written}
 use Rattle.rewrite_list.specs.Lists.{AllWritten}
 use Rattle.rewrite_list.proofs.Copying.{writes_and}
-use Rattle.rewrite_before.specs.Materialized.{call_list, store_list, list_end, with_values, AnewWritten, CallWritten, InstructionWritten}
+use Rattle.rewrite_before.specs.Materialized.{list_end, with_values, AnewWritten, CallWritten, InstructionWritten}
 use Rattle.rewrite_before.proofs.Standing.{whole_canon}
 
 -- a part has at most as many bytes as are asked for
@@ -54,7 +51,7 @@ instruction_copied code slot at end t out out' to r e h f w = λ τ i g l.
     rw ((whole_canon code.bounds u i m bs l.read).same ∙ sym q) (w (omega (arith, instruction_size code.bounds [] false u bs l.read g.listed g.projected, ap length q, part_most m u)))
 
 -- what stands in front, the values, and what stands behind them
-pub anew_written_lem : (vs : Values) (w₀ : Written) (end behind : ℕ) (t u out out₁ out₂ out₃ : List ℕ) (p q r : ℕ)
+pub anew_written_lem : (vs : ListedValues) (w₀ : Written) (end behind : ℕ) (t u out out₁ out₂ out₃ : List ℕ) (p q r : ℕ)
     → t ≡ take (vs.list.first - 0) (drop 0 vs.fields.now)
     → (length t ≤ 1024 → Writes t out out₁ w₀.to p)
     → AllWritten vs (record { to = p; fresh = w₀.fresh }) out₁ out₂ q
@@ -72,24 +69,11 @@ anew_written_lem vs w₀ end behind t u out out₁ out₂ out₃ p q r d v w e f
     let v' : Writes (take vs.list.first vs.fields.now) out out₁ w₀.to p = rw (← d') (v (omega (arith, ap length d', part_most vs.list.first vs.fields.now, a.before))) in
     writes_and (take vs.list.first vs.fields.now) (B ++ C) out out₁ out₃ w₀.to p r v' (writes_and B C out₁ out₂ out₃ p q r (w rows τ S xs g lie m small) y')
 
--- two bytes, then a run
-front_two : (out out₁ out₂ out₃ w : List ℕ) (a b i to : ℕ) → out₁ ≡ sets out i (a ∷ []) → out₂ ≡ sets out₁ (i + 1) (b ∷ []) → Writes w out₂ out₃ (i + 2) to → Writes (a ∷ b ∷ w) out out₃ i to
-front_two out out₁ out₂ out₃ w a b i to e f v =
-    (omega (arith, v.0), v.1 ∙ ap (λ l. sets l (i + 2) w) (f ∙ ap (λ l. sets l (i + 1) (b ∷ [])) e) ∙ rw (add-one i, add-two i) refl)
-
-pub call_written_lem : (vs : Values) (w₀ : Written) (end : ℕ) (out out₁ out₂ out₃ : List ℕ) (r : ℕ)
-    → out₁ ≡ sets out w₀.to (0 ∷ [])
-    → out₂ ≡ sets out₁ (w₀.to + 1) (3 ∷ [])
-    → AnewWritten vs (record { to = w₀.to + 2; fresh = w₀.fresh }) end out₂ out₃ r
-    → CallWritten vs w₀ end out out₃ r
-call_written_lem vs w₀ end out out₁ out₂ out₃ r e f v = λ rows a τ S xs g lie m small.
-    front_two out out₁ out₂ out₃ (with_values vs.fields.now vs.list end (rebuild_all τ S (vs.code.bounds.next + w₀.fresh) (asked_list τ vs.fields.now vs.list.asks 0 xs)).values) 0 3 w₀.to r e f (v rows a τ S xs g lie m small)
-
--- the lists of a Call and a Store, from the numbers that were read
-pub call_list_made : (f : List ℕ) (dests many behind types : ℕ) → dests ≡ get_or f 0 0 → many ≡ get_or f (4 + 2 * dests - 1) 0 → behind ≡ after (value_step f 0 0) many (4 + 2 * dests) → types ≡ get_or f behind 0 → ◌≡◌ {A = ValueList} (record { first = 4 + 2 * dests; many = many; asks = Asks.Types (behind + 1) types }) (call_list f)
-call_list_made f dests many behind types d m b t =
-    let b' : behind ≡ after (value_end f) many (4 + 2 * dests) = b ∙ plain_values f many (4 + 2 * dests) in
-    rw (t, b', m, d) refl
-
-pub store_list_made : (t : List ℕ) (place : ℕ) (f : List ℕ) (steps far behind : ℕ) → place ≡ fields_place t → f ≡ drop place t → steps ≡ get_or f 2 0 → far ≡ after (projection_end f) steps 3 → behind ≡ value_end t (place + far) → ◌≡◌ {A = ValueList} (record { first = place + far; many = 1; asks = Asks.Types behind 1 }) (store_list t)
-store_list_made t place f steps far behind p e k a b = rw (b, a, k, e, p) refl
+-- the kind, then the fields
+pub call_written_lem : (vs : ListedValues) (w₀ : Written) (end : ℕ) (out out₁ out₂ : List ℕ) (r : ℕ)
+    → out₁ ≡ sets out w₀.to (0 ∷ 3 ∷ [])
+    → AnewWritten vs (record { to = w₀.to + 2; fresh = w₀.fresh }) end out₁ out₂ r
+    → CallWritten vs w₀ end out out₂ r
+call_written_lem vs w₀ end out out₁ out₂ r e v = λ rows a τ S xs g lie m small.
+    let W = with_values vs.fields.now vs.list end (rebuild_all τ S (vs.code.bounds.next + w₀.fresh) (asked_list τ vs.fields.now vs.list.asks 0 xs)).values in
+    writes_and (0 ∷ 3 ∷ []) W out out₁ out₂ w₀.to (w₀.to + 2) r (refl, e) (v rows a τ S xs g lie m small)

@@ -24,7 +24,7 @@ use Rattle.fold.specs.Tables.{CodeGround}
 use Rattle.rewrite_progress.specs.Effect.{output_of, piece_effect, walked_effect, Puts, fresh_from, Enough}
 use Rattle.rewrite_wanted.specs.declared.Asks.{Asks}
 use Rattle.rewrite_list.specs.declared.values.ValueList.{ValueList}
-use Rattle.rewrite_list.specs.declared.values.Values.{Values}
+use Rattle.rewrite_list.specs.declared.values.ListedValues.{ListedValues}
 use Rattle.rewrite_list.specs.declared.Written.{Written}
 use Rattle.rewrite_list.specs.Lists.{most_copied, OfList}
 
@@ -81,13 +81,13 @@ pub record Around (t : List ℕ) (l : ValueList) (end : ℕ) : Type 0 where
   pub behind : end - list_end t l ≤ most_copied
 
 -- with the fresh numbers put in, the fields are written, and behind two bytes those of a Call
-abbrev pub AnewWritten : Values → Written → ℕ → List ℕ → List ℕ → ℕ → Type 0
+abbrev pub AnewWritten : ListedValues → Written → ℕ → List ℕ → List ℕ → ℕ → Type 0
 AnewWritten vs w end out out' r =
     (rows : List ℕ)
     → Around vs.fields.now vs.list end
     → OfList vs rows w.fresh (λ τ S R. Writes (with_values vs.fields.now vs.list end R.values) out out' w.to r)
 
-abbrev pub CallWritten : Values → Written → ℕ → List ℕ → List ℕ → ℕ → Type 0
+abbrev pub CallWritten : ListedValues → Written → ℕ → List ℕ → List ℕ → ℕ → Type 0
 CallWritten vs w end out out' r =
     (rows : List ℕ)
     → Around vs.fields.now vs.list end

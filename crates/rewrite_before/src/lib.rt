@@ -2,6 +2,7 @@
 // The builds are written first, then the instruction or terminator with the fresh numbers put in.
 #![tactic(auto)]
 
+ghost use Rattle.bytes_index.specs.Table.{place_in, end_in};
 ghost use Rattle.std.specs.Prelude.{◌≡◌, ℕ, ◌+◌, ◌-◌, ◌≤◌, ◌<◌};
 ghost use Rattle.rewrite_parts.specs.Rows.{rows_in};
 ghost use Rattle.rewrite_list.specs.Lists.{most_copied};
@@ -13,19 +14,29 @@ ghost use Rattle.bytes_emit.specs.Written.{value_room, rebuilt_room, call_room};
 use bytes_index::Code;
 use mir::kind::Kind;
 use rewrite::{Clash, Counts};
-use rewrite_list::{ValueList, Values, Written};
+use rewrite_chains::{STORE_FIRST_STEP, STORE_STEPS};
+use rewrite_list::{ListedValues, ValueList, Written};
 use rewrite_progress::Progress;
 use rewrite_wanted::Asks;
+
+// Where rebuilds are wanted: a slot of a routine, and which values are tracked there.
+#[derive(Clone, Copy)]
+pub struct Site<'a> {
+    pub code: Code<'a>,
+    pub slot: u16,
+    pub tracked: &'a [bool],
+}
+
+// In the fields of a Call the arguments stand behind the dests with their number, the function, and their own number.
+const CALL_FIRST: usize = 4;
+
+// How many bytes the bit map and the kind in front of an instruction have.
+const KIND_BYTES: usize = 2;
 
 // The values of a Return stand behind its kind and their number.
 const RETURN_COUNT: usize = 1;
 
 const RETURN_VALUES: usize = 2;
-
-// The number of projections in the fields of a Store stands behind its base, and the projections behind it.
-const STORE_STEPS: usize = 2;
-
-const STORE_FIRST_STEP: usize = 3;
 
 // The output is written up to `to`: so many instructions further, and so many more materializations.
 fn put_further(p: Progress, to: usize, lines: u32, made: u32) -> Progress
@@ -43,24 +54,33 @@ fn put_further(p: Progress, to: usize, lines: u32, made: u32) -> Progress
     }
 }
 
-// Writes a slot's instruction as it stands, and returns the place behind it.
-fn copy_instruction(out: &mut [u8], to: usize, code: Code, slot: u16) -> usize
-    requires { to < value_room }
-    ensures upper_bound { result ≤ to + most_copied }
-    ensures instruction_written { InstructionWritten code.entry slot out.old out.new to result }
+// How many bytes a slot's instruction has.
+fn size(code: Code, slot: u16) -> usize
+    ensures { result ≡ end_in code.entry.facts.now slot - place_in code.entry.facts.now slot }
+{
+    bytes_index::end(code.facts, slot).saturating_sub(bytes_index::place(code.facts, slot))
+}
+
+// A slot's instruction as it stands, behind what is written.
+fn put_kept(out: &mut [u8], p: Progress, code: Code, slot: u16) -> Progress
+    requires { (p.to < value_room) × ((p.lines < counts_below) × (p.counts.materializations < counts_below)) }
+    ensures onward { result ≡ onward p result.to 1 0 }
+    ensures upper_bound { result.to ≤ p.to + most_copied }
+    ensures instruction_written { InstructionWritten code.entry slot out.old out.new p.to result.to }
 {
     let at = bytes_index::place(code.facts, slot);
     let end = bytes_index::end(code.facts, slot);
-    rewrite_list::copy_bytes(out, to, bytes_field::between(code.bytes, at, end))
+    let to = rewrite_list::copy_bytes(out, p.to, bytes_field::between(code.bytes, at, end));
+    put_further(p, to, 1, 0)
 }
 
 // Writes the fields up to `end` with the fresh numbers put in from number `from.fresh` on, and returns the place behind them.
-fn put_anew(out: &mut [u8], from: Written, values: Values, end: usize) -> usize
+fn put_anew(out: &mut [u8], from: Written, values: ListedValues, end: usize) -> usize
     requires { (from.to < rebuilt_room) × ((from.fresh < counts_below) × (values.list.first < counts_below)) }
     ensures upper_bound { result ≤ from.to + anew_most }
     ensures anew_written { AnewWritten values.entry from end out.old out.new result }
 {
-    let Values { fields, list, .. } = values;
+    let ListedValues { fields, list, .. } = values;
     let front = rewrite_list::copy_bytes(out, from.to, bytes_field::between(fields, 0, list.first));
     let back = rewrite_list::put_values(out, Written { to: front, ..from }, values);
     let behind = bytes_operands::values_end(fields, list.first, 0, 0, list.many);
@@ -71,7 +91,7 @@ fn put_anew(out: &mut [u8], from: Written, values: Values, end: usize) -> usize
 fn call_list(f: &[u8]) -> ValueList
     ensures { (result ≡ call_list f.now) × (result.first ≤ list_starts) }
 {
-    let first = 4 + 2 * bytes_wire::byte_at(f, 0) as usize;
+    let first = CALL_FIRST + bytes_field::ID * bytes_wire::byte_at(f, 0) as usize;
     let many = bytes_wire::byte_at(f, first - 1);
     let behind = bytes_operands::values_end(f, first, 0, 0, many);
     ValueList {
@@ -85,49 +105,43 @@ fn call_list(f: &[u8]) -> ValueList
 }
 
 // Writes a Call without span, expression id and comment: its fields up to `end` with the fresh numbers put in.
-fn put_call_anew(out: &mut [u8], from: Written, values: Values, end: usize) -> usize
+fn put_call_anew(out: &mut [u8], from: Written, values: ListedValues, end: usize) -> usize
     requires { (from.to < call_room) × ((from.fresh < counts_below) × (values.list.first < counts_below)) }
     ensures upper_bound { result ≤ from.to + call_most }
     ensures call_written { CallWritten values.entry from end out.old out.new result }
 {
-    bytes_emit::put_u8(out, from.to, 0);
-    bytes_emit::put_u8(out, from.to + 1, Kind::Call as u8);
-    put_anew(
-        out,
-        Written {
-            to: from.to + 2,
-            ..from
-        },
-        values,
-        end,
-    )
+    bytes_emit::put_kind(out, from.to, Kind::Call);
+    let to = from.to + KIND_BYTES;
+    put_anew(out, Written { to, ..from }, values, end)
 }
 
 // put_call, put_store and put_return stay three: where the list stands, what goes in front of it, what is counted and whether the
 // instruction may stay as it stands differ, and a function for all would take each of these and promise the three things it does.
+// One for the builds and what follows them, of a Call and a Store, would take which of the two goes behind them and what it counts.
 
 // A slot's Call: rebuilds of its tracked arguments at aggregate parameter types, then the Call anew; as it stands where
 // there are none.
 pub fn put_call(
     out: &mut [u8],
     p: Progress,
-    code: Code,
-    slot: u16,
-    tracked: &[bool],
+    site: Site,
     work: &mut [u16],
 ) -> Result<Progress, Clash>
     requires { Low low_enough p }
     ensures by_index { (k : ℕ) → Low k p → PutLow (k + 1) result }
     ensures work_unchanged { rows_in work.new ≡ rows_in work.old }
-    ensures call_put { CallPut code.entry slot tracked.now
+    ensures call_put { CallPut site.entry.code site.entry.slot site.entry.tracked.now
         out.old work.old p out.new work.new result }
 {
-    let at = bytes_index::place(code.facts, slot);
-    let t = bytes_field::tail(code.bytes, at);
-    let place = bytes_operands::fields_place(t);
-    let fields = bytes_field::tail(t, place);
+    let Site {
+        code,
+        slot,
+        tracked,
+    } = site;
+    let t = code.instruction(slot);
+    let fields = bytes_operands::own_fields(t);
     let list = call_list(fields);
-    let values = Values {
+    let values = ListedValues {
         code,
         fields,
         list,
@@ -135,19 +149,14 @@ pub fn put_call(
     };
     let q = rewrite_list::put_builds(out, p, values, work)?;
     if q.fresh == p.fresh {
-        let kept = copy_instruction(out, q.to, code, slot);
-        return Ok(put_further(q, kept, 1, 0));
+        return Ok(put_kept(out, q, code, slot));
     }
-    let end = bytes_index::end(code.facts, slot).saturating_sub(at + place);
-    let to = put_call_anew(
-        out,
-        Written {
-            to: q.to,
-            fresh: p.fresh,
-        },
-        values,
-        end,
-    );
+    let from = Written {
+        to: q.to,
+        fresh: p.fresh,
+    };
+    let end = size(code, slot).saturating_sub(bytes_operands::fields_place(t));
+    let to = put_call_anew(out, from, values, end);
     Ok(put_further(q, to, 1, q.fresh - p.fresh))
 }
 
@@ -155,10 +164,10 @@ pub fn put_call(
 fn store_list(t: &[u8]) -> ValueList
     ensures { (result ≡ store_list t.now) × (result.first < counts_below) }
 {
-    let place = bytes_operands::fields_place(t);
-    let f = bytes_field::tail(t, place);
-    let first = place
-        + bytes_operands::projections_end(f, STORE_FIRST_STEP, bytes_wire::byte_at(f, STORE_STEPS));
+    let f = bytes_operands::own_fields(t);
+    let steps = bytes_wire::byte_at(f, STORE_STEPS);
+    let first = bytes_operands::fields_place(t)
+        + bytes_operands::projections_end(f, STORE_FIRST_STEP, steps);
     ValueList {
         first,
         many: 1,
@@ -173,21 +182,23 @@ fn store_list(t: &[u8]) -> ValueList
 pub fn put_store(
     out: &mut [u8],
     p: Progress,
-    code: Code,
-    slot: u16,
-    tracked: &[bool],
+    site: Site,
     work: &mut [u16],
 ) -> Result<Progress, Clash>
     requires { Low low_enough p }
     ensures by_index { (k : ℕ) → Low k p → PutLow (k + 1) result }
     ensures work_unchanged { rows_in work.new ≡ rows_in work.old }
-    ensures store_put { StorePut code.entry slot tracked.now
+    ensures store_put { StorePut site.entry.code site.entry.slot site.entry.tracked.now
         out.old work.old p out.new work.new result }
 {
-    let at = bytes_index::place(code.facts, slot);
-    let fields = bytes_field::tail(code.bytes, at);
+    let Site {
+        code,
+        slot,
+        tracked,
+    } = site;
+    let fields = code.instruction(slot);
     let list = store_list(fields);
-    let values = Values {
+    let values = ListedValues {
         code,
         fields,
         list,
@@ -195,19 +206,13 @@ pub fn put_store(
     };
     let q = rewrite_list::put_builds(out, p, values, work)?;
     if q.fresh == p.fresh {
-        let kept = copy_instruction(out, q.to, code, slot);
-        return Ok(put_further(q, kept, 1, 0));
+        return Ok(put_kept(out, q, code, slot));
     }
-    let end = bytes_index::end(code.facts, slot).saturating_sub(at);
-    let to = put_anew(
-        out,
-        Written {
-            to: q.to,
-            fresh: p.fresh,
-        },
-        values,
-        end,
-    );
+    let from = Written {
+        to: q.to,
+        fresh: p.fresh,
+    };
+    let to = put_anew(out, from, values, size(code, slot));
     Ok(put_further(q, to, 1, 0))
 }
 
@@ -215,38 +220,37 @@ pub fn put_store(
 pub fn put_return(
     out: &mut [u8],
     p: Progress,
-    code: Code,
-    slot: u16,
-    tracked: &[bool],
+    site: Site,
     work: &mut [u16],
 ) -> Result<Progress, Clash>
     requires { Low low_enough p }
     ensures by_index { (k : ℕ) → Low k p → PutLow (k + 1) result }
     ensures work_unchanged { rows_in work.new ≡ rows_in work.old }
-    ensures return_put { ReturnPut code.entry slot tracked.now
+    ensures return_put { ReturnPut site.entry.code site.entry.slot site.entry.tracked.now
         out.old work.old p out.new work.new result }
 {
-    let fields = bytes_field::tail(code.bytes, bytes_index::place(code.facts, slot));
+    let Site {
+        code,
+        slot,
+        tracked,
+    } = site;
+    let fields = code.instruction(slot);
     let list = ValueList {
         first: RETURN_VALUES,
         many: bytes_wire::byte_at(fields, RETURN_COUNT),
         asks: Asks::Recorded,
     };
-    let values = Values {
+    let values = ListedValues {
         code,
         fields,
         list,
         tracked,
     };
     let q = rewrite_list::put_builds(out, p, values, work)?;
-    let to = put_anew(
-        out,
-        Written {
-            to: q.to,
-            fresh: p.fresh,
-        },
-        values,
-        0,
-    );
+    let from = Written {
+        to: q.to,
+        fresh: p.fresh,
+    };
+    let to = put_anew(out, from, values, 0);
     Ok(put_further(q, to, 0, q.fresh - p.fresh))
 }

@@ -1,6 +1,6 @@
 -- The loop over all blocks.
 use Prim.Native.Nat.{ℕ, suc, ◌+◌, ◌*◌, ◌≤◌, ◌<◌}
-use mathlib.Core.Path.{◌≡◌, refl, ap, ◌∙◌, sym}
+use mathlib.Core.Path.{◌≡◌, ap, ◌∙◌, sym}
 use mathlib.Core.List.{List, [], ◌∷◌}
 use mathlib.Core.Bool.{Bool, true, false, ◌||◌}
 use native.Mathlib.Omega.{arith}
@@ -89,18 +89,6 @@ pub record Laid (run : Run) (l₀ : Lent) (p : Progress) (l : Lent) (q : Progres
   pub left : (τ : Types) (c : Choice) (ks : List Block) → Coded run.code.bounds run.code.bytes.now run.code.facts.now τ ks → Follows c run.code.facts.now run.choice.now ks → p.lines ≡ 0 → Enough run.code.bounds p (rewritten run τ c p ks).fresh → BlocksLeft run τ c (output_in l₀ p) (rewritten_effect (rewritten run τ c p ks)) (rewritten run τ c p ks).clash (drop k ks) l q
 
 module _ (run : Run) (l₀ : Lent) (p : Progress) where
-  pub laid_none : Laid run l₀ p l₀ p 0
-  laid_none =
-      record {
-        few = omega arith;
-        low = λ n l. low_mono n (n + 130 * 0) p (omega arith) l;
-        tracked_size = refl;
-        dropped_size = refl;
-        work_size = refl;
-        out_size = refl;
-        left = λ τ c ks co fo z en. record { same = refl; safe = refl; bound = en; first = z };
-      }
-
   module _ (l : Lent) (q : Progress) (k : ℕ) (inv : Laid run l₀ p l q k) where
     -- all blocks are behind
     pub laid_all : run.code.bounds.blocks ≤ k → AllPut run l₀ p l (Ok q)

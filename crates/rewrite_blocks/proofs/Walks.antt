@@ -11,7 +11,6 @@ use Rattle.mir.specs.declared.ValueId.{ValueId}
 use Rattle.mir.specs.Syntax.{Instruction, Terminator, Block}
 use Rattle.bytes_index.specs.Code.{no_instruction}
 use Rattle.mir.specs.Lookup.{Types}
-use Rattle.rewrite.specs.State.{no_states}
 use Rattle.rewrite.specs.Step.{Piece, step}
 use Rattle.rewrite.specs.Run.{Walked, glue, walk}
 use Rattle.rewrite_parts.specs.Rows.{Room, row_most, rows_size, rows_in}
@@ -84,19 +83,6 @@ pub record Walking (run : Run) (at : Slots) (l₀ : Lent) (w₀ : Reached) (l : 
       → Left run τ folds x.terminator (output_in l₀ w₀.progress) (walk_of run τ folds w₀.progress x) (drop j x.instructions) l w
 
 module _ (run : Run) (at : Slots) (l₀ : Lent) (w₀ : Reached) where
-  pub walking_start : Walking run at l₀ w₀ l₀ w₀ 0
-  walking_start =
-      record {
-        few = omega arith;
-        low = λ n y. low_mono n (n + 0) w₀.progress (omega arith) y;
-        used = omega arith;
-        tracked_size = refl;
-        dropped_size = refl;
-        work_size = refl;
-        out_size = refl;
-        left = λ τ folds x a. record { states = no_states; rep = a.rep; same = refl; clash = refl; bound = a.bound };
-      }
-
   module _ (l : Lent) (w : Reached) (j : ℕ) (inv : Walking run at l₀ w₀ l w j) where
     -- all instructions are behind
     pub walking_done : at.count ≤ j → InstructionsPut run at l₀ w₀ l (Ok w)

@@ -1,5 +1,6 @@
 // Blocks rewritten one after another: what is decided of each instruction is put out.
-// (The tables are lent one by one, as in rewrite_step.)
+// (The tables are lent one by one, as in rewrite_step. How long they are and how many blocks there are stay clauses: a `&mut` to an array
+// and a run with a ghost field would be narrower parameters, of which callers would have to have one.)
 #![tactic(auto)]
 
 ghost use Rattle.std.specs.Prelude.{◌≡◌, false, ℕ, ◌+◌, ◌*◌, ◌≤◌, ◌<◌, eqb, get_or};
@@ -10,10 +11,11 @@ ghost use Rattle.rewrite_step.specs.Stepping.{lent_as, SteppedLow};
 ghost use Rattle.rewrite_blocks.specs.Blocks.{EndPut, BlockSlots, Ready, InstructionsPut, Lendable, OnePut, AllPut};
 ghost use Rattle.mir.specs.Most.{most_blocks};
 
-use bytes_index::{Code, Slots};
+use bytes_index::Slots;
 use mir::terminator::TerminatorKind;
 use mir::{BlockId, most};
 use rewrite::Clash;
+use rewrite_before::Site;
 use rewrite_parts::ROWS_FROM;
 use rewrite_progress::{Progress, Run, SKIPS};
 use rewrite_step::Reached;
@@ -43,22 +45,16 @@ fn is_return(kind: u8) -> bool
 }
 
 // The terminator of a slot: only a Return is written anew.
-fn put_end(
-    out: &mut [u8],
-    p: Progress,
-    code: Code,
-    slot: u16,
-    tracked: &[bool],
-    work: &mut [u16],
-) -> Result<Progress, Clash>
+fn put_end(out: &mut [u8], p: Progress, site: Site, work: &mut [u16]) -> Result<Progress, Clash>
     requires { Low low_enough p }
     ensures by_index { (k : ℕ) → Low k p → PutLow (k + 1) result }
-    ensures end_put { EndPut code.entry slot
-        tracked.now work.old out.old p work.new out.new result }
+    ensures end_put { EndPut site.entry.code site.entry.slot
+        site.entry.tracked.now work.old out.old p work.new out.new result }
 {
+    let Site { code, slot, .. } = site;
     let at = bytes_index::place(code.facts, slot);
     if is_return(bytes_wire::byte_at(code.bytes, at)) {
-        return rewrite_before::put_return(out, p, code, slot, tracked, work);
+        return rewrite_before::put_return(out, p, site, work);
     }
     let part = bytes_field::between(code.bytes, at, bytes_index::end(code.facts, slot));
     Ok(rewrite_perform::put_part(out, p, part, 0))
@@ -124,8 +120,12 @@ fn put_rewritten(
         used: ROWS_FROM,
     };
     let q = put_instructions(run, at, tracked, dropped, work, out, w)?;
-    let slot = at.first + at.count;
-    let done = put_end(out, q.progress, run.code, slot, tracked, work);
+    let site = Site {
+        code: run.code,
+        slot: at.first + at.count,
+        tracked,
+    };
+    let done = put_end(out, q.progress, site, work);
     rewrite_perform::put_count(out, p, done)
 }
 

@@ -1,6 +1,6 @@
 -- What stands in front of a Make's parts, and behind them.
 use Prim.Native.Nat.{ℕ, ◌+◌}
-use mathlib.Core.Path.{◌≡◌, refl, ap, ◌∙◌, sym}
+use mathlib.Core.Path.{◌≡◌, ap, ◌∙◌, sym}
 use mathlib.Core.List.{List, [], ◌∷◌, ◌++◌}
 use mathlib.Core.Bool.{false}
 use native.Mathlib.Omega.{arith}
@@ -12,7 +12,7 @@ use Rattle.mir.specs.declared.TypeId.{TypeId}
 use Rattle.mir.specs.declared.Value.{Value}
 use Rattle.mir.specs.Syntax.{InstructionKind, plain}
 use Rattle.bytes_field.specs.Encode.{each_bytes, value_id_bytes, type_id_bytes, field_init_bytes, field_bytes, instruction_bytes}
-use Rattle.bytes_emit.proofs.Sets.{sets_append, sets_assign}
+use Rattle.bytes_emit.proofs.Sets.{sets_append}
 use Rattle.mir.specs.MirType.{StructField}
 use Rattle.rewrite.specs.Rebuild.{fitted, named}
 use Rattle.bytes_emit.specs.Written.{Writes}
@@ -22,10 +22,6 @@ use Rattle.rewrite_build.proofs.Writing.{fitted_same, length_named}
 -- no bits, the kind, what is defined, and the count
 abbrev pub head : ℕ → ValueId → ℕ → List ℕ
 head kind d n = 0 ∷ kind ∷ (value_id_bytes d ++ (n ∷ []))
-
--- its four stores
-pub head_stored : (l l₁ l₂ l₃ l₄ : List ℕ) (to a b n : ℕ) (d : ValueId) → l₁ ≡ sets l to (a ∷ []) → l₂ ≡ sets l₁ (to + 1) (b ∷ []) → l₃ ≡ sets l₂ (to + 2) (value_id_bytes d) → l₄ ≡ sets l₃ (to + 4) (n ∷ []) → l₄ ≡ sets l to (a ∷ b ∷ (value_id_bytes d ++ (n ∷ [])))
-head_stored l l₁ l₂ l₃ l₄ to a b n d e₁ e₂ e₃ e₄ = rw (e₄, e₃, e₂, e₁) (sets_assign l to a b (value_id_bytes d) (n ∷ []) [] refl)
 
 module _ (kind n to r : ℕ) (d : ValueId) (out out₁ out₂ : List ℕ) (h : out₁ ≡ sets out to (head kind d n)) where
   -- what is written behind a head is written with it

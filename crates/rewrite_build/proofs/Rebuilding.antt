@@ -96,8 +96,8 @@ module _ (most own n : ℕ) (row : List ℕ) (T : MirType) (xs : List Value) (h 
         | other a b c u v ↦ rw (u d xs t) (omega arith, refl)
       ]
 
--- what is said of the type that was read from `row` holds of type t of the table, whose place is `place`
-module _ (most : ℕ) (τ : Types) (t : TypeId) (s types row : List ℕ) (place : ℕ) (e : place ≡ get_or types t.0 0) (f : row ≡ drop place s) (h : Bytes s) (k : TypesAt most s types τ.rows) (l : t.0 < length τ.rows) where
+-- what is said of the type that was read from `row` holds of type t of the table, which stands there
+module _ (most : ℕ) (τ : Types) (t : TypeId) (s types row : List ℕ) (here : row ≡ drop (get_or types t.0 0) s) (h : Bytes s) (k : TypesAt most s types τ.rows) (l : t.0 < length τ.rows) where
   -- its row
   abbrev T : MirType
   T = get_or τ.rows t.0 MirType.Unit
@@ -105,9 +105,6 @@ module _ (most : ℕ) (τ : Types) (t : TypeId) (s types row : List ℕ) (place 
   row_of_lem : row_of τ (some t) ≡ some T
   unfolding row_of
   row_of_lem = some_at τ.rows t.0 MirType.Unit l
-
-  here : row ≡ drop (get_or types t.0 0) s
-  here = f ∙ ap (λ j. drop j s) e
 
   -- bytes
   row_bytes : Bytes row

@@ -1,7 +1,7 @@
 -- What the bytes of a type's row say of the type.
 use Prim.Native.Nat.{ℕ, ◌<◌}
 use mathlib.Core.Path.{◌≡◌, refl, ap, ◌∙◌, sym}
-use mathlib.Core.List.{List, [], ◌∷◌}
+use mathlib.Core.List.{List, []}
 use mathlib.Core.Bool.{false}
 use mathlib.Core.Option.{some}
 use native.Mathlib.Omega.{arith}
@@ -10,8 +10,6 @@ use lib.Seq.{get_or-take, drop-drop}
 use Rattle.bytes_wire.specs.Parse.{ok, and_then, map_parse}
 use Rattle.bytes_wire.specs.Number.{from_bytes, u32_of, below, at16, at32}
 use Rattle.bytes_wire.specs.WellFormed.{Bytes}
-use Rattle.mir.specs.declared.type_kind.TypeKind.{TypeKind}
-use Rattle.mir.specs.TypeKind.{number_of_type_kind}
 use Rattle.mir.specs.declared.ValueId.{ValueId}
 use Rattle.mir.specs.declared.NameId.{NameId}
 use Rattle.mir.specs.declared.TypeId.{TypeId}
@@ -26,28 +24,6 @@ use Rattle.bytes_types.proofs.Canon.{type_canon}
 use Rattle.rewrite.specs.Rebuild.{rebuild_at, clashes}
 use Rattle.bytes_struct.specs.Fields.{first_name, Names}
 use Rattle.bytes_struct.proofs.Placed.{type_fields}
-
--- the kind of a number
-numbered : List TypeKind
-numbered = TypeKind.Felt ∷ TypeKind.Bool ∷ TypeKind.U32 ∷ TypeKind.Tuple ∷ TypeKind.Struct ∷ TypeKind.FixedArray ∷ TypeKind.Pointer ∷ TypeKind.Function ∷ TypeKind.Unit ∷ TypeKind.Error ∷ TypeKind.Unknown ∷ []
-
-kind_back : (k : TypeKind) → get_or numbered (number_of_type_kind k) TypeKind.Felt ≡ k
-unfolding numbered
-kind_back TypeKind.Felt = refl
-kind_back TypeKind.Bool = refl
-kind_back TypeKind.U32 = refl
-kind_back TypeKind.Tuple = refl
-kind_back TypeKind.Struct = refl
-kind_back TypeKind.FixedArray = refl
-kind_back TypeKind.Pointer = refl
-kind_back TypeKind.Function = refl
-kind_back TypeKind.Unit = refl
-kind_back TypeKind.Error = refl
-kind_back TypeKind.Unknown = refl
-
--- the number of another kind is not a kind's
-pub other_kind : (n : ℕ) (j k : TypeKind) → number_of_type_kind j ≡ n → (j ≡ k → ⊥) → n ≡ number_of_type_kind k → ⊥
-other_kind n j k h z e = z (sym (kind_back j) ∙ ap (λ m. get_or numbered m TypeKind.Felt) (h ∙ e) ∙ kind_back k)
 
 -- the bytes of a type stand in its row, and so do a struct's names; an array's numbers are those that stand there
 record InRow (row : List ℕ) (T : MirType) : Type 0 where

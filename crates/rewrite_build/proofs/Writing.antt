@@ -1,10 +1,10 @@
 -- Things written one after another, and the parts of a row among them.
-use Prim.Native.Nat.{ℕ, zero, suc, ◌+◌, ◌*◌, ◌≤◌, ◌<◌, zero-le}
+use Prim.Native.Nat.{ℕ, zero, suc, ◌+◌, ◌*◌, ◌≤◌, ◌<◌}
 use mathlib.Core.Path.{◌≡◌, refl, ap, ◌∙◌, sym}
 use mathlib.Core.List.{List, [], ◌∷◌, ◌++◌}
 use native.Mathlib.Numerals.{add-one}
 use native.Mathlib.Omega.{arith}
-use lib.ListN.{length, get_or, drop, length-append, get_or-eq_default}
+use lib.ListN.{length, get_or, drop, length-append}
 use Rattle.std.proofs.lemmas.List.{get_or_default}
 use lib.Seq.{sets, length-sets, drop-cons, drop-length}
 use Rattle.bytes_wire.specs.Number.{at16}
@@ -23,12 +23,8 @@ use Rattle.bytes_index.specs.declared.code.Code.{Code}
 use Rattle.rewrite_build.specs.Written.{OfParts, OfFields}
 
 -- a part stands at the place in its slot
-pub part_at : (next : ℕ) (s parts : List ℕ) (k at : ℕ) (xs : List Value) → RowAt next s parts 0 xs → at ≡ get_or parts k 0 → k < length xs → ValueAt next s at (get_or xs k unit)
-part_at next s parts k at xs r e h = let z : 0 + k ≡ k = omega arith in rw (e, get_or_default xs k unit Value.Error h) (rw z at (r.each k h))
-
--- past the parts there are Units
-pub part_none : (xs : List Value) (k : ℕ) → length xs ≤ k → get_or xs k unit ≡ unit
-part_none xs k h = get_or-eq_default xs unit h
+pub part_at : (next : ℕ) (s places : List ℕ) (k at : ℕ) (xs : List Value) → RowAt next s places 0 xs → at ≡ get_or places k 0 → k < length xs → ValueAt next s at (get_or xs k unit)
+part_at next s places k at xs r e h = let z : 0 + k ≡ k = omega arith in rw (e, get_or_default xs k unit Value.Error h) (rw z at (r.each k h))
 
 -- of the things zs those before the i-th are written
 pub record Writing {A : Type 0} (enc : A → List ℕ) (zs : List A) (out₀ : List ℕ) (to₀ : ℕ) (out : List ℕ) (to i : ℕ) : Type 0 where
@@ -36,10 +32,6 @@ pub record Writing {A : Type 0} (enc : A → List ℕ) (zs : List A) (out₀ : L
   pub left : sets out to (each_bytes enc (drop i zs)) ≡ sets out₀ to₀ (each_bytes enc zs)
 
 module _ {A : Type 0} (enc : A → List ℕ) (zs : List A) (out₀ : List ℕ) (to₀ : ℕ) where
-  -- none is written yet
-  writing_start : Writing enc zs out₀ to₀ out₀ to₀ 0
-  writing_start = record { place = refl; left = refl }
-
   -- one more is written
   writing_again : (out : List ℕ) (to i : ℕ) → Writing enc zs out₀ to₀ out to i → (out' : List ℕ) (to' : ℕ) (z : A) → i < length zs → Writes (enc (get_or zs i z)) out out' to to' → Writing enc zs out₀ to₀ out' to' (i + 1)
   writing_again out to i w out' to' z h q =
@@ -79,19 +71,15 @@ get_d_named (f ∷ fs) (suc i) [] z h = get_d_named fs i [] z (omega arith)
 get_d_named (f ∷ fs) (suc i) (x ∷ xs) z h = get_d_named fs i xs z (omega arith)
 
 -- the loop over the parts: those before the i-th are written
-pub record Parts (code : Code) (parts : List ℕ) (want : ℕ) (out₀ : List ℕ) (to₀ : ℕ) (out : List ℕ) (to i : ℕ) : Type 0 where
+pub record PartsPut (code : Code) (places : List ℕ) (want : ℕ) (out₀ : List ℕ) (to₀ : ℕ) (out : List ℕ) (to i : ℕ) : Type 0 where
   pub under : i ≤ want
   pub bound : to ≤ to₀ + 5 * i
   pub len : length out ≡ length out₀
-  pub left : OfParts code parts (λ xs. Writing value_bytes (fitted want xs) out₀ to₀ out to i)
+  pub left : OfParts code places (λ xs. Writing value_bytes (fitted want xs) out₀ to₀ out to i)
 
--- none is written yet
-pub parts_start : (code : Code) (parts : List ℕ) (want : ℕ) (out : List ℕ) (to : ℕ) → Parts code parts want out to out to 0
-parts_start code parts want out to = record { under = zero-le; bound = omega arith; len = refl; left = λ xs r l. writing_start value_bytes (fitted want xs) out to }
-
-module _ (code : Code) (parts : List ℕ) (want : ℕ) (out₀ : List ℕ) (to₀ : ℕ) (out : List ℕ) (to i : ℕ) (c : Parts code parts want out₀ to₀ out to i) where
+module _ (code : Code) (places : List ℕ) (want : ℕ) (out₀ : List ℕ) (to₀ : ℕ) (out : List ℕ) (to i : ℕ) (c : PartsPut code places want out₀ to₀ out to i) where
   -- one more is written
-  pub parts_again : (out' : List ℕ) (to' : ℕ) → i < want → length out' ≡ length out → to' ≤ to + 5 → OfParts code parts (λ xs. Writes (value_bytes (get_or xs i unit)) out out' to to') → Parts code parts want out₀ to₀ out' to' (i + 1)
+  pub parts_again : (out' : List ℕ) (to' : ℕ) → i < want → length out' ≡ length out → to' ≤ to + 5 → OfParts code places (λ xs. Writes (value_bytes (get_or xs i unit)) out out' to to') → PartsPut code places want out₀ to₀ out' to' (i + 1)
   parts_again out' to' h k b w = record {
     under = omega arith;
     bound = omega (arith, c.bound);
@@ -102,19 +90,15 @@ module _ (code : Code) (parts : List ℕ) (want : ℕ) (out₀ : List ℕ) (to�
   }
 
   -- all are written
-  pub parts_done : want ≤ i → OfParts code parts (λ xs. Writes (each_bytes value_bytes (fitted want xs)) out₀ out to₀ to)
+  pub parts_done : want ≤ i → OfParts code places (λ xs. Writes (each_bytes value_bytes (fitted want xs)) out₀ out to₀ to)
   parts_done h xs r l = writing_done value_bytes (fitted want xs) out₀ to₀ out to i (c.left xs r l) (omega (arith, c.under, length_fitted want xs))
 
 -- the loop over a struct's fields: those before the i-th are written
-pub record Fields (code : Code) (parts : List ℕ) (row : List ℕ) (want : ℕ) (out₀ : List ℕ) (to₀ : ℕ) (out : List ℕ) (to i : ℕ) : Type 0 where
+pub record FieldsPut (code : Code) (places : List ℕ) (row : List ℕ) (want : ℕ) (out₀ : List ℕ) (to₀ : ℕ) (out : List ℕ) (to i : ℕ) : Type 0 where
   pub under : i ≤ want
   pub bound : to ≤ to₀ + 7 * i
   pub len : length out ≡ length out₀
-  pub left : OfParts code parts (λ xs. OfFields row want (λ fs. Writing field_init_bytes (named fs xs) out₀ to₀ out to i))
-
--- none is written yet
-pub fields_start : (code : Code) (parts row : List ℕ) (want : ℕ) (out : List ℕ) (to : ℕ) → Fields code parts row want out to out to 0
-fields_start code parts row want out to = record { under = zero-le; bound = omega arith; len = refl; left = λ xs r l fs m n. writing_start field_init_bytes (named fs xs) out to }
+  pub left : OfParts code places (λ xs. OfFields row want (λ fs. Writing field_init_bytes (named fs xs) out₀ to₀ out to i))
 
 -- a name and a value behind it
 field_writes : (n v out out₁ out' : List ℕ) (to to' : ℕ) → length n ≡ 2 → out₁ ≡ sets out to n → Writes v out₁ out' (to + 2) to' → Writes (n ++ v) out out' to to'
@@ -122,9 +106,9 @@ field_writes n v out out₁ out' to to' h e w =
     let z : to + 2 ≡ to + length n = omega arith in
     (omega (arith, w.0, length-append n v), w.1 ∙ ap (λ l. sets l (to + 2) v) e ∙ ap (λ k. sets (sets out to n) k v) z ∙ sym (sets_append out to n v))
 
-module _ (code : Code) (parts row : List ℕ) (want : ℕ) (out₀ : List ℕ) (to₀ : ℕ) (out : List ℕ) (to i : ℕ) (c : Fields code parts row want out₀ to₀ out to i) where
+module _ (code : Code) (places row : List ℕ) (want : ℕ) (out₀ : List ℕ) (to₀ : ℕ) (out : List ℕ) (to i : ℕ) (c : FieldsPut code places row want out₀ to₀ out to i) where
   -- one more is written
-  pub fields_again : (out₁ out' : List ℕ) (to' x : ℕ) → i < want → x ≡ at16 row (4 + 4 * i) → out₁ ≡ sets out to (name_id_bytes (record { 0 = x })) → length out' ≡ length out₁ → to' ≤ to + 2 + 5 → OfParts code parts (λ xs. Writes (value_bytes (get_or xs i unit)) out₁ out' (to + 2) to') → Fields code parts row want out₀ to₀ out' to' (i + 1)
+  pub fields_again : (out₁ out' : List ℕ) (to' x : ℕ) → i < want → x ≡ at16 row (4 + 4 * i) → out₁ ≡ sets out to (name_id_bytes (record { 0 = x })) → length out' ≡ length out₁ → to' ≤ to + 2 + 5 → OfParts code places (λ xs. Writes (value_bytes (get_or xs i unit)) out₁ out' (to + 2) to') → FieldsPut code places row want out₀ to₀ out' to' (i + 1)
   fields_again out₁ out' to' x h e f k b w = record {
     under = omega arith;
     bound = omega (arith, c.bound);
@@ -139,5 +123,5 @@ module _ (code : Code) (parts row : List ℕ) (want : ℕ) (out₀ : List ℕ) (
   }
 
   -- all are written
-  pub fields_done : want ≤ i → OfParts code parts (λ xs. OfFields row want (λ fs. Writes (each_bytes field_init_bytes (named fs xs)) out₀ out to₀ to))
+  pub fields_done : want ≤ i → OfParts code places (λ xs. OfFields row want (λ fs. Writes (each_bytes field_init_bytes (named fs xs)) out₀ out to₀ to))
   fields_done h xs r l fs m n = writing_done field_init_bytes (named fs xs) out₀ to₀ out to i (c.left xs r l fs m n) (omega (arith, c.under, length_named fs xs))

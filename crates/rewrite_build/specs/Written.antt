@@ -24,7 +24,7 @@ rebuild_most = 1792
 
 -- P holds of the parts that stand at these places of the routine
 abbrev pub OfParts : Code → List ℕ → (List Value → Type 0) → Type 0
-OfParts code parts P = (xs : List Value) → RowAt code.bounds.next code.bytes.now parts 0 xs → length xs ≡ length parts → P xs
+OfParts code places P = (xs : List Value) → RowAt code.bounds.next code.bytes.now places 0 xs → length xs ≡ length places → P xs
 
 -- P holds of the `want` fields whose names stand in a type's bytes
 abbrev pub OfFields : List ℕ → ℕ → (List StructField → Type 0) → Type 0

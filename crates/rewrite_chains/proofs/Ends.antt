@@ -1,6 +1,6 @@
 -- The last step of a chain: what all but the last projection lead to holds the part.
 use Prim.Native.Nat.{ℕ, zero, suc, ◌+◌, ◌-◌, ◌<◌}
-use mathlib.Core.Path.{◌≡◌, refl, ap, ◌∙◌, sym, subst}
+use mathlib.Core.Path.{◌≡◌, refl, ap, ◌∙◌, sym}
 use mathlib.Core.List.{List, [], ◌∷◌}
 use mathlib.Core.Bool.{false}
 use mathlib.Core.Option.{Option, none, some}
@@ -8,7 +8,6 @@ use native.Mathlib.Omega.{arith}
 use lib.ListN.{length, get_or, get_elem?, drop, take}
 use Rattle.bytes_wire.specs.Parse.{ok}
 use Rattle.mir.specs.declared.Literal.{Literal}
-use Rattle.mir.specs.declared.TypeId.{TypeId}
 use Rattle.mir.specs.declared.Value.{Value}
 use Rattle.mir.specs.declared.ValueId.{ValueId}
 use Rattle.bytes_wire.proofs.Canon.{bytes_drop}
@@ -28,7 +27,7 @@ use Rattle.mir.specs.Lookup.{Types, as_const_integer, on_some}
 use Rattle.rewrite.specs.State.{AggStates, step_index, step_part, chain, first_integer, store_last, store_deeper, store_from, forward_store}
 use Rattle.rewrite_parts.specs.Here.{Here}
 use Rattle.std.specs.Prelude.{Some, None}
-use Rattle.rewrite_chains.specs.Chained.{operand_in, LeadsTo, StepsAt, steps_at, held, loaded_part}
+use Rattle.rewrite_chains.specs.Chained.{operand_in, LeadsTo, StepsAt, steps_at, held, loaded_part, OfPlace, of_load, of_store, EndsNowhere, EndsIn}
 use Rattle.table.proofs.Elements.{some_at}
 use Rattle.rewrite_chains.proofs.Walks.{leads_some, leads_none, no_next}
 
@@ -90,7 +89,7 @@ module _ (τ : Types) (S : AggStates) (v : ValueId) where
   load_held (Field n ∷ ps) last q l e = refl
   load_held (Tuple k ∷ ps) last q l e = refl
 
-  pub store_held : (y : Value) (ps : List Projection) (last : ℕ) (q : Projection) → length ps ≡ last + 1 → get_elem? ps last ≡ some q → forward_store τ S (record { base = v; projections = ps }) y ≡ on_some (held τ S v ps last) (λ z. store_last τ S z q y)
+  store_held : (y : Value) (ps : List Projection) (last : ℕ) (q : Projection) → length ps ≡ last + 1 → get_elem? ps last ≡ some q → forward_store τ S (record { base = v; projections = ps }) y ≡ on_some (held τ S v ps last) (λ z. store_last τ S z q y)
   unfolding forward_store held first_integer on_some
   store_held y [] last q l e = refl
   store_held y (Index (Value.Literal (Literal.Integer k)) ∷ ps) last q l e = integer_store τ S v k ps y ∙ deeper_last τ S y (Index (Value.Literal (Literal.Integer k)) ∷ ps) last q l e (Value.Operand v)
@@ -107,7 +106,7 @@ unfolding loaded_part first_integer on_some
 load_nothing τ S v [] e = refl
 load_nothing τ S v (p ∷ ps) e = absurd (omega arith)
 
-pub store_nothing : (τ : Types) (S : AggStates) (y : Value) (v : ValueId) (ps : List Projection) → length ps ≡ 0 → forward_store τ S (record { base = v; projections = ps }) y ≡ none
+store_nothing : (τ : Types) (S : AggStates) (y : Value) (v : ValueId) (ps : List Projection) → length ps ≡ 0 → forward_store τ S (record { base = v; projections = ps }) y ≡ none
 unfolding forward_store first_integer on_some
 store_nothing τ S y v [] e = refl
 store_nothing τ S y v (p ∷ ps) e = absurd (omega arith)
@@ -119,12 +118,12 @@ pub record PlaceRead (b : Bounds) (t : List ℕ) (p : Place) (at many : ℕ) : T
   pub below : at < b.next
   pub long : length p.projections ≡ many
 
-module _ {b : Bounds} {s facts : List ℕ} {slot : ℕ} {tracked : Marks} {rows : List ℕ} {used : ℕ} {τ : Types} {S : AggStates} {i : Instruction} (o : Here b s facts slot tracked rows used τ S i) (few_types : b.types < 65536) (few_blocks : b.blocks < 65536) {t u : List ℕ} {from f : ℕ} (p : Place) (et : t ≡ drop from s) (ep : from ≡ place_in facts slot) (eu : u ≡ drop f t) (ef : f ≡ fields_place t) where
+module _ {b : Bounds} {s facts : List ℕ} {slot : ℕ} {tracked : Marks} {rows : List ℕ} {used : ℕ} {τ : Types} {S : AggStates} {i : Instruction} (o : Here b s facts slot tracked rows used τ S i) (few_types : b.types < 65536) (few_blocks : b.blocks < 65536) {t u : List ℕ} (et : t ≡ drop (place_in facts slot) s) (eu : u ≡ drop (fields_place t) t) where
   abbrev size : ℕ
   size = end_in facts slot - place_in facts slot
 
   e : instruction_of b [] false t ≡ ok i size
-  e = ap (instruction_of b [] false) (et ∙ ap (λ a. drop a s) ep) ∙ o.line.read
+  e = ap (instruction_of b [] false) et ∙ o.line.read
 
   fits : FitKind b [] i.kind
   fits = (((instruction b [] false).each (drop (place_in facts slot) s) i size (bytes_drop s (place_in facts slot) o.ground.bytes) o.line.read).good wide).1
@@ -133,28 +132,24 @@ module _ {b : Bounds} {s facts : List ℕ} {slot : ℕ} {tracked : Marks} {rows 
       wide = record { types = omega arith; next = omega (arith, o.ground.few); blocks = omega arith; list = omega (arith, o.ground.listed); projections = omega (arith, o.ground.projected) }
 
   counted : (j : ℕ) → kind_number i.kind ≡ j → length (place_steps i.kind) ≡ step_count u j
-  counted j k =
-      let own : u ≡ drop (fields_place t) t = eu ∙ ap (λ a. drop a t) ef in
-      (instruction_stands b [] false t i size e).stepped ∙ ap (λ a. step_count a (get_or t 1 0)) (sym own) ∙ ap (step_count u) (sym (instruction_fields b [] false t i size e).numbered ∙ k)
+  counted j k = (instruction_stands b [] false t i size e).stepped ∙ ap (λ a. step_count a (get_or t 1 0)) (sym eu) ∙ ap (step_count u) (sym (instruction_fields b [] false t i size e).numbered ∙ k)
 
   first : {at : ℕ} (v : ValueId) (vs : List ValueId) → reads i.kind ≡ v ∷ vs → at ≡ read_in facts slot 0 → at ≡ v.0
   first v vs k ea = ea ∙ o.line.reads_in.each 0 (rw k (omega arith)) ∙ ap (λ (xs : List ValueId). (get_or xs 0 (record { 0 = 0 })).0) k
 
-  pub load_read : {d : ValueId} {y : TypeId} {at many : ℕ} → i.kind ≡ InstructionKind.Load d p y → at ≡ read_in facts slot 0 → many ≡ get_or u 4 0 → PlaceRead b t p at many
-  load_read {d} {y} {at} {many} k ea em =
+  pub place_read : {j : InstructionKind} {steps : ℕ} {p : Place} {at many : ℕ} → OfPlace j steps p → i.kind ≡ j → at ≡ read_in facts slot 0 → many ≡ get_or u steps 0 → PlaceRead b t p at many
+  place_read {at} {many} (of_load d p y) k ea em =
       let z : at ≡ p.base.0 = first p.base _ (ap reads k) ea in
       record { steps = steps_at i size e (ap place_steps k); based = z; below = rw z (rw k at fits).1.0; long = sym (ap (λ j. length (place_steps j)) k) ∙ counted 5 (ap kind_number k) ∙ sym em }
-
-  pub store_read : {x : Value} {y : TypeId} {at many : ℕ} → i.kind ≡ InstructionKind.Store p x y → at ≡ read_in facts slot 0 → many ≡ get_or u 2 0 → PlaceRead b t p at many
-  store_read {x} {y} {at} {many} k ea em =
+  place_read {at} {many} (of_store p x y) k ea em =
       let z : at ≡ p.base.0 = first p.base _ (ap reads k) ea in
       record { steps = steps_at i size e (ap place_steps k); based = z; below = rw z (rw k at fits).0.0; long = sym (ap (λ j. length (place_steps j)) k) ∙ counted 6 (ap kind_number k) ∙ sym em }
 
 -- the last projection
-pub data LastOf (ps : List Projection) (last : ℕ) : Type 0 where
+data LastOf (ps : List Projection) (last : ℕ) : Type 0 where
   last_of : (q : Projection) → get_elem? ps last ≡ some q → LastOf ps last
 
-pub the_last : (ps : List Projection) (last : ℕ) → length ps ≡ last + 1 → LastOf ps last
+the_last : (ps : List Projection) (last : ℕ) → length ps ≡ last + 1 → LastOf ps last
 the_last ps last l = last_of (get_or ps last (Tuple 0)) (some_at ps last (Tuple 0) (omega arith))
 
 -- the number of the last projection
@@ -163,22 +158,26 @@ last_long ps {many} l h = omega arith
 
 module _ {b : Bounds} {t : List ℕ} (τ : Types) (S : AggStates) (p : Place) {at many : ℕ} (r : PlaceRead b t p at many) where
   -- no projection
-  pub load_empty : many ≡ 0 → loaded_part τ S p ≡ none
-  load_empty h = load_nothing τ S p.base p.projections (r.long ∙ h)
+  pub ends_empty : many ≡ 0 → EndsNowhere τ S p
+  ends_empty h = record { load = load_nothing τ S p.base p.projections (r.long ∙ h); store = λ y. store_nothing τ S y p.base p.projections (r.long ∙ h) }
 
   -- where the base is read
-  pub held_base : (last : ℕ) → held τ S (record { 0 = at }) p.projections last ≡ held τ S p.base p.projections last
+  held_base : (last : ℕ) → held τ S (record { 0 = at }) p.projections last ≡ held τ S p.base p.projections last
   held_base last = ap (λ a. held τ S (record { 0 = a }) p.projections last) r.based
 
   module _ (h : many ≡ 0 → ⊥) where
     -- no operand holds the part
-    pub load_stuck : LeadsTo b.next (held τ S (record { 0 = at }) p.projections (many - 1)) None → loaded_part τ S p ≡ none
-    unfolding step_part
-    load_stuck w =
+    pub ends_stuck : LeadsTo b.next (held τ S (record { 0 = at }) p.projections (many - 1)) None → EndsNowhere τ S p
+    unfolding step_part store_last
+    ends_stuck w =
         let l = last_long p.projections r.long h in
+        let n = w.told ∙ ap operand_in (held_base (many - 1)) in
         elim (the_last p.projections (many - 1) l) [
           | last_of q e ↦
-              load_held τ S p.base p.projections (many - 1) q l e ∙ leads_none (held τ S p.base p.projections (many - 1)) (λ z. step_part τ S z q) (λ k. refl) refl (w.told ∙ ap operand_in (held_base (many - 1)))
+              record {
+                load = load_held τ S p.base p.projections (many - 1) q l e ∙ leads_none (held τ S p.base p.projections (many - 1)) (λ z. step_part τ S z q) (λ k. refl) refl n;
+                store = λ y. store_held τ S p.base y p.projections (many - 1) q l e ∙ leads_none (held τ S p.base p.projections (many - 1)) (λ z. store_last τ S z q y) (λ k. refl) refl n;
+              }
         ]
 
     -- the last projection is there
@@ -186,10 +185,13 @@ module _ {b : Bounds} {t : List ℕ} (τ : Types) (S : AggStates) (p : Place) {a
     last_there e = no_next p.projections (many - 1) (omega (arith, last_long p.projections r.long h)) e
 
     -- an operand does
-    pub load_ends : {v : ValueId} {q : Projection} (P : Option Value → Type 0) → LeadsTo b.next (held τ S (record { 0 = at }) p.projections (many - 1)) (Some v) → some q ≡ get_elem? p.projections (many - 1) → (v.0 < b.next → P (step_part τ S (Value.Operand v) q)) → P (loaded_part τ S p)
+    pub ends_there : {v : ValueId} {q : Projection} → LeadsTo b.next (held τ S (record { 0 = at }) p.projections (many - 1)) (Some v) → some q ≡ get_elem? p.projections (many - 1) → EndsIn b.next τ S p (record { holder = v; step = q })
     unfolding on_some
-    load_ends {v} {q} P to look step =
+    ends_there {v} {q} to look =
         let l = last_long p.projections r.long h in
         let z : held τ S p.base p.projections (many - 1) ≡ some (Value.Operand v) = sym (held_base (many - 1)) ∙ leads_some to in
-        let y : loaded_part τ S p ≡ step_part τ S (Value.Operand v) q = load_held τ S p.base p.projections (many - 1) q l (sym look) ∙ ap (λ a. on_some a (λ x. step_part τ S x q)) z in
-        subst P (sym y) (step (to.below v refl))
+        record {
+          below = to.below v refl;
+          load = load_held τ S p.base p.projections (many - 1) q l (sym look) ∙ ap (λ a. on_some a (λ x. step_part τ S x q)) z;
+          store = λ y. store_held τ S p.base y p.projections (many - 1) q l (sym look) ∙ ap (λ a. on_some a (λ x. store_last τ S x q y)) z;
+        }

@@ -1,14 +1,12 @@
 -- One step of a chain: which part, where it stands, and the operand that it is.
-use Prim.Native.Nat.{ℕ, ◌≤◌, ◌<◌}
+use Prim.Native.Nat.{ℕ, ◌≤◌}
 use mathlib.Core.Path.{◌≡◌, refl, ap, ◌∙◌, sym}
 use mathlib.Core.List.{List}
 use mathlib.Core.Bool.{Bool, true, false}
 use mathlib.Core.Option.{Option, none, some}
 use native.Mathlib.Omega.{arith}
-use borrow.Author.Tests.{ltb-true}
 use mir.Val.{bool_byte}
-use lib.ListN.{length, get_elem?, drop}
-use lib.Dec.{ltb}
+use lib.ListN.{get_elem?, drop}
 use Rattle.bytes_wire.specs.WellFormed.{Bytes, FitValue}
 use Rattle.mir.specs.declared.Literal.{Literal}
 use Rattle.mir.specs.declared.NameId.{NameId}
@@ -17,13 +15,14 @@ use Rattle.mir.specs.declared.ValueId.{ValueId}
 use Rattle.bytes_wire.proofs.Canon.{bytes_drop, value_fit}
 use Rattle.mir.specs.declared.Projection.{Projection}
 use Rattle.mir.specs.declared.Projection.TheVariants.{Field}
-use Rattle.mir.specs.Lookup.{is_some, Types, value_row, as_const_integer, on_some}
+use Rattle.mir.specs.Operand.{operand_of}
+use Rattle.mir.specs.Lookup.{Types, value_row, as_const_integer, on_some}
 use Rattle.bytes_struct.specs.FindField.{find_field, position_in, field_index}
 use Rattle.bytes_struct.specs.declared.FoundField.{FoundField}
 use Rattle.rewrite.specs.State.{AggStates, step_index, step_part}
 use Rattle.rewrite_parts.specs.Rows.{ValueAt, stands, There}
 use Rattle.std.specs.Prelude.{Some, None, Option as Answered}
-use Rattle.rewrite_chains.specs.Chained.{operand_in, LeadsTo, has_part}
+use Rattle.rewrite_chains.specs.Chained.{operand_in, LeadsTo}
 
 -- a Boolean as a number
 pub boolean_integer : (b : Bool) → some (bool_byte b) ≡ as_const_integer (Value.Literal (Literal.Boolean b))
@@ -35,25 +34,6 @@ boolean_integer false = refl
 pub field_step : (τ : Types) (v : ValueId) (n : NameId) (x : Option FoundField) → x ≡ find_field (value_row τ v) n → position_in x ≡ step_index τ v (Field n)
 unfolding step_index field_index
 field_step τ v n x e = ap position_in e
-
--- whether there is a part, by what the tables have: a mark, and a number of parts
-pub part_untracked : (o : Option (List Value)) (k : ℕ) → is_some o ≡ false → false ≡ has_part o k
-unfolding is_some
-part_untracked none k e = refl
-part_untracked (some xs) k e = absurd (let z : ◌≡◌ {A = ℕ} 0 1 = cc in omega arith)
-
-pub part_tracked : (o : Option (List Value)) (k : ℕ) {n : ℕ} → is_some o ≡ true → ((xs : List Value) → o ≡ some xs → n ≡ length xs) → ltb k n ≡ has_part o k
-unfolding is_some
-part_tracked none k e f = absurd (let z : ◌≡◌ {A = ℕ} 0 1 = cc in omega arith)
-part_tracked (some xs) k {n} e f = let z : n ≡ length xs = f xs refl in rw z
-
--- the parts where there is part k
-pub data Has (o : Option (List Value)) (k : ℕ) : Type 0 where
-  has : (xs : List Value) → o ≡ some xs → k < length xs → Has o k
-
-pub has_part_lem : (o : Option (List Value)) (k : ℕ) → has_part o k ≡ true → Has o k
-has_part_lem none k e = absurd (let z : ◌≡◌ {A = ℕ} 0 1 = cc in omega arith)
-has_part_lem (some xs) k e = has xs refl (ltb-true k (length xs) e)
 
 -- the part that a projection names
 module _ (τ : Types) (S : AggStates) (v : ValueId) (q : Projection) where
@@ -70,11 +50,11 @@ module _ (τ : Types) (S : AggStates) (v : ValueId) (q : Projection) where
 -- what stands at a place
 module _ (next : ℕ) {x y : Value} (e : y ≡ x) where
   -- a value that is no operand
-  pub read_other : operand_in (some y) ≡ none → LeadsTo next (some x) None
+  read_other : operand_in (some y) ≡ none → LeadsTo next (some x) None
   read_other f = record { told = sym f ∙ ap (λ w. operand_in (some w)) e; below = λ v g. absurd (let u : ◌≡◌ {A = ℕ} 0 1 = cc in omega arith) }
 
   -- an operand
-  pub read_operand : {s : List ℕ} {at : ℕ} → Bytes s → next ≤ 65536 → ValueAt next s at x → (v : ValueId) → y ≡ Value.Operand v → LeadsTo next (some x) (Some v)
+  read_operand : {s : List ℕ} {at : ℕ} → Bytes s → next ≤ 65536 → ValueAt next s at x → (v : ValueId) → y ≡ Value.Operand v → LeadsTo next (some x) (Some v)
   read_operand {s} {at} b l h v f =
       let z : x ≡ Value.Operand v = sym e ∙ f in
       let fit : FitValue next x = elim h [ stands n g ↦ value_fit next (drop at s) (bytes_drop s at b) g l ] in
@@ -84,9 +64,12 @@ module _ (next : ℕ) {x y : Value} (e : y ≡ x) where
         below = λ u g. let i : u ≡ v = cc in rw i w.0;
       }
 
--- from a part to the operand that it is
-pub part_none : {next : ℕ} {o : Option Value} → o ≡ none → LeadsTo next o None
-part_none e = record { told = rw e; below = λ v g. absurd (let z : ◌≡◌ {A = ℕ} 0 1 = cc in omega arith) }
+-- whichever it is
+pub read_value : (next : ℕ) {x : Value} (y : Value) → y ≡ x → {s : List ℕ} {at : ℕ} → Bytes s → next ≤ 65536 → ValueAt next s at x → LeadsTo next (some x) (operand_of y)
+read_value next (Value.Literal l) e b h v = read_other next e refl
+read_value next (Value.Operand u) e b h v = read_operand next e b h v u refl
+read_value next Value.Error e b h v = read_other next e refl
 
+-- from a part to the operand that it is
 pub part_some : {next : ℕ} {s : List ℕ} {o : Option Value} {place : ℕ} {w : Answered ValueId} → There next s o place → ((x : Value) → ValueAt next s place x → LeadsTo next (some x) w) → LeadsTo next o w
 part_some h g = rw h.is (g h.value h.stands)

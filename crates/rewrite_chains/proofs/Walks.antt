@@ -1,10 +1,9 @@
 -- The walk over the first projections, and what it leads to.
-use Prim.Native.Nat.{ℕ, zero, suc, ◌+◌, ◌-◌, ◌≤◌, ◌<◌, zero-le}
+use Prim.Native.Nat.{ℕ, zero, suc, ◌+◌, ◌-◌, ◌≤◌, ◌<◌}
 use mathlib.Core.Path.{◌≡◌, refl, ap, ◌∙◌, sym}
 use mathlib.Core.List.{List, [], ◌∷◌}
 use mathlib.Core.Bool.{Bool, true, false}
 use mathlib.Core.Option.{Option, none, some}
-use native.Mathlib.Nat.{sub-zero}
 use native.Mathlib.Omega.{arith}
 use lib.ListN.{length, get_or, get_elem?, drop, take}
 use Rattle.table.proofs.Elements.{some_at}
@@ -18,7 +17,7 @@ use Rattle.mir.specs.Syntax.{Instruction}
 use Rattle.bytes_field.specs.Decode.{instruction_of}
 use Rattle.bytes_field.specs.declared.Bounds.{Bounds}
 use Rattle.bytes_operands.specs.Fields.{place_steps}
-use Rattle.mir.specs.Lookup.{is_some, Types, on_some}
+use Rattle.mir.specs.Lookup.{is_some, is_integer, Types, on_some}
 use Rattle.bytes_index.specs.declared.code.Code.{Code}
 use Rattle.rewrite_parts.specs.declared.Parts.{Parts}
 use Rattle.rewrite_parts.specs.Here.{Here}
@@ -56,10 +55,10 @@ chain_none τ S (some Value.Error) [] e = refl
 chain_none τ S (some Value.Error) (q ∷ qs) e = refl
 
 -- the next of the first k projections
-pub data Next (ps : List Projection) (k i : ℕ) : Type 0 where
+data Next (ps : List Projection) (k i : ℕ) : Type 0 where
   this : (q : Projection) → get_elem? ps i ≡ some q → take (k - i) (drop i ps) ≡ q ∷ take (k - (i + 1)) (drop (i + 1) ps) → Next ps k i
 
-pub next_of : (ps : List Projection) (k i : ℕ) → i < k → k ≤ length ps → Next ps k i
+next_of : (ps : List Projection) (k i : ℕ) → i < k → k ≤ length ps → Next ps k i
 next_of [] k i h l = absurd (omega arith)
 next_of (p ∷ ps) zero i h l = absurd (omega arith)
 next_of (p ∷ ps) (suc k) zero h l =
@@ -90,10 +89,6 @@ pub record Going (code : Code) (t : List ℕ) (parts : Parts) (base : ValueId) (
   pub left : (τ : Types) (S : AggStates) (ps : List Projection) → Walking code parts τ S → StepsAt code.bounds t ps → base.0 < code.bounds.next → k ≤ length ps → chain τ S (Value.Operand base) (take k ps) ≡ chain τ S (Value.Operand v) (take (k - i) (drop i ps))
 
 module _ {code : Code} {t : List ℕ} {parts : Parts} {base : ValueId} {k : ℕ} where
-  -- none is yet
-  pub going : Going code t parts base k base 0
-  going = record { under = zero-le; below = λ τ S ps w a h l. h; left = λ τ S ps w a h l. rw sub-zero }
-
   module _ {v : ValueId} {i : ℕ} (o : Going code t parts base k v i) (h : i < k) where
     -- there is a next projection
     pub going_nowhere : ((ps : List Projection) → StepsAt code.bounds t ps → none ≡ get_elem? ps i) → {A : Type 0} (ps : List Projection) → StepsAt code.bounds t ps → k ≤ length ps → A
@@ -136,7 +131,7 @@ module _ {code : Code} {t : List ℕ} {parts : Parts} {base : ValueId} {k : ℕ}
 
 -- the first projection is an Integer literal
 first_integer_lem : (ps : List Projection) → integer_step (get_elem? ps 0) ≡ is_some (first_integer ps)
-unfolding first_integer is_some
+unfolding first_integer is_some is_integer
 first_integer_lem [] = refl
 first_integer_lem (Index (Value.Literal (Literal.Integer k)) ∷ ps) = refl
 first_integer_lem (Index (Value.Literal (Literal.Boolean b)) ∷ ps) = refl
@@ -169,7 +164,7 @@ module _ (τ : Types) (S : AggStates) (v : ValueId) (ps : List Projection) (last
       go (some k) g = rw g w
 
 -- the walks of an instruction look at what stands before it
-pub here_walks : {code : Code} {parts : Parts} {slot used : ℕ} {τ : Types} {S : AggStates} {i : Instruction} → Here code.bounds code.bytes.now code.facts.now slot parts.marks.now parts.rows.now used τ S i → Walking code parts τ S
+pub here_walks : {code : Code} {parts : Parts} {slot used : ℕ} {τ : Types} {S : AggStates} {i : Instruction} → Here code.bounds code.bytes.now code.facts.now slot parts.tracked.now parts.rows.now used τ S i → Walking code parts τ S
 here_walks {used} o = record { ground = o.ground; used = used; rep = o.rep }
 
 -- what a lookup finds

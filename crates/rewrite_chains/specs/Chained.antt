@@ -1,9 +1,7 @@
 -- What the walks over a place's projections answer.
-use Rattle.std.specs.Prelude.{ℕ, ◌<◌, ◌≡◌, List, [], Bool, true, false, length, take, ltb, Option as Answered}
+use Rattle.std.specs.Prelude.{ℕ, ◌<◌, ◌≡◌, List, [], Bool, false, length, take, Some, None, unwrap_or, is_some as is_answered, Option as Answered}
 use Rattle.std.proofs.Math.Option.{Option, none, some}
-use Rattle.std.proofs.Math.ListN.{get_elem?}
 use Rattle.bytes_wire.specs.Parse.{ok}
-use Rattle.mir.specs.declared.Literal.{Literal}
 use Rattle.mir.specs.declared.Value.{Value}
 use Rattle.mir.specs.declared.ValueId.{ValueId}
 use Rattle.mir.specs.declared.TypeId.{TypeId}
@@ -15,8 +13,9 @@ use Rattle.bytes_field.specs.Decode.{instruction_of}
 use Rattle.bytes_field.specs.declared.Bounds.{Bounds}
 use Rattle.bytes_index.specs.declared.code.Code.{Code}
 use Rattle.bytes_index.specs.declared.code.Typing.{Typing}
+use Rattle.bytes_index.specs.Code.{InstructionIn}
 use Rattle.bytes_operands.specs.Fields.{place_steps}
-use Rattle.mir.specs.Lookup.{is_some, Types, on_some, value_row}
+use Rattle.mir.specs.Lookup.{is_some, is_integer, Types, on_some, value_row}
 use Rattle.mir.specs.Option.{as_option}
 use Rattle.bytes_struct.specs.FindField.{find_field}
 use Rattle.bytes_struct.specs.declared.FoundField.{FoundField}
@@ -24,9 +23,10 @@ use Rattle.fold.specs.Family.{Marks}
 use Rattle.fold.specs.Tables.{Known, CodeGround}
 use Rattle.rewrite.specs.State.{AggStates, chain, first_integer, step_part, store_part, store_last, forward_store}
 use Rattle.mir.specs.Most.{most_values}
-use Rattle.rewrite_parts.specs.Rows.{ValueAt, Rep, Room, InitAt, told, used_after}
+use Rattle.rewrite_parts.specs.Rows.{ValueAt, Rep, Room, InitAt}
 use Rattle.rewrite_parts.specs.declared.Parts.{Parts}
 use Rattle.rewrite_parts.specs.Here.{Here}
+use Rattle.rewrite_chains.specs.declared.LastStep.{LastStep}
 
 -- a field by its name in the recorded type of v
 abbrev pub FoundInType : Typing → ValueId → NameId → Answered FoundField → Type 0
@@ -49,20 +49,11 @@ pub record LeadsTo (next : ℕ) (o : Option Value) (r : Answered ValueId) : Type
   pub told : as_option r ≡ operand_in o
   pub below : (v : ValueId) → as_option r ≡ some v → v.0 < next
 
--- a part of a value, by its position
-abbrev pub part_at : AggStates → ValueId → Option ℕ → Option Value
-part_at S v o = on_some o (λ k. on_some (S v.0) (λ xs. get_elem? xs k))
-
--- there is a part k
-abbrev pub has_part : Option (List Value) → ℕ → Bool
-has_part none k = false
-has_part (some xs) k = ltb k (length xs)
-
 -- what a walk looks at: the routine and the tables of tracked values
 pub record Walking (code : Code) (parts : Parts) (τ : Types) (S : AggStates) : Type 0 where
   pub ground : CodeGround code τ
   pub used : ℕ
-  pub rep : Rep code.bounds.next code.bytes.now parts.marks.now parts.rows.now used S
+  pub rep : Rep code.bounds.next code.bytes.now parts.tracked.now parts.rows.now used S
 
 -- an accepted instruction stands at the head of t, and ps are its projections
 pub data StepsAt (b : Bounds) (t : List ℕ) (ps : List Projection) : Type 0 where
@@ -92,11 +83,7 @@ OfSteps code t parts base r Enough end =
 -- an Index by an Integer literal
 abbrev pub integer_step : Option Projection → Bool
 integer_step none = false
-integer_step (some (Index (Value.Literal (Literal.Integer k)))) = true
-integer_step (some (Index (Value.Literal (Literal.Boolean b)))) = false
-integer_step (some (Index (Value.Literal Literal.Unit))) = false
-integer_step (some (Index (Value.Operand v))) = false
-integer_step (some (Index Value.Error)) = false
+integer_step (some (Index x)) = is_integer x
 integer_step (some (Field n)) = false
 integer_step (some (Tuple k)) = false
 
@@ -110,6 +97,34 @@ loaded_part τ S p =
     on_some (first_integer p.projections) (λ k.
     on_some (S p.base.0) (λ xs. chain τ S (Value.Operand p.base) p.projections))
 
+-- the instruction is a Load or a Store with this place, the number of its projections at `steps` of its own fields
+pub data OfPlace : InstructionKind → ℕ → Place → Type 0 where
+  of_load : (d : ValueId) (p : Place) (y : TypeId) → OfPlace (InstructionKind.Load d p y) 4 p
+  of_store : (p : Place) (x : Value) (y : TypeId) → OfPlace (InstructionKind.Store p x y) 2 p
+
+-- no part is taken from a place, and none changed
+pub record EndsNowhere (τ : Types) (S : AggStates) (p : Place) : Type 0 where
+  pub load : loaded_part τ S p ≡ none
+  pub store : (y : Value) → forward_store τ S p y ≡ none
+
+-- the part that is taken or changed is that of the last step
+pub record EndsIn (next : ℕ) (τ : Types) (S : AggStates) (p : Place) (l : LastStep) : Type 0 where
+  pub below : l.holder.0 < next
+  pub load : loaded_part τ S p ≡ step_part τ S (Value.Operand l.holder) l.step
+  pub store : (y : Value) → forward_store τ S p y ≡ store_last τ S (Value.Operand l.holder) l.step y
+
+abbrev pub Ends : ℕ → Types → AggStates → Place → Answered LastStep → Type 0
+Ends next τ S p None = EndsNowhere τ S p
+Ends next τ S p (Some l) = EndsIn next τ S p l
+
+-- the Load or the Store in a slot: where its place ends
+abbrev pub LastFound : Code → ℕ → Parts → ℕ → Answered LastStep → Type 0
+LastFound code slot parts steps r =
+    (τ : Types) (S : AggStates) (used : ℕ) (i : Instruction) (p : Place)
+    → Here code.bounds code.bytes.now code.facts.now slot parts.tracked.now parts.rows.now used τ S i
+    → OfPlace i.kind steps p
+    → Ends code.bounds.next τ S p r
+
 -- the states behind a Store: those it is forwarded into, else as they were
 unfoldable pub states_after : AggStates → Option AggStates → AggStates
 states_after S none = S
@@ -117,16 +132,24 @@ states_after S (some S') = S'
 
 -- a Store's answer: it tells whether it is forwarded, and the tables hold the states behind it
 pub record Forwards (next : ℕ) (s : List ℕ) (S : AggStates) (o : Option AggStates) (tracked : Marks) (rows : List ℕ) (used : ℕ) (r : Answered ℕ) : Type 0 where
-  pub is_told : told r ≡ is_some o
-  pub rep : Rep next s tracked rows (used_after used r) (states_after S o)
+  pub is_told : is_answered r ≡ is_some o
+  pub rep : Rep next s tracked rows (unwrap_or r used) (states_after S o)
 
 -- the Load in a slot: the part that it takes
 abbrev pub PartLoaded : Code → ℕ → Parts → Answered ℕ → Type 0
 PartLoaded code slot parts r =
     (τ : Types) (S : AggStates) (used : ℕ) (i : Instruction) (d : ValueId) (p : Place) (y : TypeId)
-    → Here code.bounds code.bytes.now code.facts.now slot parts.marks.now parts.rows.now used τ S i
+    → Here code.bounds code.bytes.now code.facts.now slot parts.tracked.now parts.rows.now used τ S i
     → i.kind ≡ InstructionKind.Load d p y
     → InitAt code.bounds.next code.bytes.now (loaded_part τ S p) r
+
+-- the Store in a slot: where its value stands
+abbrev pub StoredAt : Code → ℕ → ℕ → Type 0
+StoredAt code slot at =
+    (i : Instruction) (p : Place) (x : Value) (y : TypeId)
+    → InstructionIn code.bounds code.bytes.now code.facts.now slot i
+    → i.kind ≡ InstructionKind.Store p x y
+    → ValueAt code.bounds.next code.bytes.now at x
 
 -- part k of v is the value at a place
 abbrev pub PartStored : ValueId → ℕ → ℕ → Marks → List ℕ → ℕ → Marks → List ℕ → Answered ℕ → Type 0
@@ -156,5 +179,5 @@ StoreForwarded code slot tracked rows used tracked' rows' r =
     → Here code.bounds code.bytes.now code.facts.now slot tracked rows used τ S i
     → Room rows used
     → i.kind ≡ InstructionKind.Store p x y
-    → (told r ≡ is_some (forward_store τ S p x))
-    × Rep code.bounds.next code.bytes.now tracked' rows' (used_after used r) (states_after S (forward_store τ S p x))
+    → (is_answered r ≡ is_some (forward_store τ S p x))
+    × Rep code.bounds.next code.bytes.now tracked' rows' (unwrap_or r used) (states_after S (forward_store τ S p x))

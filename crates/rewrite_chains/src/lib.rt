@@ -5,8 +5,8 @@ mod path;
 
 ghost use Rattle.std.specs.Prelude.{◌+◌, ◌≤◌, ◌<◌, IfSome};
 ghost use Rattle.rewrite_parts.specs.Rows.{row_most, used_below};
-ghost use Rattle.rewrite_chains.specs.Chained.{FoundInType};
-ghost use Rattle.rewrite_chains.specs.Chained.{PartLoaded, PartStored, LastStored, StoreForwarded};
+ghost use Rattle.rewrite_chains.specs.Chained.{FoundInType, LastFound};
+ghost use Rattle.rewrite_chains.specs.Chained.{PartLoaded, StoredAt, PartStored, LastStored, StoreForwarded};
 
 use bytes_index::{Code, Typing};
 use bytes_struct::FoundField;
@@ -15,35 +15,60 @@ use rewrite_parts::Parts;
 
 // Where the number of projections stands in the fields of a Load, behind its dest and its base, and in those of a Store,
 // behind its base; the projections stand behind it.
-const LOAD_STEPS: usize = 4;
+const LOAD_STEPS: usize = 2 * bytes_field::ID;
 
-const STORE_STEPS: usize = 2;
+pub const STORE_STEPS: usize = bytes_field::ID;
 
-const STORE_FIRST_STEP: usize = 3;
+pub const STORE_FIRST_STEP: usize = STORE_STEPS + 1;
 
 // A field by its name in the recorded type of a value, where it has one.
 pub fn value_field(typing: Typing, v: ValueId, name: NameId) -> Option<FoundField>
     ensures { FoundInType typing.entry v name result }
 {
-    let code = typing.code;
     let t = bytes_lookup::recorded_type(typing.recorded, v)?;
-    bytes_struct::find_field(code.bytes, code.facts, code.bounds.types, t, name)
+    bytes_struct::find_field(typing.code, t, name)
+}
+
+// The last projection of a place, and the value of which it names a part.
+#[derive(Clone, Copy)]
+pub struct LastStep {
+    pub holder: ValueId,
+    pub step: Projection,
+}
+
+// Where the place of the Load or the Store in a slot ends; the number of its projections stands at `steps` of its own fields. None
+// where there are no projections, or no value that the last could name a part of.
+fn last_step(code: Code, slot: u16, parts: Parts, steps: usize) -> Option<LastStep>
+    ensures { LastFound code.entry slot parts.entry steps result }
+{
+    let t = code.instruction(slot);
+    let n = bytes_wire::byte_at(bytes_operands::own_fields(t), steps);
+    if n == 0 {
+        return None;
+    }
+    let base = bytes_index::read(code.facts, slot, 0);
+    let holder = path::holder(code, t, parts, base, n - 1)?;
+    let step = bytes_operands::projection(t, code.bounds, n - 1)?;
+    Some(LastStep { holder, step })
 }
 
 // sroa.rs 1489, `forward_projection_chain`: the place of the part that the Load in a slot takes.
 pub fn load_part(code: Code, slot: u16, parts: Parts) -> Option<usize>
     ensures { PartLoaded code.entry slot parts.entry result }
 {
-    let t = bytes_field::tail(code.bytes, bytes_index::place(code.facts, slot));
-    let u = bytes_field::tail(t, bytes_operands::fields_place(t));
-    let n = bytes_wire::byte_at(u, LOAD_STEPS);
-    if n == 0 {
-        return None;
-    }
-    let base = bytes_index::read(code.facts, slot, 0);
-    let v = path::holder(code, t, parts, base, n - 1)?;
-    let p = bytes_operands::projection(t, code.bounds, n - 1)?;
-    path::step_part(code, parts, v, p)
+    let last = last_step(code, slot, parts, LOAD_STEPS)?;
+    path::step_part(code, parts, last.holder, last.step)
+}
+
+// Where the value of the Store in a slot stands.
+fn stored_place(code: Code, slot: u16) -> usize
+    ensures { StoredAt code.entry slot result }
+{
+    let t = code.instruction(slot);
+    let u = bytes_operands::own_fields(t);
+    let n = bytes_wire::byte_at(u, STORE_STEPS);
+    let far = bytes_operands::projections_end(u, STORE_FIRST_STEP, n);
+    bytes_index::place(code.facts, slot) + bytes_operands::fields_place(t) + far
 }
 
 // Part `k` of `v` is the value at a place now, where `v` is tracked and has that part: how much of the rows is used then.
@@ -60,13 +85,8 @@ fn store_part(
     ensures part_stored { PartStored v k place tracked.old rows.old used
         tracked.new rows.new result }
 {
-    let parts = Parts {
-        marks: tracked,
-        rows,
-    };
-    if !path::has_part(parts, v, k) {
-        return None;
-    }
+    let parts = Parts { tracked, rows };
+    rewrite_parts::find_part(parts, v, k)?;
     let more = rewrite_parts::replace(tracked, rows, used, v, v, k, place);
     Some(more)
 }
@@ -104,21 +124,8 @@ pub fn forward_store(
     ensures store_forwarded { StoreForwarded code.entry slot tracked.old rows.old used
         tracked.new rows.new result }
 {
-    let at = bytes_index::place(code.facts, slot);
-    let t = bytes_field::tail(code.bytes, at);
-    let f = bytes_operands::fields_place(t);
-    let u = bytes_field::tail(t, f);
-    let n = bytes_wire::byte_at(u, STORE_STEPS);
-    if n == 0 {
-        return None;
-    }
-    let base = bytes_index::read(code.facts, slot, 0);
-    let parts = Parts {
-        marks: tracked,
-        rows,
-    };
-    let v = path::holder(code, t, parts, base, n - 1)?;
-    let p = bytes_operands::projection(t, code.bounds, n - 1)?;
-    let far = bytes_operands::projections_end(u, STORE_FIRST_STEP, n);
-    store_last(code, tracked, rows, used, v, p, at + f + far)
+    let parts = Parts { tracked, rows };
+    let last = last_step(code, slot, parts, STORE_STEPS)?;
+    let place = stored_place(code, slot);
+    store_last(code, tracked, rows, used, last.holder, last.step, place)
 }

@@ -5,13 +5,13 @@ ghost use Rattle.mir.specs.declared.Value.{Value as AnyValue};
 ghost use Rattle.mir.specs.Option.{as_option};
 ghost use Rattle.mir.specs.Lookup.{Types, as_const_integer};
 ghost use Rattle.fold.specs.Tables.{CodeGround};
-ghost use Rattle.rewrite.specs.State.{AggStates, step_index, chain};
-ghost use Rattle.rewrite_parts.specs.Rows.{ValueAt, Rep, InitAt};
-ghost use Rattle.rewrite_chains.specs.Chained.{LeadsTo, has_part, OfStep, OfSteps, integer_step, held};
+ghost use Rattle.rewrite.specs.State.{step_index, chain};
+ghost use Rattle.rewrite_parts.specs.Rows.{ValueAt, InitAt};
+ghost use Rattle.rewrite_chains.specs.Chained.{LeadsTo, OfStep, OfSteps, integer_step, held};
 ghost use Rattle.bytes_wire.specs.WellFormed.{Bytes};
 ghost use Rattle.table.specs.Number.{numbers_below};
 
-use bytes_index::{Code, Typing};
+use bytes_index::Code;
 use mir::{Literal, Projection, Value, ValueId};
 use rewrite_parts::Parts;
 
@@ -23,9 +23,7 @@ fn const_integer(x: Value) -> Option<u32>
     match x {
         Value::Literal(Literal::Integer(k)) => Some(k),
         Value::Literal(Literal::Boolean(b)) => Some(b as u32),
-        Value::Literal(Literal::Unit) => None,
-        Value::Operand(_) => None,
-        Value::Error => None,
+        Value::Literal(Literal::Unit) | Value::Operand(_) | Value::Error => None,
     }
 }
 
@@ -37,21 +35,11 @@ pub fn step_index(code: Code, v: ValueId, p: Projection) -> Option<u32>
     match p {
         Projection::Index(x) => const_integer(x),
         Projection::Field(name) => {
-            let recorded = bytes_index::recorded(code.facts);
-            let found = crate::value_field(Typing { code, recorded }, v, name)?;
+            let found = crate::value_field(code.typing(), v, name)?;
             Some(found.position)
         }
         Projection::Tuple(k) => Some(k),
     }
-}
-
-// A value is tracked and has part `k`.
-pub fn has_part(parts: Parts, v: ValueId, k: u32) -> bool
-    ensures { (next : ℕ) (s : List ℕ) (used : ℕ) (S : AggStates)
-        → Rep next s parts.entry.marks.now parts.entry.rows.now used S
-        → result ≡ has_part (S v.0) k }
-{
-    rewrite_parts::tracked(parts.marks, v) && k < rewrite_parts::part_count(parts.rows, v) as u32
 }
 
 // One step of a chain: where the part of `v` that a projection names stands, where `v` is tracked and has that part.
@@ -67,11 +55,7 @@ fn operand_at(s: &[u8], at: usize, next: u16) -> Option<ValueId>
     ensures { (x : AnyValue) → Bytes s.now → next ≤ numbers_below
         → ValueAt next s.now at x → LeadsTo next (some x) result }
 {
-    match bytes_operands::value_at(s, at, next) {
-        Value::Operand(v) => Some(v),
-        Value::Literal(_) => None,
-        Value::Error => None,
-    }
+    bytes_operands::value_at(s, at, next).operand()
 }
 
 // The operand that one step leads to.
@@ -99,10 +83,10 @@ fn walk(code: Code, t: &[u8], parts: Parts, base: ValueId, k: u8) -> Option<Valu
 fn is_integer(p: Option<Projection>) -> bool
     ensures { result ≡ integer_step (as_option p) }
 {
-    matches!(
-        p,
-        Some(Projection::Index(Value::Literal(Literal::Integer(_))))
-    )
+    match p {
+        Some(Projection::Index(x)) => x.is_integer(),
+        Some(Projection::Field(_) | Projection::Tuple(_)) | None => false,
+    }
 }
 
 // The value of which the last projection, number `last`, names a part. The first one is an Integer literal.

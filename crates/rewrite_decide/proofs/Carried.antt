@@ -14,7 +14,7 @@ use Rattle.bytes_index.specs.declared.code.Code.{Code}
 use Rattle.rewrite_parts.specs.declared.listed.Listed.{Listed}
 use Rattle.rewrite_parts.specs.Rows.{Rep, Room}
 use Rattle.rewrite_parts.specs.Filled.{Shared, ValuesTracked, Replaced}
-use Rattle.rewrite_arms.specs.Decided.{Assigned, assigned_from, Decided, Listing, ListedAt, Planned, FieldsBuilt}
+use Rattle.rewrite_arms.specs.Decided.{Assigned, assigned_from, Decided, Listing, ListedAt, Planned}
 use Rattle.rewrite_arms.specs.declared.Action.{Action}
 use Rattle.rewrite_arms.specs.declared.Counted.{Counted}
 use Rattle.rewrite_arms.specs.declared.Decision.{Decision}
@@ -64,12 +64,6 @@ module _ (code : Code) {next : ℕ} {S : AggStates} {i : Instruction} {p : Spot}
 
       pub carry_values : {q : Decision} → r ≡ Plan.Values → ValuesBuilt code p marks rows used marks' rows' q → Decided next code.bytes.now marks' rows' S i x q
       carry_values e f =
-          let w = rw e at g in
-          let d = w.dest (λ z. let u : ◌≡◌ {A = ℕ} 0 1 = cc in omega arith) in
-          f next S i x rep room (omega arith) w.goes
-
-      pub carry_fields : {t : TypeId} {q : Decision} → r ≡ Plan.Fields t → FieldsBuilt code p t marks rows used marks' rows' q → Decided next code.bytes.now marks' rows' S i x q
-      carry_fields e f =
           let w = rw e at g in
           let d = w.dest (λ z. let u : ◌≡◌ {A = ℕ} 0 1 = cc in omega arith) in
           f next S i x rep room (omega arith) w.goes

@@ -58,12 +58,6 @@ module _ (σ : Settings) (τ : Types) (fold : Bool) (folds : ValueId → Bool) (
   idle (HeapAllocCells d x) f n3 n6 n0 n5 n10 n11 n12 n13 n14 n15 n16 = refl
 
   module _ {j : ℕ} (e : j ≡ kind_number i.kind) (f : (d : ValueId) → build_dest i.kind ≡ some d → fold ≡ folds d) (n3 : kind_number i.kind ≡ 3 → ⊥) (n6 : kind_number i.kind ≡ 6 → ⊥) where
-    -- no kind that is looked at
-    pub other_kept : (j ≡ 0 → ⊥) → (j ≡ 5 → ⊥) → (j ≡ 10 → ⊥) → (j ≡ 11 → ⊥) → (j ≡ 12 → ⊥) → (j ≡ 13 → ⊥) → (j ≡ 14 → ⊥) → (j ≡ 15 → ⊥) → (j ≡ 16 → ⊥) → step σ τ folds S m i ≡ kept S i
-    unfolding step
-    other_kept n0 n5 n10 n11 n12 n13 n14 n15 n16 =
-        idle i.kind f n3 n6 (λ a z. n0 (e ∙ z)) (λ a z. n5 (e ∙ z)) (λ a z. n10 (e ∙ z)) (λ a z. n11 (e ∙ z)) (λ a z. n12 (e ∙ z)) (λ a z. n13 (e ∙ z)) (λ a z. n14 (e ∙ z)) (λ a z. n15 (e ∙ z)) (λ a z. n16 (e ∙ z))
-
     -- one that is turned off
     pub off_kept : {on : Bool} → on ≡ acts σ.tuples σ.structs fold j → on ≡ false → step σ τ folds S m i ≡ kept S i
     unfolding step

@@ -44,7 +44,7 @@ of_structs σ = σ.structs
 abbrev pub KindPlanned : ℕ → (Settings → Bool) → Code → ℕ → Spot → Parts → Plan → Type 0
 KindPlanned k on code slot p parts r =
     (σ : Settings) (τ : Types) (S : AggStates) (folds : ValueId → Bool) (m : ℕ) (i : Instruction) (used : ℕ)
-    → Here code.bounds code.bytes.now code.facts.now slot parts.marks.now parts.rows.now used τ S i
+    → Here code.bounds code.bytes.now code.facts.now slot parts.tracked.now parts.rows.now used τ S i
     → SpotAt code.bytes.now code.facts.now slot p
     → kind_number i.kind ≡ k
     → on σ ≡ true
@@ -54,7 +54,7 @@ KindPlanned k on code slot p parts r =
 abbrev pub StepPlanned : Code → Settings → ℕ → Bool → Spot → Parts → Plan → Type 0
 StepPlanned code σ slot fold p parts r =
     (τ : Types) (S : AggStates) (folds : ValueId → Bool) (m : ℕ) (i : Instruction) (used : ℕ)
-    → Here code.bounds code.bytes.now code.facts.now slot parts.marks.now parts.rows.now used τ S i
+    → Here code.bounds code.bytes.now code.facts.now slot parts.tracked.now parts.rows.now used τ S i
     → SpotAt code.bytes.now code.facts.now slot p
     → (kind_number i.kind ≡ call_kind → ⊥)
     → (kind_number i.kind ≡ store_kind → ⊥)

@@ -18,11 +18,6 @@ use mir::{NameId, TypeId, Value, ValueId};
 use rewrite_arms::{Action, Counted, DEST_BYTES, Decision, Plan, Spot};
 use rewrite_parts::Parts;
 
-// How many bytes the name and the index have that stand behind the first value of an insert.
-const NAME_BYTES: usize = 2;
-
-const INDEX_BYTES: usize = 4;
-
 // What an extract or an insert says of its source: the value, the place behind it, where the name or the index of the part stands, and
 // the type that it names.
 #[derive(Clone, Copy)]
@@ -37,7 +32,7 @@ fn find_spot(code: Code, slot: u16) -> Spot
     ensures { SpotAt code.entry.bytes.now code.entry.facts.now slot result }
 {
     let at = bytes_index::place(code.facts, slot);
-    let off = at + bytes_operands::fields_place(bytes_field::tail(code.bytes, at));
+    let off = at + bytes_operands::fields_place(code.instruction(slot));
     Spot {
         off,
         end: bytes_index::end(code.facts, slot),
@@ -46,6 +41,7 @@ fn find_spot(code: Code, slot: u16) -> Spot
 }
 
 // The source of the extract or the insert at a spot: what extracts and inserts, by a name and by an index, have in common.
+// (The rest of the four stays apart: a name is two bytes and is looked up in a type, an index is four and is the part's number.)
 fn find_source(code: Code, p: Spot) -> Source
     ensures { SourceAt code.entry p result }
 {
@@ -57,20 +53,16 @@ fn find_source(code: Code, p: Spot) -> Source
     }
 }
 
-// Whether a kind is looked at: under the settings for tuples and structs, and a build where it is taken apart.
+// Whether a kind is looked at: under the settings for tuples and structs, and a build where it is taken apart. (Apart from what is done
+// with it, in `plan`: as guards there, these would leave the last arm with nothing to say of which of them failed.)
 fn active(settings: Settings, fold: bool, kind: Kind) -> bool
     ensures { result ≡ acts settings.tuples settings.structs fold (number_of_kind kind) }
 {
     match kind {
         Kind::Assign => true,
-        Kind::Load => settings.tuples,
-        Kind::MakeTuple => fold,
-        Kind::ExtractTupleElement => settings.tuples,
-        Kind::MakeStruct => fold,
-        Kind::ExtractStructField => settings.structs,
-        Kind::InsertField => settings.structs,
-        Kind::InsertTuple => settings.tuples,
-        Kind::MakeFixedArray => fold,
+        Kind::Load | Kind::ExtractTupleElement | Kind::InsertTuple => settings.tuples,
+        Kind::ExtractStructField | Kind::InsertField => settings.structs,
+        Kind::MakeTuple | Kind::MakeStruct | Kind::MakeFixedArray => fold,
         _ => false,
     }
 }
@@ -82,7 +74,7 @@ fn assign(code: Code, p: Spot, parts: Parts) -> Plan
     let x = bytes_operands::value_at(code.bytes, p.off + DEST_BYTES, code.bounds.next);
     let t = rewrite_arms::last_type(code.bytes, p.end);
     let whole = rewrite_arms::is_aggregate(code, t);
-    rewrite_arms::plan_assign(x, whole, parts.marks)
+    rewrite_arms::plan_assign(x, whole, parts.tracked)
 }
 
 // A Load takes the part that its place leads to.
@@ -92,7 +84,7 @@ fn load(code: Code, slot: u16, p: Spot, parts: Parts) -> Plan
     let t = rewrite_arms::last_type(code.bytes, p.end);
     let found = rewrite_chains::load_part(code, slot, parts);
     let whole = rewrite_arms::is_aggregate(code, t);
-    rewrite_arms::plan_take(code, found, t, whole, parts.marks)
+    rewrite_arms::plan_take(code, found, t, whole, parts.tracked)
 }
 
 // An extract takes the tuple's element of its index.
@@ -102,7 +94,7 @@ fn extract_element(code: Code, p: Spot, parts: Parts) -> Plan
     let from = find_source(code, p);
     let k = bytes_wire::u32_at(code.bytes, from.end);
     let found = rewrite_arms::part(parts, from.value, k);
-    rewrite_arms::plan_take(code, found, from.named, true, parts.marks)
+    rewrite_arms::plan_take(code, found, from.named, true, parts.tracked)
 }
 
 // An extract takes the struct's field of its name.
@@ -112,7 +104,7 @@ fn extract_field(code: Code, p: Spot, parts: Parts) -> Plan
     let from = find_source(code, p);
     let name = NameId(bytes_wire::u16_at(code.bytes, from.end));
     let found = rewrite_arms::field_part(code, parts, from.value, name);
-    rewrite_arms::plan_take(code, found, from.named, true, parts.marks)
+    rewrite_arms::plan_take(code, found, from.named, true, parts.tracked)
 }
 
 // An insert replaces the struct's field of its name, which its type has.
@@ -121,13 +113,12 @@ fn insert_field(code: Code, p: Spot, parts: Parts) -> Plan
 {
     let from = find_source(code, p);
     let name = NameId(bytes_wire::u16_at(code.bytes, from.end));
-    let many = code.bounds.types;
-    match bytes_struct::find_field(code.bytes, code.facts, many, from.named, name) {
+    match bytes_struct::find_field(code, from.named, name) {
         None => Plan::Keep,
         Some(found) => rewrite_arms::plan_insert(
             from.value,
             found.position,
-            from.end + NAME_BYTES,
+            from.end + bytes_field::ID,
             parts,
         ),
     }
@@ -139,7 +130,7 @@ fn insert_element(code: Code, p: Spot, parts: Parts) -> Plan
 {
     let from = find_source(code, p);
     let k = bytes_wire::u32_at(code.bytes, from.end);
-    rewrite_arms::plan_insert(from.value, k, from.end + INDEX_BYTES, parts)
+    rewrite_arms::plan_insert(from.value, k, from.end + bytes_field::WORD, parts)
 }
 
 // What is to be done with the dest of the instruction in a slot. `fold`: it is a build that is taken apart.
@@ -155,7 +146,7 @@ fn plan(code: Code, settings: Settings, slot: u16, fold: bool, p: Spot, parts: P
     match kind {
         Kind::Assign => assign(code, p, parts),
         Kind::Load => load(code, slot, p, parts),
-        Kind::MakeTuple => Plan::Values,
+        Kind::MakeTuple | Kind::MakeFixedArray => Plan::Values,
         Kind::ExtractTupleElement => extract_element(code, p, parts),
         Kind::MakeStruct => {
             rewrite_arms::plan_struct(code, p.dest, rewrite_arms::last_type(code.bytes, p.end))
@@ -163,7 +154,6 @@ fn plan(code: Code, settings: Settings, slot: u16, fold: bool, p: Spot, parts: P
         Kind::ExtractStructField => extract_field(code, p, parts),
         Kind::InsertField => insert_field(code, p, parts),
         Kind::InsertTuple => insert_element(code, p, parts),
-        Kind::MakeFixedArray => Plan::Values,
         _ => Plan::Keep,
     }
 }
@@ -262,10 +252,7 @@ pub fn decide(
         tracked.old rows.old used tracked.new rows.new result }
 {
     let p = find_spot(code, slot);
-    let parts = Parts {
-        marks: tracked,
-        rows,
-    };
+    let parts = Parts { tracked, rows };
     let what = plan(code, settings, slot, fold, p, parts);
     carry_out(what, code, p, tracked, rows, used)
 }

@@ -1,10 +1,10 @@
 -- What stands before the map, and all of it put together.
-use Prim.Native.Nat.{ℕ, ◌+◌, ◌-◌, ◌*◌, ◌/◌, ◌≤◌}
+use Prim.Native.Nat.{ℕ, zero, suc, ◌+◌, ◌-◌, ◌*◌, ◌/◌, ◌≤◌}
 use mathlib.Core.Path.{◌≡◌, refl, ap, ◌∙◌, sym}
 use mathlib.Core.List.{List, [], ◌∷◌, ◌++◌, append_assoc}
 use native.Mathlib.Omega.{arith}
 use lib.ListN.{length, get_or, take, drop, length-append}
-use lib.Seq.{sets, slice, length-slice, take-append-add, take-append_seam, drop_at, get_or_at}
+use lib.Seq.{sets, slice, length-slice, take-nil, take-append-add, take-append_seam, drop_at, get_or_at}
 use Rattle.bytes_wire.specs.Number.{to_bytes}
 use Rattle.mir.specs.declared.TypeId.{TypeId}
 use Rattle.mir.specs.declared.ValueId.{ValueId}
@@ -19,15 +19,29 @@ use Rattle.bytes_wire.proofs.RoundTrip.{length_to_bytes}
 use Rattle.rewrite_head.specs.Head.{head_bytes, with_fresh, widened, Tabled, front_end, front_bytes}
 use Rattle.rewrite_head.proofs.Bits.{length_fresh, fresh_many}
 
+-- a part that is lent is the part in the middle
+part_slice : (from end : ℕ) (s : List ℕ) → from ≤ end → take (end - from) (drop from s) ≡ slice from end s
+part_slice zero end s h = let z : end - 0 ≡ end = omega arith in ap (λ k. take k s) z
+part_slice (suc f) zero s h = absurd (omega arith)
+part_slice (suc f) (suc e) [] h = take-nil (suc e - suc f)
+part_slice (suc f) (suc e) (x ∷ s) h =
+    let z : suc e - suc f ≡ e - f = omega arith in
+    ap (λ k. take k (drop f s)) z ∙ part_slice f e s (omega arith)
+
 -- three runs one behind another
-pub front_written : (s out a b c : List ℕ) (at next count : ℕ) → count ≡ get_or s (at + 6) 0 → front_end s at ≤ length s → (p : ℕ) → p ≡ 0 + (at - 0) → a ≡ sets out 0 (slice 0 at s) → b ≡ sets a p (to_bytes 2 next) → c ≡ sets b (p + 2) (slice (at + 2) (at + 7 + 2 * count) s) → c ≡ sets out 0 (front_bytes s at next)
-front_written s out a b c at next count u l p e f g h' =
-    let h : c ≡ sets b (p + 2) (slice (at + 2) (front_end s at) s) = h' ∙ ap (λ k. sets b (p + 2) (slice (at + 2) (at + 7 + 2 * k) s)) u in
-    let n : length (slice 0 at s) ≡ p = length-slice 0 at s (omega arith) ∙ omega arith in
-    let z : 0 + length (slice 0 at s) ≡ p = omega arith in
+pub front_written : (s out a b c : List ℕ) (at next count : ℕ) → count ≡ get_or s (at + 6) 0 → front_end s at ≤ length s → (p r : ℕ) → p ≡ 0 + length (slice 0 at s) → a ≡ sets out 0 (slice 0 at s) → b ≡ sets a p (to_bytes 2 next)
+    → (r ≡ p + 2 + length (take (at + 7 + 2 * count - (at + 2)) (drop (at + 2) s))) × (c ≡ sets b (p + 2) (take (at + 7 + 2 * count - (at + 2)) (drop (at + 2) s)))
+    → (r ≡ front_end s at) × (c ≡ sets out 0 (front_bytes s at next))
+front_written s out a b c at next count u l p r e f g w =
+    let part : take (at + 7 + 2 * count - (at + 2)) (drop (at + 2) s) ≡ slice (at + 2) (front_end s at) s =
+    part_slice (at + 2) (at + 7 + 2 * count) s (omega arith) ∙ ap (λ k. slice (at + 2) (at + 7 + 2 * k) s) u in
+    let h : c ≡ sets b (p + 2) (slice (at + 2) (front_end s at) s) = w.1 ∙ ap (sets b (p + 2)) part in
     let one : sets out 0 (front_bytes s at next) ≡ sets (sets out 0 (slice 0 at s)) (0 + length (slice 0 at s)) (to_bytes 2 next ++ slice (at + 2) (front_end s at) s) = sets_append out 0 (slice 0 at s) (to_bytes 2 next ++ slice (at + 2) (front_end s at) s) in
-    let two : sets a p (to_bytes 2 next ++ slice (at + 2) (front_end s at) s) ≡ sets (sets a p (to_bytes 2 next)) (p + 2) (slice (at + 2) (front_end s at) s) = sets_append a p (to_bytes 2 next) (slice (at + 2) (front_end s at) s) in
-    h ∙ ap (λ m. sets m (p + 2) (slice (at + 2) (front_end s at) s)) g ∙ sym two ∙ ap (λ m. sets m p (to_bytes 2 next ++ slice (at + 2) (front_end s at) s)) f ∙ ap (λ m. sets (sets out 0 (slice 0 at s)) m (to_bytes 2 next ++ slice (at + 2) (front_end s at) s)) (sym z) ∙ sym one
+    let two : sets a p (to_bytes 2 next ++ slice (at + 2) (front_end s at) s) ≡ sets (sets a p (to_bytes 2 next)) (p + 2) (slice (at + 2) (front_end s at) s) = sets_append a p (to_bytes 2 next) (slice (at + 2) (front_end s at) s) in (
+      omega (arith, w.0, ap length part, length-slice 0 at s (omega arith), length-slice (at + 2) (front_end s at) s (omega arith)),
+      h ∙ ap (λ m. sets m (p + 2) (slice (at + 2) (front_end s at) s)) g ∙ sym two ∙ ap (λ m. sets m p (to_bytes 2 next ++ slice (at + 2) (front_end s at) s)) f
+          ∙ ap (λ m. sets (sets out 0 (slice 0 at s)) m (to_bytes 2 next ++ slice (at + 2) (front_end s at) s)) e ∙ sym one,
+    )
 
 -- the numbers of values take two bytes each
 two_each : (vs : List ValueId) → length (each_bytes value_id_bytes vs) ≡ 2 * length vs

@@ -11,7 +11,7 @@ use Rattle.bytes_sections.specs.Encode.{encode, recorded_bytes}
 use Rattle.bytes_sections.specs.Index.{RecordedAt}
 use Rattle.bytes_emit.specs.Written.{Writes}
 use Rattle.rewrite_progress.specs.Effect.{type_numbers}
-use Rattle.rewrite_head.specs.declared.values.Values.{Values}
+use Rattle.rewrite_head.specs.declared.recorded.RecordedTypes.{RecordedTypes}
 
 -- the bytes of a routine before those of its blocks
 unfoldable pub head_bytes : Routine → List ℕ
@@ -45,7 +45,7 @@ pub record Tabled (recorded fresh : List ℕ) (rs : List (Option TypeId)) (ts : 
   pub new : fresh ≡ type_numbers ts
 
 -- how many values there are
-abbrev pub all_values : Values → ℕ
+abbrev pub all_values : RecordedTypes → ℕ
 all_values values = length values.old.now + length values.fresh.now
 
 -- the place behind the parameters, where the types end at `at`
@@ -57,14 +57,14 @@ abbrev pub front_bytes : List ℕ → ℕ → ℕ → List ℕ
 front_bytes s at next = slice 0 at s ++ (to_bytes 2 next ++ slice (at + 2) (front_end s at) s)
 
 -- P holds of the recorded types of all values, the fresh ones behind the others
-abbrev pub OfRecorded : Values → (List (Option TypeId) → Type 0) → Type 0
+abbrev pub OfRecorded : RecordedTypes → (List (Option TypeId) → Type 0) → Type 0
 OfRecorded values P =
     (rs : List (Option TypeId)) (ts : List TypeId)
     → Tabled values.old.now values.fresh.now rs ts
     → P (with_fresh rs ts)
 
 -- of the routine that s is, whose types end at `at`, the head with the fresh values is written
-abbrev pub HeadPut : List ℕ → ℕ → Values → List ℕ → List ℕ → ℕ → Type 0
+abbrev pub HeadPut : List ℕ → ℕ → RecordedTypes → List ℕ → List ℕ → ℕ → Type 0
 HeadPut s at values out out' r =
     (x : Routine) (ts : List TypeId)
     → encode x ≡ s

@@ -2,7 +2,7 @@
 // but for the next value, then the recorded types of the values there were and of the fresh ones.
 #![tactic(auto)]
 
-pub mod values;
+pub mod recorded;
 
 ghost use Rattle.std.specs.Prelude.{◌≡◌, ◌+◌, ◌/◌, ◌%◌, ◌≤◌, ◌<◌, length, get_or, drop};
 ghost use Rattle.std.proofs.Math.Option.{none};
@@ -16,7 +16,7 @@ ghost use Rattle.rewrite_head.specs.Head.{OfRecorded, all_values, front_end, fro
 ghost use Rattle.rewrite_progress.specs.Effect.{counts_below};
 
 use mir::{TypeId, ValueId};
-pub use values::Values;
+pub use recorded::RecordedTypes;
 
 // In the routine's bytes, from the end of the types on: the next value, then the counts of blocks and the entry, then the
 // number of parameters, then these.
@@ -34,14 +34,14 @@ const BYTE_BITS: usize = 8;
 // In what follows `v` is a place in the map: that of value v. The map's last byte may have places past the last value.
 
 // How many values there are.
-fn count(values: Values) -> usize
+fn count(values: RecordedTypes) -> usize
     ensures { result ≡ all_values values.entry }
 {
     values.old.len() + values.fresh.len()
 }
 
 // The recorded type of value v.
-fn type_of(values: Values, v: usize) -> Option<TypeId>
+fn type_of(values: RecordedTypes, v: usize) -> Option<TypeId>
     ensures { OfRecorded values.entry (λ all. as_option result ≡ get_or all v none) }
 {
     let old = values.old.len();
@@ -56,7 +56,7 @@ fn type_of(values: Values, v: usize) -> Option<TypeId>
 }
 
 // Value v's bit of the map.
-fn bit_of(values: Values, v: usize) -> u8
+fn bit_of(values: RecordedTypes, v: usize) -> u8
     ensures upper_bound { result ≤ 1 }
     ensures of_recorded { OfRecorded values.entry (λ all. result ≡ stands (get_or all v none)) }
 {
@@ -65,7 +65,7 @@ fn bit_of(values: Values, v: usize) -> u8
 
 // The eight bits from value v on, the lowest first.
 // No fold: eight names and one sum are no longer, and the proof goes bit by bit.
-fn map_byte(values: Values, v: usize) -> u8
+fn map_byte(values: RecordedTypes, v: usize) -> u8
     requires { v < bits_below }
     ensures { OfRecorded values.entry (λ all.
         (result ≡ map_number (drop v all) % 256) × (map_number (drop v all) / 256 ≡ map_number (drop (v + 8) all))) }
@@ -84,7 +84,7 @@ fn map_byte(values: Values, v: usize) -> u8
 }
 
 // The map, from `to` on; returns the place behind it.
-fn put_map(out: &mut [u8], to: usize, values: Values) -> usize
+fn put_map(out: &mut [u8], to: usize, values: RecordedTypes) -> usize
     requires { to < value_room }
     ensures value { result ≡ to + (all_values values.entry + 7) / 8 }
     ensures of_recorded { OfRecorded values.entry (λ all.
@@ -99,23 +99,21 @@ fn put_map(out: &mut [u8], to: usize, values: Values) -> usize
 }
 
 // The recorded type of value v, where it has one; returns the place behind it.
-fn put_type(out: &mut [u8], to: usize, values: Values, v: usize) -> usize
+fn put_type(out: &mut [u8], to: usize, values: RecordedTypes, v: usize) -> usize
     requires { to < word_room }
     ensures upper_bound { result ≤ to + 2 }
     ensures of_recorded { OfRecorded values.entry (λ all.
         Writes (option_bytes type_id_bytes (get_or all v none)) out.old out.new to result) }
 {
-    match type_of(values, v) {
-        Some(t) => {
-            bytes_emit::put_type_id(out, to, t);
-            to + 2
-        }
-        None => to,
-    }
+    let Some(t) = type_of(values, v) else {
+        return to;
+    };
+    bytes_emit::put_type_id(out, to, t);
+    to + 2
 }
 
 // The recorded types of all values that have one, rising; returns the place behind them.
-fn put_types(out: &mut [u8], to: usize, values: Values) -> usize
+fn put_types(out: &mut [u8], to: usize, values: RecordedTypes) -> usize
     requires { to < value_room }
     ensures upper_bound { result ≤ to + recorded_most }
     ensures of_recorded { OfRecorded values.entry (λ all.
@@ -137,13 +135,13 @@ fn put_front(out: &mut [u8], s: &[u8], at: usize, next: u16) -> usize
 {
     let count = bytes_wire::byte_at(s, at + PARAMETER_COUNT);
     let end = at + PARAMETERS + PARAMETER_BYTES * (count as usize);
-    let p = bytes_emit::copy(out, 0, s, 0, at);
+    let p = bytes_emit::copy(out, 0, &s[..at]);
     bytes_emit::put_u16(out, p, next);
-    bytes_emit::copy(out, p + NEXT_BYTES, s, at + NEXT_BYTES, end)
+    bytes_emit::copy(out, p + NEXT_BYTES, &s[at + NEXT_BYTES..end])
 }
 
 // Writes all of it, from the first byte of the output on; returns the place behind it. The types of the input end at `at`.
-pub fn put_head(out: &mut [u8], s: &[u8], at: usize, values: Values) -> usize
+pub fn put_head(out: &mut [u8], s: &[u8], at: usize, values: RecordedTypes) -> usize
     requires within { front_end s.now at ≤ length s.now }
     requires short { length s.now < counts_below }
     ensures upper_bound { result ≤ length s.now + head_most }

@@ -2,7 +2,7 @@
 use Prim.Native.Nat.{ℕ, suc, ◌≤◌}
 use mathlib.Core.Path.{◌≡◌, refl, ◌∙◌, sym}
 use mathlib.Core.List.{List, [], ◌∷◌, ◌++◌, append-nil}
-use mathlib.Core.Bool.{Bool, true, not, ◌||◌}
+use mathlib.Core.Bool.{Bool, true, not, ◌||◌, true≢false}
 use native.Mathlib.Omega.{arith}
 use Rattle.mir.specs.declared.ValueId.{ValueId}
 use Rattle.mir.specs.declared.Value.{Value}
@@ -12,7 +12,6 @@ use Rattle.bytes_field.specs.Decode.{mark}
 use Rattle.bytes_field.specs.declared.Bounds.{Bounds}
 use Rattle.mir.specs.Lists.{Each}
 use Rattle.bytes_laws.specs.WellFormed.{FitNews}
-use Rattle.bytes_laws.proofs.Bits.{true_false}
 use Rattle.bytes_block.specs.Decode.{marks, block_marks}
 use Rattle.bytes_block.specs.WellFormed.{FitInstructions}
 use Rattle.rewrite.specs.Lowers.{Rebuild, Rebuilds, Stands, Lowers}
@@ -56,7 +55,7 @@ module _ (b c : Bounds) (wide : b.next ≤ c.next) where
   -- one in front
   fits_one : (n : ℕ) (seen marked : List Bool) (i : Instruction) (os : List Instruction) → Loose c i → FitNews c marked (dests i.kind) → Fits n seen (marks marked (dests i.kind)) os → Fits n seen marked (i ∷ os)
   fits_one n seen marked i os l d f =
-      record { fit = λ late. ((l.beside, l.fits marked d, λ e. absurd (true_false (sym e ∙ l.other))), f.fit (late || not (is_phi i.kind))); both = f.both }
+      record { fit = λ late. ((l.beside, l.fits marked d, λ e. absurd (true≢false (sym e ∙ l.other))), f.fit (late || not (is_phi i.kind))); both = f.both }
 
   -- rebuilds in front of what needs them
   fits_rebuilds : {x : Bool} {n m : ℕ} {xs ys : List Value} {bs : List Instruction} → Rebuilds x n xs ys bs m → (seen marked : List Bool) (os : List Instruction) (z : ℕ) (end : List Bool) → m ≤ c.next → Each (Loose c) bs → Both b.next n seen marked

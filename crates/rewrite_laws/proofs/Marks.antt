@@ -3,7 +3,7 @@
 use Prim.Native.Nat.{ℕ, suc, ◌≤◌, ◌<◌}
 use mathlib.Core.Path.{◌≡◌, refl, ap, ◌∙◌, sym}
 use mathlib.Core.List.{List, [], ◌∷◌}
-use mathlib.Core.Bool.{true, false, not}
+use mathlib.Core.Bool.{true, false, not, true≢false}
 use mathlib.Core.Bool as B
 use native.Mathlib.Omega.{arith}
 use lib.Dec.{T, eqb, eqb→eq, eqb_refl}
@@ -16,7 +16,6 @@ use Rattle.mir.specs.Reads.{dests}
 use Rattle.bytes_field.specs.Decode.{mark}
 use Rattle.bytes_field.specs.declared.Bounds.{Bounds}
 use Rattle.bytes_laws.specs.WellFormed.{FitNews, FitKind}
-use Rattle.bytes_laws.proofs.Bits.{true_false}
 use Rattle.bytes_block.specs.Decode.{marks}
 use Rattle.bytes_block.proofs.Marks.{mark_stays}
 
@@ -79,7 +78,7 @@ Above n marked = (v : ℕ) → n ≤ v → get_or marked v false ≡ false
 fewer_mark : (m : ℕ) (seen marked : List B.Bool) (d : ValueId) → m ≤ length seen → d.0 < m → Fewer m seen marked → Fewer m (mark seen d) (mark marked d)
 fewer_mark m seen marked d l k f v h e =
     elim (split (eqb v d.0)) [
-      | passes y ↦ absurd (true_false (sym (get_or-set_same seen d.0 true false (omega (arith, l, k))) ∙ (sym (ap (λ q. get_or (mark seen d) q false) (eqb→eq v d.0 y)) ∙ e)))
+      | passes y ↦ absurd (true≢false (sym (get_or-set_same seen d.0 true false (omega (arith, l, k))) ∙ (sym (ap (λ q. get_or (mark seen d) q false) (eqb→eq v d.0 y)) ∙ e)))
       | fails y ↦ get_or-set_other marked d.0 v true false (differ v d.0 y) ∙ f v h (sym (get_or-set_other seen d.0 v true false (differ v d.0 y)) ∙ e)
     ]
 

@@ -10,12 +10,10 @@ use lib.ListN.{length, get_elem?}
 use Rattle.bytes_wire.specs.WellFormed.{FitValue}
 use Rattle.mir.specs.declared.ValueId.{ValueId}
 use Rattle.mir.specs.declared.NameId.{NameId}
-use Rattle.mir.specs.declared.Literal.{Literal}
 use Rattle.mir.specs.declared.Value.{Value}
 use Rattle.mir.specs.MirType.{StructField}
 use Rattle.mir.specs.declared.Projection.{Projection}
 use Rattle.mir.specs.Syntax.{Place, FieldInit}
-use Rattle.mir.specs.Syntax as S
 use Rattle.bytes_field.specs.declared.Bounds.{Bounds}
 use Rattle.bytes_laws.specs.WellFormed.{FitList, FitInit}
 use Rattle.mir.specs.Lists.{Each}

@@ -6,8 +6,7 @@ use mathlib.Core.List.{List, [], ◌∷◌, ◌++◌, map}
 use mathlib.Core.Bool.{Bool, true, false, cond, not, ◌||◌}
 use mathlib.Core.Option.{Option, none, some, none-ne-some}
 use native.Mathlib.Omega.{arith}
-use lib.Dec.{T}
-use lib.ListN.{length, get_elem?, get_or, replicate, length-append, length-replicate}
+use lib.ListN.{length, get_elem?, get_or, length-append, length-replicate}
 use Rattle.table.proofs.Elements.{clear_at}
 use Rattle.bytes_wire.specs.Parse.{ok}
 use Rattle.mir.specs.declared.ValueId.{ValueId}

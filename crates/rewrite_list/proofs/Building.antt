@@ -27,13 +27,13 @@ use Rattle.bytes_emit.specs.Written.{Writes}
 use Rattle.rewrite_build.specs.Written.{rebuild_bytes, Clashes, Written}
 use Rattle.rewrite_progress.specs.declared.Progress.{Progress}
 use Rattle.std.specs.Prelude.{Some, Option as Answered, Result, Ok, Err}
-use Rattle.rewrite_progress.specs.Effect.{Output, output_of, rebuilt_effect, behind, further, mark_all, type_numbers, Puts, Low}
+use Rattle.rewrite_progress.specs.Effect.{Output, output_of, rebuilt_effect, behind, further, mark_all, type_numbers, Puts}
 use Rattle.rewrite_progress.proofs.Laws.{behind_then, behind_none}
 use Rattle.rewrite_wanted.specs.declared.Asks.{Asks}
 use Rattle.rewrite_wanted.specs.declared.Build.{Build}
 use Rattle.rewrite_wanted.specs.Asked.{Setting, asked_at, asked_list, Told}
-use Rattle.rewrite_list.specs.declared.values.Values.{Values}
-use Rattle.rewrite_list.specs.Lists.{Few, Roomy, Lies, ◌&◌, line_count, one_wanted, OfList, BuildsPut, TrackedPut, WantedPut, AllPut}
+use Rattle.rewrite_list.specs.declared.values.ListedValues.{ListedValues}
+use Rattle.rewrite_list.specs.Lists.{Few, Lies, ◌&◌, line_count, one_wanted, OfList, BuildsPut, TrackedPut, WantedPut, AllPut}
 use Rattle.rewrite_list.proofs.Copying.{line_none, line_one}
 use Rattle.rewrite_list.proofs.Joining.{joined, join_first, join_effect, built, one_built}
 
@@ -97,11 +97,6 @@ unfolding behind further rebuilt_effect
 spent o A = refl
 
 module _ (next : ℕ) (t : List ℕ) (asks : Asks) (τ : Types) (S : AggStates) (many : ℕ) (o₀ : Output) (R₀ : Rebuilt) where
-  -- all of it is left
-  pub left_start : (first : ℕ) (xs : List Value) → Lies next t first xs → length xs ≡ many → R₀ ≡ rebuild_all τ S (next + o₀.progress.fresh) (asked_list τ t asks 0 xs) → Left next t asks τ S many o₀ R₀ o₀ first 0
-  left_start first xs l m e =
-      record { rest = xs; lies = l; left = omega (arith, m); clash = ap (λ R. R.clash) e; effect = ap (λ R. behind o₀ (rebuilt_effect R)) (sym e); number = ap (λ R. o₀.progress.fresh + length R.fresh) (sym e) }
-
   module _ (o : Output) (here i : ℕ) (c : Left next t asks τ S many o₀ R₀ o here i) where
     -- one more is done
     pub left_again : (o' : Output) (there : ℕ) → i < many → there ≡ value_end t here → next + o₀.progress.fresh + length R₀.fresh < 65536
@@ -161,7 +156,7 @@ module _ (next : ℕ) (t : List ℕ) (asks : Asks) (τ : Types) (S : AggStates) 
         go (x ∷ ys) m k b = absurd (omega arith)
 
 -- the loop over the values
-pub record Building (vs : Values) (out₀ work₀ : List ℕ) (p₀ : Progress) (out work : List ℕ) (p : Progress) (here i : ℕ) : Type 0 where
+pub record Building (vs : ListedValues) (out₀ work₀ : List ℕ) (p₀ : Progress) (out work : List ℕ) (p : Progress) (here i : ℕ) : Type 0 where
   pub under : i ≤ vs.list.many
   pub few : Few p₀ i p
   pub near : here ≤ vs.list.first + 5 * i
@@ -174,29 +169,7 @@ pub record Building (vs : Values) (out₀ work₀ : List ℕ) (p₀ : Progress) 
 few_more : (p q r : Progress) (i : ℕ) → Few p i q → Few q 1 r → Few p (i + 1) r
 few_more p q r i a b = record { to = omega (arith, a.to, b.to); lines = omega (arith, a.lines, b.lines); fresh = omega (arith, a.fresh, b.fresh); taken = omega (arith, a.taken, b.taken); counts = b.counts ∙ a.counts }
 
-pub few_all : (p q : Progress) (i many : ℕ) → i ≤ many → Few p i q → Few p many q
-few_all p q i many h a = record { to = omega (arith, a.to); lines = omega (arith, a.lines); fresh = omega (arith, a.fresh); taken = a.taken; counts = a.counts }
-
--- there is room for one more behind fewer than 255
-pub roomy_on : (p q : Progress) (i : ℕ) → Low 8000 p → Few p i q → i < 255 → Roomy q
-roomy_on p q i l f h = record { to = omega (arith, l.to, f.to); lines = omega (arith, l.lines, f.lines); fresh = omega (arith, l.fresh, f.fresh) }
-
-pub few_none : (p : Progress) (k : ℕ) → Few p k p
-few_none p k = record { to = omega arith; lines = omega arith; fresh = omega arith; taken = omega arith; counts = refl }
-
-module _ (vs : Values) (out₀ work₀ : List ℕ) (p₀ : Progress) where
-  pub building : Building vs out₀ work₀ p₀ out₀ work₀ p₀ vs.list.first 0
-  building =
-      record {
-        under = omega arith;
-        few = few_none p₀ 0;
-        near = omega arith;
-        len = refl;
-        len_work = refl;
-        rows = refl;
-        left = λ dropped τ S xs e y m h. left_start vs.code.bounds.next vs.fields.now vs.list.asks τ S vs.list.many (output_of out₀ (fresh_in work₀) dropped p₀) _ vs.list.first xs y m refl;
-      }
-
+module _ (vs : ListedValues) (out₀ work₀ : List ℕ) (p₀ : Progress) where
   module _ (out work : List ℕ) (p : Progress) (here i : ℕ) (c : Building vs out₀ work₀ p₀ out work p here i) (wants : Answered Build) (out' work' : List ℕ) (r : Result Progress Clash) (h : i < vs.list.many)
       (d : (τ : Types) (S : AggStates) (rows : List ℕ) (x : Value) → Setting vs.code vs.tracked.now rows τ S → ValueAt vs.code.bounds.next vs.fields.now here x → Told τ S x (asked_at τ vs.fields.now vs.list.asks i x) wants) (f : WantedPut vs.code wants out work p out' work' r) where
     -- of the value that stands here

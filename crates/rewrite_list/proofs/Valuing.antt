@@ -1,5 +1,5 @@
 -- The values of a list, with fresh numbers put in, one after another.
-use Prim.Native.Nat.{ℕ, suc, ◌+◌, ◌*◌, ◌≤◌, ◌<◌, zero-le}
+use Prim.Native.Nat.{ℕ, suc, ◌+◌, ◌*◌, ◌≤◌, ◌<◌}
 use mathlib.Core.Path.{◌≡◌, refl, ap, ◌∙◌, sym}
 use mathlib.Core.List.{List, [], ◌∷◌, ◌++◌, append-nil}
 use mathlib.Core.Option.{Option}
@@ -25,7 +25,7 @@ use Rattle.rewrite_wanted.specs.declared.Asks.{Asks}
 use Rattle.rewrite_wanted.specs.declared.Build.{Build}
 use Rattle.std.specs.Prelude.{Some, Option as Answered}
 use Rattle.rewrite_wanted.specs.Asked.{Setting, asked_at, asked_list, Told}
-use Rattle.rewrite_list.specs.declared.values.Values.{Values}
+use Rattle.rewrite_list.specs.declared.values.ListedValues.{ListedValues}
 use Rattle.rewrite_list.specs.declared.Written.{Written}
 use Rattle.rewrite_list.specs.Lists.{Lies, ◌&◌, one_wanted, OfList, WantedWritten, AllWritten}
 use Rattle.rewrite_list.proofs.Joining.{joined, join_first, built, one_built}
@@ -40,11 +40,6 @@ pub record Unwritten (next : ℕ) (t : List ℕ) (asks : Asks) (τ : Types) (S :
   pub number : taken + length (rebuild_all τ S (next + taken) (asked_list τ t asks i rest)).fresh ≡ taken₀ + length R₀.fresh
 
 module _ (next : ℕ) (t : List ℕ) (asks : Asks) (τ : Types) (S : AggStates) (many : ℕ) (out₀ : List ℕ) (to₀ taken₀ : ℕ) (R₀ : Rebuilt) where
-  -- all of it
-  pub unwritten_start : (first : ℕ) (xs : List Value) → Lies next t first xs → length xs ≡ many → R₀ ≡ rebuild_all τ S (next + taken₀) (asked_list τ t asks 0 xs) → Unwritten next t asks τ S many out₀ to₀ taken₀ R₀ out₀ to₀ taken₀ first 0
-  unwritten_start first xs l m e =
-      record { rest = xs; lies = l; left = omega (arith, m); place = ap (λ R. to₀ + length (each_bytes value_bytes R.values)) (sym e); same = ap (λ R. sets out₀ to₀ (each_bytes value_bytes R.values)) (sym e); number = ap (λ R. taken₀ + length R.fresh) (sym e) }
-
   module _ (out : List ℕ) (to taken here i : ℕ) (c : Unwritten next t asks τ S many out₀ to₀ taken₀ R₀ out to taken here i) where
     -- one more is written
     pub unwritten_again : (out' : List ℕ) (to' taken' there : ℕ) → i < many → there ≡ value_end t here → next + taken₀ + length R₀.fresh < 65536
@@ -92,7 +87,7 @@ module _ (next : ℕ) (t : List ℕ) (asks : Asks) (τ : Types) (S : AggStates) 
         go (x ∷ ys) m k b = absurd (omega arith)
 
 -- the loop over the values
-pub record Valuing (vs : Values) (out₀ : List ℕ) (w₀ : Written) (out : List ℕ) (w : Written) (here i : ℕ) : Type 0 where
+pub record Valuing (vs : ListedValues) (out₀ : List ℕ) (w₀ : Written) (out : List ℕ) (w : Written) (here i : ℕ) : Type 0 where
   pub under : i ≤ vs.list.many
   pub bound : w.to ≤ w₀.to + 5 * i
   pub spent : w.fresh ≤ w₀.fresh + i
@@ -100,10 +95,7 @@ pub record Valuing (vs : Values) (out₀ : List ℕ) (w₀ : Written) (out : Lis
   pub len : length out ≡ length out₀
   pub left : (rows : List ℕ) → OfList vs rows w₀.fresh (λ τ S R. Unwritten vs.code.bounds.next vs.fields.now vs.list.asks τ S vs.list.many out₀ w₀.to w₀.fresh R out w.to w.fresh here i)
 
-module _ (vs : Values) (out₀ : List ℕ) (w₀ : Written) where
-  pub valuing : Valuing vs out₀ w₀ out₀ w₀ vs.list.first 0
-  valuing = record { under = zero-le; bound = omega arith; spent = omega arith; near = omega arith; len = refl; left = λ rows τ S xs e y m h. unwritten_start vs.code.bounds.next vs.fields.now vs.list.asks τ S vs.list.many out₀ w₀.to w₀.fresh _ vs.list.first xs y m refl }
-
+module _ (vs : ListedValues) (out₀ : List ℕ) (w₀ : Written) where
   module _ (out : List ℕ) (w : Written) (here i : ℕ) (c : Valuing vs out₀ w₀ out w here i) where
     pub valuing_again : (wants : Answered Build) (out' : List ℕ) (w' : Written) (there : ℕ) → i < vs.list.many → length out' ≡ length out → (w'.to ≤ w.to + 5) × (w'.fresh ≤ w.fresh + 1) → there ≡ value_end vs.fields.now here → there ≤ here + 5
         → ((τ : Types) (S : AggStates) (rows : List ℕ) (x : Value) → Setting vs.code vs.tracked.now rows τ S → ValueAt vs.code.bounds.next vs.fields.now here x → Told τ S x (asked_at τ vs.fields.now vs.list.asks i x) wants) → WantedWritten vs.code.bounds.next vs.fields.now here wants out w out' w'

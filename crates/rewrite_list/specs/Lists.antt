@@ -22,7 +22,7 @@ use Rattle.rewrite_progress.specs.Effect.{output_of, rebuilt_effect, Puts}
 use Rattle.rewrite_wanted.specs.declared.Build.{Build}
 use Rattle.rewrite_wanted.specs.Asked.{Setting, asked_list, Told}
 use Rattle.rewrite_list.specs.declared.values.ValueList.{ValueList}
-use Rattle.rewrite_list.specs.declared.values.Values.{Values}
+use Rattle.rewrite_list.specs.declared.values.ListedValues.{ListedValues}
 use Rattle.rewrite_list.specs.declared.Written.{Written}
 
 -- the most bytes that are copied at once
@@ -86,7 +86,7 @@ OfValue next taken wants P =
     → P τ S x (one_wanted τ S (next + taken) x o)
 
 -- and of what becomes of the values of a list
-abbrev pub OfList : Values → List ℕ → ℕ → (Types → AggStates → Rebuilt → Type 0) → Type 0
+abbrev pub OfList : ListedValues → List ℕ → ℕ → (Types → AggStates → Rebuilt → Type 0) → Type 0
 OfList vs rows taken P =
     (τ : Types) (S : AggStates) (xs : List Value)
     → Setting vs.code vs.tracked.now rows τ S
@@ -120,7 +120,7 @@ WantedPut code wants out work p out' work' r =
     Setting code tracked (rows_in work) τ S → BuildsPut R out work p out' work' r)
 
 -- what is wanted of the values of a list
-abbrev pub AllPut : Values → List ℕ → List ℕ → Progress → List ℕ → List ℕ → Result Progress Clash → Type 0
+abbrev pub AllPut : ListedValues → List ℕ → List ℕ → Progress → List ℕ → List ℕ → Result Progress Clash → Type 0
 AllPut vs out work p out' work' r = OfList vs (rows_in work) p.fresh (λ τ S R. BuildsPut R out work p out' work' r)
 
 -- one value, as it stands or under its fresh number
@@ -130,5 +130,5 @@ WantedWritten next t at wants out w out' r =
     ValueAt next t at x → ValuesWritten R out out' w.to r.to × (r.fresh ≡ w.fresh + length R.fresh))
 
 -- the values of a list
-abbrev pub AllWritten : Values → Written → List ℕ → List ℕ → ℕ → Type 0
+abbrev pub AllWritten : ListedValues → Written → List ℕ → List ℕ → ℕ → Type 0
 AllWritten vs w out out' r = (rows : List ℕ) → OfList vs rows w.fresh (λ τ S R. ValuesWritten R out out' w.to r)

@@ -18,7 +18,7 @@ use rewrite::Clash;
 use rewrite_parts::ROWS;
 use rewrite_progress::Progress;
 use rewrite_wanted::Build;
-pub use values::{ValueList, Values};
+pub use values::{ListedValues, ValueList};
 
 // How many value numbers there are: a number has two bytes.
 const NUMBERS: u32 = 65536;
@@ -27,7 +27,7 @@ const NUMBERS: u32 = 65536;
 const MOST_COPIED: usize = 1024;
 
 // Where a writer of values is: the place behind them, and the fresh numbers put in. (How low both are is no fact of the type, as with
-// Progress.)
+// Progress: each writer leaves room for those that it calls, so that each has another bound.)
 #[derive(Clone, Copy)]
 pub struct Written {
     pub to: usize,
@@ -38,7 +38,7 @@ pub struct Written {
 fn fresh_value(next: u16, k: u32) -> ValueId
     ensures { next + k < numbers_below → result.0 ≡ next + k }
 {
-    ValueId(((next as u32 + k % NUMBERS) % NUMBERS) as u16)
+    ValueId(next.wrapping_add((k % NUMBERS) as u16))
 }
 
 // Copies a part, where so many bytes may be copied at once, and returns the place behind it.
@@ -51,7 +51,7 @@ pub fn copy_bytes(out: &mut [u8], to: usize, part: &[u8]) -> usize
     if MOST_COPIED < n {
         return to;
     }
-    bytes_emit::copy(out, to, part, 0, n)
+    bytes_emit::copy(out, to, part)
 }
 
 // The rows of the working table.
@@ -96,7 +96,7 @@ fn put_wanted(
     };
     let d = fresh_value(code.bounds.next, p.fresh);
     let to = put_tracked(out, p.to, code, work, build, d)?;
-    table::set_number(work, ROWS + p.fresh as usize, build.named.0);
+    table::put(work, ROWS + p.fresh as usize, build.named.0);
     Ok(Progress {
         to,
         lines: p.lines + (p.to != to) as u32,
@@ -109,7 +109,7 @@ fn put_wanted(
 pub fn put_builds(
     out: &mut [u8],
     p: Progress,
-    values: Values,
+    values: ListedValues,
     work: &mut [u16],
 ) -> Result<Progress, Clash>
     requires { Low low_enough p × (values.list.first < counts_below) }
@@ -117,7 +117,7 @@ pub fn put_builds(
     ensures work_unchanged { rows_in work.new ≡ rows_in work.old }
     ensures all_put { AllPut values.entry out.old work.old p out.new work.new result }
 {
-    let Values {
+    let ListedValues {
         code,
         fields,
         list,
@@ -163,12 +163,12 @@ fn put_wanted_value(
 }
 
 // The values of a list, with the fresh numbers put in from number `from.fresh` on.
-pub fn put_values(out: &mut [u8], from: Written, values: Values) -> usize
+pub fn put_values(out: &mut [u8], from: Written, values: ListedValues) -> usize
     requires { (from.to < build_room) × ((from.fresh < counts_below) × (values.list.first < counts_below)) }
     ensures upper_bound { result ≤ from.to + values_most }
     ensures all_written { AllWritten values.entry from out.old out.new result }
 {
-    let Values {
+    let ListedValues {
         code,
         fields,
         list,

@@ -2,8 +2,8 @@
 use bytes_index::Code;
 use rewrite_wanted::Asks;
 
-// A list of values: where the first stands, how many there are, and the types asked of them. That the first stands near is no
-// fact of the type: the definitions make such lists of any bytes.
+// A list of values: where the first stands, how many there are, and the types asked of them. (No `Listed` in it, which holds the
+// bytes and has the first place near: the definitions make such lists of any bytes, `call_list`, and know nothing of how they are lent.)
 #[derive(Clone, Copy)]
 pub struct ValueList {
     pub first: usize,
@@ -13,7 +13,7 @@ pub struct ValueList {
 
 // A list that stands in the fields of an instruction or a terminator of a routine, and which values are tracked there.
 #[derive(Clone, Copy)]
-pub struct Values<'a> {
+pub struct ListedValues<'a> {
     pub code: Code<'a>,
     pub fields: &'a [u8],
     pub list: ValueList,

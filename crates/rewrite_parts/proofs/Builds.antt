@@ -109,3 +109,13 @@ build_inits b seen late s p i n {d} {fs} {y} e k off f =
     let r : make_struct_of b seen (drop off s) ≡ ok i.kind h.size = rw (t, j) at h.read in
     let w = struct_inits b (drop off s) ((struct_build b (drop off s) seen).each i.kind h.size r) k in
     (inits_behind b.next s off 3 fs w.0, w.1 ∙ get_or-drop off s 2 0)
+
+-- the same in its own fields
+pub own_inits : (b : Bounds) (seen : List Bool) (late : Bool) (t : List ℕ) (i : Instruction) (n : ℕ) {d : ValueId} {fs : List FieldInit} {y : TypeId} → instruction_of b seen late t ≡ ok i n → i.kind ≡ InstructionKind.MakeStruct d fs y
+    → Inits b.next (drop (fields_place t) t) 3 fs × (length fs ≡ get_or (drop (fields_place t) t) 2 0)
+own_inits b seen late t i n {d} {fs} {y} e k =
+    let u = drop (fields_place t) t in
+    let h = instruction_fields b seen late t i n e in
+    let j : get_or t 1 0 ≡ 12 = sym h.numbered ∙ ap kind_number k in
+    let w = struct_inits b u ((struct_build b u seen).each i.kind h.size (rw j at h.read)) k in
+    (inits_behind b.next u 0 3 fs w.0, w.1)

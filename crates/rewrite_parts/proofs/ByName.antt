@@ -25,7 +25,7 @@ use Rattle.rewrite_parts.specs.Rows.{Rep, Room, item_offset, Inits, There, no_in
 use Rattle.bytes_struct.specs.Fields.{Names, no_field}
 use Rattle.rewrite_parts.specs.Filled.{Grown, Filled, NamedRow}
 use Rattle.rewrite_parts.proofs.Tables.{rep_old, rep_track}
-use Rattle.rewrite_parts.proofs.Loops.{place_more, grown_none, grown_more, filled_more}
+use Rattle.rewrite_parts.proofs.Loops.{place_more, grown_more, filled_more}
 
 -- the name is not that of the first i of n inits
 pub record Seeking (s : List ℕ) (at n : ℕ) (name : NameId) (here i : ℕ) : Type 0 where
@@ -120,15 +120,6 @@ pub record Naming (s : List ℕ) (at n : ℕ) (types : List ℕ) (names m : ℕ)
   pub under : i ≤ m
   pub grown : Grown rows₀ to rows
   pub left : (next : ℕ) (fs : List FieldInit) (ts : List StructField) → Inits next s at fs → length fs ≡ n → Names types names ts → length ts ≡ m → length s < 65536 → to + m ≤ length rows₀ → Upto next s rows to fs ts i
-
--- none yet
-pub naming : (s : List ℕ) (at n : ℕ) (types : List ℕ) (names m : ℕ) (rows : List ℕ) (to : ℕ) → Naming s at n types names m rows to rows 0
-naming s at n types names m rows to =
-    record {
-      under = zero-le;
-      grown = grown_none rows to;
-      left = λ next fs ts v l w k short r. record { told = refl; rest = λ xs e. (e, record { each = λ j h. absurd (omega arith) }) };
-    }
 
 module _ {s : List ℕ} {at n : ℕ} {types : List ℕ} {names m : ℕ} {rows₀ : List ℕ} {to : ℕ} {rows : List ℕ} {i : ℕ} (o : Naming s at n types names m rows₀ to rows i) where
   -- the parts from the next field on

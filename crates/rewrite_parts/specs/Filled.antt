@@ -1,5 +1,5 @@
 -- What the code does to the tables: it writes rows behind the others, and what it writes are the places of values.
-use Rattle.std.specs.Prelude.{ℕ, ◌+◌, ◌≤◌, ◌<◌, ◌≡◌, List, Bool, length, get_or, Option as Answered}
+use Rattle.std.specs.Prelude.{ℕ, ◌+◌, ◌≤◌, ◌<◌, ◌≡◌, List, Bool, length, get_or, unwrap_or, is_some as is_answered, Option as Answered}
 use Rattle.std.proofs.Math.Option.{Option, some}
 use Rattle.std.proofs.Math.ListN.{get_elem?}
 use Rattle.mir.specs.declared.Value.{Value}
@@ -12,7 +12,7 @@ use Rattle.mir.specs.Lookup.{is_some, on_some}
 use Rattle.fold.specs.Family.{Marks}
 use Rattle.rewrite.specs.State.{AggStates, no_states, insert_state, replaced}
 use Rattle.mir.specs.Most.{most_values}
-use Rattle.rewrite_parts.specs.Rows.{rows_from, most_parts, most_bytes, ValueAt, Rep, Room, Values, Inits, InitAt, RowAt, given_parts, told, used_after}
+use Rattle.rewrite_parts.specs.Rows.{rows_from, most_parts, most_bytes, ValueAt, Rep, Room, Values, Inits, InitAt, RowAt, given_parts}
 use Rattle.rewrite_parts.specs.declared.Parts.{Parts}
 use Rattle.rewrite_parts.specs.declared.listed.Listed.{Listed}
 use Rattle.bytes_struct.specs.Fields.{Names}
@@ -96,8 +96,8 @@ NamesTracked d inits names tracked rows used tracked' rows' r =
     → Names names.bytes.now names.at ts
     → length ts ≡ names.count
     → names.count ≤ most_parts
-    → (told r ≡ is_some (from_struct_fields fs ts))
-    × Rep next inits.bytes.now tracked' rows' (used_after used r) (given_parts S d (from_struct_fields fs ts))
+    → (is_answered r ≡ is_some (from_struct_fields fs ts))
+    × Rep next inits.bytes.now tracked' rows' (unwrap_or r used) (given_parts S d (from_struct_fields fs ts))
 
 -- of values, `before` bytes before each, the places stand from `to` on
 abbrev pub PlacesPut : Listed → ℕ → List ℕ → ℕ → List ℕ → Type 0
@@ -148,5 +148,5 @@ PartsCounted rows v n =
 abbrev pub FindsPart : Parts → ValueId → ℕ → Answered ℕ → Type 0
 FindsPart parts v k r =
     (next : ℕ) (s : List ℕ) (used : ℕ) (S : AggStates)
-    → Rep next s parts.marks.now parts.rows.now used S
+    → Rep next s parts.tracked.now parts.rows.now used S
     → InitAt next s (on_some (S v.0) (λ xs. get_elem? xs k)) r

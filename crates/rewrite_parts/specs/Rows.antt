@@ -103,15 +103,6 @@ abbrev pub InitAt : ℕ → List ℕ → Option Value → Answered ℕ → Type 
 InitAt next s o None = o ≡ none
 InitAt next s o (Some place) = There next s o place
 
--- what a writer of a row answers: how much of the rows is used then, or nothing where it wrote none
-abbrev pub told : Answered ℕ → Bool
-told None = false
-told (Some end) = true
-
-abbrev pub used_after : ℕ → Answered ℕ → ℕ
-used_after used None = used
-used_after used (Some end) = end
-
 -- the states where d is given these parts, if there are any
 unfoldable pub given_parts : AggStates → ValueId → Option (List Value) → AggStates
 given_parts S d none = S

@@ -5,30 +5,37 @@
 
 pub mod listed;
 
-ghost use Rattle.std.specs.Prelude.{◌≡◌, List, ℕ, ◌+◌, ◌≤◌, ◌<◌, length, IfSome};
+ghost use Rattle.std.specs.Prelude.{◌≡◌, List, true, ℕ, ◌+◌, ◌≤◌, ◌<◌, length, set, IfSome};
 ghost use Rattle.mir.specs.Lookup.{is_some};
 ghost use Rattle.rewrite.specs.State.{AggStates};
 ghost use Rattle.rewrite_parts.specs.Rows.{most_parts, row_most, used_below, Addressable, Rep};
 ghost use Rattle.rewrite_parts.specs.Filled.{PartsStand, PartsCounted, FindsPart, Cleared, Grown, PlacesPut, RowCopied};
 ghost use Rattle.rewrite_parts.specs.Filled.{Shared, ValuesTracked, Replaced, FindsInit, NamesPut, NamesTracked};
 
+use bytes_types::layout;
 pub use listed::Listed;
-use mir::{NameId, ValueId};
+use mir::{NameId, ValueId, most};
 
-// The first place of a row, and how many numbers of a working table are for the rows.
-pub const ROWS_FROM: usize = 256;
+// In the own fields of a build the number of its parts stands behind its dest, and the parts behind it.
+pub const COUNT: usize = bytes_field::ID;
 
-pub const ROWS: usize = 2432;
+pub const PARTS: usize = COUNT + 1;
 
 // The most parts of a value.
 const MOST_PARTS: u16 = 16;
+
+// The first place of a row, behind a number for each value, and how many numbers of a working table are for the rows: one more than
+// its parts for each instruction of a block.
+pub const ROWS_FROM: usize = most::VALUES;
+
+pub const ROWS: usize = ROWS_FROM + most::INSTRUCTIONS * (MOST_PARTS as usize + 1);
 
 // Both tables, where they are only read. Where they are changed they are parameters of their own: of a struct with a `&mut` to each,
 // every function would promise by two clauses more that it still has both. So is how much of the rows is used, below a bound: a new
 // row may end past it, so that a type of its own would be made anew at each step.
 #[derive(Clone, Copy)]
 pub struct Parts<'a> {
-    pub marks: &'a [bool],
+    pub tracked: &'a [bool],
     pub rows: &'a [u16],
 }
 
@@ -45,7 +52,7 @@ pub fn row(rows: &[u16], v: ValueId) -> &[u16]
     ensures upper_bound { length result.now ≤ most_parts }
     ensures parts_stand { PartsStand rows.now v result.now }
 {
-    let at = table::number(rows, v.0 as usize) as usize;
+    let at = table::place(rows, v.0 as usize);
     let n = table::number(rows, at);
     let end = at + 1 + n as usize;
     if MOST_PARTS < n || rows.len() < end {
@@ -66,7 +73,7 @@ pub fn part_count(rows: &[u16], v: ValueId) -> u16
 pub fn find_part(parts: Parts, v: ValueId, k: u32) -> Option<usize>
     ensures { FindsPart parts.entry v k result }
 {
-    if !tracked(parts.marks, v) {
+    if !tracked(parts.tracked, v) {
         return None;
     }
     let place = row(parts.rows, v).get(k as usize)?;
@@ -80,13 +87,21 @@ pub fn clear(tracked: &mut [bool])
     tracked.fill(false);
 }
 
+// The dest is tracked, and its row begins at a place.
+fn set_row(tracked: &mut [bool], rows: &mut [u16], d: ValueId, first: u16)
+    ensures marked { tracked.new ≡ set tracked.old d.0 true }
+    ensures placed { rows.new ≡ set rows.old d.0 first }
+{
+    table::put(tracked, d.0 as usize, true);
+    table::put(rows, d.0 as usize, first);
+}
+
 // The dest has the parts of another value: its row.
 pub fn share(tracked: &mut [bool], rows: &mut [u16], d: ValueId, v: ValueId)
     ensures { Shared d v tracked.old rows.old tracked.new rows.new }
 {
     let first = table::number(rows, v.0 as usize);
-    table::set_flag(tracked, d.0 as usize, true);
-    table::set_number(rows, d.0 as usize, first);
+    set_row(tracked, rows, d, first);
 }
 
 // Gives the rows, from `to` on, the places of values, `before` bytes before each.
@@ -103,7 +118,8 @@ fn put_places(values: Listed, before: u8, rows: &mut [u16], to: usize)
     }
 }
 
-// The dest has a new row: values, `before` bytes before each.
+// The dest has a new row: values, `before` bytes before each; how much of the rows is used then. (More values than a row has parts,
+// which no accepted build has, leave all as it was.)
 pub fn track_values(
     tracked: &mut [bool],
     rows: &mut [u16],
@@ -121,10 +137,9 @@ pub fn track_values(
     if MOST_PARTS < n as u16 {
         return used;
     }
-    table::set_number(rows, used, n as u16);
+    table::put(rows, used, n as u16);
     put_places(values, before, rows, used + 1);
-    table::set_flag(tracked, d.0 as usize, true);
-    table::set_number(rows, d.0 as usize, used as u16);
+    set_row(tracked, rows, d, used as u16);
     used + 1 + n as usize
 }
 
@@ -140,7 +155,8 @@ fn copy_row(rows: &mut [u16], from: usize, to: usize, n: u16)
     }
 }
 
-// The dest has a new row: another value's, with part `k` at another place.
+// The dest has a new row: another value's, with part `k` at another place; how much of the rows is used then. Where it has no such part
+// all is left as it was.
 pub fn replace(
     tracked: &mut [bool],
     rows: &mut [u16],
@@ -158,15 +174,9 @@ pub fn replace(
     if n as u32 <= k {
         return used;
     }
-    copy_row(
-        rows,
-        table::number(rows, v.0 as usize) as usize,
-        used,
-        n + 1,
-    );
+    copy_row(rows, table::place(rows, v.0 as usize), used, n + 1);
     table::set_place(rows, used + 1 + k as usize, place);
-    table::set_flag(tracked, d.0 as usize, true);
-    table::set_number(rows, d.0 as usize, used as u16);
+    set_row(tracked, rows, d, used as u16);
     used + 1 + n as usize
 }
 
@@ -176,7 +186,7 @@ pub fn find_init(inits: Listed, name: NameId) -> Option<usize>
 {
     let mut here = inits.at;
     for i in 0..inits.count {
-        let place = here + 2;
+        let place = here + bytes_field::ID;
         if bytes_wire::u16_at(inits.bytes, here) == name.0 {
             return Some(place);
         }
@@ -185,14 +195,15 @@ pub fn find_init(inits: Listed, name: NameId) -> Option<usize>
     None
 }
 
-// Gives the rows, from `to` on, the places of the values of a type's names, which stand four bytes apart.
+// Gives the rows, from `to` on, the places of the values of a type's names; whether each is given one.
 fn put_named(inits: Listed, names: Listed, rows: &mut [u16], to: usize) -> bool
     requires { Addressable to }
     ensures grown { Grown rows.old to rows.new }
     ensures names_put { NamesPut inits.entry names.entry rows.old to rows.new result }
 {
     for i in 0..names.count {
-        let name = NameId(bytes_wire::u16_at(names.bytes, names.at + 4 * i as usize));
+        let at = names.at + layout::STRUCT_APART * i as usize;
+        let name = NameId(bytes_wire::u16_at(names.bytes, at));
         match find_init(inits, name) {
             None => return false,
             Some(place) => table::set_place(rows, to + i as usize, place),
@@ -202,7 +213,7 @@ fn put_named(inits: Listed, names: Listed, rows: &mut [u16], to: usize) -> bool
 }
 
 // The dest has a new row: the values of a struct build's inits in the order of its type's names, where each is given; how
-// much of the table is used then. Else nothing is tracked, and as much is used as before.
+// much of the rows is used then. Where one is missing nothing is tracked; what was written then stands behind the rows in use.
 pub fn track_named(
     tracked: &mut [bool],
     rows: &mut [u16],
@@ -220,11 +231,10 @@ pub fn track_named(
     if MOST_PARTS < m as u16 {
         return None;
     }
-    table::set_number(rows, used, m as u16);
+    table::put(rows, used, m as u16);
     if !put_named(inits, names, rows, used + 1) {
         return None;
     }
-    table::set_flag(tracked, d.0 as usize, true);
-    table::set_number(rows, d.0 as usize, used as u16);
+    set_row(tracked, rows, d, used as u16);
     Some(used + 1 + m as usize)
 }

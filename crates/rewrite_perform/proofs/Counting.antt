@@ -15,7 +15,7 @@ use Rattle.rewrite.specs.Run.{Walked, add_counts}
 use Rattle.rewrite_progress.specs.declared.Progress.{Progress}
 use Rattle.std.specs.Prelude.{Ok, Err}
 use Rattle.rewrite.specs.declared.Clash.{Clash}
-use Rattle.rewrite_progress.specs.Effect.{Effect, Output, output_of, behind, further, walked_effect, mark_all, type_numbers, Puts, Low}
+use Rattle.rewrite_progress.specs.Effect.{Effect, Output, output_of, behind, further, walked_effect, mark_all, type_numbers, Puts}
 use Rattle.rewrite_perform.specs.Performed.{moved_to, block_effect, CountPut}
 
 -- a writer that went, or clashed
@@ -58,22 +58,7 @@ block_out out₀ out out' types₀ types dropped₀ dropped p q v w z e f g =
     let far : q.to ≡ p.to + length (to_bytes 2 (length w.out) ++ bytes) = omega (arith, b5, length-append (to_bytes 2 (length w.out)) bytes) in
     rw (g, front, b2, b3, far, b6, b7, z) refl
 
--- at the same place with no instruction
-low_reset : (k : ℕ) (q r : Progress) → r ≡ moved_to q q.to 0 → Low k q → Low k r
-low_reset k q r e l =
-    rw e
-    (record {
-      to = l.to;
-      lines = omega arith;
-      fresh = l.fresh;
-      builds = l.builds;
-      extracts = l.extracts;
-      inserts = l.inserts;
-      assigns = l.assigns;
-      materializations = l.materializations;
-    })
-
 -- the count of a block whose body went
-pub count_went : (p q v : Progress) (out out' : List ℕ) → out' ≡ sets out p.to (to_bytes 2 (q.lines % 65536)) → v ≡ moved_to q q.to 0 → ((k : ℕ) → Low k q → Low k v) × CountPut p out (Ok q) out' (Ok v)
+pub count_went : (p q v : Progress) (out out' : List ℕ) → out' ≡ sets out p.to (to_bytes 2 (q.lines % 65536)) → v ≡ moved_to q q.to 0 → CountPut p out (Ok q) out' (Ok v)
 count_went p q v out out' f g =
-    (λ k l. low_reset k q v g l, λ out₀ types₀ types dropped₀ dropped w z h. let y = h.went q refl in puts_went _ _ _ out' types dropped v y.0 (block_out out₀ out out' types₀ types dropped₀ dropped p q v w z y.1 f g))
+    λ out₀ types₀ types dropped₀ dropped w z h. let y = h.went q refl in puts_went _ _ _ out' types dropped v y.0 (block_out out₀ out out' types₀ types dropped₀ dropped p q v w z y.1 f g)

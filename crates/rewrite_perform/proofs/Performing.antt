@@ -6,7 +6,7 @@ use mathlib.Core.Bool.{false}
 use native.Mathlib.Omega.{arith}
 use native.Mathlib.Nat.{add-zero}
 use lib.ListN.{length, length-append, take, drop}
-use lib.Seq.{sets, slice, take-length}
+use lib.Seq.{sets}
 use Rattle.bytes_wire.specs.Value.{value_bytes}
 use Rattle.mir.specs.declared.TypeId.{TypeId}
 use Rattle.mir.specs.declared.ValueId.{ValueId}
@@ -32,13 +32,6 @@ use Rattle.rewrite_arms.specs.declared.Counted.{Counted}
 use Rattle.rewrite_arms.specs.declared.Action.{Action}
 use Rattle.rewrite_arms.specs.Decided.{counted_as, Does, Assigned, assigned_from}
 use Rattle.rewrite_perform.specs.Performed.{moved_to, raised_by}
-
--- all of a part is copied
-pub copied_all : (part out out' : List ℕ) (p r : Progress) (to lines : ℕ) → (to ≡ p.to + (length part - 0)) × (out' ≡ sets out p.to (slice 0 (length part) part)) → r ≡ moved_to p to lines → (r ≡ moved_to p (p.to + length part) lines) × (out' ≡ sets out p.to part)
-copied_all part out out' p r to lines w e =
-    let z : length part - 0 ≡ length part = omega arith in
-    let q : slice 0 (length part) part ≡ part = take-length part in
-    (e ∙ ap (λ n. moved_to p n lines) (w.0 ∙ ap (λ n. p.to + n) z), w.1 ∙ ap (λ v. sets out p.to v) q)
 
 -- a kept instruction: its bytes as they stand
 kept_out : (code : Code) (τ : Types) (S : AggStates) (i : Instruction) (slot : ℕ) (out out' types : List ℕ) (dropped : Marks) (p r : Progress) (at end : ℕ) (part : List ℕ)

@@ -32,33 +32,22 @@ pub fn put_part(out: &mut [u8], p: Progress, part: &[u8], lines: u32) -> Progres
     if MOST_BYTES < n {
         return p;
     }
-    let to = bytes_emit::copy(out, p.to, part, 0, n);
+    let to = bytes_emit::copy(out, p.to, part);
     moved(p, to, p.lines + lines)
 }
 
 // One more build, extract, insert or assign.
-fn one_more(c: Counts, what: Counted) -> Counts
+fn one_more(mut c: Counts, what: Counted) -> Counts
     requires { CountsLow c }
     ensures { result ≡ add_counts c (counted_as what) }
 {
     match what {
-        Counted::Build => Counts {
-            builds: c.builds + 1,
-            ..c
-        },
-        Counted::Extract => Counts {
-            extracts: c.extracts + 1,
-            ..c
-        },
-        Counted::Insert => Counts {
-            inserts: c.inserts + 1,
-            ..c
-        },
-        Counted::Assign => Counts {
-            assigns: c.assigns + 1,
-            ..c
-        },
+        Counted::Build => c.builds += 1,
+        Counted::Extract => c.extracts += 1,
+        Counted::Insert => c.inserts += 1,
+        Counted::Assign => c.assigns += 1,
     }
+    c
 }
 
 // Nothing is put out, and the instruction is counted.
@@ -98,7 +87,7 @@ pub fn perform(
             put_part(out, p, part, 1)
         }
         Action::Track { dest: d, what } => {
-            table::set_flag(dropped, d.0 as usize, true);
+            table::put(dropped, d.0 as usize, true);
             left_out(p, what)
         }
         Action::Assign {
@@ -123,6 +112,7 @@ pub fn perform(
 const NUMBERS: u32 = 65536;
 
 // A block that begins at `p` is written from two bytes behind it on: its count of instructions goes in front. A clash is handed on.
+// (It takes the Result and no Progress: of that it could not promise any more what becomes of a clash.)
 pub fn put_count(out: &mut [u8], p: Progress, r: Result<Progress, Clash>) -> Result<Progress, Clash>
     requires { Low low_enough p }
     ensures by_index { (k : ℕ) → PutLow k r → PutLow k result }

@@ -23,6 +23,8 @@ pub struct Progress {
 }
 
 // A run of the pass over an accepted routine: the routine, the settings, and which builds are folded and which blocks are skipped.
+// (That there are at most 32 blocks stays a clause of the three functions that go over all of them: the others of a run look at no number
+// of blocks, and where a run is made it is known of the accepted routine that it is of.)
 #[derive(Clone, Copy)]
 pub struct Run<'a> {
     pub code: Code<'a>,

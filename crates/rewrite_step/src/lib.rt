@@ -11,6 +11,7 @@ use fold::Settings;
 use mir::kind::Kind;
 use rewrite::Clash;
 use rewrite_arms::{Action, Counted};
+use rewrite_before::Site;
 use rewrite_parts::ROWS;
 use rewrite_progress::Progress;
 
@@ -91,9 +92,7 @@ fn settle(
 // Puts out what is settled of a slot's instruction.
 fn carry_out(
     rewrite: Rewrite,
-    code: Code,
-    slot: u16,
-    tracked: &[bool],
+    site: Site,
     dropped: &mut [bool],
     work: &mut [u16],
     out: &mut [u8],
@@ -102,18 +101,18 @@ fn carry_out(
     requires { Low low_enough p }
     ensures by_index { (k : ℕ) → Low k p → PutLow (k + 1) result }
     ensures work_unchanged { rows_in work.new ≡ rows_in work.old }
-    ensures puts_piece { PutsPiece code.entry slot rewrite
-        (lent_as tracked.now dropped.old work.old out.old) p
-        (lent_as tracked.now dropped.new work.new out.new) result }
+    ensures puts_piece { PutsPiece site.entry.code site.entry.slot rewrite
+        (lent_as site.entry.tracked.now dropped.old work.old out.old) p
+        (lent_as site.entry.tracked.now dropped.new work.new out.new) result }
 {
     match rewrite {
         Rewrite::Does(action) => {
-            let q = rewrite_perform::perform(action, code, slot, out, p, dropped);
+            let q = rewrite_perform::perform(action, site.code, site.slot, out, p, dropped);
             Ok(q)
         }
         Rewrite::Forwarded => Ok(rewrite_perform::left_out(p, Counted::Insert)),
-        Rewrite::Call => rewrite_before::put_call(out, p, code, slot, tracked, work),
-        Rewrite::Store => rewrite_before::put_store(out, p, code, slot, tracked, work),
+        Rewrite::Call => rewrite_before::put_call(out, p, site, work),
+        Rewrite::Store => rewrite_before::put_store(out, p, site, work),
     }
 }
 
@@ -145,8 +144,12 @@ pub fn step(
         &mut work[..ROWS],
         w.used,
     );
-    let p = w.progress;
-    let progress = carry_out(d.rewrite, code, slot, tracked, dropped, work, out, p)?;
+    let site = Site {
+        code,
+        slot,
+        tracked,
+    };
+    let progress = carry_out(d.rewrite, site, dropped, work, out, w.progress)?;
     Ok(Reached {
         progress,
         used: d.used,

@@ -6,16 +6,18 @@ use mathlib.Core.Bool.{true, false, cond}
 use mathlib.Core.Bool as B
 use mathlib.Core.Option.{Option, none, some}
 use native.Mathlib.Omega.{arith}
-use borrow.Author.Tests.{lt-ltb, ltb-true}
+use borrow.Author.Tests.{lt-ltb, eqb-true, eqb-false}
 use lib.ListN.{length, get_or, get_elem?, drop}
-use lib.Dec.{ltb}
+use lib.Dec.{ltb, eqb}
+use denote.Enum.Bare.{sameb}
 use Rattle.bytes_wire.specs.Number.{at16}
 use Rattle.mir.specs.declared.shape.Shape.{Shape}
+use Rattle.mir.specs.contracts.shape.Shape.{the_type}
 use Rattle.mir.specs.Shape.{number_of_shape}
 use Rattle.mir.specs.declared.ValueId.{ValueId}
 use Rattle.mir.specs.declared.TypeId.{TypeId}
-use Rattle.mir.specs.declared.Literal.{Literal}
 use Rattle.mir.specs.declared.Value.{Value}
+use Rattle.mir.specs.Operand.{operand_of}
 use Rattle.bytes_field.specs.declared.Bounds.{Bounds}
 use Rattle.mir.specs.MirType.{MirType, Felt, Bool, U32, Tuple, Struct, FixedArray, Pointer, Function, Unit, Error, Unknown}
 use Rattle.bytes_sections.specs.Index.{recorded_number, recorded_from}
@@ -52,33 +54,24 @@ unfolding is_aggregate is_tuple is_struct is_array
 agg_none o h = rw h refl
 
 -- only the other types have the shape of none
-other_shape : (k : Shape) → number_of_shape k ≡ 0 → k ≡ Shape.Other
-other_shape Shape.Other e = refl
-other_shape Shape.Tuple e = absurd (omega arith)
-other_shape Shape.Struct e = absurd (omega arith)
-other_shape Shape.FixedArray e = absurd (omega arith)
-
-not_below : (i n : ℕ) → n ≤ i → ltb i n ≡ false
-not_below i n h = go (ltb i n) refl
-  where
-    go : (b : B.Bool) → ltb i n ≡ b → b ≡ false
-    go true e = absurd (let z : i < n = ltb-true i n e in omega arith)
-    go false e = refl
+other_shape : (k : Shape) → sameb the_type k Shape.Other ≡ eqb (number_of_shape k) 0
+other_shape Shape.Other = refl
+other_shape Shape.Tuple = refl
+other_shape Shape.Struct = refl
+other_shape Shape.FixedArray = refl
 
 module _ (τ : Types) (i n w : ℕ) where
-  -- past the types none is asked
-  pub none_past : n ≤ i → none ≡ cond (ltb i n) (aggregate_type τ (record { 0 = w })) none
-  none_past h = rw (not_below i n h) refl
-
-  -- of a type that is no aggregate neither
-  pub none_other : {k : Shape} → i < n → k ≡ Shape.Other → number_of_shape k ≡ shape (get_elem? τ.rows w) → none ≡ cond (ltb i n) (aggregate_type τ (record { 0 = w })) none
+  -- of a type that is no aggregate none is asked
+  pub none_other : (k : Shape) → i < n → sameb the_type k Shape.Other ≡ true → number_of_shape k ≡ shape (get_elem? τ.rows w) → none ≡ cond (ltb i n) (aggregate_type τ (record { 0 = w })) none
   unfolding aggregate_type row_of
-  none_other h o e = let z : shape (get_elem? τ.rows w) ≡ 0 = sym e ∙ ap number_of_shape o in rw (lt-ltb i n h, agg_none (get_elem? τ.rows w) z) refl
+  none_other k h o e =
+      let z : shape (get_elem? τ.rows w) ≡ 0 = sym e ∙ eqb-true _ 0 (sym (other_shape k) ∙ o) in
+      rw (lt-ltb i n h, agg_none (get_elem? τ.rows w) z) refl
 
   -- an aggregate is
-  pub some_type : {k : Shape} → i < n → (k ≡ Shape.Other → ⊥) → number_of_shape k ≡ shape (get_elem? τ.rows w) → some (record { 0 = w }) ≡ cond (ltb i n) (aggregate_type τ (record { 0 = w })) none
+  pub some_type : (k : Shape) → i < n → sameb the_type k Shape.Other ≡ false → number_of_shape k ≡ shape (get_elem? τ.rows w) → some (record { 0 = w }) ≡ cond (ltb i n) (aggregate_type τ (record { 0 = w })) none
   unfolding aggregate_type row_of
-  some_type {k} h o e = rw (lt-ltb i n h, agg_some (get_elem? τ.rows w) (λ z. o (other_shape k (e ∙ z)))) refl
+  some_type k h o e = rw (lt-ltb i n h, agg_some (get_elem? τ.rows w) (λ z. eqb-false _ 0 (sym (other_shape k) ∙ o) (e ∙ z))) refl
 
 -- the number of a recorded type tells it
 from_number : (n : ℕ) (o : Option TypeId) → n ≡ recorded_number o → recorded_from n ≡ o
@@ -123,15 +116,13 @@ module _ (b : Bounds) (s types table : List ℕ) (τ : Types) (g : Ground b s ty
 
 module _ (τ : Types) (S : AggStates) where
   -- a value that is no operand stays
-  pub literal_stays : (l : Literal) (o : Option TypeId) → Told τ S (Value.Literal l) o None
+  pub unread_stays : (x : Value) (o : Option TypeId) → operand_of x ≡ None → Told τ S x o None
   unfolding one_value state_of
-  literal_stays l none = stays (λ n rest. refl)
-  literal_stays l (some t) = stays (λ n rest. refl)
-
-  pub error_stays : (o : Option TypeId) → Told τ S Value.Error o None
-  unfolding one_value state_of
-  error_stays none = stays (λ n rest. refl)
-  error_stays (some t) = stays (λ n rest. refl)
+  unread_stays (Value.Literal l) none e = stays (λ n rest. refl)
+  unread_stays (Value.Literal l) (some t) e = stays (λ n rest. refl)
+  unread_stays Value.Error none e = stays (λ n rest. refl)
+  unread_stays Value.Error (some t) e = stays (λ n rest. refl)
+  unread_stays (Value.Operand v) o e = absurd (let z : ◌≡◌ {A = ℕ} 0 1 = cc in omega arith)
 
   -- so does one that is not tracked
   pub untracked_stays : (v : ValueId) (o : Option TypeId) → is_some (S v.0) ≡ false → Told τ S (Value.Operand v) o None
@@ -156,6 +147,12 @@ module _ (τ : Types) (S : AggStates) where
       go : (z : Option (List Value)) → S v.0 ≡ z → is_some z ≡ true → Told τ S (Value.Operand v) o (Some (record { value = v; named = u }))
       go none f k = absurd (let w : ◌≡◌ {A = ℕ} 0 1 = cc in omega arith)
       go (some xs) f k = build v u xs refl (sym e) f (l (sym e))
+
+-- the value that is read
+pub is_read : (x : Value) {v : ValueId} → operand_of x ≡ Some v → x ≡ Value.Operand v
+is_read (Value.Literal l) e = absurd (let z : ◌≡◌ {A = ℕ} 0 1 = cc in omega arith)
+is_read (Value.Operand v) e = cc
+is_read Value.Error e = absurd (let z : ◌≡◌ {A = ℕ} 0 1 = cc in omega arith)
 
 -- an operand that was read is one of the values there are
 pub operand_below : (next : ℕ) (t : List ℕ) (at : ℕ) (v : ValueId) → Bytes t → next ≤ 256 → ValueAt next t at (Value.Operand v) → v.0 < next

@@ -6,13 +6,10 @@ ghost use Rattle.rewrite_wanted.specs.Asked.{WantedAt, TypeAsked};
 
 use bytes_index::Code;
 use mir::shape::Shape;
-use mir::{TypeId, Value, ValueId};
-
-// How many bytes a type's number has.
-const TYPE_BYTES: usize = 2;
+use mir::{TypeId, ValueId};
 
 // The types asked for. Types: those that stand in the input from a place on, and how many there are, where they are
-// aggregates. Recorded: the recorded ones.
+// aggregates. Recorded: the recorded ones. (A value and no closure: the definitions speak of lists with what is asked of them.)
 #[derive(Clone, Copy)]
 pub enum Asks {
     Types { first: usize, many: u8 },
@@ -31,15 +28,16 @@ fn asked_type(code: Code, t: &[u8], asks: Asks, v: ValueId, i: u8) -> Option<Typ
     ensures { TypeAsked code.entry t.now asks v i result }
 {
     match asks {
-        Asks::Types { first: at, many: n } => {
-            if n <= i {
+        Asks::Types { first, many } => {
+            if many <= i {
                 return None;
             }
-            let u = bytes_wire::u16_at(bytes_field::tail(t, at), TYPE_BYTES * i as usize);
-            match fold_shapes::type_shape(code, TypeId(u)) {
-                Shape::Other => None,
-                _ => Some(TypeId(u)),
+            let place = bytes_field::ID * i as usize;
+            let named = TypeId(bytes_wire::u16_at(bytes_field::tail(t, first), place));
+            if fold_shapes::type_shape(code, named) == Shape::Other {
+                return None;
             }
+            Some(named)
         }
         Asks::Recorded => bytes_lookup::recorded_type(bytes_index::recorded(code.facts), v),
     }
@@ -56,15 +54,10 @@ pub fn wanted_at(
 ) -> Option<Build>
     ensures { WantedAt code.entry t.now at tracked.now asks i result }
 {
-    match bytes_operands::value_at(t, at, code.bounds.next) {
-        Value::Literal(_) => None,
-        Value::Operand(v) => {
-            if !rewrite_parts::tracked(tracked, v) {
-                return None;
-            }
-            let named = asked_type(code, t, asks, v, i)?;
-            Some(Build { value: v, named })
-        }
-        Value::Error => None,
+    let v = bytes_operands::value_at(t, at, code.bounds.next).operand()?;
+    if !rewrite_parts::tracked(tracked, v) {
+        return None;
     }
+    let named = asked_type(code, t, asks, v, i)?;
+    Some(Build { value: v, named })
 }

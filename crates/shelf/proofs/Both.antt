@@ -1,20 +1,18 @@
 -- Two tests of which both pass, and a test over a list.
 use mathlib.Core.List.{List, [], ◌∷◌}
-use mathlib.Core.Bool.{Bool, true, false, ◌&&◌}
+use mathlib.Core.Bool.{Bool, ◌&&◌}
 use lib.Dec.{T}
+use Rattle.std.proofs.Math.Facts.{and_yes, yes_and}
 use Rattle.shelf.specs.Lists.{every}
 
 pub both_l : (a b : Bool) → T (a && b) → T a
-both_l true b t = tt
-both_l false b t = t
+both_l a b t = (and_yes a b t).0
 
 pub both_r : (a b : Bool) → T (a && b) → T b
-both_r true b t = t
-both_r false b t = absurd t
+both_r a b t = (and_yes a b t).1
 
 pub both : (a b : Bool) → T a → T b → T (a && b)
-both true b s t = t
-both false b s t = s
+both = yes_and
 
 -- a weaker test passes where the other does
 pub every_imp : {A : Type 0} (p q : A → Bool) → ((x : A) → T (p x) → T (q x)) → (xs : List A) → T (every p xs) → T (every q xs)

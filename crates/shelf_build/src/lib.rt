@@ -68,8 +68,7 @@ pub fn make_struct(typing: Typing, t: &[u8]) -> bool
     };
     let e = bytes_operands::values_end(t, PARTS, NAME_SIZE, 0, n);
     let y = shelf_field::type_at(t, code.bounds, e);
-    let place = bytes_lookup::type_place(code.facts, TypeId(bytes_wire::u16_at(t, e)));
-    let row = bytes_field::tail(code.bytes, place);
+    let row = code.type_row(TypeId(bytes_wire::u16_at(t, e)));
     if !shelf_rows::has_parts(code, y, n as u32) {
         return false;
     }

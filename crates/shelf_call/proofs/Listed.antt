@@ -32,7 +32,7 @@ module _ (b : Bounds) (t : List ℕ) where
     unfolding debug_of agrees
     debug_agrees f = then (long_field b t) (λ m u. last _ (values_field b t) (λ xs q. f xs q.0 q.1))
 
-    pub call_agrees : ((ds : List ValueId) (xs : List Value) (ps rs : List TypeId) (at e : ℕ) → at ≡ 1 + 2 * get_or t 0 0 + 2
+    call_agrees : ((ds : List ValueId) (xs : List Value) (ps rs : List TypeId) (at e : ℕ) → at ≡ 1 + 2 * get_or t 0 0 + 2
         → e ≡ after (value_step t 0 0) (get_or t at 0) (at + 1) → IdsAt b.next t 1 ds → length ds ≡ get_or t 0 0 → ValuesAt b.next t (at + 1) xs
         → length xs ≡ get_or t at 0 → TypesIn b.types t (e + 1) ps → length ps ≡ get_or t e 0 → TypesIn b.types t (e + 1 + 2 * get_or t e 0 + 1) rs
         → length rs ≡ length ds → r ≡ (arguments_fit τ xs ps && dests_fit τ ds rs)) → Stand t 0 (call_of b seen) (λ i e. r ≡ agrees τ i)

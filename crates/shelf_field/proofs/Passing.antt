@@ -1,6 +1,6 @@
 -- Tests of things that stand one behind another: what is asked, one after another, and what that is of the things.
 use Prim.Native.Nat.{ℕ, suc, ◌+◌, ◌-◌, ◌≤◌, ◌<◌}
-use mathlib.Core.Path.{◌≡◌, refl, ap, ◌∙◌}
+use mathlib.Core.Path.{◌≡◌, refl, ap, ◌∙◌, sym}
 use mathlib.Core.List.{List, [], ◌∷◌}
 use mathlib.Core.Bool.{Bool, true, false, ◌&&◌}
 use native.Mathlib.Nat.{add-zero}
@@ -8,7 +8,8 @@ use native.Mathlib.Omega.{arith}
 use lib.ListN.{length}
 use Rattle.shelf_field.specs.Fields.{Lined, ◌&◌}
 use Rattle.shelf_field.specs.Passes.{Passes, all_passed, one_fails, one_passes}
-use Rattle.shelf_field.proofs.Lines.{all_of}
+use Rattle.shelf.specs.Lists.{every}
+use Rattle.shelf_field.proofs.Lines.{all_of, every_all}
 
 module _ {test : ℕ → ℕ → Bool → Type 0} {behind : ℕ → ℕ → Type 0} where
   -- thing i of n does not pass
@@ -42,3 +43,9 @@ module _ {test : ℕ → ℕ → Bool → Type 0} {behind : ℕ → ℕ → Type
     pub passing : {at : ℕ} {r : Bool} → Passes test behind all 0 at r → ((p q : ℕ) → behind p q → q ≡ end p) → ((i p : ℕ) (x : A) (r : Bool) → i < all → Q p x → test i p r → r ≡ ask i x)
         → (xs : List A) → Lined Q end at xs → length xs ≡ all → r ≡ all_of ask 0 xs
     passing p f g xs l h = passing_from p f g xs l h (add-zero all)
+
+  -- where each is asked the same
+  module _ {A : Type 0} {Q : ℕ → A → Type 0} {end : ℕ → ℕ} (all : ℕ) where
+    pub passing_every : {at : ℕ} {r : Bool} (ask : A → Bool) → Passes test behind all 0 at r → ((p q : ℕ) → behind p q → q ≡ end p) → ((i p : ℕ) (x : A) (r : Bool) → Q p x → test i p r → r ≡ ask x)
+        → (xs : List A) → Lined Q end at xs → length xs ≡ all → r ≡ every ask xs
+    passing_every ask p f g xs l h = passing {Q = Q} {ask = λ k x. ask x} all p f (λ i p x r a q t. g i p x r q t) xs l h ∙ sym (every_all ask 0 xs)

@@ -26,7 +26,7 @@ use mir::shape::Shape;
 use mir::{Projection, TypeId, Value, ValueId};
 use rewrite_parts::Listed;
 
-// The value at a place.
+// The value at a place. (Beside that of bytes_operands for its promise: of a value that is there, as the shelf test asks.)
 pub fn value_at(t: &[u8], at: usize, next: u16) -> Value
     ensures { (x : AnyValue) → ValueAt next t.now at x → (result ≡ x) × FitValue next x }
 {
@@ -38,7 +38,7 @@ pub fn type_at(t: &[u8], b: Bounds, at: usize) -> Option<TypeId>
     ensures { (y : AnyType) → TypeAt b.types t.now at y → Is result (some y) }
 {
     let x = bytes_wire::u16_at(t, at);
-    if x < b.types { Some(TypeId(x)) } else { None }
+    (x < b.types).then_some(TypeId(x))
 }
 
 // The recorded type of the value whose number stands at a place.
@@ -68,11 +68,7 @@ fn value_type(recorded: &[u16], x: Value) -> Option<TypeId>
     ensures { (b : Bounds) (s types : List ℕ) (τ : Types) → Ground b s types recorded.now τ
         → FitValue b.next x → Is result (return_type τ x) }
 {
-    match x {
-        Value::Literal(_) => None,
-        Value::Operand(v) => shelf_types::recorded_type(recorded, v),
-        Value::Error => None,
-    }
+    shelf_types::recorded_type(recorded, x.operand()?)
 }
 
 // The recorded type of the operand at a place; none of any other value.
@@ -104,14 +100,15 @@ pub fn has_shape(code: Code, number: Option<TypeId>, shape: Shape) -> bool
     shelf_rows::shape_of(code, number) == shape
 }
 
-// The projection at a place.
+// The projection at a place. (Beside that of bytes_operands for its promise, as `value_at`.)
 pub fn step_at(t: &[u8], at: usize, next: u16) -> Option<Projection>
     ensures { (q : Projection) → StepAt next t.now at q → result ≡ Some q }
 {
     bytes_operands::step_at(t, at, next)
 }
 
-// Each thing of a list passes its test, the first as number 0; `end` gives the place behind a thing.
+// Each thing of a list passes its test, the first as number 0; `end` gives the place behind a thing. (A loop: the place goes from thing to
+// thing, which the closure of an `all` would have to change.)
 pub fn each_passes<E: Fn(usize) -> usize, T: Fn(u8, usize) -> bool>(
     list: Listed,
     end: E,

@@ -1,22 +1,23 @@
 -- The tests on lists, as tests on each thing.
-use Prim.Native.Nat.{ℕ, suc, ◌+◌, ◌*◌}
+use Prim.Native.Nat.{ℕ, suc, ◌+◌, ◌<◌}
 use mathlib.Core.Path.{◌≡◌, refl, ap, ◌∙◌}
 use mathlib.Core.List.{List, [], ◌∷◌}
-use mathlib.Core.Bool.{◌&&◌}
-use mathlib.Core.Option.{Option, some}
+use mathlib.Core.Option.{Option, none, some}
 use native.Mathlib.Nat.{add-zero}
 use native.Mathlib.Omega.{arith}
 use lib.ListN.{length, get_or}
-use Rattle.bytes_wire.specs.Number.{at16}
 use Rattle.mir.specs.declared.ValueId.{ValueId}
 use Rattle.mir.specs.declared.TypeId.{TypeId}
 use Rattle.mir.specs.declared.Value.{Value}
-use Rattle.mir.specs.MirType.{StructField}
+use Rattle.mir.specs.MirType.{MirType, StructField}
 use Rattle.mir.specs.Syntax.{FieldInit}
-use Rattle.mir.specs.Lookup.{Types, row_of, recorded_type}
+use Rattle.mir.specs.Lookup.{Types, recorded_type}
 use Rattle.mir.specs.Parts.{given, part_type}
 use Rattle.shelf.specs.Fits.{fits, same_type, all_fit, given_fits, fields_fit, arguments_fit}
 use Rattle.shelf.specs.Agrees.{dests_fit}
+use Rattle.bytes_struct.specs.Fields.{no_field}
+use Rattle.std.specs.List.{list_all, range_with_len}
+use Rattle.shelf_list.specs.Asked.{given_to, field_name}
 use Rattle.shelf_field.proofs.Lines.{all_of, and_both}
 
 pub fit_all : (τ : Types) (ts us : ℕ → Option TypeId) (i : ℕ) (xs : List Value) → ((k : ℕ) → us k ≡ ts (i + k)) → all_fit τ us xs ≡ all_of (λ k x. fits τ x (ts k)) i xs
@@ -50,12 +51,21 @@ dests_all τ ts (u ∷ us) i (d ∷ ds) h f =
     (ap (λ y. same_type (recorded_type τ d) (some y)) (f 0 ∙ ap (λ k. get_or ts k no_type) (add-zero i)))
     (dests_all τ ts us (suc i) ds (omega (arith, h)) (λ k. let z : i + suc k ≡ suc i + k = omega arith in f (suc k) ∙ ap (λ j. get_or ts j no_type) z))
 
-pub fields_all : (τ : Types) (fs : List FieldInit) (i : ℕ) (ss : List StructField) → fields_fit τ fs ss ≡ all_of (λ k s. given_fits τ (given s.name fs) s.part) i ss
-unfolding fields_fit
-fields_all τ fs i [] = refl
-fields_all τ fs i (s ∷ ss) = ap (λ z. given_fits τ (given s.name fs) s.part && z) (fields_all τ fs (suc i) ss)
+given_here : (τ : Types) (x : Option Value) (y : TypeId) → given_to τ x (some y) ≡ given_fits τ x y
+unfolding given_fits
+given_here τ none y = refl
+given_here τ (some x) y = refl
 
--- the field of a struct type with number k
-pub record FieldHere (τ : Types) (o : Option TypeId) (row : List ℕ) (k : ℕ) (s : StructField) : Type 0 where
-  pub named : at16 row (4 + 4 * k) ≡ s.name.0
-  pub part : part_type (row_of τ o) k ≡ some s.part
+pub fields_all : (τ : Types) (fs : List FieldInit) (row : List ℕ) (ty : Option MirType) (i : ℕ) (ss : List StructField) → ((k : ℕ) → k < length ss → field_name row (i + k) ≡ (get_or ss k no_field).name) → ((k : ℕ) → k < length ss → part_type ty (i + k) ≡ some (get_or ss k no_field).part)
+    → list_all (λ k. given_to τ (given (field_name row k) fs) (part_type ty k)) (range_with_len i (length ss)) ≡ fields_fit τ fs ss
+unfolding fields_fit
+fields_all τ fs row ty i [] f g = refl
+fields_all τ fs row ty i (s ∷ ss) f g =
+    let z : i + 0 ≡ i = add-zero i in
+    let n : field_name row i ≡ s.name = rw z at (f 0 (omega arith)) in
+    let p : part_type ty i ≡ some s.part = rw z at (g 0 (omega arith)) in
+    and_both
+    (ap (λ a. given_to τ (given a fs) (part_type ty i)) n ∙ ap (given_to τ (given s.name fs)) p ∙ given_here τ (given s.name fs) s.part)
+    (fields_all τ fs row ty (i + 1) ss
+    (λ k h. let y : i + suc k ≡ i + 1 + k = omega arith in rw y at (f (suc k) (omega (arith, h))))
+    (λ k h. let y : i + suc k ≡ i + 1 + k = omega arith in rw y at (g (suc k) (omega (arith, h)))))

@@ -1,7 +1,9 @@
 -- What is answered of lists of an instruction: things that stand as Q says, against a type, or against a list of types.
-use Rattle.std.specs.Prelude.{ℕ, ◌<◌, ◌≡◌, List, Bool, length, get_or}
+use Rattle.std.specs.Prelude.{ℕ, ◌+◌, ◌*◌, ◌<◌, ◌≡◌, List, Bool, false, length, get_or}
 use Rattle.std.specs.Prelude.{Option as Answered}
-use Rattle.std.proofs.Math.Option.{Option, some}
+use Rattle.std.proofs.Math.Option.{Option, none, some}
+use Rattle.bytes_wire.specs.Number.{at16}
+use Rattle.mir.specs.declared.NameId.{NameId}
 use Rattle.mir.specs.declared.TypeId.{TypeId}
 use Rattle.mir.specs.declared.Value.{Value}
 use Rattle.mir.specs.declared.ValueId.{ValueId}
@@ -10,11 +12,11 @@ use Rattle.mir.specs.Syntax.{FieldInit}
 use Rattle.bytes_index.specs.declared.code.Typing.{Typing}
 use Rattle.fold.specs.Tables.{Ground, TypingGround}
 use Rattle.rewrite_parts.specs.Rows.{Inits, InitAt, ValueAt}
-use Rattle.bytes_struct.specs.Fields.{Names, no_field}
+use Rattle.bytes_struct.specs.Fields.{first_name, Names, no_field}
 use Rattle.mir.specs.Lookup.{is_some, Types, row_of, recorded_type}
-use Rattle.mir.specs.Parts.{part_type}
+use Rattle.mir.specs.Parts.{given, part_type}
 use Rattle.shelf.specs.Agrees.{dests_fit}
-use Rattle.shelf.specs.Fits.{fits, same_type, given_fits, fields_fit}
+use Rattle.shelf.specs.Fits.{fits, same_type, fields_fit}
 use Rattle.shelf_rows.specs.Rows.{Is}
 use Rattle.rewrite_parts.specs.declared.listed.Listed.{Listed}
 use Rattle.shelf_field.specs.Fields.{IdAt, TypeAt}
@@ -105,14 +107,31 @@ DestsFit typing list there r =
     → length ts ≡ list.count
     → r ≡ dests_fit τ ds ts
 
--- the value of a field is given, and fits its type
+-- the value of a field is given, and fits a type
+abbrev pub given_to : Types → Option Value → Option TypeId → Bool
+given_to τ none o = false
+given_to τ (some x) o = fits τ x o
+
 abbrev pub GivenFits : Typing → List ℕ → Answered ℕ → Answered TypeId → Bool → Type 0
 GivenFits typing t init number r =
-    (τ : Types) (o : Option Value) (y : TypeId)
+    (τ : Types) (x : Option Value) (o : Option TypeId)
     → TypingGround typing τ
-    → InitAt typing.code.bounds.next t o init
-    → Is number (some y)
-    → r ≡ given_fits τ o y
+    → InitAt typing.code.bounds.next t x init
+    → Is number o
+    → r ≡ given_to τ x o
+
+-- so it is of field i of the struct type `number`, whose row is `row`, by the inits
+abbrev pub field_name : List ℕ → ℕ → NameId
+field_name row i = record { 0 = at16 row (first_name + 4 * i) }
+
+abbrev pub FieldFits : Typing → Listed → Answered TypeId → List ℕ → ℕ → Bool → Type 0
+FieldFits typing list number row i r =
+    (τ : Types) (o : Option TypeId) (fs : List FieldInit)
+    → TypingGround typing τ
+    → Is number o
+    → Inits typing.code.bounds.next list.bytes.now list.at fs
+    → length fs ≡ list.count
+    → r ≡ given_to τ (given (field_name row i) fs) (part_type (row_of τ o) i)
 
 -- each of as many fields of the struct type `number`, whose row is `row`, is given a value that fits by the inits
 abbrev pub FieldsFit : Typing → Listed → Answered TypeId → List ℕ → Bool → Type 0

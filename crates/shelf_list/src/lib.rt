@@ -12,11 +12,10 @@ ghost use Rattle.shelf_field.specs.Asked.{ValueFits};
 ghost use Rattle.shelf_field.specs.Fields.{Later, Late};
 ghost use Rattle.shelf_list.specs.Lists.{ValuesAt, SourcesAt, IdsAt};
 ghost use Rattle.shelf_list.specs.Asked.{OfAnyValue, IdTyped, OfEach, PartFits, AgainstType};
-ghost use Rattle.shelf_list.specs.Asked.{ArgumentFits, AgainstTypes, DestFits, DestsFit, GivenFits, FieldsFit};
+ghost use Rattle.shelf_list.specs.Asked.{ArgumentFits, AgainstTypes, DestFits, DestsFit, GivenFits, FieldFits, FieldsFit};
 
 use bytes_index::Typing;
-use bytes_types::layout;
-use mir::{NameId, TypeId};
+use mir::TypeId;
 use rewrite_parts::Listed;
 
 // How far a source's value stands behind its block, and how far apart numbers of values and types stand.
@@ -103,7 +102,7 @@ pub fn dests_fit(typing: Typing, list: Listed, returns: usize) -> bool
     )
 }
 
-// The value of a field is given, and fits.
+// The value of a field is given, and fits. (A match: with `is_some_and` the proof did not close.)
 fn given_fits(typing: Typing, t: &[u8], init: Option<usize>, number: Option<TypeId>) -> bool
     ensures { GivenFits typing.entry t.now init number result }
 {
@@ -113,23 +112,19 @@ fn given_fits(typing: Typing, t: &[u8], init: Option<usize>, number: Option<Type
     }
 }
 
-// Each field of a struct type with as many, the row `row`, is given a value that fits by the inits of a list. (A loop of its own: fields
-// are known by their numbers, and no end of a field is asked for.)
+// Each field of a struct type with as many, the row `row`, is given a value that fits by the inits of a list.
 pub fn fields_fit(typing: Typing, list: Listed, number: Option<TypeId>, row: &[u8]) -> bool
     ensures { FieldsFit typing.entry list.entry number row.now result }
 {
-    for i in 0..list.count {
-        let name = NameId(bytes_wire::u16_at(
-            row,
-            layout::STRUCT_NAMES + layout::STRUCT_APART * i as usize,
-        ));
-        let init = rewrite_parts::find_init(list, name);
-        let part = shelf_rows::part_type(typing.code, number, i as u32);
-        if !given_fits(typing, list.bytes, init, part) {
-            return false;
-        }
-    }
-    true
+    (0..list.count).all(
+        |i|
+            ensures { FieldFits typing.entry list.entry number row.entry.now i result }
+        {
+            let init = rewrite_parts::find_init(list, bytes_types::field_name(row, i));
+            let part = shelf_rows::part_type(typing.code, number, i as u32);
+            given_fits(typing, list.bytes, init, part)
+        },
+    )
 }
 
 // The value at a place has a recorded type or is a literal.

@@ -7,9 +7,18 @@ use native.Mathlib.Omega.{arith}
 use borrow.Author.Tests.{eq-eqb, ne_eqb, not-true, not-false}
 use lib.ListN.{length, get_or, set, drop, replicate}
 use lib.Seq.{drop-drop}
+use Rattle.std.specs.Prelude.{Some, None, Option as Answered}
+use Rattle.std.specs.Option.{MatchOption, unwrap_or}
+use Rattle.std.specs.List.{range_with_len, AllWithin, HoldsAt}
+use Rattle.std.proofs.lemmas.List.FromFn.{length-range_with_len, get_or-range_with_len}
+use Rattle.std.specs.Option.{option_eq}
+use Rattle.mir.specs.contracts.kind.KindPartialEq.TheImpl.{eq-value}
+use Rattle.mir.specs.declared.kind.Kind.{Kind}
+use Rattle.mir.specs.Kind.{NamesKind}
+use Rattle.mir.proofs.Numbers.{names_one, kind_other}
 use Rattle.bytes_wire.specs.Number.{at16}
 use Rattle.mir.specs.declared.ValueId.{ValueId}
-use Rattle.mir.specs.Syntax.{Instruction, InstructionKind, Block}
+use Rattle.mir.specs.Syntax.{Instruction, Block}
 use Rattle.mir.specs.Reads.{reads, dests, kind_number, is_phi}
 use Rattle.bytes_field.specs.Decode.{instruction_of}
 use Rattle.bytes_index.specs.declared.code.Code.{Code}
@@ -23,8 +32,8 @@ use Rattle.mir.specs.Lookup.{Types}
 use Rattle.mir.specs.Phis.{behind_phis}
 use Rattle.shelf.specs.Lists.{every, among, clear}
 use Rattle.shelf.specs.Reads.{counted_reads, defined_in, ordered, with_debug}
-use Rattle.shelf_marks.specs.Tests.{CodedIn, SlotIn, OfSlot, OfBlock, BehindPhis, ordered_behind, dest_count, dest_first, dests_at, dests_of}
-use Rattle.shelf_marks.proofs.Scanning.{next_of, none_of, block_holds, slot_holds, SlotsLeft, slots_again, every_same}
+use Rattle.shelf_marks.specs.Tests.{CodedIn, SlotIn, OfSlot, OfBlock, FirstOther, BehindPhis, ordered_behind, dest_count, dest_first, dests_at, dests_of}
+use Rattle.shelf_marks.proofs.Scanning.{next_of, none_of, block_holds, slot_holds, every_same}
 use Rattle.table.proofs.Elements.{clear_at}
 use Rattle.shelf_marks.proofs.Bases.{marks_are, among_append}
 use Rattle.shelf_marks.proofs.Dests.{dests_in}
@@ -35,10 +44,6 @@ module _ (u : List ℕ) (first n : ℕ) where
     pub under : j ≤ n
     pub long : length m ≡ length m₀
     pub left : marks m₀ (dests_at u first n) ≡ marks m (dests_at u (first + 2 * j) (n - j))
-
-  pub putting_start : (m : List Bool) → Putting m m 0
-  putting_start m =
-      record { under = zero-le; long = refl; left = let z : n - 0 ≡ n = omega arith in let y : first + 2 * 0 ≡ first = omega arith in ap (λ q. marks m (dests_at u first q)) (sym z) ∙ ap (λ q. marks m (dests_at u q (n - 0))) (sym y) }
 
   pub putting_again : (m₀ m m' : List Bool) (j x : ℕ) → Putting m₀ m j → j < n → x ≡ at16 u (first + 2 * j) → m' ≡ set m x true → length m' ≡ length m → Putting m₀ m' (j + 1)
   unfolding dests_at
@@ -58,53 +63,66 @@ module _ (u : List ℕ) (first n : ℕ) where
   putting_done m₀ m j w h = let z : n - j ≡ 0 = omega arith in sym (w.left ∙ ap (λ q. marks m (dests_at u (first + 2 * j) q)) z)
 
 -- what mark_dests marks
-pub dests_marked : (t : List ℕ) (kind : ℕ) (m : List Bool) {u : List ℕ} {fp first count : ℕ} {m' : List Bool} → fp ≡ fields_place t → u ≡ drop fp t → first ≡ dest_first kind → count ≡ dest_count u kind → m' ≡ marks m (dests_at u first count) → m' ≡ marks m (dests_of t kind)
-dests_marked t kind m {u} {fp} {first} {count} ef eu e1 ec em =
-    let own : u ≡ drop (fields_place t) t = eu ∙ ap (λ q. drop q t) ef in
+pub dests_marked : (t : List ℕ) (kind : ℕ) (m : List Bool) {u : List ℕ} {first count : ℕ} {m' : List Bool} → u ≡ drop (fields_place t) t → first ≡ dest_first kind → count ≡ dest_count u kind → m' ≡ marks m (dests_at u first count) → m' ≡ marks m (dests_of t kind)
+dests_marked t kind m {u} {first} {count} own e1 ec em =
     em ∙ ap (λ q. marks m (dests_at u q count)) e1 ∙ ap (λ q. marks m (dests_at u (dest_first kind) q)) ec ∙ ap (λ q. marks m (dests_at q (dest_first kind) (dest_count q kind))) own
 
 -- and mark_slot
 module _ (code : Code) (slot : ℕ) (m : List Bool) where
-  pub slot_marked : {kind at : ℕ} {t : List ℕ} {m' : List Bool} → kind ≡ kind_in code.facts.now slot → at ≡ place_in code.facts.now slot → t ≡ drop at code.bytes.now → m' ≡ marks m (dests_of t kind) → OfSlot code slot (λ τ i. marks m (dests i)) m'
-  slot_marked {kind} {at} {t} ek ea et em τ i g a =
-      let here : t ≡ drop (place_in code.facts.now slot) code.bytes.now = et ∙ ap (λ q. drop q code.bytes.now) ea in
+  pub slot_marked : {kind : ℕ} {t : List ℕ} {m' : List Bool} → kind ≡ kind_in code.facts.now slot → t ≡ drop (place_in code.facts.now slot) code.bytes.now → m' ≡ marks m (dests_of t kind) → OfSlot code slot (λ τ i. marks m (dests i)) m'
+  slot_marked {kind} {t} ek here em τ i g a =
       let d = dests_in code.bounds t i _ (ap (λ q. instruction_of code.bounds [] false q) here ∙ a.read) in
       em ∙ ap (marks m) (ap (dests_of t) (ek ∙ a.kind) ∙ sym d.same)
 
--- the slots of block k before number i are phis
-abbrev pub Fronts : Code → ℕ → ℕ → Type 0
-Fronts code k i = SlotsLeft {X = Unit {0}} code k (λ τ u is. behind_phis is) tt tt i
+-- the instructions behind those that are phis in front
+behind_lead : (is : List Instruction) (i : ℕ) → i ≤ length is → ((j : ℕ) → j < i → is_phi (get_or is j no_instruction).kind ≡ true) → (i < length is → is_phi (get_or is i no_instruction).kind ≡ false) → behind_phis is ≡ drop i is
+unfolding behind_phis
+behind_lead [] zero h f g = refl
+behind_lead [] (suc i) h f g = absurd (omega arith)
+behind_lead (x ∷ is) zero h f g = rw (g (omega arith)) refl
+behind_lead (x ∷ is) (suc i) h f g = rw (f 0 (omega arith)) (behind_lead is i (omega arith) (λ j l. f (suc j) (omega arith)) (λ l. g (omega arith)))
 
-module _ (code : Code) (k : ℕ) (at : Slots) (el : SlotsOf code.facts.now k at) {i : ℕ} (u : Fronts code k i) where
-  pub fronts_again : i < at.count → kind_in code.facts.now (at.first + i) ≡ 9 → Fronts code k (i + 1)
-  unfolding behind_phis
-  fronts_again g h = slots_again {X = Unit {0}} code k (λ τ u is. behind_phis is) at el {x₀ = tt} {x = tt} u g (λ τ ks y is c a. rw (eq-eqb (kind_number y.kind) 9 (sym a.kind ∙ h)) refl)
+-- the first of n slots whose instruction is no phi
+pub first_other : (facts : List ℕ) (a n : ℕ) (r : Answered ℕ)
+    → MatchOption r (AllWithin (λ x. kind_in facts x ≡ 9) (range_with_len a n) 0 (length (range_with_len a n)))
+    (λ x. (kind_in facts x ≡ 9 → ⊥) × (i : ℕ) × (i < length (range_with_len a n)) × HoldsAt (λ y. y ≡ x) (range_with_len a n) i × AllWithin (λ y. kind_in facts y ≡ 9) (range_with_len a n) 0 i)
+    → FirstOther facts a n (unwrap_or r (a + n))
+first_other facts a n None h =
+    record {
+      from = omega arith;
+      under = omega arith;
+      phis = λ x l m. let z : a + (x - a) ≡ x = omega arith in rw (get_or-range_with_len a n (x - a) 0 (omega arith), z) at (h (x - a) 0 zero-le (omega (arith, length-range_with_len a n)));
+      other = λ l. absurd (omega arith);
+    }
+first_other facts a n (Some x) h =
+    let l : h.1 < n = omega (arith, h.2, length-range_with_len a n) in
+    let e : x ≡ a + h.1 = sym (h.3 0) ∙ get_or-range_with_len a n h.1 0 l in
+    record {
+      from = omega (arith, e);
+      under = omega (arith, e);
+      phis = λ y o m. let z : a + (y - a) ≡ y = omega arith in rw (get_or-range_with_len a n (y - a) 0 (omega (arith, e, l)), z) at (h.4 (y - a) 0 zero-le (omega (arith, e)));
+      other = λ o. h.0;
+    }
 
-  module _ (r : Slots) (end : r.first + r.count ≡ at.first + at.count) where
-    pub fronts_stop : i < at.count → (kind_in code.facts.now (at.first + i) ≡ 9 → ⊥) → r.first ≡ at.first + i → BehindPhis code k r
-    unfolding behind_phis
-    fronts_stop g h e τ ks c l =
-        let is = (get_or ks k no_block).instructions in
-        let w = el code.bounds code.bytes.now ks c.code l in
-        let a = slot_holds code k at el i g τ ks c l in
-        let z : is_phi (get_or is i no_instruction).kind ≡ false = ne_eqb (kind_number (get_or is i no_instruction).kind) 9 (λ y. h (a.kind ∙ y)) in
-        let d = next_of is i no_instruction (omega (arith, w.1)) in
-        let v : i ≡ r.first - get_or (starts_in code.facts.now) k 0 = omega (arith, w.0, e) in
-        record {
-          from = omega (arith, w.0, e);
-          all = omega (arith, w.0, w.1, end);
-          same = u τ ks c l ∙ ap behind_phis d ∙ rw z (sym d) ∙ ap (λ q. drop q is) v;
-        }
+-- a kind that is looked up is no Phi, and none is there
+pub no_phi_there : (n : ℕ) (o : Answered Kind) → NamesKind n o → true ≡ not (option_eq eq-value.it o (Some Kind.Phi)) → n ≡ 9 → ⊥
+no_phi_there n o h e z = kind_other o Kind.Phi e (names_one n o Kind.Phi h z)
 
-    pub fronts_done : at.count ≤ i → r.first ≡ at.first + at.count → BehindPhis code k r
-    unfolding behind_phis
-    fronts_done g e τ ks c l =
-        let is = (get_or ks k no_block).instructions in
-        let w = el code.bounds code.bytes.now ks c.code l in
-        let first = get_or (starts_in code.facts.now) k 0 in
-        let z : drop i is ≡ [] = none_of is i (omega (arith, w.1)) in
-        let y : drop (r.first - first) is ≡ [] = none_of is (r.first - first) (omega (arith, w.0, w.1, e)) in
-        record { from = omega (arith, w.0, e); all = omega (arith, w.0, w.1, end); same = u τ ks c l ∙ ap behind_phis z ∙ sym y }
+pub behind_found : (code : Code) (k : ℕ) (at : Slots) → SlotsOf code.facts.now k at → (s : Slots) → FirstOther code.facts.now at.first at.count s.first → s.count ≡ at.first + at.count - s.first → BehindPhis code k s
+behind_found code k at el s f e τ ks c l =
+    let is = (get_or ks k no_block).instructions in
+    let w = el code.bounds code.bytes.now ks c.code l in
+    let i = s.first - at.first in
+    let z : at.first + i ≡ s.first = omega (arith, f.from) in
+    record {
+      from = omega (arith, w.0, f.from);
+      all = omega (arith, w.0, w.1, e, f.under);
+      same =
+          behind_lead is i (omega (arith, w.1, f.under))
+          (λ j m. eq-eqb (kind_number (get_or is j no_instruction).kind) 9 (sym (slot_holds code k at el j (omega (arith, f.under)) τ ks c l).kind ∙ f.phis (at.first + j) (omega arith) (omega arith)))
+          (λ m. ne_eqb (kind_number (get_or is i no_instruction).kind) 9 (λ y. f.other (omega (arith, w.1, z)) (ap (kind_in code.facts.now) (sym z) ∙ (slot_holds code k at el i (omega (arith, w.1)) τ ks c l).kind ∙ y)))
+          ∙ ap (λ q. drop q is) (ap (λ q. s.first - q) w.0);
+    }
 
 -- an order that fails further on fails
 ordered_fails : (debug : Bool) (d : ℕ) (xs : List Instruction) → ordered debug (drop d xs) ≡ false → ordered debug xs ≡ false

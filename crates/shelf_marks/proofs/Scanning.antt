@@ -1,18 +1,21 @@
--- The loops over the reads of a slot, the slots of a block, and the blocks: what is left to look at.
-use Prim.Native.Nat.{ℕ, ◌+◌, ◌-◌, ◌≤◌, ◌<◌}
+-- The reads of a slot, the slots of a block, and the blocks: what is answered of all, and what is left to look at.
+use Prim.Native.Nat.{ℕ, zero, suc, zero-le, ◌+◌, ◌-◌, ◌≤◌, ◌<◌}
 use mathlib.Core.Path.{◌≡◌, refl, ap, ◌∙◌, sym}
 use mathlib.Core.List.{List, [], ◌∷◌}
-use mathlib.Core.Bool.{Bool, true, false, cond, not, ◌&&◌}
+use mathlib.Core.Bool.{Bool, true, false, cond, not, ◌&&◌, and-false}
 use native.Mathlib.Numerals.{add-one}
 use native.Mathlib.Omega.{arith}
-use borrow.Author.Tests.{not-true, not-false}
 use lib.ListN.{length, get_or, drop, drop_of_length-le}
 use lib.Seq.{drop-cons}
+use native.Mathlib.Nat.{zero-add}
+use Rattle.std.specs.Bool.{MatchBool}
+use Rattle.std.specs.List.{range_with_len, AllWithin, HoldsAt}
+use Rattle.std.proofs.lemmas.List.FromFn.{length-range_with_len, get_or-range_with_len}
 use Rattle.mir.specs.declared.BlockId.{BlockId}
 use Rattle.mir.specs.declared.ValueId.{ValueId}
 use Rattle.mir.specs.Syntax.{Instruction, InstructionKind, Block}
 use Rattle.mir.specs.Reads.{is_phi}
-use Rattle.bytes_index.specs.Table.{starts_in, read_count, read_in, ReadsIn}
+use Rattle.bytes_index.specs.Table.{starts_in}
 use Rattle.bytes_index.specs.Code.{no_instruction, no_block, SlotsOf}
 use Rattle.bytes_index.specs.declared.code.Code.{Code}
 use Rattle.bytes_index.specs.declared.slots.Slots.{Slots}
@@ -31,26 +34,36 @@ next_of xs k d h = rw (add-one k) (drop-cons xs k d h)
 pub none_of : {A : Type 0} (xs : List A) (k : ℕ) → length xs ≤ k → drop k xs ≡ []
 none_of xs k h = drop_of_length-le xs h
 
--- k reads of a slot are not marked
-module _ (facts : List ℕ) (slot : ℕ) (marks : List Bool) where
-  abbrev pub Clearing : ℕ → Type 0
-  Clearing k = (vs : List ValueId) → ReadsIn facts slot vs → clear marks vs ≡ clear marks (drop k vs)
+-- What is answered of n numbers from a on: all pass, or one fails.
+abbrev pub Answers : (ℕ → Bool → Type 0) → ℕ → ℕ → Bool → Type 0
+Answers post a n r = MatchBool r ((i : ℕ) → i < n → post (a + i) true) ((i : ℕ) × (i < n) × post (a + i) false)
 
-  module _ {n k x : ℕ} {r : Bool} (u : Clearing k) (en : n ≡ read_count facts slot) (h : k < n) (e : x ≡ read_in facts slot k) (f : r ≡ get_or marks x false) where
-    clearing_at : (vs : List ValueId) → ReadsIn facts slot vs → clear marks vs ≡ (not r && clear marks (drop (k + 1) vs))
-    clearing_at vs a =
-        let p : k < length vs = omega (arith, a.many) in
-        let z : get_or marks (get_or vs k no_value).0 false ≡ r = ap (λ y. get_or marks y false) (sym (e ∙ a.each k p)) ∙ sym f in
-        u vs a ∙ ap (clear marks) (next_of vs k no_value p) ∙ ap (λ y. not y && clear marks (drop (k + 1) vs)) z
+pub answers : (post : ℕ → Bool → Type 0) (a n : ℕ) (r : Bool)
+    → MatchBool r (AllWithin (λ x. post x true) (range_with_len a n) 0 (length (range_with_len a n))) ((i : ℕ) × (i < length (range_with_len a n)) × HoldsAt (λ x. post x false) (range_with_len a n) i)
+    → Answers post a n r
+answers post a n true h = λ i l. rw (get_or-range_with_len a n i 0 l) at (h i 0 zero-le (omega (arith, length-range_with_len a n)))
+answers post a n false h = let l : h.0 < n = omega (arith, h.1, length-range_with_len a n) in (h.0, l, rw (get_or-range_with_len a n h.0 0 l) at (h.2 0))
 
-    pub clearing_again : r ≡ false → Clearing (k + 1)
-    clearing_again g vs a = clearing_at vs a ∙ ap (λ y. not y && clear marks (drop (k + 1) vs)) g
+module _ {A : Type 0} (q : A → Bool) (d : A) where
+  all_pass : (xs : List A) → ((i : ℕ) → i < length xs → true ≡ q (get_or xs i d)) → true ≡ every q xs
+  all_pass [] h = refl
+  all_pass (x ∷ xs) h = all_pass xs (λ i l. h (suc i) (omega arith)) ∙ ap (λ b. b && every q xs) (h 0 (omega arith))
 
-    pub clearing_stop : r ≡ true → (vs : List ValueId) → ReadsIn facts slot vs → false ≡ clear marks vs
-    clearing_stop g vs a = sym (clearing_at vs a ∙ ap (λ y. not y && clear marks (drop (k + 1) vs)) g)
+  one_fails : (xs : List A) (i : ℕ) → i < length xs → false ≡ q (get_or xs i d) → false ≡ every q xs
+  one_fails [] i h e = absurd (omega arith)
+  one_fails (x ∷ xs) zero h e = ap (λ b. b && every q xs) e
+  one_fails (x ∷ xs) (suc i) h e = sym (and-false (q x)) ∙ ap (λ b. q x && b) (one_fails xs i (omega arith) e)
 
-  pub clearing_done : {n k : ℕ} → Clearing k → n ≡ read_count facts slot → n ≤ k → (vs : List ValueId) → ReadsIn facts slot vs → true ≡ clear marks vs
-  clearing_done {n} {k} u en h vs a = sym (u vs a ∙ ap (clear marks) (none_of vs k (omega (arith, a.many))))
+  -- where each answer is what q says of an element, it is what q says of all
+  pub each_answered : (post : ℕ → Bool → Type 0) (a n : ℕ) (xs : List A) → n ≡ length xs → ((i : ℕ) (r : Bool) → i < n → post (a + i) r → r ≡ q (get_or xs i d)) → (r : Bool) → Answers post a n r → r ≡ every q xs
+  each_answered post a n xs e f true h = all_pass xs (λ i l. f i true (omega (arith, e)) (h i (omega (arith, e))))
+  each_answered post a n xs e f false h = one_fails xs h.0 (omega (arith, e, h.1)) (f h.0 false h.1 h.2)
+
+-- values that are looked up one after another: where is none marked
+pub clear_answered : (f : ℕ → ℕ) (n : ℕ) (marks : List Bool) (vs : List ValueId) → n ≡ length vs → ((k : ℕ) → k < n → f k ≡ (get_or vs k no_value).0) → (r : Bool) → Answers (λ k b. b ≡ not (get_or marks (f k) false)) 0 n r → r ≡ clear marks vs
+clear_answered f n marks vs e g r h =
+    each_answered (λ v. not (get_or marks v.0 false)) no_value (λ k b. b ≡ not (get_or marks (f k) false)) 0 n vs e
+    (λ i b l u. u ∙ ap (λ x. not (get_or marks x false)) (ap f (zero-add i) ∙ g i l)) r h
 
 -- the instruction in a slot of block k
 pub block_holds : (code : Code) (k slot : ℕ) (τ : Types) (ks : List Block) → CodedIn code τ ks → k < length ks → get_or (starts_in code.facts.now) k 0 ≤ slot → slot < get_or (starts_in code.facts.now) k 0 + length (get_or ks k no_block).instructions → SlotIn code slot (get_or (get_or ks k no_block).instructions (slot - get_or (starts_in code.facts.now) k 0) no_instruction)
@@ -80,25 +93,14 @@ module _ {X A : Type 0} (code : Code) (k : ℕ) (f : Types → X → List Instru
   pub slots_done : at.count ≤ i → (τ : Types) (ks : List Block) → CodedIn code τ ks → k < length ks → f τ x₀ (get_or ks k no_block).instructions ≡ f τ x []
   slots_done g τ ks c h = u τ ks c h ∙ ap (f τ x) (none_of (get_or ks k no_block).instructions i (omega (arith, (el code.bounds code.bytes.now ks c.code h).1)))
 
--- a test that each instruction of a block is to pass
-abbrev pub Passing : Code → ℕ → (ℕ → Bool → Type 0) → ℕ → Type 0
-Passing code k post i = (p : Types → InstructionKind → Bool) → AsksSlots code post p → SlotsLeft {X = Unit {0}} code k (λ τ u is. each_kind (p τ) is) tt tt i
-
-module _ (code : Code) (k : ℕ) (at : Slots) (post : ℕ → Bool → Type 0) (el : SlotsOf code.facts.now k at) {i : ℕ} (u : Passing code k post i) where
-  module _ (g : i < at.count) (low : at.first + i < 65536) {r : Bool} (e : post (at.first + i) r) where
-    pub passing_again : not r ≡ false → Passing code k post (i + 1)
-    passing_again h p a =
-        slots_again {X = Unit {0}} code k (λ τ u is. each_kind (p τ) is) at el {x₀ = tt} {x = tt} (u p a) g
-        (λ τ ks y is c s. ap (λ q. q && each_kind (p τ) is) (sym (a (at.first + i) r low e τ y c.ground s) ∙ not-false r h))
-
-    pub passing_stop : not r ≡ true → (p : Types → InstructionKind → Bool) → AsksSlots code post p → OfBlock code k (λ τ y. each_kind (p τ) y.instructions) false
-    passing_stop h p a τ ks c l =
-        let s = slot_holds code k at el i g τ ks c l in
-        sym (slot_next {X = Unit {0}} code k (λ τ u is. each_kind (p τ) is) at el {x₀ = tt} {x = tt} (u p a) g τ ks c l
-        ∙ ap (λ q. q && each_kind (p τ) (drop (i + 1) (get_or ks k no_block).instructions)) (sym (a (at.first + i) r low e τ _ c.ground s) ∙ not-true r h))
-
-  pub passing_done : at.count ≤ i → (p : Types → InstructionKind → Bool) → AsksSlots code post p → OfBlock code k (λ τ y. each_kind (p τ) y.instructions) true
-  passing_done g p a τ ks c l = sym (slots_done {X = Unit {0}} code k (λ τ u is. each_kind (p τ) is) at el {x₀ = tt} {x = tt} (u p a) g τ ks c l)
+-- a test of the slots of a block
+pub slots_answered : (code : Code) (k : ℕ) (at : Slots) (post : ℕ → Bool → Type 0) → SlotsOf code.facts.now k at → (r : Bool) → Answers post at.first at.count r
+    → (p : Types → InstructionKind → Bool) → AsksSlots code post p → OfBlock code k (λ τ y. each_kind (p τ) y.instructions) r
+slots_answered code k at post el r h p a τ ks c l =
+    let is = (get_or ks k no_block).instructions in
+    let w = el code.bounds code.bytes.now ks c.code l in
+    each_answered (λ y. p τ y.kind) no_instruction post at.first at.count is w.1
+    (λ i b g e. a (at.first + i) b (omega (arith, at.low)) e τ _ c.ground (slot_holds code k at el i g τ ks c l)) r h
 
 -- The blocks from k on are left of what f asks of all.
 abbrev pub Blocks : {X A : Type 0} → Code → (Types → X → List Block → A) → X → X → ℕ → Type 0
@@ -111,25 +113,11 @@ module _ {X A : Type 0} (code : Code) (f : Types → X → List Block → A) {k 
   pub blocks_done : code.bounds.blocks ≤ k → (τ : Types) (ks : List Block) → CodedIn code τ ks → f τ x₀ ks ≡ f τ x []
   blocks_done g τ ks c = u τ ks c ∙ ap (f τ x) (none_of ks k (omega (arith, c.many)))
 
--- a test that each block is to pass
-abbrev pub Tested : Code → (BlockId → Bool → Type 0) → ℕ → Type 0
-Tested code post k = (q : Types → Block → Bool) → AsksBlocks code post q → Blocks {X = Unit {0}} code (λ τ u ks. every (q τ) ks) tt tt k
-
-module _ (code : Code) (post : BlockId → Bool → Type 0) {k : ℕ} (u : Tested code post k) where
-  module _ (g : k < code.bounds.blocks) (low : k < 65536) {r : Bool} (e : post (record { 0 = k }) r) where
-    tested_here : (q : Types → Block → Bool) → AsksBlocks code post q → (τ : Types) (ks : List Block) → CodedIn code τ ks → every (q τ) ks ≡ (r && every (q τ) (drop (k + 1) ks))
-    tested_here q a τ ks c =
-        blocks_next {X = Unit {0}} code (λ τ u ks. every (q τ) ks) {x₀ = tt} {x = tt} (u q a) g τ ks c
-        ∙ ap (λ y. y && every (q τ) (drop (k + 1) ks)) (sym (a (record { 0 = k }) r low e τ ks c (omega (arith, c.many))))
-
-    pub tested_again : not r ≡ false → Tested code post (k + 1)
-    tested_again h q a τ ks c = tested_here q a τ ks c ∙ ap (λ y. y && every (q τ) (drop (k + 1) ks)) (not-false r h)
-
-    pub tested_stop : not r ≡ true → (q : Types → Block → Bool) → AsksBlocks code post q → OfRoutine code (λ τ ks. every (q τ) ks) false
-    tested_stop h q a τ ks c = sym (tested_here q a τ ks c ∙ ap (λ y. y && every (q τ) (drop (k + 1) ks)) (not-true r h))
-
-  pub tested_done : code.bounds.blocks ≤ k → (q : Types → Block → Bool) → AsksBlocks code post q → OfRoutine code (λ τ ks. every (q τ) ks) true
-  tested_done g q a τ ks c = sym (blocks_done {X = Unit {0}} code (λ τ u ks. every (q τ) ks) {x₀ = tt} {x = tt} (u q a) g τ ks c)
+-- a test of the blocks
+pub blocks_answered : (code : Code) (post : BlockId → Bool → Type 0) (r : Bool) → code.bounds.blocks < 65536 → Answers (λ k. post (record { 0 = k })) 0 code.bounds.blocks r → (q : Types → Block → Bool) → AsksBlocks code post q → OfRoutine code (λ τ ks. every (q τ) ks) r
+blocks_answered code post r low h q a τ ks c =
+    each_answered (q τ) no_block (λ k. post (record { 0 = k })) 0 code.bounds.blocks ks (sym c.many)
+    (λ i b g e. a (record { 0 = i }) b (omega arith) (rw (zero-add i) at e) τ ks c (omega (arith, c.many))) r h
 
 -- a test that phis pass says the same behind them
 pub every_behind : (p : InstructionKind → Bool) → ((i : InstructionKind) → is_phi i ≡ true → p i ≡ true) → (is : List Instruction) → each_kind p (behind_phis is) ≡ each_kind p is

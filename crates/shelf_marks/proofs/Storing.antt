@@ -4,11 +4,14 @@ use mathlib.Core.Path.{◌≡◌, refl, ap, ◌∙◌, sym}
 use mathlib.Core.List.{List, [], ◌∷◌}
 use mathlib.Core.Bool.{Bool, true, false, cond, not, ◌&&◌, ◌||◌, and-false}
 use mathlib.Core.Option.{Option, none, some}
+use mathlib.Core.Logic.{◌⊎◌, inl, inr}
 use native.Mathlib.Omega.{arith}
 use borrow.Author.Tests.{eq-eqb, ne_eqb, not-true}
 use lib.ListN.{length, get_or, get_elem?, drop}
 use lib.Dec.{eqb, eqb→eq}
 use Rattle.bytes_wire.specs.Parse.{ok}
+use Rattle.mir.specs.declared.kind.Kind.{Kind}
+use Rattle.mir.specs.Kind.{number_of_kind}
 use Rattle.mir.specs.declared.Value.{Value}
 use Rattle.mir.specs.declared.ValueId.{ValueId}
 use Rattle.mir.specs.declared.Projection.{Projection}
@@ -18,7 +21,7 @@ use Rattle.mir.specs.Syntax.{MakeTuple, ExtractTupleElement, MakeStruct, Extract
 use Rattle.mir.specs.Reads.{reads, store_base, kind_number, is_phi}
 use Rattle.bytes_field.specs.Decode.{instruction_of}
 use Rattle.bytes_index.specs.declared.code.Code.{Code}
-use Rattle.bytes_index.specs.Table.{place_in, kind_in, read_in, ReadsIn}
+use Rattle.bytes_index.specs.Table.{place_in, kind_in, read_in}
 use Rattle.bytes_operands.specs.Fields.{operand_fields, place_steps}
 use Rattle.mir.specs.Option.{as_option}
 use Rattle.std.specs.Prelude.{Some, None, Option as Answered}
@@ -143,9 +146,9 @@ module _ (code : Code) (slot : ℕ) (dropped : List Bool) where
     pub shallow_kept : not r ≡ true → OfSlot code slot (λ τ. shallow_in dropped) true
     shallow_kept n τ i g a = sym (store_shallow i a ∙ ap (λ q. not (is_deep (place_steps i.kind) && q)) (not-true r n) ∙ ap not (and-false (is_deep (place_steps i.kind))))
 
-    module _ (n : not r ≡ false) {at : ℕ} {t : List ℕ} (p : Answered Projection) (ea : at ≡ place_in code.facts.now slot) (et : t ≡ drop at code.bytes.now) (ep : (seen : List Bool) (late : Bool) (i : Instruction) (n : ℕ) → instruction_of code.bounds seen late t ≡ ok i n → as_option p ≡ get_elem? (place_steps i.kind) 1) where
+    module _ (n : not r ≡ false) {t : List ℕ} (p : Answered Projection) (et : t ≡ drop (place_in code.facts.now slot) code.bytes.now) (ep : (seen : List Bool) (late : Bool) (i : Instruction) (n : ℕ) → instruction_of code.bounds seen late t ≡ ok i n → as_option p ≡ get_elem? (place_steps i.kind) 1) where
       found : (i : Instruction) → SlotIn code slot i → as_option p ≡ get_elem? (place_steps i.kind) 1
-      found i a = ep [] false i _ (ap (λ q. instruction_of code.bounds [] false q) (et ∙ ap (λ q. drop q code.bytes.now) ea) ∙ a.read)
+      found i a = ep [] false i _ (ap (λ q. instruction_of code.bounds [] false q) et ∙ a.read)
 
       pub shallow_found : (k : Bool) → has_some p ≡ not k → OfSlot code slot (λ τ. shallow_in dropped) k
       shallow_found k e τ i g a = back k (has_some p) e ∙ sym (store_shallow i a ∙ go p (found i a))
@@ -157,14 +160,6 @@ module _ (code : Code) (slot : ℕ) (dropped : List Bool) where
           go : (p : Answered Projection) → as_option p ≡ get_elem? (place_steps i.kind) 1 → not (is_deep (place_steps i.kind) && r) ≡ not (has_some p)
           go None e = ap (λ q. not (q && r)) (deep_none (place_steps i.kind) e)
           go (Some q) e = ap (λ q. not (q && r)) (deep_some (place_steps i.kind) e) ∙ n
-
--- a value that was found
-and_true : (b : Bool) → b ≡ (b && true)
-and_true true = refl
-and_true false = refl
-
-pub clear_operand : (marks : List Bool) (v : ValueId) → not (get_or marks v.0 false) ≡ clear marks (found_reads (some (Value.Operand v)))
-clear_operand marks v = and_true (not (get_or marks v.0 false))
 
 -- the parts that an instruction takes, by its kind's number
 abbrev taken_by : ℕ → InstructionKind → List ValueId
@@ -198,25 +193,13 @@ taken (HeapAllocCells d v) = refl
 pub phi_parts : (marks : List Bool) (i : InstructionKind) → is_phi i ≡ true → parts_clear marks i ≡ true
 phi_parts marks i e = ap (clear marks) (taken i ∙ ap (λ q. taken_by q i) (eqb→eq (kind_number i) 9 (rw e tt)))
 
--- what parts_clear finds
-module _ (code : Code) (slot : ℕ) (marks : List Bool) where
-  parts_by : (j : ℕ) → kind_in code.facts.now slot ≡ j → (i : Instruction) → SlotIn code slot i → taken_by j i.kind ≡ parts_taken i.kind
-  parts_by j h i a = sym (taken i.kind ∙ ap (λ q. taken_by q i.kind) (sym a.kind ∙ h))
+-- an insert takes its new value, which is its second operand
+inserts : (k : Kind) → (k ≡ Kind.InsertField) ⊎ (k ≡ Kind.InsertTuple) → (i : InstructionKind) → number_of_kind k ≡ kind_number i → parts_taken i ≡ found_reads (get_elem? (operand_fields i) 1)
+inserts k (inl e) i n = taken i ∙ ap (λ q. taken_by q i) (sym n ∙ ap number_of_kind e)
+inserts k (inr e) i n = taken i ∙ ap (λ q. taken_by q i) (sym n ∙ ap number_of_kind e)
 
-  -- a value that is an operand field
-  pub parts_operand : (j m : ℕ) → ((i : InstructionKind) → taken_by j i ≡ found_reads (get_elem? (operand_fields i) m)) → kind_in code.facts.now slot ≡ j
-      → {at : ℕ} {t : List ℕ} (f : Answered Value) {r : Bool} → at ≡ place_in code.facts.now slot → t ≡ drop at code.bytes.now
-      → ((seen : List Bool) (late : Bool) (i : Instruction) (n : ℕ) → instruction_of code.bounds seen late t ≡ ok i n
-      → as_option f ≡ get_elem? (operand_fields i.kind) m) → r ≡ clear marks (found_reads (as_option f)) → OfSlot code slot (λ τ. parts_clear marks) r
-  parts_operand j m q h x ea et f er τ i g a =
-      let z = f [] false i _ (ap (λ q. instruction_of code.bounds [] false q) (et ∙ ap (λ q. drop q code.bytes.now) ea) ∙ a.read) in
-      er ∙ ap (λ y. clear marks (found_reads y)) z ∙ ap (clear marks) (sym (q i.kind) ∙ parts_by j h i a)
-
-  -- a build takes what it reads
-  pub parts_build : (j : ℕ) → ((i : InstructionKind) → taken_by j i ≡ reads i) → kind_in code.facts.now slot ≡ j → {r : Bool} → ((vs : List ValueId) → ReadsIn code.facts.now slot vs → r ≡ clear marks vs) → OfSlot code slot (λ τ. parts_clear marks) r
-  parts_build j q h er τ i g a = er (reads i.kind) a.reads_in ∙ ap (clear marks) (sym (q i.kind) ∙ parts_by j h i a)
-
-  pub parts_none : (kind_in code.facts.now slot ≡ 6 → ⊥) → (kind_in code.facts.now slot ≡ 10 → ⊥) → (kind_in code.facts.now slot ≡ 12 → ⊥) → (kind_in code.facts.now slot ≡ 14 → ⊥) → (kind_in code.facts.now slot ≡ 15 → ⊥) → (kind_in code.facts.now slot ≡ 16 → ⊥) → OfSlot code slot (λ τ. parts_clear marks) true
-  parts_none f g h k l m τ i w a =
-      let z : taken_by (kind_in code.facts.now slot) i.kind ≡ [] = rw (ne_eqb (kind_in code.facts.now slot) 6 f, ne_eqb (kind_in code.facts.now slot) 10 g, ne_eqb (kind_in code.facts.now slot) 12 h, ne_eqb (kind_in code.facts.now slot) 14 k, ne_eqb (kind_in code.facts.now slot) 15 l, ne_eqb (kind_in code.facts.now slot) 16 m) refl in
-      ap (clear marks) (sym z ∙ parts_by (kind_in code.facts.now slot) refl i a)
+pub insert_parts : (code : Code) (slot : ℕ) (marks : List Bool) (k : Kind) {t : List ℕ} (f : Answered Value) {r : Bool} → (k ≡ Kind.InsertField) ⊎ (k ≡ Kind.InsertTuple) → number_of_kind k ≡ kind_in code.facts.now slot → t ≡ drop (place_in code.facts.now slot) code.bytes.now
+    → ((seen : List Bool) (late : Bool) (i : Instruction) (n : ℕ) → instruction_of code.bounds seen late t ≡ ok i n → as_option f ≡ get_elem? (operand_fields i.kind) 1)
+    → r ≡ clear marks (found_reads (as_option f)) → OfSlot code slot (λ τ. parts_clear marks) r
+insert_parts code slot marks k f o n et g er τ i c a =
+    er ∙ ap (λ y. clear marks (found_reads y)) (g [] false i _ (ap (λ q. instruction_of code.bounds [] false q) et ∙ a.read)) ∙ ap (clear marks) (sym (inserts k o i.kind (n ∙ a.kind)))

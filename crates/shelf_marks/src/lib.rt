@@ -17,12 +17,7 @@ pub fn reads_clear(facts: &[u16], slot: u16, marks: &[bool]) -> bool
     ensures { (vs : List ValueId) → ReadsIn facts.now slot vs → result ≡ clear marks.now vs }
 {
     let n = bytes_index::read_count(facts, slot);
-    for k in 0..n {
-        if table::flag(marks, bytes_index::read(facts, slot, k).0 as usize) {
-            return false;
-        }
-    }
-    true
+    (0..n).all(|k| !table::flag(marks, bytes_index::read(facts, slot, k).0 as usize))
 }
 
 // (That the test can be called is a fact of each closure: the bound Fn says nothing of it.)
@@ -34,12 +29,7 @@ pub fn each_slot<F: Fn(u16) -> bool>(code: Code, k: BlockId, test: F) -> bool
         → OfBlock code.entry k.0 (λ τ x. each_kind (p τ) x.instructions) result }
 {
     let slots = bytes_index::block_slots(code.facts, k);
-    for i in 0..slots.count {
-        if !test(slots.first + i) {
-            return false;
-        }
-    }
-    true
+    (slots.first..slots.first + slots.count).all(|slot| test(slot))
 }
 
 // Whether each block passes a test.
@@ -48,10 +38,5 @@ pub fn each_block<F: Fn(BlockId) -> bool>(code: Code, test: F) -> bool
     ensures { (q : Types → Block → Bool) → AsksBlocks code.entry (F.post test) q
         → OfRoutine code.entry (λ τ ks. every (q τ) ks) result }
 {
-    for k in 0..code.bounds.blocks {
-        if !test(BlockId(k)) {
-            return false;
-        }
-    }
-    true
+    (0..code.bounds.blocks).all(|k| test(BlockId(k)))
 }

@@ -1,6 +1,6 @@
 -- Load and Store, field by field.
 use Prim.Native.Nat.{ℕ}
-use mathlib.Core.Path.{◌≡◌}
+use mathlib.Core.Path.{◌≡◌, ap, ◌∙◌}
 use mathlib.Core.List.{List}
 use mathlib.Core.Bool.{Bool, ◌&&◌}
 use mathlib.Core.Option.{some}
@@ -18,16 +18,22 @@ use Rattle.mir.specs.Lookup.{Types, recorded_type}
 use Rattle.shelf.specs.Fits.{same_type, fits}
 use Rattle.shelf.specs.Agrees.{agrees, place_fits}
 use Rattle.shelf_field.specs.Fields.{IdAt, TypeAt}
+use Rattle.shelf_field.proofs.Single.{type_moved, value_moved}
 use Rattle.shelf_field.proofs.Standing.{dest_field, type_field, value_field}
 use Rattle.shelf_place.specs.Places.{PlaceAt}
 use Rattle.shelf_place.proofs.Places.{place_field}
 
 module _ (b : Bounds) (t : List ℕ) where
   module _ (seen : List Bool) (τ : Types) {r : Bool} where
-    pub load_agrees : ((d : ValueId) (p : Place) (y : TypeId) → IdAt b.next t 0 d → PlaceAt b.next t 2 p → TypeAt b.types t (after (projection_end t) (get_or t 4 0) 5) y → r ≡ (same_type (recorded_type τ d) (some y) && place_fits τ p y)) → Stand t 0 (load_of b seen) (λ i e. r ≡ agrees τ i)
+    pub load_agrees : {n e : ℕ} → n ≡ get_or t 4 0 → e ≡ after (projection_end t) n 5 → ((d : ValueId) (p : Place) (y : TypeId) → IdAt b.next t 0 d → PlaceAt b.next t 2 p → TypeAt b.types t e y
+        → r ≡ (same_type (recorded_type τ d) (some y) && place_fits τ p y)) → Stand t 0 (load_of b seen) (λ i e. r ≡ agrees τ i)
     unfolding load_of agrees
-    load_agrees f = then (dest_field b t seen) (λ d u. then (place_field b t) (λ x p. last _ (type_field b t) (λ y v. f d x y u p v)))
+    load_agrees m z f =
+        then (dest_field b t seen) (λ d u. then (place_field b t) (λ x p. last _ (type_field b t) (λ y v. f d x y u p (type_moved (z ∙ ap (λ n. after (projection_end t) n 5) m) v))))
 
-    pub store_agrees : ((p : Place) (x : Value) (y : TypeId) → PlaceAt b.next t 0 p → ValueAt b.next t (after (projection_end t) (get_or t 2 0) 3) x → TypeAt b.types t (value_end t (after (projection_end t) (get_or t 2 0) 3)) y → r ≡ (fits τ x (some y) && place_fits τ p y)) → Stand t 0 (store_of b seen) (λ i e. r ≡ agrees τ i)
+    pub store_agrees : {n e far : ℕ} → n ≡ get_or t 2 0 → e ≡ after (projection_end t) n 3 → far ≡ value_end t e → ((p : Place) (x : Value) (y : TypeId) → PlaceAt b.next t 0 p → ValueAt b.next t e x → TypeAt b.types t far y
+        → r ≡ (fits τ x (some y) && place_fits τ p y)) → Stand t 0 (store_of b seen) (λ i e. r ≡ agrees τ i)
     unfolding store_of agrees
-    store_agrees f = then (place_field b t) (λ x p. then (value_field b t) (λ y q. last _ (type_field b t) (λ z v. f x y z p q v)))
+    store_agrees m z z' f =
+        let h = z ∙ ap (λ n. after (projection_end t) n 3) m in
+        then (place_field b t) (λ x p. then (value_field b t) (λ y q. last _ (type_field b t) (λ a v. f x y a p (value_moved h q) (type_moved (z' ∙ ap (value_end t) h) v))))

@@ -1,6 +1,6 @@
 -- The kinds, field by field: what agrees is told of the fields where they stand.
 use Prim.Native.Nat.{ℕ, ◌+◌}
-use mathlib.Core.Path.{◌≡◌, refl, ap, ◌∙◌}
+use mathlib.Core.Path.{◌≡◌, refl, ap, ◌∙◌, sym}
 use mathlib.Core.List.{List}
 use mathlib.Core.Bool.{Bool, true, false, cond, ◌&&◌}
 use mathlib.Core.Option.{Option, none, some}
@@ -24,6 +24,7 @@ use Rattle.bytes_struct.specs.FindField.{field_type_of}
 use Rattle.shelf.specs.Agrees.{agrees}
 use Rattle.rewrite.specs.Rebuild.{return_type}
 use Rattle.shelf_field.specs.Fields.{IdAt, TypeAt}
+use Rattle.shelf_field.proofs.Single.{type_moved, value_moved}
 use Rattle.shelf_field.proofs.Standing.{dest_field, type_field, name_field, long_field, value_field}
 
 -- the row of an operand's type
@@ -68,27 +69,34 @@ module _ (b : Bounds) (t : List ℕ) where
   Y p y = TypeAt b.types t p y
 
   module _ (seen : List Bool) (τ : Types) {r : Bool} where
-    pub extract_tuple_agrees : ((d : ValueId) (x : Value) (k : ℕ) (y : TypeId) → D 0 d → X 2 x → k ≡ at32 t (value_end t 2) → Y (value_end t 2 + 4) y → r ≡ (same_type (recorded_type τ d) (some y) && same_type (shaped_part (row_of τ (return_type τ x)) 1 k) (some y))) → Stand t 0 (extract_tuple_of b seen) (λ i e. r ≡ agrees τ i)
+    pub extract_tuple_agrees : {e : ℕ} → e ≡ value_end t 2 → ((d : ValueId) (x : Value) (k : ℕ) (y : TypeId) → D 0 d → X 2 x → k ≡ at32 t e → Y (e + 4) y
+        → r ≡ (same_type (recorded_type τ d) (some y) && same_type (shaped_part (row_of τ (return_type τ x)) 1 k) (some y))) → Stand t 0 (extract_tuple_of b seen) (λ i e. r ≡ agrees τ i)
     unfolding extract_tuple_of agrees is_tuple
-    extract_tuple_agrees f =
+    extract_tuple_agrees z f =
         then (dest_field b t seen) (λ d u. then (value_field b t) (λ x p. then (long_field b t) (λ k w. last _ (type_field b t) (λ y v.
-        f d x k y u p w v ∙ ap (λ o. same_type (recorded_type τ d) (some y) && same_type (shaped_part o 1 k) (some y)) (operand_row_lem τ x)
+        f d x k y u p (w ∙ ap (at32 t) (sym z)) (type_moved (ap (λ m. m + 4) z) v)
+        ∙ ap (λ o. same_type (recorded_type τ d) (some y) && same_type (shaped_part o 1 k) (some y)) (operand_row_lem τ x)
         ∙ ap (λ c. same_type (recorded_type τ d) (some y) && c) (part_same (eqb (shape (operand_row τ x)) 1) (part_type (operand_row τ x) k) y)))))
 
-    pub extract_field_agrees : ((d : ValueId) (x : Value) (k : NameId) (y : TypeId) → D 0 d → X 2 x → k.0 ≡ at16 t (value_end t 2) → Y (value_end t 2 + 2) y → r ≡ (same_type (recorded_type τ d) (some y) && same_type (field_type_of (row_of τ (return_type τ x)) k) (some y))) → Stand t 0 (extract_field_of b seen) (λ i e. r ≡ agrees τ i)
+    pub extract_field_agrees : {e : ℕ} → e ≡ value_end t 2 → ((d : ValueId) (x : Value) (k : NameId) (y : TypeId) → D 0 d → X 2 x → k.0 ≡ at16 t e → Y (e + 2) y
+        → r ≡ (same_type (recorded_type τ d) (some y) && same_type (field_type_of (row_of τ (return_type τ x)) k) (some y))) → Stand t 0 (extract_field_of b seen) (λ i e. r ≡ agrees τ i)
     unfolding extract_field_of agrees
-    extract_field_agrees f =
+    extract_field_agrees z f =
         then (dest_field b t seen) (λ d u. then (value_field b t) (λ x p. then (name_field b t) (λ k w. last _ (type_field b t) (λ y v.
-        f d x k y u p w v ∙ ap (λ o. same_type (recorded_type τ d) (some y) && same_type (field_type_of o k) (some y)) (operand_row_lem τ x)))))
+        f d x k y u p (w ∙ ap (at16 t) (sym z)) (type_moved (ap (λ m. m + 2) z) v)
+        ∙ ap (λ o. same_type (recorded_type τ d) (some y) && same_type (field_type_of o k) (some y)) (operand_row_lem τ x)))))
 
-    pub insert_field_agrees : ((d : ValueId) (x : Value) (k : NameId) (z : Value) (y : TypeId) → D 0 d → X 2 x → k.0 ≡ at16 t (value_end t 2) → X (value_end t 2 + 2) z → Y (value_end t (value_end t 2 + 2)) y → r ≡ (same_type (recorded_type τ d) (some y) && (fits τ x (some y) && fits τ z (field_type_of (row_of τ (some y)) k)))) → Stand t 0 (insert_field_of b seen) (λ i e. r ≡ agrees τ i)
+    pub insert_field_agrees : {e far : ℕ} → e ≡ value_end t 2 → far ≡ value_end t (e + 2) → ((d : ValueId) (x : Value) (k : NameId) (z : Value) (y : TypeId) → D 0 d → X 2 x → k.0 ≡ at16 t e → X (e + 2) z → Y far y
+        → r ≡ (same_type (recorded_type τ d) (some y) && (fits τ x (some y) && fits τ z (field_type_of (row_of τ (some y)) k)))) → Stand t 0 (insert_field_of b seen) (λ i e. r ≡ agrees τ i)
     unfolding insert_field_of agrees
-    insert_field_agrees f = then (dest_field b t seen) (λ d u. then (value_field b t) (λ x p. then (name_field b t) (λ k w. then (value_field b t) (λ z q. last _ (type_field b t) (λ y v. f d x k z y u p w q v)))))
+    insert_field_agrees z z' f =
+        then (dest_field b t seen) (λ d u. then (value_field b t) (λ x p. then (name_field b t) (λ k w. then (value_field b t) (λ a q. last _ (type_field b t) (λ y v.
+        f d x k a y u p (w ∙ ap (at16 t) (sym z)) (value_moved (ap (λ m. m + 2) z) q) (type_moved (z' ∙ ap (λ m. value_end t (m + 2)) z) v))))))
 
-    pub insert_tuple_agrees : ((d : ValueId) (x : Value) (k : ℕ) (z : Value) (y : TypeId) → D 0 d → X 2 x → k ≡ at32 t (value_end t 2)
-        → X (value_end t 2 + 4) z → Y (value_end t (value_end t 2 + 4)) y
+    pub insert_tuple_agrees : {e far : ℕ} → e ≡ value_end t 2 → far ≡ value_end t (e + 4) → ((d : ValueId) (x : Value) (k : ℕ) (z : Value) (y : TypeId) → D 0 d → X 2 x → k ≡ at32 t e → X (e + 4) z → Y far y
         → r ≡ (same_type (recorded_type τ d) (some y) && (fits τ x (some y) && fits τ z (shaped_part (row_of τ (some y)) 1 k)))) → Stand t 0 (insert_tuple_of b seen) (λ i e. r ≡ agrees τ i)
     unfolding insert_tuple_of agrees is_tuple
-    insert_tuple_agrees f =
-        then (dest_field b t seen) (λ d u. then (value_field b t) (λ x p. then (long_field b t) (λ k w. then (value_field b t) (λ z q. last _ (type_field b t) (λ y v.
-        f d x k z y u p w q v ∙ ap (λ c. same_type (recorded_type τ d) (some y) && (fits τ x (some y) && c)) (part_fits τ z (eqb (shape (row_of τ (some y))) 1) (part_type (row_of τ (some y)) k)))))))
+    insert_tuple_agrees z z' f =
+        then (dest_field b t seen) (λ d u. then (value_field b t) (λ x p. then (long_field b t) (λ k w. then (value_field b t) (λ a q. last _ (type_field b t) (λ y v.
+        f d x k a y u p (w ∙ ap (at32 t) (sym z)) (value_moved (ap (λ m. m + 4) z) q) (type_moved (z' ∙ ap (λ m. value_end t (m + 4)) z) v)
+        ∙ ap (λ c. same_type (recorded_type τ d) (some y) && (fits τ x (some y) && c)) (part_fits τ a (eqb (shape (row_of τ (some y))) 1) (part_type (row_of τ (some y)) k)))))))

@@ -2,24 +2,23 @@
 use Prim.Native.Nat.{ℕ, zero, suc, ◌+◌, ◌-◌, ◌≤◌, ◌<◌}
 use mathlib.Core.Path.{◌≡◌, refl, ap, ◌∙◌, sym}
 use mathlib.Core.List.{List, [], ◌∷◌, map}
-use mathlib.Core.Bool.{true, false, ◌||◌, cond}
+use mathlib.Core.Bool.{true, false, not, cond}
 use mathlib.Core.Bool as B
-use mathlib.Core.Option.{Option, none, some}
+use mathlib.Core.Option.{Option}
 use native.Mathlib.Omega.{arith}
 use lib.ListN.{length, get_or, drop}
-use borrow.Author.Tests.{eqb-true, eqb-false}
 use lib.Dec.{eqb}
 use lib.Seq.{get_or-drop}
 use Rattle.bytes_wire.specs.Parse.{Parse, ok, bad, later, map_parse}
 use Rattle.bytes_wire.specs.Number.{number_of}
 use Rattle.bytes_wire.specs.Value.{value_of}
+use Rattle.bytes_wire.specs.WellFormed.{Bytes, FitValue}
+use Rattle.bytes_wire.proofs.Canon.{value_fit, bytes_drop}
 use Rattle.bytes_wire.specs.declared.Cause.{Cause}
 use Rattle.mir.specs.declared.TypeId.{TypeId}
-use Rattle.mir.specs.declared.NameId.{NameId}
 use Rattle.mir.specs.declared.Value.{Value}
 use Rattle.bytes_wire.proofs.Inv.{no_ok, behind, image, later_inv, map_inv, tagged_inv}
-use Rattle.mir.specs.MirType.{MirType, Felt, Bool, U32, Struct, FixedArray, Pointer, Function, Unit, Error, Unknown}
-use Rattle.mir.specs.MirType as T
+use Rattle.mir.specs.MirType.{MirType}
 use Rattle.mir.specs.declared.Projection.{Projection}
 use Rattle.mir.specs.declared.Projection.TheVariants.{Index, Field, Tuple}
 use Rattle.mir.specs.Syntax.{Place}
@@ -31,126 +30,80 @@ use Rattle.bytes_operands.specs.Fields.{value_size, projection_end, after}
 use Rattle.bytes_operands.proofs.Places as P
 use Rattle.bytes_operands.proofs.Places.{then, last, list}
 use Rattle.bytes_operands.proofs.EachKind.{projection_size, ends}
-use Rattle.std.specs.Prelude.{Some, None, Option as Answered}
-use Rattle.std.proofs.lemmas.Option.{none-some}
+use Rattle.std.specs.Prelude.{Some, Option as Answered}
 use Rattle.mir.specs.contracts.shape.ShapePartialEq.TheImpl.{eq-value}
 use Rattle.mir.specs.declared.shape.Shape.{Shape}
 use Rattle.mir.specs.Shape.{number_of_shape}
-use Rattle.shelf_types.proofs.Numbers.{shape_eq}
+use Rattle.shelf_types.proofs.Numbers.{shape_eq, plain}
 use Rattle.shelf_rows.specs.Rows.{Is}
-use Rattle.rewrite_parts.specs.Rows.{ValueAt, stands}
-use Rattle.mir.specs.Lookup.{Types, row_of, recorded_type, value_row, shape, is_tuple, is_struct, is_array, is_aggregate}
+use Rattle.mir.specs.Lookup.{Types, row_of, recorded_type, value_row, shape, is_aggregate}
 use Rattle.shelf.specs.Fits.{step_type, place_type}
-use Rattle.shelf.specs.Agrees.{is_index, index_fits, pointee, pointed, reached}
+use Rattle.shelf.specs.Agrees.{pointee, pointed, reached}
 use Rattle.shelf_field.specs.Fields.{◌&◌, StepAt, stepping}
 use Rattle.shelf_field.proofs.Lines.{lined}
 use Rattle.shelf_field.proofs.Standing.{id_field}
 use Rattle.shelf_place.specs.Places.{StepsIn, PlaceAt}
 
--- an Index has its value behind its kind
-module _ (next : ℕ) (t u : List ℕ) (at : ℕ) (τ : Types) (q : Projection) (e : u ≡ drop at t) (h : StepAt next t at q) where
-  chose : (k : ℕ) → get_or u 0 0 ≡ k → {A : Type 0} → ((n : ℕ) → get_or (map (λ (f : List ℕ → Parse Projection). later 1 (f (drop 1 u))) ((λ t. map_parse Index (value_of next t)) ∷ (λ t. map_parse Field (name_id_of t)) ∷ (λ t. map_parse Tuple (number_of 4 t)) ∷ [])) k (bad Cause.Undefined 0) ≡ ok q n → A) → A
-  unfolding projection_of
-  chose k z f =
-      elim h [
-        | stepping n g ↦
-            let g' : projection_of next u ≡ ok q n = rw e g in
-            f n (rw z at (tagged_inv ((λ t. map_parse Index (value_of next t)) ∷ (λ t. map_parse Field (name_id_of t)) ∷ (λ t. map_parse Tuple (number_of 4 t)) ∷ []) u g').1)
-      ]
+-- the value of an Index that stands somewhere fits
+abbrev steps : ℕ → List (List ℕ → Parse Projection)
+steps next = (λ t. map_parse Index (value_of next t)) ∷ (λ t. map_parse Field (name_id_of t)) ∷ (λ t. map_parse Tuple (number_of 4 t)) ∷ []
 
-  pub index_told : {r : B.Bool} → get_or u 0 0 ≡ 0 → ((x : Value) → ValueAt next u 1 x → r ≡ is_index τ x) → r ≡ index_fits τ q
-  unfolding index_fits
-  index_told z f =
-      chose 0 z (λ n g.
-      elim (later_inv 1 (map_parse Index (value_of next (drop 1 u))) g) [
-        | behind k p l ↦ elim (map_inv Index (value_of next (drop 1 u)) p) [ image x i j ↦ rw j (f x (stands k i)) ]
-      ])
+pub index_value : (next : ℕ) (t : List ℕ) (at : ℕ) (x : Value) → Bytes t → next ≤ 65536 → StepAt next t at (Index x) → FitValue next x
+unfolding projection_of
+index_value next t at x y l (stepping n g) = go (get_or (drop at t) 0 0) (tagged_inv (steps next) (drop at t) g).1
+  where
+    u : List ℕ
+    u = drop 1 (drop at t)
 
-  pub other_told : (get_or u 0 0 ≡ 0 → ⊥) → true ≡ index_fits τ q
-  unfolding index_fits
-  other_told z = go (get_or u 0 0) refl
-    where
-      go : (k : ℕ) → get_or u 0 0 ≡ k → true ≡ index_fits τ q
-      go zero w = absurd (z w)
-      go (suc zero) w =
-          chose 1 w (λ n g.
-          elim (later_inv 1 (map_parse Field (name_id_of (drop 1 u))) g) [
-            | behind k p l ↦ elim (map_inv Field (name_id_of (drop 1 u)) p) [ image x i j ↦ rw j refl ]
-          ])
-      go (suc (suc zero)) w =
-          chose 2 w (λ n g.
-          elim (later_inv 1 (map_parse Tuple (number_of 4 (drop 1 u))) g) [
-            | behind k p l ↦ elim (map_inv Tuple (number_of 4 (drop 1 u)) p) [ image x i j ↦ rw j refl ]
-          ])
-      go (suc (suc (suc k))) w = chose (suc (suc (suc k))) w (λ n g. absurd (no_ok g))
+    go : (k : ℕ) → get_or (map (λ (f : List ℕ → Parse Projection). later 1 (f u)) (steps next)) k (bad Cause.Undefined 0) ≡ ok (Index x) n → FitValue next x
+    go zero h =
+        elim (later_inv 1 (map_parse Index (value_of next u)) h) [
+          | behind k p e ↦
+              elim (map_inv Index (value_of next u) p) [
+                | image v i j ↦ let z : x ≡ v = cc in rw z (value_fit next u (bytes_drop (drop at t) 1 (bytes_drop t at y)) i l)
+              ]
+        ]
+    go (suc zero) h =
+        elim (later_inv 1 (map_parse Field (name_id_of u)) h) [
+          | behind k p e ↦ elim (map_inv Field (name_id_of u) p) [ image v i j ↦ absurd (let z : ◌≡◌ {A = ℕ} 0 1 = cc in omega arith) ]
+        ]
+    go (suc (suc zero)) h =
+        elim (later_inv 1 (map_parse Tuple (number_of 4 u)) h) [
+          | behind k p e ↦ elim (map_inv Tuple (number_of 4 u) p) [ image v i j ↦ absurd (let z : ◌≡◌ {A = ℕ} 0 1 = cc in omega arith) ]
+        ]
+    go (suc (suc (suc k))) h = absurd (no_ok h)
 
--- behind a Pointer
+-- the step that is read is the one that stands there
+pub step_is : {p q : Projection} → Some p ≡ Some q → q ≡ p
+step_is {p} {q} e = let z : q ≡ p = cc in z
+
+-- behind a Pointer, where there is a first step
 module _ (next : ℕ) (t : List ℕ) (at n : ℕ) (τ : Types) (o : Option TypeId) where
-  pub pointed_none : (ps : List Projection) → length ps ≡ n → n ≡ 0 → none ≡ pointed τ o ps
-  unfolding pointed
-  pointed_none [] h z = refl
-  pointed_none (p ∷ ps) h z = absurd (omega (arith, h, z))
-
-  pub pointed_index : {r : Option TypeId} {x : Value} (ps : List Projection) → StepsIn next t at ps → length ps ≡ n → (n ≡ 0 → ⊥) → ((q : Projection) → StepAt next t at q → Some (Index x) ≡ Some q) → ((qs : List Projection) → StepsIn next t (projection_end t at) qs → length qs ≡ n - 1 → r ≡ place_type τ o qs) → r ≡ pointed τ o ps
-  unfolding pointed
-  pointed_index [] l h z f g = absurd (z (sym h))
-  pointed_index {r} {x} (q ∷ ps) (w & l) h z f g =
-      let j : q ≡ Index x = (let v : Some (Index x) ≡ Some q = f q w in cc) in
-      let k : length ps ≡ n - 1 = omega (arith, h) in
-      rw j (g ps l k)
-
-  pub pointed_field : {m : NameId} (ps : List Projection) → StepsIn next t at ps → length ps ≡ n → (n ≡ 0 → ⊥) → ((q : Projection) → StepAt next t at q → Some (Field m) ≡ Some q) → none ≡ pointed τ o ps
-  unfolding pointed
-  pointed_field [] l h z f = absurd (z (sym h))
-  pointed_field {m} (q ∷ ps) (w & l) h z f = let j : q ≡ Field m = (let v : Some (Field m) ≡ Some q = f q w in cc) in rw j refl
-
-  pub pointed_tuple : {m : ℕ} (ps : List Projection) → StepsIn next t at ps → length ps ≡ n → (n ≡ 0 → ⊥) → ((q : Projection) → StepAt next t at q → Some (Tuple m) ≡ Some q) → none ≡ pointed τ o ps
-  unfolding pointed
-  pointed_tuple [] l h z f = absurd (z (sym h))
-  pointed_tuple {m} (q ∷ ps) (w & l) h z f = let j : q ≡ Tuple m = (let v : Some (Tuple m) ≡ Some q = f q w in cc) in rw j refl
-
-  pub pointed_nothing : (ps : List Projection) → StepsIn next t at ps → length ps ≡ n → (n ≡ 0 → ⊥) → ((q : Projection) → StepAt next t at q → None ≡ Some q) → none ≡ pointed τ o ps
-  pointed_nothing [] l h z f = absurd (z (sym h))
-  pointed_nothing (q ∷ ps) (w & l) h z f = absurd (none-some q (f q w))
-
--- the shape of no aggregate is 0, that of any other is not
-pub is_other : {b : B.Bool} (k : Shape) → b ≡ eq-value.it k Shape.Other → b ≡ true → number_of_shape k ≡ 0
-is_other k e h = eqb-true (number_of_shape k) 0 (sym (shape_eq k Shape.Other) ∙ sym e ∙ h)
-
-pub not_other : {b : B.Bool} (k : Shape) → b ≡ eq-value.it k Shape.Other → b ≡ false → number_of_shape k ≡ 0 → ⊥
-not_other k e h z = eqb-false (number_of_shape k) 0 (sym (shape_eq k Shape.Other) ∙ sym e ∙ h) z
+  pub pointed_first : {r : Option TypeId} (ps : List Projection) → StepsIn next t at ps → length ps ≡ n → (n ≡ 0 → ⊥)
+      → ((q : Projection) (qs : List Projection) → StepAt next t at q → StepsIn next t (projection_end t at) qs → length qs ≡ n - 1 → r ≡ pointed τ o (q ∷ qs))
+      → r ≡ pointed τ o ps
+  pointed_first [] l h z f = absurd (z (sym h))
+  pointed_first (q ∷ qs) (w & l) h z f = f q qs w l (omega (arith, h))
 
 -- a base that is no aggregate, and one that is
-aggregate : (row : Option MirType) → (shape row ≡ 0 → ⊥) → is_aggregate row ≡ true
-unfolding shape is_aggregate is_tuple is_struct is_array
-aggregate none f = absurd (f refl)
-aggregate (some Felt) f = absurd (f refl)
-aggregate (some Bool) f = absurd (f refl)
-aggregate (some U32) f = absurd (f refl)
-aggregate (some (T.Tuple ts)) f = refl
-aggregate (some (Struct n fs)) f = refl
-aggregate (some (FixedArray t size)) f = refl
-aggregate (some (Pointer t)) f = absurd (f refl)
-aggregate (some (Function ps r)) f = absurd (f refl)
-aggregate (some Unit) f = absurd (f refl)
-aggregate (some Error) f = absurd (f refl)
-aggregate (some Unknown) f = absurd (f refl)
+pub no_aggregate : (k : Shape) (row : Option MirType) {b : B.Bool} → b ≡ eq-value.it k Shape.Other → number_of_shape k ≡ shape row → b ≡ not (is_aggregate row)
+no_aggregate k row e f = e ∙ shape_eq k Shape.Other ∙ ap (λ n. eqb n 0) f ∙ plain row
 
-no_aggregate : (row : Option MirType) → shape row ≡ 0 → is_aggregate row ≡ false
-unfolding is_aggregate is_tuple is_struct is_array
-no_aggregate row e = ap (λ k. eqb k 1 || (eqb k 2 || eqb k 3)) e
+turned : {b : B.Bool} (c : B.Bool) → b ≡ not c → c ≡ not b
+turned true e = rw e refl
+turned false e = rw e refl
 
-pub reached_pointer : (τ : Types) (p : Place) {r : Option TypeId} {k : ℕ} → k ≡ shape (row_of τ (recorded_type τ p.base)) → k ≡ 0 → r ≡ pointed τ (pointee (row_of τ (recorded_type τ p.base))) p.projections → r ≡ reached τ p
-unfolding reached value_row
-reached_pointer τ p e z f =
-    let row = row_of τ (recorded_type τ p.base) in
-    f ∙ ap (λ c. cond c (place_type τ (recorded_type τ p.base) p.projections) (pointed τ (pointee row) p.projections)) (sym (no_aggregate row (sym e ∙ z)))
+by_base : (τ : Types) (p : Place) {b : B.Bool} → b ≡ not (is_aggregate (value_row τ p.base)) → reached τ p ≡ cond (not b) (place_type τ (recorded_type τ p.base) p.projections) (pointed τ (pointee (value_row τ p.base)) p.projections)
+unfolding reached
+by_base τ p e = ap (λ c. cond c (place_type τ (recorded_type τ p.base) p.projections) (pointed τ (pointee (value_row τ p.base)) p.projections)) (turned (is_aggregate (value_row τ p.base)) e)
 
-pub reached_aggregate : (τ : Types) (p : Place) {r : Option TypeId} {k : ℕ} → k ≡ shape (row_of τ (recorded_type τ p.base)) → (k ≡ 0 → ⊥) → r ≡ place_type τ (recorded_type τ p.base) p.projections → r ≡ reached τ p
-unfolding reached value_row
-reached_aggregate τ p e z f =
-    let row = row_of τ (recorded_type τ p.base) in
-    f ∙ ap (λ c. cond c (place_type τ (recorded_type τ p.base) p.projections) (pointed τ (pointee row) p.projections)) (sym (aggregate row (λ w. z (e ∙ w))))
+pub reached_pointer : (τ : Types) (p : Place) {b : B.Bool} {r : Option TypeId} → b ≡ not (is_aggregate (row_of τ (recorded_type τ p.base))) → b ≡ true → r ≡ pointed τ (pointee (row_of τ (recorded_type τ p.base))) p.projections → r ≡ reached τ p
+unfolding value_row
+reached_pointer τ p e z f = f ∙ sym (rw z at (by_base τ p e))
+
+pub reached_aggregate : (τ : Types) (p : Place) {b : B.Bool} {r : Option TypeId} → b ≡ not (is_aggregate (row_of τ (recorded_type τ p.base))) → b ≡ false → r ≡ place_type τ (recorded_type τ p.base) p.projections → r ≡ reached τ p
+unfolding value_row
+reached_aggregate τ p e z f = f ∙ sym (rw z at (by_base τ p e))
 
 -- a walk along projections: i of n are behind
 pub data Walking (τ : Types) (next : ℕ) (t : List ℕ) (whole : Option TypeId) (n here : ℕ) (there : Answered TypeId) (i : ℕ) : Type 0 where

@@ -7,7 +7,6 @@ ghost use Rattle.shelf.specs.Agrees.{pointed};
 ghost use Rattle.shelf_field.specs.Fields.{Front, Near, Inner};
 ghost use Rattle.shelf_place.specs.Places.{LeadsTo, IndexFits, IndexesFit, Reaches, PlaceFits};
 
-use bytes_field::ProjectionKind;
 use bytes_index::{Code, Typing};
 use mir::shape::Shape;
 use mir::{Projection, TypeId};
@@ -18,7 +17,7 @@ const COUNT: usize = 2;
 
 const STEPS: usize = 3;
 
-// The type at the end of projections.
+// The type at the end of projections. (A loop, since two things go from step to step: the place and the type.)
 fn end_type(code: Code, steps: Listed, number: Option<TypeId>) -> Option<TypeId>
     requires { Inner steps.at }
     ensures { LeadsTo code.entry steps.entry number place_type result }
@@ -37,11 +36,12 @@ fn end_type(code: Code, steps: Listed, number: Option<TypeId>) -> Option<TypeId>
 fn index_fits(typing: Typing, t: &[u8], at: usize) -> bool
     ensures { IndexFits typing.entry t.now at result }
 {
-    let u = bytes_field::tail(t, at);
-    if bytes_wire::byte_at(u, 0) == ProjectionKind::Index as u8 {
-        return shelf_types::is_index(typing, shelf_field::value_at(u, 1, typing.code.bounds.next));
+    match shelf_field::step_at(t, at, typing.code.bounds.next) {
+        Some(Projection::Index(x)) => shelf_types::is_index(typing, x),
+        Some(Projection::Field(_)) => true,
+        Some(Projection::Tuple(_)) => true,
+        None => true,
     }
-    true
 }
 
 // Each Index among projections has a value that can be one.
@@ -59,6 +59,7 @@ fn indexes_fit(typing: Typing, steps: Listed) -> bool
 }
 
 // Behind a Pointer to `number`, whose first step is Index: the type at the end of projections.
+#[tactic(auto, unfolding(shelf::specs::Agrees::pointed))]
 fn pointed_type(code: Code, steps: Listed, number: Option<TypeId>) -> Option<TypeId>
     requires { Near steps.at }
     ensures { LeadsTo code.entry steps.entry number pointed result }

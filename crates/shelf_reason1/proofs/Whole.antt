@@ -15,13 +15,15 @@ use Rattle.bytes_field.specs.declared.Bounds.{Bounds}
 use Rattle.bytes_operands.specs.Fields.{fields_place}
 use Rattle.bytes_operands.proofs.Instruction.{instruction_fields}
 use Rattle.bytes_index.specs.declared.code.Code.{Code}
-use Rattle.bytes_index.specs.Table.{place_in, end_in, kind_in}
+use Rattle.bytes_index.specs.declared.code.Typing.{Typing}
+use Rattle.bytes_index.specs.Table.{place_in, end_in, kind_in, recorded_in}
+use Rattle.fold.specs.Tables.{CodeGround, TypingGround}
 use Rattle.bytes_index.specs.Code.{no_block, TerminatorIn, LastSlot}
 use Rattle.mir.specs.Routine.{Routine}
 use Rattle.mir.specs.Lookup.{is_some, Types, recorded_type, types_in}
 use Rattle.shelf.specs.Reads.{with_debug}
 use Rattle.shelf_marks.specs.Tests.{SlotIn, OfBlock, each_kind}
-use Rattle.shelf_reason1.specs.Told.{EndAgrees}
+use Rattle.shelf_reason1.specs.Told.{OfKind, OfEndKind, EndAgrees}
 use Rattle.shelf.specs.Lists.{every}
 use Rattle.shelf.specs.Agrees.{agrees, end_agrees, counted_agrees, block_agrees}
 use Rattle.shelf.specs.Reason.{types_agree}
@@ -37,21 +39,32 @@ pub nop_agrees : (τ : Types) {i : InstructionKind} {n : ℕ} → ok Instruction
 unfolding agrees
 nop_agrees τ {i} e = let z : i ≡ InstructionKind.Nop = cc in rw z refl
 
+-- the fields of an instruction and of a terminator, where the recorded types are the routine's own
+module _ (typing : Typing) (code : Code) (e : typing.code ≡ code) (f : typing.recorded.now ≡ recorded_in code.facts.now) (τ : Types) where
+  own_ground : CodeGround code τ → TypingGround typing τ
+  own_ground g = rw (e, f) g
+
+  pub kind_typed : (t : List ℕ) (j : ℕ) {r : Bool} → OfKind typing t j r → (seen : List Bool) (c : Bool) (i : InstructionKind) (n : ℕ) → CodeGround code τ → get_or (map (λ f. f t) (kinds code.bounds seen c)) j (bad Cause.Undefined 0) ≡ ok i n → r ≡ agrees τ i
+  kind_typed t j h seen c i n g q =
+      h τ seen c i n (own_ground g) (ap (λ (k : Code). get_or (map (λ (f : List ℕ → Parse InstructionKind). f t) (kinds k.bounds seen c)) j (bad Cause.Undefined 0)) e ∙ q)
+
+  pub end_typed : (t : List ℕ) (j : ℕ) {r : Bool} → OfEndKind typing t j r → (i : Terminator) (n : ℕ) → CodeGround code τ → get_or (map (λ f. f t) (terminators code.bounds)) j (bad Cause.Undefined 0) ≡ ok i n → r ≡ end_agrees τ i
+  end_typed t j h i n g q = h τ i n (own_ground g) (ap (λ (k : Code). get_or (map (λ (f : List ℕ → Parse Terminator). f t) (terminators k.bounds)) j (bad Cause.Undefined 0)) e ∙ q)
+
 -- an instruction, by its kind and its own fields
-pub slot_told : (code : Code) (slot : ℕ) {u t : List ℕ} {at fp j : ℕ} → at ≡ place_in code.facts.now slot → u ≡ drop at code.bytes.now → fp ≡ fields_place u → t ≡ drop fp u → j ≡ kind_in code.facts.now slot → (i : Instruction) → SlotIn code slot i → {A : Type 0} → ((c : Bool) (m : ℕ) → get_or (map (λ f. f t) (kinds code.bounds [] c)) j (bad Cause.Undefined 0) ≡ ok i.kind m → A) → A
-slot_told code slot {u} {t} {at} {fp} {j} ea eu ef et ej i a f =
+pub slot_told : (code : Code) (slot : ℕ) {u t : List ℕ} {j : ℕ} → u ≡ drop (place_in code.facts.now slot) code.bytes.now → t ≡ drop (fields_place u) u → j ≡ kind_in code.facts.now slot → (i : Instruction) → SlotIn code slot i → {A : Type 0} → ((c : Bool) (m : ℕ) → get_or (map (λ f. f t) (kinds code.bounds [] c)) j (bad Cause.Undefined 0) ≡ ok i.kind m → A) → A
+slot_told code slot {u} {t} {j} eu p ej i a f =
     let b = code.bounds in
-    let h = instruction_fields b [] false u i _ (ap (λ q. instruction_of b [] false q) (eu ∙ ap (λ q. drop q code.bytes.now) ea) ∙ a.read) in
+    let h = instruction_fields b [] false u i _ (ap (λ q. instruction_of b [] false q) eu ∙ a.read) in
     let c = bit 3 (get_or u 0 0) in
-    let p : t ≡ drop (fields_place u) u = et ∙ ap (λ q. drop q u) ef in
     f c h.size
     (ap (λ z. get_or (map (λ (f : List ℕ → Parse InstructionKind). f z) (kinds b [] c)) j (bad Cause.Undefined 0)) p
     ∙ ap (λ z. get_or (map (λ (f : List ℕ → Parse InstructionKind). f (drop (fields_place u) u)) (kinds b [] c)) z (bad Cause.Undefined 0)) (ej ∙ a.kind ∙ h.numbered)
     ∙ h.read)
 
-pub end_at : (code : Code) (slot : ℕ) {u : List ℕ} {at : ℕ} → at ≡ place_in code.facts.now slot → u ≡ drop at code.bytes.now → (x : Terminator)
+pub end_at : (code : Code) (slot : ℕ) {u : List ℕ} → u ≡ drop (place_in code.facts.now slot) code.bytes.now → (x : Terminator)
     → TerminatorIn code.bounds code.bytes.now code.facts.now slot x → terminator_of code.bounds u ≡ ok x (end_in code.facts.now slot - place_in code.facts.now slot)
-end_at code slot ea eu x a = ap (λ q. terminator_of code.bounds q) (eu ∙ ap (λ q. drop q code.bytes.now) ea) ∙ a.read
+end_at code slot eu x a = ap (λ q. terminator_of code.bounds q) eu ∙ a.read
 
 -- a terminator, by its kind and its own fields
 module _ (b : Bounds) (u t : List ℕ) (i : Terminator) (n : ℕ) (e : terminator_of b u ≡ ok i n) (p : t ≡ drop 1 u) where

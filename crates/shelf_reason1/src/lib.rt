@@ -58,14 +58,9 @@ fn agrees(typing: Typing, t: &[u8], kind: Kind) -> bool
 fn one_agrees(code: Code, slot: u16) -> bool
     ensures { OfSlot code.entry slot agrees result }
 {
-    let typing = Typing {
-        code,
-        recorded: bytes_index::recorded(code.facts),
-    };
-    let u = bytes_field::tail(code.bytes, bytes_index::place(code.facts, slot));
-    let t = bytes_field::tail(u, bytes_operands::fields_place(u));
+    let t = bytes_operands::own_fields(code.instruction(slot));
     match bytes_index::instruction_kind(code.facts, slot) {
-        Some(kind) => agrees(typing, t, kind),
+        Some(kind) => agrees(code.typing(), t, kind),
         None => true,
     }
 }
@@ -77,7 +72,7 @@ fn condition(typing: Typing, t: &[u8]) -> bool
     shelf_types::is_condition(typing, shelf_field::value_at(t, 0, typing.code.bounds.next))
 }
 
-// The operands of a BranchCmp are scalars.
+// The operands of a BranchCmp are scalars. (Joined by `&`, as the parts of the routine below: an answer of `&&` splits by the first test.)
 fn branch(typing: Typing, t: &[u8]) -> bool
     ensures { OfEnd typing.entry (branch_of typing.entry.code.bounds t.now) result }
 {
@@ -118,14 +113,10 @@ fn end_fits(typing: Typing, t: &[u8], kind: TerminatorKind) -> bool
 fn end_agrees(code: Code, slot: u16) -> bool
     ensures { EndAgrees code.entry slot result }
 {
-    let typing = Typing {
-        code,
-        recorded: bytes_index::recorded(code.facts),
-    };
-    let u = bytes_field::tail(code.bytes, bytes_index::place(code.facts, slot));
+    let u = code.instruction(slot);
     let t = bytes_field::tail(u, FIELDS);
     match TerminatorKind::try_from(bytes_wire::byte_at(u, 0)) {
-        Ok(kind) => end_fits(typing, t, kind),
+        Ok(kind) => end_fits(code.typing(), t, kind),
         Err(_) => true,
     }
 }
@@ -151,10 +142,7 @@ fn blocks_agree(code: Code) -> bool
 pub fn types_agree(code: Code) -> bool
     ensures { TypesAgree code.entry result }
 {
-    let typing = Typing {
-        code,
-        recorded: bytes_index::recorded(code.facts),
-    };
+    let typing = code.typing();
     let behind = table::number(code.facts, code.bounds.types as usize) as usize;
     let t = bytes_field::tail(code.bytes, behind + PARAMETERS);
     let count = bytes_wire::byte_at(t, 0);

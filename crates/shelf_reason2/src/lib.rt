@@ -5,7 +5,7 @@ ghost use Rattle.std.specs.Prelude.{◌≡◌, ◌<◌};
 ghost use Rattle.mir.specs.Kind.{number_of_kind};
 ghost use Rattle.mir.specs.Reads.{dests};
 ghost use Rattle.bytes_block.specs.Decode.{marks as marks_of};
-ghost use Rattle.shelf_marks.specs.Tests.{OfSlot, OfBlock, OfRoutine, BehindPhis, ordered_behind, all_ordered, dest_count, dest_first, dests_of};
+ghost use Rattle.shelf_marks.specs.Tests.{OfSlot, OfBlock, OfRoutine, FirstOther, BehindPhis, ordered_behind, all_ordered, dest_count, dest_first, dests_of};
 
 use bytes_index::{Code, Slots};
 use mir::kind::Kind;
@@ -36,15 +36,12 @@ fn dest_first(kind: Kind) -> usize
 fn mark_dests(t: &[u8], kind: Kind, marks: &mut [bool])
     ensures { marks.new ≡ marks_of marks.old (dests_of t.now (number_of_kind kind)) }
 {
-    let u = bytes_field::tail(t, bytes_operands::fields_place(t));
+    let u = bytes_operands::own_fields(t);
     let n = dest_count(u, kind);
     let first = dest_first(kind);
     for j in 0..n {
-        table::set_flag(
-            marks,
-            bytes_wire::u16_at(u, first + 2 * j as usize) as usize,
-            true,
-        );
+        let v = bytes_wire::u16_at(u, first + 2 * j as usize);
+        table::put(marks, v as usize, true);
     }
 }
 
@@ -53,9 +50,18 @@ fn mark_slot(code: Code, slot: u16, marks: &mut [bool])
     ensures { OfSlot code.entry slot (λ τ i. marks_of marks.old (dests i)) marks.new }
 {
     if let Some(kind) = bytes_index::instruction_kind(code.facts, slot) {
-        let t = bytes_field::tail(code.bytes, bytes_index::place(code.facts, slot));
-        mark_dests(t, kind, marks);
+        mark_dests(code.instruction(slot), kind, marks);
     }
+}
+
+// The first of some slots whose instruction is no phi; the place behind them where all are phis.
+fn first_other(facts: &[u16], slots: Slots) -> u16
+    ensures { FirstOther facts.now slots.first slots.count result }
+{
+    let end = slots.first + slots.count;
+    (slots.first..end)
+        .find(|slot| bytes_index::instruction_kind(facts, *slot) != Some(Kind::Phi))
+        .unwrap_or(end)
 }
 
 // The slots of block `k` behind its phis.
@@ -63,22 +69,15 @@ fn behind_phis(code: Code, k: BlockId) -> Slots
     ensures { BehindPhis code.entry k.0 result }
 {
     let slots = bytes_index::block_slots(code.facts, k);
-    for i in 0..slots.count {
-        let slot = slots.first + i;
-        if bytes_index::instruction_kind(code.facts, slot) != Some(Kind::Phi) {
-            return Slots {
-                first: slot,
-                count: slots.count - i,
-            };
-        }
-    }
+    let first = first_other(code.facts, slots);
     Slots {
-        first: slots.first + slots.count,
-        count: 0,
+        first,
+        count: slots.first + slots.count - first,
     }
 }
 
 // Whether no instruction of block `k`, phis aside, reads a value that it or a later one defines: from the last to the first.
+// (A loop: the marks go from slot to slot, which the closure of an `all` would have to change.)
 fn block_ordered(code: Code, k: BlockId) -> bool
     ensures { OfBlock code.entry k.0 (λ τ x. ordered_behind x.instructions) result }
 {

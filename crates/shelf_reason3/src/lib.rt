@@ -37,7 +37,7 @@ fn mark_base(code: Code, slot: u16, marks: &mut [bool])
     if bytes_index::instruction_kind(code.facts, slot) == Some(Kind::Store) {
         let v = bytes_index::read(code.facts, slot, BASE);
         if is_aggregate(code, v) {
-            table::set_flag(marks, v.0 as usize, true);
+            table::put(marks, v.0 as usize, true);
         }
     }
 }

@@ -26,8 +26,7 @@ fn is_shallow(code: Code, slot: u16, dropped: &[bool]) -> bool
     if !table::flag(dropped, base.0 as usize) {
         return true;
     }
-    let t = bytes_field::tail(code.bytes, bytes_index::place(code.facts, slot));
-    bytes_operands::projection(t, code.bounds, DEEPER).is_none()
+    bytes_operands::projection(code.instruction(slot), code.bounds, DEEPER).is_none()
 }
 
 // Whether no instruction of block `k` is a deep Store on a dropped base.

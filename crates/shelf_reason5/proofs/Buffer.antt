@@ -1,16 +1,14 @@
--- The reads that stand in a buffer, looked up in the marks one after another.
-use Prim.Native.Nat.{ℕ, zero, suc, ◌+◌, ◌-◌, ◌≤◌, ◌<◌, zero-le}
+-- The reads that stand in a buffer.
+use Prim.Native.Nat.{ℕ, zero, suc, ◌+◌, ◌-◌, ◌≤◌, ◌<◌}
 use mathlib.Core.Path.{◌≡◌, refl, ap, ◌∙◌, sym}
 use mathlib.Core.List.{List, [], ◌∷◌}
-use mathlib.Core.Bool.{Bool, true, false, not, ◌&&◌}
-use native.Mathlib.Numerals.{add-one}
+use mathlib.Core.Bool.{Bool, false}
 use native.Mathlib.Nat.{add-zero, zero-add}
 use native.Mathlib.Omega.{arith}
 use borrow.Author.Tests.{lt-ltb}
 use lib.ListN.{length, get_or, set, drop, length-drop, length-set}
-use lib.Seq.{drop-cons, drop-length, get_or-set_same, get_or-set_other}
+use lib.Seq.{get_or-set_same, get_or-set_other}
 use Rattle.bytes_wire.specs.Parse.{Parse, ok, later, map_parse}
-use Rattle.bytes_wire.specs.declared.Cause.{Cause}
 use Rattle.mir.specs.declared.ValueId.{ValueId}
 use Rattle.bytes_wire.proofs.Laws.{size, size_map}
 use Rattle.bytes_wire.proofs.Inv.{no_ok}
@@ -25,39 +23,11 @@ use Rattle.bytes_block.specs.Decode.{marks}
 use Rattle.bytes_block.proofs.Sizes.{size_instruction, size_terminator}
 use Rattle.shelf.specs.Reads.{clean_terminator}
 use Rattle.shelf_reason5.specs.Unread.{Buffered, marked, walked, Judges}
-use Rattle.std.specs.Prelude.{Option, Some, None, Result, Ok, Err}
+use Rattle.std.specs.Prelude.{Option, Result, Ok, Err}
 use Rattle.shelf.specs.Lists.{clear}
 
 abbrev no_value : ValueId
 no_value = record { 0 = 0 }
-
--- k values were looked up, and none of them is marked
-pub record Sought (buffer : List ℕ) (n : ℕ) (ms : List Bool) (k : ℕ) : Type 0 where
-  pub under : k ≤ n
-  pub left : (vs : List ValueId) → Buffered buffer n vs → clear ms vs ≡ clear ms (drop k vs)
-
-pub sought_start : (buffer : List ℕ) (n : ℕ) (ms : List Bool) → Sought buffer n ms 0
-sought_start buffer n ms = record { under = zero-le; left = λ vs a. refl }
-
-module _ (buffer : List ℕ) (n : ℕ) (ms : List Bool) (k x : ℕ) (f : Bool) (u : Sought buffer n ms k) (h : k < n) (e : x ≡ get_or buffer k 0) (g : f ≡ get_or ms x false) where
-  -- the next value
-  next : (vs : List ValueId) → Buffered buffer n vs → clear ms vs ≡ (not f && clear ms (drop (k + 1) vs))
-  next vs a =
-      let p : k < length vs = omega (arith, a.many) in
-      let q : drop k vs ≡ get_or vs k no_value ∷ drop (k + 1) vs = rw (add-one k) (drop-cons vs k no_value p) in
-      let z : get_or ms (get_or vs k no_value).0 false ≡ f = ap (λ y. get_or ms y false) (sym (e ∙ a.each k h)) ∙ sym g in
-      u.left vs a ∙ ap (λ y. clear ms y) q ∙ ap (λ y. not y && clear ms (drop (k + 1) vs)) z
-
-  pub sought_again : f ≡ false → Sought buffer n ms (k + 1)
-  sought_again z = record { under = omega arith; left = λ vs a. next vs a ∙ ap (λ y. not y && clear ms (drop (k + 1) vs)) z }
-
-  pub sought_found : f ≡ true → (vs : List ValueId) → Buffered buffer n vs → false ≡ clear ms vs
-  sought_found z vs a = sym (next vs a ∙ ap (λ y. not y && clear ms (drop (k + 1) vs)) z)
-
-pub sought_done : (buffer : List ℕ) (n : ℕ) (ms : List Bool) (k : ℕ) → Sought buffer n ms k → n ≤ k → (vs : List ValueId) → Buffered buffer n vs → true ≡ clear ms vs
-sought_done buffer n ms k u h vs a =
-    let q : k ≡ length vs = omega (arith, u.under, a.many) in
-    sym (u.left vs a ∙ ap (λ y. clear ms (drop y vs)) q ∙ ap (λ y. clear ms y) (drop-length vs))
 
 -- what reads do to a buffer that has room for them
 record Filled (w v : Walk) (vs : List ValueId) : Type 0 where
@@ -97,18 +67,6 @@ buffered seen u vs l h c d =
 defined : (seen : List Bool) (u : List ℕ) (n : ℕ) (late : Bool) (ds : List ValueId) → fold defines (walk_of seen u n late) ds ≡ walk_of (marks seen ds) u n late
 defined seen u n late [] = refl
 defined seen u n late (d ∷ ds) = defined (mark seen d) u n late ds
-
--- what is answered of a scan, by what it was
-module _ (v : List ℕ) (ms : List Bool) (r : Result Scan Refusal) where
-  pub refused_told : {e : Refusal} → r ≡ Err e → Judges r v ms None
-  refused_told e = rw e refl
-
-  module _ {x : Scan} (e : r ≡ Ok x) {c : Bool} (says : (vs : List ValueId) → Buffered v x.reads vs → c ≡ clear ms vs) where
-    pub clean_told : c ≡ true → Judges r v ms (Some x.size)
-    clean_told z = rw e (λ vs b. rw (← says vs b, z) refl)
-
-    pub dropped_told : c ≡ false → Judges r v ms None
-    dropped_told z = rw e (λ vs b. rw (← says vs b, z) refl)
 
 -- a scan that leaves w behind what it reads, and what stands behind it
 module _ {X : Type 0} (w : X → Walk) (d : Parse X) (v : List ℕ) (seen : List Bool) where

@@ -24,28 +24,15 @@ const READS: usize = 32;
 fn clean_buffer(buffer: &[u16], n: usize, dropped: &[bool]) -> bool
     ensures { (vs : List ValueId) → Buffered buffer.now n vs → result ≡ clear dropped.now vs }
 {
-    for k in 0..n {
-        if table::flag(dropped, table::number(buffer, k) as usize) {
-            return false;
-        }
-    }
-    true
+    (0..n).all(|k| !table::flag(dropped, table::number(buffer, k) as usize))
 }
 
 // The place behind what was scanned; none where one of its reads, which stand in `buffer`, is dropped.
 fn judge(scan: Result<Scan, Refusal>, buffer: &[u16], dropped: &[bool]) -> Option<usize>
     ensures { Judges scan buffer.now dropped.now result }
 {
-    match scan {
-        Ok(x) => {
-            if clean_buffer(buffer, x.reads, dropped) {
-                Some(x.size)
-            } else {
-                None
-            }
-        }
-        Err(_) => None,
-    }
+    let x = scan.ok()?;
+    clean_buffer(buffer, x.reads, dropped).then_some(x.size)
 }
 
 // Walks the instruction that stands at `at`: the place behind it, or none where it reads a dropped value.
@@ -78,10 +65,7 @@ fn walk_block(s: &[u8], at: usize, b: Bounds, dropped: &[bool]) -> Option<usize>
     ensures { (x : Block) (rest : List ℕ) → drop at s.now ≡ block_bytes x ++ rest → Legible b x
         → result ≡ walked (clean_block dropped.now x) (at + length (block_bytes x)) }
 {
-    if s.len() < 2 {
-        return None;
-    }
-    if s.len() - 2 < at {
+    if s.len() < at.saturating_add(2) {
         return None;
     }
     let count = bytes_wire::u16_at(s, at);
@@ -99,10 +83,10 @@ pub fn reads_no_dropped(out: &[u8], at: usize, b: Bounds, many: u16, dropped: &[
 {
     let mut here = at;
     for k in 0..many {
-        here = match walk_block(out, here, b, dropped) {
-            Some(end) => end,
-            None => return false,
+        let Some(end) = walk_block(out, here, b, dropped) else {
+            return false;
         };
+        here = end;
     }
     true
 }

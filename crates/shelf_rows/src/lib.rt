@@ -24,14 +24,12 @@ fn row<'a>(code: Code<'a>, number: Option<TypeId>) -> &'a [u8]
     ensures { Typed code.entry number (λ τ o. Tells (row_of τ o) result.now) }
 {
     match number {
-        Some(t) if t.0 < code.bounds.types => {
-            bytes_field::tail(code.bytes, bytes_lookup::type_place(code.facts, t))
-        }
+        Some(t) if t.0 < code.bounds.types => code.type_row(t),
         _ => &[],
     }
 }
 
-// The kind of a row; none where there is no row.
+// The kind of a row; none where there is no row. (`kind_of` of bytes_types reads 0 past the end, which is Felt.)
 fn kind_at(t: &[u8]) -> Option<TypeKind>
     ensures { NamesTypeKind (kind_at t.now) result }
 {
@@ -76,20 +74,16 @@ fn row_part(t: &[u8], k: u32) -> Option<TypeId>
         Some(TypeKind::FixedArray) => return Some(type_in(t, layout::ARRAY_ELEMENT)),
         _ => return None,
     };
-    if k < bytes_wire::byte_at(t, count) as u32 {
-        Some(type_in(t, first + apart * k as usize))
-    } else {
-        None
-    }
+    (k < bytes_wire::byte_at(t, count) as u32).then(|| type_in(t, first + apart * k as usize))
 }
 
-// The type of a row has parts, and `n` of them.
+// The type of a row has parts, and `n` of them. (`n` is what is asked, no length of `t`.)
 fn row_counts(t: &[u8], n: u32) -> bool
     ensures { result ≡ row_counts t.now n }
 {
     match kind_at(t) {
         Some(TypeKind::Tuple) => bytes_wire::byte_at(t, layout::TUPLE_COUNT) as u32 == n,
-        Some(TypeKind::Struct) => bytes_wire::byte_at(t, layout::STRUCT_COUNT) as u32 == n,
+        Some(TypeKind::Struct) => bytes_types::field_count(t) as u32 == n,
         Some(TypeKind::FixedArray) => bytes_wire::u32_at(t, layout::ARRAY_SIZE) == n,
         _ => false,
     }
@@ -99,11 +93,7 @@ fn row_counts(t: &[u8], n: u32) -> bool
 fn row_pointee(t: &[u8]) -> Option<TypeId>
     ensures { as_option result ≡ row_pointee t.now }
 {
-    if kind_at(t) == Some(TypeKind::Pointer) {
-        Some(type_in(t, layout::POINTED))
-    } else {
-        None
-    }
+    (kind_at(t) == Some(TypeKind::Pointer)).then(|| type_in(t, layout::POINTED))
 }
 
 // Which literals fit a type.
@@ -114,6 +104,7 @@ pub fn scalar_kind(code: Code, number: Option<TypeId>) -> Option<Literals>
 }
 
 // The shape of a type.
+#[tactic(auto, unfolding(mir::specs::Lookup::shape, mir::specs::Lookup::row_of))]
 pub fn shape_of(code: Code, number: Option<TypeId>) -> Shape
     ensures { OfRow code.entry number shape (number_of_shape result) }
 {

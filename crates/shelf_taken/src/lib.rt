@@ -19,9 +19,9 @@ const INSERTED: u8 = 1;
 fn value_clear(f: Option<Value>, marks: &[bool]) -> bool
     ensures { result ≡ clear marks.now (found_reads (as_option f)) }
 {
-    match f {
-        Some(Value::Operand(v)) => !table::flag(marks, v.0 as usize),
-        _ => true,
+    match f.and_then(|x| x.operand()) {
+        Some(v) => !table::flag(marks, v.0 as usize),
+        None => true,
     }
 }
 
@@ -30,14 +30,15 @@ pub fn parts_clear(code: Code, slot: u16, marks: &[bool]) -> bool
     ensures { OfSlot code.entry slot (λ τ. parts_clear marks.now) result }
 {
     let b = code.bounds;
-    let t = bytes_field::tail(code.bytes, bytes_index::place(code.facts, slot));
-    match bytes_index::instruction_kind(code.facts, slot) {
-        Some(Kind::Store) => value_clear(bytes_operands::operand(t, b, STORED), marks),
-        Some(Kind::InsertField) => value_clear(bytes_operands::operand(t, b, INSERTED), marks),
-        Some(Kind::InsertTuple) => value_clear(bytes_operands::operand(t, b, INSERTED), marks),
-        Some(Kind::MakeTuple | Kind::MakeStruct | Kind::MakeFixedArray) => {
-            shelf_marks::reads_clear(code.facts, slot, marks)
+    let t = code.instruction(slot);
+    let Some(kind) = bytes_index::instruction_kind(code.facts, slot) else {
+        return true;
+    };
+    match kind {
+        Kind::Store => value_clear(bytes_operands::operand(t, b, STORED), marks),
+        Kind::InsertField | Kind::InsertTuple => {
+            value_clear(bytes_operands::operand(t, b, INSERTED), marks)
         }
-        _ => true,
+        _ => !kind.is_build() || shelf_marks::reads_clear(code.facts, slot, marks),
     }
 }

@@ -20,7 +20,8 @@ use Rattle.bytes_field.specs.declared.Bounds.{Bounds}
 use Rattle.bytes_sections.specs.Index.{RecordedAt}
 use Rattle.mir.specs.Lookup.{is_some, Types, recorded_type}
 use Rattle.rewrite_progress.specs.Ground.{Ground}
-use Rattle.shelf.specs.Agrees.{is_index, is_condition}
+use Rattle.shelf.specs.Fits.{fits}
+use Rattle.shelf.specs.Agrees.{is_index, is_condition, equal_types}
 use Rattle.shelf_types.specs.Types.{value_kind}
 
 -- an operand is one of the values
@@ -71,3 +72,10 @@ unfolding is_condition
 condition_kind τ (Value.Literal l) = refl
 condition_kind τ (Value.Operand v) = refl
 condition_kind τ Value.Error = refl
+
+-- two values, the second of which is an operand
+pub equal_operand : (τ : Types) (x : Value) (w : ValueId) → equal_types τ x (Value.Operand w) ≡ fits τ x (recorded_type τ w)
+unfolding equal_types fits
+equal_operand τ (Value.Literal l) w = refl
+equal_operand τ (Value.Operand v) w = refl
+equal_operand τ Value.Error w = refl

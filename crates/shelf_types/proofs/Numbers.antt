@@ -1,8 +1,8 @@
 -- Types by their numbers: equal ones, those of parts, fields and steps.
 use Prim.Native.Nat.{ℕ, ◌≤◌, ◌<◌}
-use mathlib.Core.Path.{◌≡◌, refl, ap}
+use mathlib.Core.Path.{◌≡◌, refl, ap, sym}
 use mathlib.Core.List.{List}
-use mathlib.Core.Bool.{not}
+use mathlib.Core.Bool.{true, false, not, true≢false}
 use mathlib.Core.Option.{Option, none, some}
 use native.Mathlib.Omega.{arith}
 use lib.ListN.{length, get_or}
@@ -17,7 +17,7 @@ use Rattle.mir.specs.Option.{as_option}
 use Rattle.mir.specs.contracts.shape.ShapePartialEq.TheImpl.{eq-value}
 use Rattle.mir.specs.declared.shape.Shape.{Shape}
 use Rattle.mir.specs.Shape.{number_of_shape}
-use Rattle.mir.specs.Lookup.{Types, row_of, recorded_type, shape, is_tuple, is_struct, is_array, is_aggregate}
+use Rattle.mir.specs.Lookup.{is_some, Types, row_of, recorded_type, shape, is_tuple, is_struct, is_array, is_aggregate}
 use Rattle.bytes_struct.specs.declared.FoundField.{FoundField}
 use Rattle.bytes_struct.specs.FindField.{part_in}
 use Rattle.shelf.specs.Fits.{step_type}
@@ -48,7 +48,7 @@ shape_eq Shape.FixedArray Shape.Struct = refl
 shape_eq Shape.FixedArray Shape.FixedArray = refl
 
 -- no aggregate has shape 0
-plain : (row : Option MirType) → eqb (shape row) 0 ≡ not (is_aggregate row)
+pub plain : (row : Option MirType) → eqb (shape row) 0 ≡ not (is_aggregate row)
 unfolding shape is_tuple is_struct is_array is_aggregate
 plain none = refl
 plain (some Felt) = refl
@@ -64,10 +64,15 @@ plain (some Error) = refl
 plain (some Unknown) = refl
 
 -- scalar types
-pub scalar_some : {r : ℕ} {t : TypeId} (τ : Types) (o : Option TypeId) → some t ≡ o → r ≡ shape (row_of τ o) → eqb r 0 ≡ is_scalar_type τ o
-unfolding is_scalar_type
-scalar_some τ none e f = absurd (let z : ◌≡◌ {A = ℕ} 0 1 = cc in omega arith)
+pub scalar_some : {r : ℕ} (τ : Types) (o : Option TypeId) → is_some o ≡ true → r ≡ shape (row_of τ o) → eqb r 0 ≡ is_scalar_type τ o
+unfolding is_scalar_type is_some
+scalar_some τ none e f = absurd (true≢false (sym e))
 scalar_some τ (some t) e f = rw f (plain (row_of τ (some t)))
+
+pub scalar_none : (τ : Types) (o : Option TypeId) → is_some o ≡ false → is_scalar_type τ o ≡ false
+unfolding is_scalar_type is_some
+scalar_none τ none e = refl
+scalar_none τ (some t) e = absurd (true≢false e)
 
 -- the type of a field that is found, or none
 pub part_of : (p : Answered FoundField) {r : Answered TypeId} → ((f : FoundField) → p ≡ Some f → r ≡ Some f.part) → (p ≡ None → r ≡ None) → as_option r ≡ part_in (as_option p)

@@ -1,4 +1,5 @@
 // The recorded types of values, the types of fields and steps, and which values fit which types.
+// (Tests of a value match its three kinds, each of which has an answer of its own: `operand` would leave a second test of the other two.)
 #![tactic(auto)]
 
 ghost use Rattle.std.specs.Prelude.{◌≡◌, length};
@@ -15,31 +16,26 @@ use mir::shape::Shape;
 use mir::{Literal, NameId, Projection, TypeId, Value, ValueId};
 use shelf::Literals;
 
-// The recorded type of a value.
+// The recorded type of a value. (Beside that of bytes_lookup for its promise: of the routine that the table is of.)
 pub fn recorded_type(recorded: &[u16], v: ValueId) -> Option<TypeId>
     ensures { TypeOfValue recorded.now v result }
 {
     bytes_lookup::recorded_type(recorded, v)
 }
 
-// Both are types, and the same one. (No `==` of the two: none is not the same as none.)
+// Both are types, and the same one: none is not the same as none.
+#[tactic(auto, unfolding(shelf::specs::Fits::same_type))]
 pub fn same_type(a: Option<TypeId>, c: Option<TypeId>) -> bool
     ensures { Same a c result }
 {
-    match (a, c) {
-        (Some(t), Some(u)) => t.0 == u.0,
-        (Some(_), None) => false,
-        (None, _) => false,
-    }
+    a.is_some() && a == c
 }
 
 // The type of a struct's field, by its name.
 pub fn field_type(code: Code, number: Option<TypeId>, name: NameId) -> Option<TypeId>
     ensures { TypeInRow code.entry number (λ row. field_type_of row name) result }
 {
-    bytes_struct::find_field(code.bytes, code.facts, code.bounds.types, number?, name).map(
-        |f| f.part,
-    )
+    bytes_struct::find_field(code, number?, name).map(|f| f.part)
 }
 
 // The type of part `k` of a type of that shape.
@@ -91,6 +87,7 @@ fn literals_of(typing: Typing, x: Value) -> Option<Literals>
 }
 
 // A value fits a type.
+#[tactic(auto, unfolding(shelf::specs::Fits::fits))]
 pub fn fits(typing: Typing, x: Value, number: Option<TypeId>) -> bool
     ensures { Fits typing.entry x number result }
 {
@@ -105,13 +102,11 @@ pub fn fits(typing: Typing, x: Value, number: Option<TypeId>) -> bool
 pub fn is_scalar_type(code: Code, number: Option<TypeId>) -> bool
     ensures { OfType code.entry number is_scalar_type result }
 {
-    match number {
-        Some(_) => shelf_rows::shape_of(code, number) == Shape::Other,
-        None => false,
-    }
+    number.is_some() && shelf_rows::shape_of(code, number) == Shape::Other
 }
 
 // A literal, or an operand recorded as no aggregate.
+#[tactic(auto, unfolding(shelf::specs::Agrees::is_scalar))]
 pub fn is_scalar(typing: Typing, x: Value) -> bool
     ensures { OfValue typing.entry x is_scalar result }
 {
@@ -137,6 +132,7 @@ pub fn is_condition(typing: Typing, x: Value) -> bool
 }
 
 // A literal, or an operand with a recorded type.
+#[tactic(auto, unfolding(shelf::specs::Agrees::is_known))]
 pub fn is_known(recorded: &[u16], x: Value) -> bool
     ensures { Noted recorded.now (λ τ. FitValue (length τ.recorded) x → result ≡ is_known τ x) }
 {
@@ -148,25 +144,17 @@ pub fn is_known(recorded: &[u16], x: Value) -> bool
 }
 
 // Two values are of equal types.
+#[tactic(auto, unfolding(shelf::specs::Agrees::equal_types))]
 pub fn equal_types(typing: Typing, x: Value, y: Value) -> bool
     ensures { OfValues typing.entry x y equal_types result }
 {
-    match (x, y) {
-        (Value::Literal(l), Value::Literal(m)) => literal_kind(l) == literal_kind(m),
-        (Value::Literal(_), Value::Operand(w)) => {
-            fits(typing, x, recorded_type(typing.recorded, w))
-        }
-        (Value::Operand(v), Value::Literal(_)) => {
-            fits(typing, y, recorded_type(typing.recorded, v))
-        }
-        (Value::Operand(v), Value::Operand(w)) => {
-            same_type(
-                recorded_type(typing.recorded, v),
-                recorded_type(typing.recorded, w),
-            )
-        }
-        (Value::Literal(_), Value::Error) => false,
-        (Value::Operand(_), Value::Error) => false,
-        (Value::Error, _) => false,
+    match y {
+        Value::Literal(m) => match x {
+            Value::Literal(l) => literal_kind(l) == literal_kind(m),
+            Value::Operand(v) => fits(typing, y, recorded_type(typing.recorded, v)),
+            Value::Error => false,
+        },
+        Value::Operand(w) => fits(typing, x, recorded_type(typing.recorded, w)),
+        Value::Error => false,
     }
 }

@@ -1,4 +1,4 @@
-// Reads and stores of tables that ask for no room: past the end a read gives 0 or false, and a store does nothing.
+// Reads and stores of tables that ask for no room: past the end a read gives what it is told, 0 or false, and a store does nothing.
 // (The reader of bytes stands in bytes_wire: byte_at.)
 #![tactic(auto)]
 
@@ -6,7 +6,7 @@ ghost use Rattle.std.specs.Prelude.{◌≡◌, false, ◌%◌, drop, get_or, set
 ghost use Rattle.table.specs.Flags.{any_stands};
 ghost use Rattle.table.specs.Number.{numbers_below};
 
-// The element at a place; past the end `past`.
+// The element at a place; past the end `past`. (`get`, `copied` and `unwrap_or` would say it in no fewer words.)
 #[inline]
 pub fn at<T: Copy>(l: &[T], i: usize, past: T) -> T
     ensures { result ≡ get_or l.now i past }
@@ -14,7 +14,7 @@ pub fn at<T: Copy>(l: &[T], i: usize, past: T) -> T
     if i < l.len() { l[i] } else { past }
 }
 
-// Stores an element.
+// Stores an element. (Tried with `get_mut`: nothing is promised of what the slice becomes, so the proof didn't close.)
 #[inline]
 pub fn put<T: Copy>(l: &mut [T], i: usize, x: T)
     ensures { l.new ≡ set l.old i x }
@@ -32,7 +32,7 @@ pub fn behind<T>(l: &[T], from: usize) -> &[T]
     &l[from.min(l.len())..]
 }
 
-// The number at a place.
+// The number at a place. (It, the place and the flag at a place stand beside `at`, which they call: they fix what stands past the end.)
 pub fn number(l: &[u16], i: usize) -> u16
     ensures { result ≡ get_or l.now i 0 }
 {
@@ -53,32 +53,11 @@ pub fn flag(l: &[bool], i: usize) -> bool
     at(l, i, false)
 }
 
-// Stores a number.
-pub fn set_number(l: &mut [u16], i: usize, n: u16)
-    ensures { l.new ≡ set l.old i n }
-{
-    put(l, i, n)
-}
-
-// Stores a place: its lowest 16 bits, which are all of it where the bytes are short.
+// Stores a place: its lowest 16 bits, which are all of it where the bytes are short. (An `as` alone has to be proved to drop none.)
 pub fn set_place(l: &mut [u16], i: usize, place: usize)
     ensures { l.new ≡ set l.old i (place % numbers_below) }
 {
-    set_number(l, i, (place % 65536) as u16)
-}
-
-// Stores a flag.
-pub fn set_flag(l: &mut [bool], i: usize, on: bool)
-    ensures { l.new ≡ set l.old i on }
-{
-    put(l, i, on)
-}
-
-// Stores a byte.
-pub fn set_byte(l: &mut [u8], i: usize, b: u8)
-    ensures { l.new ≡ set l.old i b }
-{
-    put(l, i, b)
+    put(l, i, (place % 65536) as u16)
 }
 
 // Whether a flag stands.

@@ -11,7 +11,8 @@ ghost use Rattle.bytes_emit.specs.Written.{number_room, value_room};
 
 const DIGITS: [u8; 16] = *b"0123456789abcdef";
 
-// A digit below 16.
+// A digit below 16. (`char::from_digit` would be no plainer: it answers an `Option<char>`, of which a byte is still to be made.)
+#[tactic(auto, unfolding(crate::specs::Digits::digit_of))]
 fn digit(d: u8) -> u8
     requires { d < 16 }
     ensures { result ≡ digit_of d }
@@ -25,7 +26,7 @@ pub fn put_bytes(text: &mut [u8], to: usize, bytes: &[u8]) -> usize
     requires short { length bytes.now < value_room }
     ensures { Written bytes.now to text.old text.new result }
 {
-    bytes_emit::copy(text, to, bytes, 0, bytes.len())
+    bytes_emit::copy(text, to, bytes)
 }
 
 // Writes a number in decimal, and returns the place behind it.

@@ -1,9 +1,10 @@
+use mathlib.Core.Path.{refl, sym, ◌∙◌}
+use native.Mathlib.Omega.{arith}
+use Rattle.bytes_emit.proofs.Sets.{sets_past, sets_cut}
 use Rattle.bytes_emit.proofs.copy.Goals as goal
-use mathlib.Core.Path.{refl, ap, ◌∙◌}
-use lib.Seq.{sets}
-use Rattle.bytes_emit.proofs.Copied.{part_slice}
 
-pub returns-then-behind-out : goal.returns-then-behind-out
-returns-then-behind-out c =
-    let a = c.args in
-    (refl, c.copy_whole.ensures ∙ ap (sets a.out.now a.to) (part_slice a.from a.end a.s.now c.requires.1))
+pub returns-then-to-out : goal.returns-then-to-out
+returns-then-to-out c = let a = c.args in (refl, c.copy_whole-then-to-out.ensures ∙ sets_cut a.out.now a.to _ a.s.now (omega arith))
+
+pub returns-else-to-out : goal.returns-else-to-out
+returns-else-to-out c = let a = c.args in (refl, sym (sets_past a.out.now a.to a.s.now c.if-to-out.false))

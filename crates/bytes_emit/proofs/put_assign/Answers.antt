@@ -12,6 +12,6 @@ returns c =
     let a = c.args in
     let value = c.put_value-at.ensures in (
       simp (value.0, length-append) (omega arith),
-      rw (c.put_type_id.ensures, value.0, value.1, c.put_value_id.ensures, c.put_u8-2.ensures, c.put_u8.ensures)
+      rw (c.put_type_id.ensures, value.0, value.1, c.put_value_id.ensures, c.put_kind.ensures)
           (sets_assign a.out.now a.to 0 0 (value_id_bytes a.d) (value_bytes a.x) (type_id_bytes a.t) refl),
     )

@@ -1,4 +1,4 @@
-use Rattle.std.proofs.Common.{arith, refl, ap, ◌∙◌, drop}
+use Rattle.std.proofs.Common.{arith, refl, ap, drop}
 use Rattle.mir.specs.Kind.{number_of_kind}
 use Rattle.mir.specs.Option.{as_option}
 use Rattle.bytes_operands.specs.Fields.{fields_place}
@@ -14,12 +14,12 @@ pub returns-then-o-k : goal.returns-then-o-k
 returns-then-o-k c = λ seen late i n e.
     let a = c.args in
     no_operand a.b seen late a.s.now i n e (drop (fields_place a.s.now) a.s.now) (number_of_kind c.in_ok-kind.kind) a.k refl c.in_ok-kind.ensures
-    (omega (arith, ap (λ o. o.0) c.operands_of-o.ensures, c.if-o-k.true))
+    (omega (arith, ap (λ o. o.count) c.operands_of-o.ensures, c.if-o-k.true))
 
 pub returns : goal.returns
 returns c = λ seen late i n e.
     let a = c.args in
-    operand_at a.b seen late a.s.now i n e c.tail-t.result.now (number_of_kind c.in_ok-kind.kind) a.k
-    (c.tail-t.ensures ∙ ap (λ p. drop p a.s.now) c.fields_place.ensures) c.in_ok-kind.ensures c.values_end.result
-    (omega (arith, ap (λ o. o.0) c.operands_of-o.ensures, c.if-o-k.false))
+    operand_at a.b seen late a.s.now i n e c.own_fields-t.result.now (number_of_kind c.in_ok-kind.kind) a.k
+    c.own_fields-t.ensures c.in_ok-kind.ensures c.values_end.result
+    (omega (arith, ap (λ o. o.count) c.operands_of-o.ensures, c.if-o-k.false))
     (simp (c.values_end.ensures.0, c.operand_first.ensures.0, c.operands_of-o.ensures)) (λ x m e. ap as_option (c.found_at.ensures x m e))

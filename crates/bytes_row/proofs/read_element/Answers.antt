@@ -49,10 +49,6 @@ returns-in_ok-read_below-in-Sources c =
     ∙ ap (λ d. and_then a.s.now d (λ w t. map_parse (uses_value w) (value_of a.b.next t))) (c.in_ok-read_below-in-Sources.ensures a.seen.now a.buffer.now)
     ∙ simp c.in-Sources.is
 
-pub returns-in-Returns : goal.returns-in-Returns
-unfolding atom_walk simple_walk
-returns-in-Returns c = simp (c.read_below-in-Returns.ensures c.args.seen.now c.args.buffer.now, c.in-Returns.is, and_nothing)
-
 pub returns-in-Projections : goal.returns-in-Projections
 unfolding atom_walk simple_walk
 returns-in-Projections c = simp (c.read_projection.ensures c.args.seen.now, c.in-Projections.is, and_nothing)

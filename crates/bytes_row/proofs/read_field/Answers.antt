@@ -1,10 +1,6 @@
 use Rattle.bytes_field.specs.Walk.{simple_walk, field_walk}
 use Rattle.bytes_row.proofs.read_field.Goals as goal
 
-pub returns-in-Nothing : goal.returns-in-Nothing
-unfolding field_walk simple_walk
-returns-in-Nothing c = simp c.in-Nothing.is
-
 pub returns-in-Dest : goal.returns-in-Dest
 unfolding field_walk simple_walk
 returns-in-Dest c = simp (c.read_defined.ensures c.args.buffer.now, c.in-Dest.is)
@@ -40,3 +36,27 @@ returns-in-Binary c = simp (c.read_operation.ensures c.args.seen.now c.args.buff
 pub returns-in-Unary : goal.returns-in-Unary
 unfolding field_walk simple_walk
 returns-in-Unary c = simp (c.read_operation-in-Unary.ensures c.args.seen.now c.args.buffer.now, c.in-Unary.is)
+
+pub returns-in-Values : goal.returns-in-Values
+unfolding field_walk
+returns-in-Values c = simp (c.read_list.ensures, c.in-Values.is)
+
+pub returns-in-Types : goal.returns-in-Types
+unfolding field_walk
+returns-in-Types c = simp (c.read_list-in-Types.ensures, c.in-Types.is)
+
+pub returns-in-Dests : goal.returns-in-Dests
+unfolding field_walk
+returns-in-Dests c = simp (c.read_list-in-Dests.ensures, c.in-Dests.is)
+
+pub returns-in-Named : goal.returns-in-Named
+unfolding field_walk
+returns-in-Named c = simp (c.read_list-in-Named.ensures, c.in-Named.is)
+
+pub returns-in-Sources : goal.returns-in-Sources
+unfolding field_walk
+returns-in-Sources c = simp (c.read_list-in-Sources.ensures, c.in-Sources.is)
+
+pub returns-in-Returns : goal.returns-in-Returns
+unfolding field_walk
+returns-in-Returns c = simp (c.read_list-in-Returns.ensures, c.in-Returns.is)

@@ -19,11 +19,11 @@ pub returns-in_err-p : goal.returns-in_err-p
 returns-in_err-p c =
     let a = c.args in
     let z : c.from_residual.result ≡ Err c.in_err-p.field-0.0 = search rules in
-    rw z (read_row (record { types = a.own; next = 0; blocks = 0; list = a.most; projections = 0 }) _ a.s.now c.in-Ok.ensures c.row_of_type.ensures refl
-    c.in_err-p.ensures c.in-len1-up.len_at_least (numbered_below c.in-Ok.kind c.in-Ok.ensures) (other_number c.in-Ok.kind c.in-Ok.ensures c.if-eq.ensures))
+    rw z (read_row (record { types = a.own; next = 0; blocks = 0; list = a.most; projections = 0 }) _ a.s.now _ c.in-Ok.ensures c.row_of_type.ensures.told
+    c.row_of_type.ensures.few refl c.in_err-p.ensures c.in-len1-up.len_at_least (numbered_below c.in-Ok.kind c.in-Ok.ensures) (other_number c.in-Ok.kind c.in-Ok.ensures c.if-eq.ensures))
 
 pub returns : goal.returns
 returns c =
     let a = c.args in
-    read_row (record { types = a.own; next = 0; blocks = 0; list = a.most; projections = 0 }) _ a.s.now c.in-Ok.ensures c.row_of_type.ensures refl
-    c.in_ok-p.ensures c.in-len1-up.len_at_least (numbered_below c.in-Ok.kind c.in-Ok.ensures) (other_number c.in-Ok.kind c.in-Ok.ensures c.if-eq.ensures)
+    read_row (record { types = a.own; next = 0; blocks = 0; list = a.most; projections = 0 }) _ a.s.now _ c.in-Ok.ensures c.row_of_type.ensures.told
+    c.row_of_type.ensures.few refl c.in_ok-p.ensures c.in-len1-up.len_at_least (numbered_below c.in-Ok.kind c.in-Ok.ensures) (other_number c.in-Ok.kind c.in-Ok.ensures c.if-eq.ensures)

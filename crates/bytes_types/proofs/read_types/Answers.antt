@@ -3,7 +3,7 @@ use Rattle.std.proofs.iter.Serving.{serving}
 use Rattle.bytes_wire.proofs.Laws.{there, told, told_size}
 use Rattle.bytes_types.proofs.Sizes.{size_unit_type}
 use Rattle.bytes_types.proofs.Before.{tested}
-use Rattle.bytes_types.proofs.Table.{read_bad, count_bad, count_past, table_start, table_refused, table_old, table_again, table_done}
+use Rattle.bytes_types.proofs.Table.{read_bad, count_bad, table_start, table_refused, table_old, table_again, table_done}
 use Rattle.bytes_wire.specs.Parse.{map_parse}
 use Rattle.bytes_field.specs.Walk.{as_part, unit}
 use Rattle.bytes_types.specs.Decode.{type_of}
@@ -15,16 +15,10 @@ returns-in_err-count c =
     let z : c.from_residual.result ≡ Err c.in_err-count.field-0.0 = search rules in
     rw z (read_bad a.limit a.most a.s.now a.starts.now a.starts.now refl (count_bad a.limit a.most a.s.now (sym (c.in_err-count.ensures))))
 
-pub returns-then-limit-count : goal.returns-then-limit-count
-returns-then-limit-count c =
-    let a = c.args in
-    rw c.at.ensures (read_bad a.limit a.most a.s.now a.starts.now a.starts.now refl
-    (count_past a.limit a.most a.s.now (sym (c.in_ok-count.ensures)) c.if-limit-count.true))
-
 pub loop-k-init : goal.loop-k-init
 loop-k-init c =
     let a = c.args in
-    table_start a.limit a.most a.s.now a.starts.now _ (sym (c.in_ok-count.ensures)) c.if-limit-count.false c.requires c.set_place.ensures
+    table_start a.limit a.most a.s.now a.starts.now _ (sym (c.in_ok-count.ensures)) c.requires c.set_place.ensures
 
 pub map_err-requires : goal.map_err-requires
 map_err-requires c = λ e q.
@@ -52,7 +46,7 @@ returns-then-type_before c =
     let a = c.args in
     let l = c.loop-k in
     let q : c.read_type.result ≡ Ok c.in_ok-size.size = search rules in
-    rw c.at-then-type_before.ensures (read_bad a.limit a.most a.s.now a.starts.now l.starts (search rules)
+    rw c.at.ensures (read_bad a.limit a.most a.s.now a.starts.now l.starts (search rules)
     (table_old a.limit a.most a.s.now _ l.starts c.in_ok-count.count.value l.k l.at l.invariant c.loop-k-test.true
     (told as_part (λ t. map_parse unit (type_of a.most l.k t)) l.at a.s.now c.read_type.ensures q)
     (λ j. omega (arith, c.type_inv.s j)) c.type_before.result (tested _ _ _ _ _ _ c.type_before.ensures) c.if-type_before.true))

@@ -1,67 +1,48 @@
-use Rattle.std.proofs.Common.{◌≤◌, ◌<◌, arith, length, true, slice_set}
-use mathlib.Core.Path.{sym, ◌∙◌}
-use borrow.Author.Tests.{eq-eqb, ne_eqb}
-use Rattle.fold_climb.specs.Scanned.{sight_of}
-use Rattle.fold_climb.proofs.Depth.{climb_barred}
-use Rattle.fold_climb.proofs.Turn.{turn_done, turn_other, turn_array, turn_stop, turn_on, refused_past, refused_met, climbs, fewer}
+use Rattle.std.proofs.Common.{arith}
+use mathlib.Core.Path.{sym, ap, ◌∙◌}
+use Rattle.fold_climb.specs.Scanned.{sight_of, edges_down}
+use Rattle.fold_climb.proofs.Depth.{climb_met, climb_barred}
+use Rattle.fold_climb.proofs.Turn.{turn_start, turn_done, turn_other, turn_array, turn_stop, turn_on}
 use Rattle.fold_climb.proofs.+climb.Goals as goal
+use Rattle.fold_climb.proofs.+climb.Goals.{then-at-via-then-at, then-at-via-else-at+then-not-allows}
 
-pub returns-then-at-ge-VALUES : goal.returns-then-at-ge-VALUES
-returns-then-at-ge-VALUES t c = let k : length c.args.visited ≤ c.args.v.0 = omega arith in sym (refused_past _ c.args.v.0 c.args.visited k)
+pub returns-then-at : goal.returns-then-at
+returns-then-at t c =
+    elim c.then-at.branch [
+      | then-at-via-then-at w ↦ sym (climb_met _ c.args.v.0 c.args.visited (sym c.at.ensures ∙ w.if-at.true))
+      | then-at-via-else-at+then-not-allows w ↦ sym (climb_barred _ c.args.v.0 c.args.visited (sym w.allows.ensures ∙ w.if-not-allows.true))
+    ]
 
-pub returns-then-visited-at : goal.returns-then-visited-at
-returns-then-visited-at t c =
-    let k : c.args.v.0 < length c.args.visited = omega arith in
-    sym (refused_met _ c.args.v.0 c.args.visited k c.if-visited-at.true)
-
-pub returns-then-not-allowed : goal.returns-then-not-allowed
-returns-then-not-allowed t c = sym (climb_barred _ c.args.v.0 c.args.visited (sym c.allowed.ensures ∙ c.if-not-allowed.true))
+pub loop-k-init : goal.loop-k-init
+loop-k-init t c =
+    let a = c.args in
+    turn_start (sight_of a.view.shapes.now a.view.graph.now) a.v.0 a.view.graph.now a.visited c.edge_count-k.result c.put.new.l
+    (sym c.at.ensures ∙ c.if-at.false) (sym c.allows.ensures ∙ c.if-not-allows.false) c.put.ensures (ap (λ n. edges_down a.view.graph.now n) (sym c.edge_count-k.ensures))
 
 pub returns-then-array : goal.returns-then-array
 returns-then-array t c =
-    let a = c.args in
-    let S = sight_of a.shapes.now a.graph.now in
-    let k : a.v.0 < length a.visited = omega arith in
-    sym
-    (climbs S a.v.0 a.visited k c.if-visited-at.false (sym c.allowed.ensures ∙ c.if-not-allowed.false) ∙ turn_array S a.v.0 a.graph.now
-    (slice_set a.visited a.v.0 true) c.loop-i.i c.loop-i.met c.loop-i.invariant c.loop-i-test.true
-    (sym c.number.ensures ∙ c.if-number-v.true) (eq-eqb _ _ (sym c.byte_at.ensures ∙ c.if-array.true)))
+    turn_array _ _ _ _ _ _ c.loop-k.invariant c.loop-k-test.true
+    (rw c.child.ensures at (sym c.if-eq.ensures)) (sym c.if-array.ensures)
 
 pub climb-requires : goal.climb-requires
-climb-requires t c =
-    let a = c.args in
-    let k : a.v.0 < length a.visited = omega arith in
-    (omega (arith, c.decreases, fewer (sight_of a.shapes.now a.graph.now) a.v.0 a.visited k c.if-visited-at.false, c.loop-i.invariant.clear), tt)
+climb-requires t c = (omega (arith, c.decreases, c.loop-k.invariant.clear), tt)
 
 pub returns-in_err-met : goal.returns-in_err-met
 returns-in_err-met t c =
-    let a = c.args in
-    let S = sight_of a.shapes.now a.graph.now in
-    let k : a.v.0 < length a.visited = omega arith in
-    rw c.from_residual.ensures (turn_stop S a.v.0 a.graph.now (slice_set a.visited a.v.0 true) c.loop-i.i c.loop-i.met c.loop-i.invariant c.loop-i-test.true
-    (sym c.number.ensures ∙ c.if-number-v.true) (ne_eqb _ _ (λ e. c.if-array.false (c.byte_at.ensures ∙ e)))
-    c.number-then-number-v.result c.number-then-number-v.ensures c.in_err-met.ensures ∙ sym
-    (climbs S a.v.0 a.visited k c.if-visited-at.false (sym c.allowed.ensures ∙ c.if-not-allowed.false)))
+    rw c.from_residual.ensures (turn_stop _ _ _ _ _ _ c.loop-k.invariant c.loop-k-test.true
+    (rw c.child.ensures at (sym c.if-eq.ensures)) (sym c.if-array.ensures) c.parent.result.0
+    c.parent.ensures c.in_err-met.ensures)
 
-pub loop-i-preserved-then-number-v : goal.loop-i-preserved-then-number-v
-loop-i-preserved-then-number-v t c =
-    let a = c.args in
-    let S = sight_of a.shapes.now a.graph.now in
-    turn_on S a.v.0 a.graph.now (slice_set a.visited a.v.0 true) c.loop-i.i c.loop-i.met c.loop-i.invariant c.loop-i-test.true
-    (sym c.number.ensures ∙ c.if-number-v.true) (ne_eqb _ _ (λ e. c.if-array.false (c.byte_at.ensures ∙ e)))
-    c.number-then-number-v.result c.number-then-number-v.ensures _ c.in_ok-met.ensures
+pub loop-k-preserved-then-eq : goal.loop-k-preserved-then-eq
+loop-k-preserved-then-eq t c =
+    turn_on _ _ _ _ _ _ c.loop-k.invariant c.loop-k-test.true
+    (rw c.child.ensures at (sym c.if-eq.ensures)) (sym c.if-array.ensures) c.parent.result.0
+    c.parent.ensures _ c.in_ok-met.ensures
 
-pub loop-i-preserved : goal.loop-i-preserved
-loop-i-preserved t c =
-    let a = c.args in
-    turn_other (sight_of a.shapes.now a.graph.now) a.v.0 a.graph.now (slice_set a.visited a.v.0 true) c.loop-i.i c.loop-i.met
-    c.loop-i.invariant c.loop-i-test.true (λ e. c.if-number-v.false (c.number.ensures ∙ e))
+pub loop-k-preserved : goal.loop-k-preserved
+loop-k-preserved t c =
+    turn_other _ _ _ _ _ _ c.loop-k.invariant c.loop-k-test.true
+    (rw c.child.ensures at (sym c.if-eq.ensures))
 
 pub returns : goal.returns
-returns t c =
-    let a = c.args in
-    let S = sight_of a.shapes.now a.graph.now in
-    let k : a.v.0 < length a.visited = omega arith in
-    sym
-    (climbs S a.v.0 a.visited k c.if-visited-at.false (sym c.allowed.ensures ∙ c.if-not-allowed.false) ∙ turn_done S a.v.0 a.graph.now
-    (slice_set a.visited a.v.0 true) c.loop-i.i c.loop-i.met c.loop-i.invariant c.loop-i-test.false)
+returns t c = turn_done _ _ _ _ _ _ c.loop-k.invariant c.loop-k-test.false

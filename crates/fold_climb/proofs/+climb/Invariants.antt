@@ -6,5 +6,5 @@ use Rattle.fold_climb.proofs.+climb.Given as goal
 abbrev pub decreases-climb : goal.decreases-climb
 decreases-climb l = unmarked l.visited
 
-abbrev pub invariant-loop-i : goal.invariant-loop-i
-invariant-loop-i l = Climbing (sight_of l.shapes l.graph) l.v.0 l.graph l.initial.met l.i l.met
+abbrev pub invariant-loop-k : goal.invariant-loop-k
+invariant-loop-k l = Climbing (sight_of l.view.shapes.now l.view.graph.now) l.v.0 l.view.graph.now l.fn.visited l.k l.met

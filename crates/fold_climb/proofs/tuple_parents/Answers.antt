@@ -1,45 +1,20 @@
-use Rattle.std.proofs.Common.{arith}
-use mathlib.Core.Path.{ap, ◌∙◌}
-use borrow.Author.Tests.{eq-eqb, ne_eqb}
-use Rattle.fold_climb.specs.Scanned.{tuples_down, sight_of}
+use Rattle.std.proofs.Common.{refl, arith, ◌∙◌, rules, ◌||◌, not}
+use Rattle.std.proofs.lemmas.Iterator.{YieldsList-from_range}
+use Rattle.std.proofs.lemmas.Iterator.Search.{all_from_yields_List}
+use mathlib.Core.Path.{ap}
+use lib.Dec.{eqb}
 use Rattle.fold_climb.specs.Edges.{tuples_climb}
+use Rattle.fold_climb.specs.Scanned.{sight_of, child_in, parent_in, of_tuple, tuples_down}
 use Rattle.fold_climb.specs.Decided.{climbs}
-use Rattle.fold_climb.proofs.Decide.{test_done, test_kind, test_other, test_on, test_stop}
 use Rattle.fold_climb.proofs.tuple_parents.Goals as goal
-
-pub returns-then-not-can_scalarize : goal.returns-then-not-can_scalarize
-returns-then-not-can_scalarize c =
-    let a = c.args in
-    test_stop (climbs (sight_of a.shapes.now a.graph.now)) a.v.0 a.graph.now c.number-i.result c.loop-i.i c.loop-i.invariant
-    c.loop-i-test.true (eq-eqb _ _ (omega arith))
-    (omega arith)
-    c.number-then-number-v.result c.number-then-number-v.ensures c.can_scalarize.result c.can_scalarize.ensures c.if-not-can_scalarize.true
-    ∙ ap (λ n. tuples_climb (climbs (sight_of a.shapes.now a.graph.now)) a.v.0 (tuples_down a.graph.now n)) c.number-i.ensures
-
-pub loop-i-preserved-else-not-can_scalarize : goal.loop-i-preserved-else-not-can_scalarize
-loop-i-preserved-else-not-can_scalarize c =
-    let a = c.args in
-    test_on (climbs (sight_of a.shapes.now a.graph.now)) a.v.0 a.graph.now c.number-i.result c.loop-i.i c.loop-i.invariant
-    c.loop-i-test.true (eq-eqb _ _ (omega arith))
-    (omega arith)
-    c.number-then-number-v.result c.number-then-number-v.ensures c.can_scalarize.result c.can_scalarize.ensures c.if-not-can_scalarize.false
-
-pub loop-i-preserved-else-number-v : goal.loop-i-preserved-else-number-v
-loop-i-preserved-else-number-v c =
-    let a = c.args in
-    test_other (climbs (sight_of a.shapes.now a.graph.now)) a.v.0 a.graph.now c.number-i.result c.loop-i.i c.loop-i.invariant
-    c.loop-i-test.true (eq-eqb _ _ (omega arith))
-    (λ e. c.if-number-v.false (c.number-then-number.ensures ∙ e))
-
-pub loop-i-preserved : goal.loop-i-preserved
-loop-i-preserved c =
-    let a = c.args in
-    test_kind (climbs (sight_of a.shapes.now a.graph.now)) a.v.0 a.graph.now c.number-i.result c.loop-i.i c.loop-i.invariant
-    c.loop-i-test.true (ne_eqb _ _ (λ e. c.if-number.false (c.number.ensures ∙ e)))
+use Rattle.fold_climb.proofs.Decide.{all_tuples}
 
 pub returns : goal.returns
 returns c =
     let a = c.args in
-    test_done (climbs (sight_of a.shapes.now a.graph.now)) a.v.0 a.graph.now c.number-i.result c.loop-i.i
-    c.loop-i.invariant c.loop-i-test.false ∙ ap
-    (λ n. tuples_climb (climbs (sight_of a.shapes.now a.graph.now)) a.v.0 (tuples_down a.graph.now n)) c.number-i.ensures
+    let g = a.view.graph.now in
+    let n = c.edge_count.result in
+    let can = climbs (sight_of a.view.shapes.now g) in
+    all_from_yields_List (λ k. not (eqb (child_in g k) a.v.0) || (not (of_tuple g k) || can (parent_in g k))) _ _ _ c.all.ensures.ran
+    (YieldsList-from_range 0 n n refl (omega arith)) (λ x b q k. search rules)
+    ∙ all_tuples can a.v.0 g n ∙ ap (λ m. tuples_climb can a.v.0 (tuples_down g m)) c.edge_count.ensures

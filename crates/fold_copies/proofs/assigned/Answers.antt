@@ -10,9 +10,9 @@ returns-in-Other c =
     assigned_none a.code a.u.now _ a.x _ _ _ c.in-Ok.is c.tail.ensures c.u16_at.ensures
     c.type_shape.ensures (ap number_of_shape c.in-Other.is)
 
-pub returns-in_default : goal.returns-in_default
-returns-in_default c =
+pub returns-in_default-type_shape : goal.returns-in_default-type_shape
+returns-in_default-type_shape c =
     let a = c.args in
     assigned_copied a.code a.u.now _ a.x _ _ _ c.in-Ok.is c.tail.ensures
-    c.u16_at.ensures c.type_shape.ensures (other_shape _ c.in_default.not-Other) _
+    c.u16_at.ensures c.type_shape.ensures (other_shape _ c.in_default-type_shape.not-Other) _
     (λ v n e. c.copied.ensures v n (sym (ap as_parse c.in-Ok.is) ∙ e))

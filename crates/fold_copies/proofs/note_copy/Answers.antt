@@ -7,4 +7,4 @@ returns-clause-noted c =
     let a = c.args in
     let x = c.in-Some.c in
     λ cs r m w. rw c.in-Some.is (rows_more a.copies.now a.n cs (record { source = x.source.0; dest = x.dest.0; asked = asked_number x.asked }) r m w c.requires
-    c.set_number.ensures (rw c.asked_number.ensures at c.set_number-2.ensures) c.number.ensures c.set_number-3.ensures c.set_number-4.ensures)
+    c.put.ensures (rw c.asked_number.ensures at c.put-2.ensures) c.number.ensures c.put-3.ensures c.put-4.ensures)

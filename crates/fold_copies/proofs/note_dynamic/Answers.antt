@@ -10,7 +10,7 @@ returns-then-is_dynamic c =
     let a = c.args in
     noted_dynamic a.code a.row.now a.dynamic.now _ c.instruction-t.ensures _
     (λ i n e. c.is_dynamic.ensures ∙ ap dynamic_step (c.projection.ensures [] false i n e)) c.if-is_dynamic.true _
-    c.number-base.ensures c.set_flag.ensures
+    c.number-base.ensures c.put.ensures
 
 pub returns-else-is_dynamic : goal.returns-else-is_dynamic
 returns-else-is_dynamic c =

@@ -12,7 +12,6 @@ loop-k-preserved c =
     scan_again a.code a.first a.count _ _ l.copies l.dynamic l.n l.k _ _ _ _
     (as_copy c.copy_at.result) l.invariant c.loop-k-test.true c.rows-row.ensures
     c.copy_at.ensures c.note_copy-n.ensures.few c.note_copy-n.ensures.noted c.note_dynamic.ensures c.note_copy-n.auto.copies
-    c.note_dynamic.auto.dynamic
 
 pub returns : goal.returns
 returns c =

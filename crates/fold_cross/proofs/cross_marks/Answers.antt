@@ -1,9 +1,9 @@
 use Rattle.fold_cross.proofs.Single.{single_crosses}
-use Rattle.fold_cross.proofs.Uniting.{clear_part}
+use Rattle.std.proofs.lemmas.List.{take-replicate}
 use Rattle.fold_cross.proofs.cross_marks.Goals as goal
 
 pub returns : goal.returns
-returns c = λ σ τ ks k. c.cross_blocks.ensures (clear_part 0 c.args.code.bounds.next 256 k.ground.few) σ τ ks k
+returns c = λ σ τ ks k. c.cross_blocks.ensures (take-replicate c.args.code.bounds.next 256 0 k.ground.few) σ τ ks k
 
 pub returns-then-code-lt2 : goal.returns-then-code-lt2
 returns-then-code-lt2 c =

@@ -6,7 +6,7 @@ use Rattle.fold_family.proofs.family.Goals as goal
 pub loop-turns-init : goal.loop-turns-init
 loop-turns-init c =
     let a = c.args in
-    going_start a.copies.now a.shape a.v.0 a.marks.now a.members.now c.set_flag.ensures c.set_number.ensures
+    going_start a.copies.now a.shape a.v.0 a.marks.now a.members.now c.put.ensures c.put-2.ensures
 
 pub returns-then-not-is_open : goal.returns-then-not-is_open
 returns-then-not-is_open c =

@@ -1,11 +1,15 @@
-use Rattle.fold_phis.proofs.FrontPhis.{skip_on, skip_found, skip_none}
+use Rattle.std.proofs.Common.{refl, arith, ◌∙◌, ◌+◌, rules}
+use Rattle.std.proofs.lemmas.Iterator.{YieldsList-from_range}
+use Rattle.std.proofs.lemmas.Iterator.Search.{any_from_yields_List}
+use Rattle.fold_phis.specs.Skipped.{tells_phi}
+use Rattle.fold_phis.proofs.FrontPhis.{any_phi}
 use Rattle.fold_phis.proofs.is_skipped.Goals as goal
 
-pub returns-then-aggregate_phi : goal.returns-then-aggregate_phi
-returns-then-aggregate_phi c = skip_found c.loop-k.invariant c.loop-k-test.true c.aggregate_phi.result c.aggregate_phi.ensures c.if-aggregate_phi.true
-
-pub loop-k-preserved : goal.loop-k-preserved
-loop-k-preserved c = skip_on c.loop-k.invariant c.loop-k-test.true c.aggregate_phi.result c.aggregate_phi.ensures c.if-aggregate_phi.false
-
 pub returns : goal.returns
-returns c = skip_none c.loop-k.invariant c.loop-k-test.false
+returns c b σ τ eligible is f m at l =
+    let a = c.args in
+    let first = a.slots.first in
+    let z = any_phi b a.code a.shapes.now σ τ eligible f m first is at in
+    any_from_yields_List (tells_phi a.code a.shapes.now) _ _ _ c.any.ensures.ran
+    (YieldsList-from_range first (first + a.slots.count) a.slots.count refl (omega arith)) (λ x b q k. search rules)
+    ∙ rw l at z

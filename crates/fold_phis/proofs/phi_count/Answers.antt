@@ -1,13 +1,31 @@
-use Rattle.mir.specs.declared.kind.Kind.{Kind}
-use Rattle.mir.proofs.Numbers.{kind_other, kind_same}
-use Rattle.fold_phis.proofs.FrontPhis.{count_on, count_stop, count_all}
+use Rattle.std.proofs.Common.{◌≡◌, refl, ◌∙◌, ◌+◌, rules, arith}
+use Rattle.std.specs.List.{prefix_len, range_with_len}
+use Rattle.std.proofs.lemmas.List.Folds.{length-prefix_len}
+use Rattle.std.proofs.lemmas.List.FromFn.{length-range_with_len}
+use Rattle.std.proofs.lemmas.List.Sums.{prefix_len-le-length}
+use Rattle.std.proofs.lemmas.Iterator.{YieldsList-from_range}
+use Rattle.std.proofs.lemmas.Iterator.Consumers.{count_from_yields_List}
+use Rattle.std.proofs.lemmas.Iterator.Search.{YieldsList-from_take_while}
+use Rattle.fold_phis.specs.Skipped.{phi_in}
+use Rattle.fold_phis.proofs.FrontPhis.{front_phis}
 use Rattle.fold_phis.proofs.phi_count.Goals as goal
 
-pub returns-then-ne-clause-counted : goal.returns-then-ne-clause-counted
-returns-then-ne-clause-counted c = count_stop c.loop-k.invariant c.loop-k-test.true c.instruction_kind.result c.instruction_kind.ensures (kind_other _ Kind.Phi c.if-ne.ensures)
-
-pub loop-k-preserved : goal.loop-k-preserved
-loop-k-preserved c = count_on c.loop-k.invariant c.loop-k-test.true c.instruction_kind.result c.instruction_kind.ensures (kind_same _ Kind.Phi c.if-ne.ensures)
+-- how many slots from the first on hold a phi
+counted : (c : goal.After-count) → c.count.result ≡ prefix_len (phi_in c.args.facts.now) (range_with_len c.args.slots.first c.args.slots.count)
+counted c =
+    let a = c.args in
+    let first = a.slots.first in
+    let n = a.slots.count in
+    count_from_yields_List _ _ c.count.ensures.ran
+    (YieldsList-from_take_while _ (phi_in a.facts.now)
+    (YieldsList-from_range first (first + n) n (c.take_while-phis.ensures.source ∙ refl) (omega arith))
+    c.take_while-phis.ensures.closure c.take_while-phis.ensures.done (λ x b q k. search rules))
+    ∙ length-prefix_len (phi_in a.facts.now) (range_with_len first n)
 
 pub returns-clause-counted : goal.returns-clause-counted
-returns-clause-counted c = count_all c.loop-k.invariant c.loop-k-test.false
+returns-clause-counted c b s is at l = rw (counted c, ← l) (front_phis b s c.args.facts.now c.args.slots.first is at)
+
+pub returns-clause-few : goal.returns-clause-few
+returns-clause-few c =
+    let a = c.args in
+    omega (arith, counted c, prefix_len-le-length (phi_in a.facts.now) (range_with_len a.slots.first a.slots.count), length-range_with_len a.slots.first a.slots.count)

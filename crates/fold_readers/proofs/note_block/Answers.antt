@@ -6,7 +6,7 @@ loop-k-preserved c =
     let a = c.args in
     let l = c.loop-k in
     reading_again a.own.number a.facts.now a.slots _ l.readers _ l.k l.invariant c.loop-k-test.true
-    c.note_instruction.ensures c.note_instruction.auto.readers
+    c.note_instruction.ensures
 
 pub returns : goal.returns
 returns c =

@@ -5,8 +5,8 @@ pub loop-k-preserved : goal.loop-k-preserved
 loop-k-preserved c =
     let a = c.args in
     let l = c.loop-k in
-    noting_again a.facts.now a.many _ l.readers _ l.k _ c.block_slots.result l.invariant c.loop-k-test.true c.block_number.ensures
-    c.block_slots.ensures c.note_block.ensures c.note_block.auto.readers
+    noting_again a.code.facts.now _ _ l.readers _ l.k _ c.block_slots-slots.result l.invariant c.loop-k-test.true c.block_number.ensures
+    c.block_slots-slots.ensures c.note_block.ensures
 
 pub returns : goal.returns
-returns c = noting_done c.args.facts.now c.args.many _ c.loop-k.readers c.loop-k.k c.loop-k.invariant c.loop-k-test.false
+returns c = noting_done c.args.code.facts.now _ _ c.loop-k.readers c.loop-k.k c.loop-k.invariant c.loop-k-test.false

@@ -5,11 +5,11 @@ use Rattle.fold_scan.proofs.note_place.Goals as goal
 pub returns-then-varies : goal.returns-then-varies
 returns-then-varies c =
     let a = c.args in
-    place_barred a.code a.slot a.graph.now c.place.result c.place.ensures.0 c.tail-t.result.now
-    c.tail-t.ensures _ c.projection.ensures (sym c.varies.ensures ∙ c.if-varies.true) _ c.read.ensures _ c.bar.ensures
+    place_barred a.code a.slot a.graph.now c.instruction.result.now
+    c.instruction.ensures _ c.projection.ensures (sym c.varies.ensures ∙ c.if-varies.true) _ c.read.ensures _ c.bar.ensures
 
 pub returns-else-varies : goal.returns-else-varies
 returns-else-varies c =
     let a = c.args in
-    place_kept a.code a.slot a.graph.now c.place.result c.place.ensures.0 c.tail-t.result.now
-    c.tail-t.ensures _ c.projection.ensures (sym c.varies.ensures ∙ c.if-varies.false)
+    place_kept a.code a.slot a.graph.now c.instruction.result.now
+    c.instruction.ensures _ c.projection.ensures (sym c.varies.ensures ∙ c.if-varies.false)

@@ -26,21 +26,20 @@ returns-in-Load c =
 pub returns-in-MakeTuple : goal.returns-in-MakeTuple
 returns-in-MakeTuple c =
     let a = c.args in
-    one_tuple a.code a.slot a.values a.pass a.graph.now _ c.in-Some.ensures _ c.dest-d.result c.dest-d.ensures c.passes-good.result
-    (ap number_of_kind c.in-MakeTuple.is) c.passes-good.ensures c.note_build.ensures
+    one_tuple a.code a.slot a.values a.pass a.graph.now _ c.in-Some.ensures _ _ refl _
+    (ap number_of_kind c.in-MakeTuple.is) refl c.note_shaped.ensures
 
 pub returns-in-MakeStruct : goal.returns-in-MakeStruct
 returns-in-MakeStruct c =
     let a = c.args in
     one_struct a.code a.slot a.values a.pass a.graph.now _ c.in-Some.ensures _ c.dest.result c.dest.ensures a.pass
-    (ap number_of_kind c.in-MakeStruct.is) refl c.note_build-in-MakeStruct.ensures
+    (ap number_of_kind c.in-MakeStruct.is) refl c.note_build.ensures
 
 pub returns-in-MakeFixedArray : goal.returns-in-MakeFixedArray
 returns-in-MakeFixedArray c =
     let a = c.args in
-    one_array a.code a.slot a.values a.pass a.graph.now _ c.in-Some.ensures _ c.dest-d-in-MakeFixedArray.result c.dest-d-in-MakeFixedArray.ensures
-    c.passes-good-in-MakeFixedArray.result (ap number_of_kind c.in-MakeFixedArray.is) c.passes-good-in-MakeFixedArray.ensures
-    c.note_build-in-MakeFixedArray.ensures
+    one_array a.code a.slot a.values a.pass a.graph.now _ c.in-Some.ensures _ _ refl _
+    (ap number_of_kind c.in-MakeFixedArray.is) refl c.note_shaped-in-MakeFixedArray.ensures
 
 pub returns-in_default-kind : goal.returns-in_default-kind
 returns-in_default-kind c =

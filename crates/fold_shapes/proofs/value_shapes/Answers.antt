@@ -7,5 +7,5 @@ loop-v-preserved c =
     let a = c.args in
     let l = c.loop-v in
     fill_again a.typing a.settings _ _ l.shapes l.eligible l.v _ _ _ _ _ _
-    l.invariant c.loop-v-test.true c.recorded_type-t.ensures c.type_row-row.ensures c.row_shape.ensures c.row_eligible.ensures (rw (shape_tag c.row_shape.result) at c.set_byte.ensures)
-    c.set_flag.ensures
+    l.invariant c.loop-v-test.true c.recorded_type-t.ensures c.type_row-row.ensures c.row_shape.ensures c.row_eligible.ensures (rw (shape_tag c.row_shape.result) at c.put.ensures)
+    c.put-in-loop-v.ensures

@@ -1,17 +1,18 @@
-use mathlib.Core.Path.{ap, ◌∙◌}
-use mathlib.Core.Bool.{not}
-use Rattle.fold_structs.proofs.Given.{naming_on, naming_missing, naming_all}
+use Rattle.std.proofs.Common.{refl, arith, ◌∙◌, ◌+◌, ◌*◌, rules}
+use Rattle.std.proofs.lemmas.Iterator.{YieldsList-from_range}
+use Rattle.std.proofs.lemmas.Iterator.Search.{all_from_yields_List}
+use mathlib.Core.Path.{sym}
+use native.Mathlib.Nat.{zero-add}
+use Rattle.bytes_wire.specs.Number.{at16}
+use Rattle.mir.specs.Lookup.{is_some}
+use Rattle.mir.specs.Parts.{given}
+use Rattle.fold_structs.proofs.Given.{all_named}
 use Rattle.fold_structs.proofs.all_given.Goals as goal
 
-pub returns-then-is_none : goal.returns-then-is_none
-returns-then-is_none c =
-    naming_missing c.loop-i.invariant c.loop-i-test.true c.u16_at.result c.u16_at.ensures c.find_init.result
-    c.find_init.ensures (c.is_none.ensures ∙ ap not c.if-is_none.true)
-
-pub loop-i-preserved : goal.loop-i-preserved
-loop-i-preserved c =
-    naming_on c.loop-i.invariant c.loop-i-test.true c.u16_at.result c.u16_at.ensures c.find_init.result
-    c.find_init.ensures (c.is_none.ensures ∙ ap not c.if-is_none.false)
-
 pub returns : goal.returns
-returns c = naming_all c.loop-i.invariant c.loop-i-test.false
+returns c next fs ts a l names m =
+    let row = c.args.row.now in
+    let n = c.field_count.result in
+    all_from_yields_List (λ i. is_some (given (record { 0 = at16 row (4 + 4 * i) }) fs)) _ _ _ c.all.ensures.ran
+    (YieldsList-from_range 0 n n refl (omega arith)) (λ x b q k. search (rules, a, l))
+    ∙ rw (m ∙ sym c.field_count.ensures) at (all_named row 0 fs ts (λ i h. rw zero-add (names.each i h)))

@@ -1,4 +1,4 @@
-use Rattle.std.proofs.Common.{drop, get_or}
+use Rattle.std.proofs.Common.{get_or}
 use mathlib.Core.Path.{ap, ◌∙◌}
 use Rattle.bytes_wire.specs.Number.{at16}
 use Rattle.bytes_sections.specs.Index.{recorded_from}
@@ -6,10 +6,10 @@ use Rattle.fold_structs.specs.Told.{goes_by}
 use Rattle.fold_structs.proofs.Conditions.{typed, goes_told, passes_short, passes_type, passes_marked, passes_told}
 use Rattle.fold_structs.proofs.struct_passes.Goals as goal
 
-pub returns-then-size-lt2 : goal.returns-then-size-lt2
-returns-then-size-lt2 c =
+pub returns-then-size-lt-ID : goal.returns-then-size-lt-ID
+returns-then-size-lt-ID c =
     let a = c.args in
-    passes_short a.code a.settings a.cross.now a.t.now a.size c.if-size-lt2.true
+    passes_short a.code a.settings a.cross.now a.t.now a.size c.if-size-lt-ID.true
 
 pub returns-then-not-type_eligible : goal.returns-then-not-type_eligible
 returns-then-not-type_eligible c =
@@ -22,7 +22,7 @@ returns-then-flag c =
     let a = c.args in
     passes_marked a.code a.settings a.cross.now a.t.now a.size (typed c.u16_at.result) c.u16_at.ensures c.type_eligible.result
     c.type_eligible.ensures c.if-not-type_eligible.false c.u16_at-2.result
-    (c.u16_at-2.ensures ∙ ap (λ u. at16 u 0) (c.tail.ensures ∙ ap (λ o. drop o a.t.now) c.fields_place.ensures)) c.flag.result
+    (c.u16_at-2.ensures ∙ ap (λ u. at16 u 0) c.own_fields-own.ensures) c.flag.result
     c.flag.ensures c.if-flag.true
 
 pub returns : goal.returns
@@ -30,8 +30,8 @@ returns c =
     let a = c.args in
     passes_told a.code a.settings a.cross.now a.t.now a.size (typed c.u16_at.result) c.u16_at.ensures c.type_eligible.result
     c.type_eligible.ensures c.if-not-type_eligible.false c.u16_at-2.result
-    (c.u16_at-2.ensures ∙ ap (λ u. at16 u 0) (c.tail.ensures ∙ ap (λ o. drop o a.t.now) c.fields_place.ensures)) c.flag.result
+    (c.u16_at-2.ensures ∙ ap (λ u. at16 u 0) c.own_fields-own.ensures) c.flag.result
     c.flag.ensures c.if-flag.false c.unwrap_or.result
     (c.unwrap_or.ensures ∙ goes_told c.recorded_type-recorded.result (typed c.u16_at.result)
     ∙ ap (λ o. goes_by o (typed c.u16_at.result)) (c.recorded_type-recorded.ensures ∙ ap (λ u. recorded_from (get_or u c.u16_at-2.result 0)) c.recorded.ensures))
-    c.told_by.result c.told_by.ensures
+    c.told_by.result (rw c.own_fields-own.ensures at c.told_by.ensures)

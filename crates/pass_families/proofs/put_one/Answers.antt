@@ -1,15 +1,16 @@
-use Rattle.std.proofs.Common.{rules}
+use Rattle.std.proofs.Common.{ap, sym, ◌∙◌}
+use Rattle.mir.specs.Kind.{build_kind}
 use Rattle.pass_families.proofs.Putting.{puts_none, puts_one}
 use Rattle.pass_families.proofs.put_one.Goals as goal
 
-pub returns-in-MakeTuple-clause-written : goal.returns-in-MakeTuple-clause-written
-returns-in-MakeTuple-clause-written c =
-    let a = c.args in
-    puts_one a.named a.code a.at.block a.tables a.at.instruction a.at.slot a.text.now
-    c.in-Some.kind c.in-Some.ensures c.put_build.new.text c.put_build.result c.in-MakeTuple.is c.put_build.ensures.written
-
-pub returns-in_default-kind-clause-written : goal.returns-in_default-kind-clause-written
-returns-in_default-kind-clause-written c =
+pub returns-then-not-is_build-clause-written : goal.returns-then-not-is_build-clause-written
+returns-then-not-is_build-clause-written c =
     let a = c.args in
     puts_none a.named a.code a.at.block a.tables a.at.instruction a.at.slot a.text.now
-    c.in-Some.kind c.in-Some.ensures (λ k. search rules)
+    (ap build_kind (sym c.in-Some.ensures) ∙ sym c.if-not-is_build.ensures)
+
+pub returns-clause-written : goal.returns-clause-written
+returns-clause-written c =
+    let a = c.args in
+    puts_one a.named a.code a.at.block a.tables a.at.instruction a.at.slot a.text.now c.put_build.new.text c.put_build.result
+    (ap build_kind (sym c.in-Some.ensures) ∙ sym c.if-not-is_build.ensures) c.put_build.ensures.written

@@ -8,4 +8,4 @@ returns-clause-written c =
     let g = (coded a).ground in
     let n = next_few a in
     c.put_blocks.ensures.written _ a _
-    (c.value_shapes.ensures c.args.code.bounds.list (types_in a.routine) (rw c.recorded.ensures g.known) g.rows g.values n n)
+    (c.value_shapes.ensures c.args.code.bounds.list (types_in a.routine) (rw (c.typing.ensures.code, c.typing.ensures.recorded) g.known) (rw c.typing.ensures.code g.rows) (rw c.typing.ensures.code g.values) (rw c.typing.ensures.code n) (rw c.typing.ensures.code n))

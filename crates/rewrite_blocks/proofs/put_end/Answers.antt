@@ -6,21 +6,17 @@ use Rattle.rewrite_parts.specs.Rows.{fresh_in}
 use Rattle.rewrite_blocks.proofs.Ends.{return_end, other_end}
 use Rattle.rewrite_blocks.proofs.put_end.Goals as goal
 
-pub returns-then-is_return : goal.returns-then-is_return
-returns-then-is_return c =
-    let a = c.args in record {
-      by_index = c.put_return.ensures.by_index;
-      end_put = λ τ S used t dropped g rep line bd. return_end a.code a.slot t g.bytes line _ _
-          c.place-at.ensures.0 c.byte_at.ensures _ (eqb-true _ 3 (sym c.is_return.ensures ∙ c.if-is_return.true))
-          (λ xs z y. c.put_return.ensures.return_put τ S used xs dropped (finish τ S (a.code.bounds.next + a.p.fresh) t) g rep y
-          (ap (finish τ S (a.code.bounds.next + a.p.fresh)) z) bd);
-    }
+pub returns-then-is_return-clause-end_put : goal.returns-then-is_return-clause-end_put
+returns-then-is_return-clause-end_put c =
+    let a = c.args in
+    λ τ S used t dropped g rep line bd. return_end a.site.code a.site.slot t g.bytes line _ _
+    c.place-at.ensures.0 c.byte_at.ensures _ (eqb-true _ 3 (sym c.is_return.ensures ∙ c.if-is_return.true))
+    (λ xs z y. c.put_return.ensures.return_put τ S used xs dropped (finish τ S (a.site.code.bounds.next + a.p.fresh) t) g rep y
+    (ap (finish τ S (a.site.code.bounds.next + a.p.fresh)) z) bd)
 
-pub returns : goal.returns
-returns c =
-    let a = c.args in record {
-      by_index = c.put_part.ensures.by_index;
-      end_put = λ τ S used t dropped g rep line bd. other_end a.code a.slot t g.bytes line _ _
-          c.place-at.ensures.0 c.byte_at.ensures τ S (a.code.bounds.next + a.p.fresh) _ _ a.out.now _ (fresh_in a.work.now) dropped a.p _
-          (eqb-false _ 3 (sym c.is_return.ensures ∙ c.if-is_return.false)) c.end.ensures c.between-part.ensures c.put_part.ensures.part_put;
-    }
+pub returns-clause-end_put : goal.returns-clause-end_put
+returns-clause-end_put c =
+    let a = c.args in
+    λ τ S used t dropped g rep line bd. other_end a.site.code a.site.slot t g.bytes line _ _
+    c.place-at.ensures.0 c.byte_at.ensures τ S (a.site.code.bounds.next + a.p.fresh) _ _ a.out.now _ (fresh_in a.work.now) dropped a.p _
+    (eqb-false _ 3 (sym c.is_return.ensures ∙ c.if-is_return.false)) c.end.ensures c.between-part.ensures c.put_part.ensures.part_put

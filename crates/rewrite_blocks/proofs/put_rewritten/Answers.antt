@@ -8,16 +8,6 @@ use Rattle.rewrite_perform.proofs.Lows.{low_mono}
 use Rattle.rewrite_blocks.proofs.Laying.{block_clash, block_end, low_begun, low_walked, low_end}
 use Rattle.rewrite_blocks.proofs.put_rewritten.Goals as goal
 
-pub put_instructions-requires : goal.put_instructions-requires
-put_instructions-requires c =
-    let at = c.block_slots-at.ensures in
-    record {
-      most = at.most;
-      low = low_begun 4800 c.args.p c.moved-body.result c.moved-body.ensures c.requires.0;
-      used = refl;
-      long = c.requires.1.1;
-    }
-
 pub put_end-done-requires : goal.put_end-done-requires
 put_end-done-requires c =
     let t = c.put_instructions in
@@ -25,9 +15,6 @@ put_end-done-requires c =
     low_mono (4800 + 129) 8000 _ (omega arith)
     (low_walked 4800 c.block_slots-at.result.count _ _ c.block_slots-at.ensures.most
     (c.in_ok-q.ensures.by_index (4800 + 1) (low_begun 4800 c.args.p body.result body.ensures c.requires.0)))
-
-pub put_count-requires : goal.put_count-requires
-put_count-requires c = low_mono 4800 8000 _ (omega arith) c.requires.0
 
 pub returns-in_err-q-clause-one_put : goal.returns-in_err-q-clause-one_put
 returns-in_err-q-clause-one_put c = let a = c.args in

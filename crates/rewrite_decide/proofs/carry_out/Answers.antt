@@ -1,4 +1,4 @@
-use Rattle.rewrite_decide.proofs.Carried.{carry_keep, carry_share, carry_assign, carry_replace, carry_values, carry_fields}
+use Rattle.rewrite_decide.proofs.Carried.{carry_keep, carry_share, carry_assign, carry_replace, carry_values}
 use Rattle.rewrite_decide.proofs.carry_out.Goals as goal
 
 pub returns-in-Keep-clause-carried_out : goal.returns-in-Keep-clause-carried_out
@@ -15,6 +15,3 @@ returns-in-Replace-clause-carried_out c = λ next S i x g rep few room. carry_re
 
 pub returns-in-Values-clause-carried_out : goal.returns-in-Values-clause-carried_out
 returns-in-Values-clause-carried_out c = λ next S i x g rep few room. carry_values c.args.code g rep few room c.in-Values.is c.build_values.ensures.values_built
-
-pub returns-in-Fields-clause-carried_out : goal.returns-in-Fields-clause-carried_out
-returns-in-Fields-clause-carried_out c = λ next S i x g rep few room. carry_fields c.args.code g rep few room c.in-Fields.is c.build_fields.ensures.fields_built

@@ -1,4 +1,5 @@
 use Rattle.std.proofs.Common.{refl, ◌∙◌, sym, ap}
+use mathlib.Core.Logic.{⊎_elim}
 use Rattle.mir.specs.Kind.{number_of_kind}
 use Rattle.rewrite_arms.proofs.Actions.{plans_keep}
 use Rattle.rewrite_arms.specs.Decided.{load_kind, make_tuple_kind, extract_element_kind, make_struct_kind}
@@ -25,9 +26,16 @@ returns-in-Load c = let a = c.args in
 
 pub returns-in-MakeTuple : goal.returns-in-MakeTuple
 returns-in-MakeTuple c = let a = c.args in
-    let is = ap number_of_kind c.in-MakeTuple.is in
-    let on = acting a.settings.tuples a.settings.structs a.fold make_tuple_kind c.active.ensures c.if-not-active.false is in
-    λ τ S folds m i used h w n3 n6 f. tuple_step h w a.settings folds m _ f on (sym (c.in-Some.ensures ∙ h.line.kind) ∙ is)
+    λ τ S folds m i used h w n3 n6 f. ⊎_elim
+    (λ e. let is = ap number_of_kind e in
+    tuple_step h w a.settings folds m _ f
+    (acting a.settings.tuples a.settings.structs a.fold make_tuple_kind c.active.ensures c.if-not-active.false is)
+    (sym (c.in-Some.ensures ∙ h.line.kind) ∙ is))
+    (λ e. let is = ap number_of_kind e in
+    array_step h w a.settings folds m _ f
+    (acting a.settings.tuples a.settings.structs a.fold make_array_kind c.active.ensures c.if-not-active.false is)
+    (sym (c.in-Some.ensures ∙ h.line.kind) ∙ is))
+    c.in-MakeTuple.is
 
 pub returns-in-ExtractTupleElement : goal.returns-in-ExtractTupleElement
 returns-in-ExtractTupleElement c = let a = c.args in
@@ -59,9 +67,3 @@ returns-in-InsertTuple c = let a = c.args in
     let is = ap number_of_kind c.in-InsertTuple.is in
     let on = acting a.settings.tuples a.settings.structs a.fold insert_element_kind c.active.ensures c.if-not-active.false is in
     λ τ S folds m i used h w n3 n6 f. c.insert_element.ensures _ a.settings τ S folds m i used h w (sym (c.in-Some.ensures ∙ h.line.kind) ∙ is) on
-
-pub returns-in-MakeFixedArray : goal.returns-in-MakeFixedArray
-returns-in-MakeFixedArray c = let a = c.args in
-    let is = ap number_of_kind c.in-MakeFixedArray.is in
-    let on = acting a.settings.tuples a.settings.structs a.fold make_array_kind c.active.ensures c.if-not-active.false is in
-    λ τ S folds m i used h w n3 n6 f. array_step h w a.settings folds m _ f on (sym (c.in-Some.ensures ∙ h.line.kind) ∙ is)

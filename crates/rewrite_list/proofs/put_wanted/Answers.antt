@@ -22,10 +22,10 @@ returns-in_err-to-clause-wanted_put c =
 pub returns-clause-work_unchanged : goal.returns-clause-work_unchanged
 returns-clause-work_unchanged c =
     let a = c.args in
-    ap (take 2432) c.set_number.ensures ∙ take-set-le 2432 a.work.now (2432 + a.p.fresh) _ (omega arith)
+    ap (take 2432) c.put.ensures ∙ take-set-le 2432 a.work.now (2432 + a.p.fresh) _ (omega arith)
 
 pub returns-clause-wanted_put : goal.returns-clause-wanted_put
 returns-clause-wanted_put c =
     let a = c.args in
     wanted_made _ a.work.now _ _ _ a.p _ a.wants c.in-Some.is _ _ _ c.fresh_value-d.ensures
-    c.in_ok-to.ensures.tracked_put c.set_number.ensures (moved a.p.to _)
+    c.in_ok-to.ensures.tracked_put c.put.ensures (moved a.p.to _)

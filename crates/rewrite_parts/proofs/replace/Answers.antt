@@ -12,11 +12,11 @@ pub returns-clause-replaced : goal.returns-clause-replaced
 returns-clause-replaced c =
     let a = c.args in
     let many = c.part_count-n.ensures in
-    let from = c.number.ensures in
+    let from = c.place.ensures in
     λ next s S xs ys y r q b e f w.
     let l = many.parts_counted next s _ _ S xs r e in
     let held = found_row r a.v.0 e in
     let row = c.copy_row.ensures.row_copied (omega (arith, held.below, from)) (omega (arith, held.most, q)) in
-    simp (c.set_number.ensures, c.set_flag.ensures, c.set_place.ensures)
+    simp (c.set_row.ensures.placed, c.set_row.ensures.marked, c.set_place.ensures)
     (rep_replace a.d a.v a.k _ a.place r q b e f w (sym l) c.copy_row.ensures.grown
     (λ j h. row j h ∙ ap (λ m. get_or a.rows.now (m + j) 0) from) (omega (arith, c.if-n-k.false)))

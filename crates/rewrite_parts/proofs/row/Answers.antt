@@ -6,5 +6,5 @@ pub returns-clause-parts_stand : goal.returns-clause-parts_stand
 returns-clause-parts_stand c =
     λ next s tracked used S xs r e.
     let h = found_row r c.args.v.0 e in
-    let n = rw c.number-at.ensures at c.number-n.ensures in
-    rw c.number-at.ensures (row_stands h r.room _ (omega (arith, n, h.many)))
+    let n = rw c.place-at.ensures at c.number-n.ensures in
+    rw c.place-at.ensures (row_stands h r.room _ (omega (arith, n, h.many)))

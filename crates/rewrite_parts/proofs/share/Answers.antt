@@ -2,4 +2,4 @@ use Rattle.rewrite_parts.proofs.Tables.{rep_share}
 use Rattle.rewrite_parts.proofs.share.Goals as goal
 
 pub returns : goal.returns
-returns c = λ next s used S xs r e h. simp (c.set_number.ensures, c.set_flag.ensures, c.number-first.ensures) (rep_share r _ _ e h)
+returns c = λ next s used S xs r e h. simp (c.set_row.ensures.placed, c.set_row.ensures.marked, c.number-first.ensures) (rep_share r _ _ e h)

@@ -12,13 +12,11 @@ returns-in-Keep-clause-performs c =
     a.p _ τ a.slot _ _ _ c.in-Keep.is refl g line c.place.ensures.0 c.end.ensures c.between-part.ensures
     c.put_part.ensures.part_put
 
-pub returns-in-Track : goal.returns-in-Track
-returns-in-Track c =
-    let a = c.args in record {
-      by_index = λ k l. rw c.left_out.ensures (low_raised k a.p l c.in-Track.what a.p.to a.p.lines (omega arith) (omega arith));
-      performs = λ τ S i q types g line d. does_track a.code S i q a.action d a.out.now _ types a.dropped.now _ a.p _ _ _
-          c.in-Track.is refl c.set_flag.ensures c.left_out.ensures;
-    }
+pub returns-in-Track-clause-performs : goal.returns-in-Track-clause-performs
+returns-in-Track-clause-performs c =
+    let a = c.args in
+    λ τ S i q types g line d. does_track a.code S i q a.action d a.out.now _ types a.dropped.now _ a.p _ _ _
+    c.in-Track.is refl c.put.ensures c.left_out.ensures
 
 pub returns-in-Assign : goal.returns-in-Assign
 returns-in-Assign c =

@@ -1,20 +1,11 @@
-use Rattle.std.proofs.Common.{refl}
-use Rattle.bytes_wire.specs.WellFormed.{FitValue}
-use Rattle.mir.specs.declared.Value.{Value}
-use Rattle.rewrite.specs.Rebuild.{return_type}
-use Rattle.shelf_field.proofs.Single.{recorded_told}
+use Rattle.std.proofs.Common.{◌∙◌, sym}
+use Rattle.shelf_types.proofs.Fitted.{given_type}
+use Rattle.shelf_field.proofs.Single.{type_of_operand, type_of_none}
 use Rattle.shelf_field.proofs.value_type.Goals as goal
 
-pub returns-in-Literal : goal.returns-in-Literal
-unfolding return_type
-returns-in-Literal c = λ b s types τ g h. rw c.in-Literal.is refl
+pub returns-in_err-operand : goal.returns-in_err-operand
+returns-in_err-operand c = λ b s types τ g h. rw c.from_residual.ensures (type_of_none τ c.args.x (sym c.in_err-operand.was ∙ c.operand.ensures))
 
-pub returns-in-Operand : goal.returns-in-Operand
-unfolding return_type
-returns-in-Operand c = λ b s types τ g h.
-    let k : FitValue b.next (Value.Operand c.in-Operand.v) = rw c.in-Operand.is at h in
-    rw c.in-Operand.is (recorded_told c.in-Operand.v _ g k.0 (c.recorded_type.ensures τ))
-
-pub returns-in-Error : goal.returns-in-Error
-unfolding return_type
-returns-in-Error c = λ b s types τ g h. rw c.in-Error.is refl
+pub returns : goal.returns
+returns c = λ b s types τ g h.
+    type_of_operand b.next τ c.args.x (sym c.in_ok-operand.was ∙ c.operand.ensures) h (λ k. given_type _ g k c.recorded_type.ensures)

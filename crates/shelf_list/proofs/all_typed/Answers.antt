@@ -1,12 +1,9 @@
-use mathlib.Core.Path.{◌∙◌, sym}
 use Rattle.std.proofs.Common.{rules}
 use Rattle.mir.specs.Lookup.{is_some, recorded_type}
-use Rattle.shelf_field.proofs.Lines.{every_all}
 use Rattle.shelf_field.specs.Fields.{IdAt}
-use Rattle.shelf_field.proofs.Passing.{passing}
+use Rattle.shelf_field.proofs.Passing.{passing_every}
 use Rattle.shelf_list.proofs.all_typed.Goals as goal
 
 pub returns : goal.returns
 returns c = λ s types τ ds g l h.
-    passing {Q = IdAt c.args.typing.code.bounds.next c.args.list.bytes.now} {ask = λ k v. is_some (recorded_type τ v)} c.args.list.count c.each_passes.ensures (λ p q e. search rules) (λ i p x r a q t. t s types τ x g q) ds l h
-    ∙ sym (every_all (λ v. is_some (recorded_type τ v)) 0 ds)
+    passing_every {Q = IdAt c.args.typing.code.bounds.next c.args.list.bytes.now} c.args.list.count (λ v. is_some (recorded_type τ v)) c.each_passes.ensures (λ p q e. search rules) (λ i p x r q t. t s types τ x g q) ds l h

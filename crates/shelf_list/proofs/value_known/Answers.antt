@@ -1,11 +1,7 @@
-use mathlib.Core.Path.{ap, ◌∙◌}
-use lib.ListN.{length}
 use Rattle.shelf.specs.Agrees.{is_known}
-use Rattle.bytes_wire.specs.WellFormed.{FitValue}
+use Rattle.shelf_field.proofs.Single.{as_read}
 use Rattle.shelf_list.proofs.value_known.Goals as goal
 
 pub returns : goal.returns
 returns c = λ s types τ x g h.
-    let v = c.value_at-x.ensures x h in
-    let w : FitValue (length τ.recorded) c.value_at-x.result = rw (g.values, v.0) v.1 in
-    c.is_known.ensures τ g.known.recorded_types g.known.long w ∙ ap (is_known τ) v.0
+    as_read c.args.typing.code.bounds.next (is_known τ) (c.value_at-x.ensures x h) (λ w. c.is_known.ensures τ g.known.recorded_types g.known.long (rw (← g.values) at w))

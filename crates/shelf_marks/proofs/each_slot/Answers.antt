@@ -1,18 +1,13 @@
-use mathlib.Core.Bool.{not}
-use mathlib.Core.Path.{ap}
-use Rattle.std.proofs.Common.{arith}
-use Rattle.shelf_marks.proofs.Scanning.{passing_again, passing_stop, passing_done}
+use Rattle.std.proofs.Common.{refl, arith, rules, tests, true, false, ◌+◌}
+use Rattle.std.proofs.lemmas.Iterator.{YieldsList-from_range, cases_from_all}
+use Rattle.shelf_marks.proofs.Scanning.{answers, slots_answered}
 use Rattle.shelf_marks.proofs.each_slot.Goals as goal
 
-pub returns-then-not-test : goal.returns-then-not-test
-returns-then-not-test g c =
-    let a = c.args in
-    passing_stop a.code a.k.0 c.block_slots-slots.result _ c.block_slots-slots.ensures c.loop-i.invariant c.loop-i-test.true (omega arith) c.test.ensures (ap not c.if-not-test.true)
-
-pub loop-i-preserved : goal.loop-i-preserved
-loop-i-preserved g c =
-    let a = c.args in
-    passing_again a.code a.k.0 c.block_slots-slots.result _ c.block_slots-slots.ensures c.loop-i.invariant c.loop-i-test.true (omega arith) c.test.ensures (ap not c.if-not-test.false)
-
 pub returns : goal.returns
-returns g c = let a = c.args in passing_done a.code a.k.0 c.block_slots-slots.result _ c.block_slots-slots.ensures c.loop-i.invariant c.loop-i-test.false
+returns g c =
+    let at = c.block_slots-slots.result in
+    let post = goal.F-post g c.args.test in
+    slots_answered c.args.code c.args.k.0 at post c.block_slots-slots.ensures c.all.result
+    (answers post at.first at.count c.all.result
+    (cases_from_all _ _ _ (λ x. post x true) (λ x. post x false) c.all.ensures.ran
+    (YieldsList-from_range at.first (at.first + at.count) at.count refl (omega arith)) (λ x q k. search (rules, tests)) (λ x q k. search (rules, tests))))

@@ -1,19 +1,25 @@
-use mathlib.Core.Path.{ap, ◌∙◌, sym}
-use Rattle.bytes_wire.specs.WellFormed.{FitValue}
-use Rattle.shelf.specs.Agrees.{is_index}
-use Rattle.shelf_place.proofs.Places.{index_told, other_told}
+use mathlib.Core.Path.{refl, sym, ◌∙◌}
+use native.Mathlib.Omega.{arith}
+use Rattle.std.proofs.lemmas.Option.{none-some}
+use Rattle.shelf.specs.Agrees.{index_fits}
+use Rattle.shelf_place.proofs.Places.{index_value, step_is}
 use Rattle.shelf_place.proofs.index_fits.Goals as goal
 
-pub returns-then-byte_at : goal.returns-then-byte_at
-returns-then-byte_at c = λ τ q g h.
+pub returns-in-Some-Index : goal.returns-in-Some-Index
+unfolding index_fits
+returns-in-Some-Index c = λ τ q g h.
     let a = c.args in
-    index_told a.typing.code.bounds.next a.t.now c.tail-u.result.now a.at τ q c.tail-u.ensures h (sym c.byte_at.ensures ∙ c.if-byte_at.true)
-    (λ x w.
-    let v = c.value_at.ensures x w in
-    let f : FitValue a.typing.code.bounds.next c.value_at.result = rw v.0 v.1 in
-    c.is_index.ensures τ g f ∙ ap (is_index τ) v.0)
+    let x = c.in-Some-Index.x in
+    let z = step_is (sym c.in-Some-Index.is ∙ c.step_at.ensures q h) ∙ c.in-Some-Index.field-0-is in
+    rw z (c.is_index.ensures τ g (index_value a.typing.code.bounds.next a.t.now a.at x (λ j. omega (arith, c.type_inv.t j)) (omega arith) (rw z at h)))
 
-pub returns : goal.returns
-returns c = λ τ q g h.
-    let a = c.args in
-    other_told a.typing.code.bounds.next a.t.now c.tail-u.result.now a.at τ q c.tail-u.ensures h (λ z. c.if-byte_at.false (c.byte_at.ensures ∙ z))
+pub returns-in-Some-Field : goal.returns-in-Some-Field
+unfolding index_fits
+returns-in-Some-Field c = λ τ q g h. let z = step_is (sym c.in-Some-Field.is ∙ c.step_at.ensures q h) ∙ c.in-Some-Field.field-0-is in rw z refl
+
+pub returns-in-Some-Tuple : goal.returns-in-Some-Tuple
+unfolding index_fits
+returns-in-Some-Tuple c = λ τ q g h. let z = step_is (sym c.in-Some-Tuple.is ∙ c.step_at.ensures q h) ∙ c.in-Some-Tuple.field-0-is in rw z refl
+
+pub returns-in-None : goal.returns-in-None
+returns-in-None c = λ τ q g h. absurd (none-some q (sym c.in-None.is ∙ c.step_at.ensures q h))

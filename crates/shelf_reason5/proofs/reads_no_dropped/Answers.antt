@@ -4,12 +4,12 @@ use Rattle.shelf_reason5.proofs.reads_no_dropped.Goals as goal
 pub loop-k-init : goal.loop-k-init
 loop-k-init c = over_start _ _ _ _ _
 
-pub returns-in-None : goal.returns-in-None
-returns-in-None c =
+pub returns-in_default : goal.returns-in_default
+returns-in_default c =
     let a = c.args in
     let l = c.loop-k in
     told a.b a.out.now a.at a.dropped.now a.many _ (over_reads a.b a.out.now a.at a.dropped.now a.many l.k l.here
-    l.invariant c.loop-k-test.true _ c.walk_block.ensures c.in-None.is)
+    l.invariant c.loop-k-test.true _ c.walk_block.ensures c.in_default.is)
 
 pub loop-k-preserved : goal.loop-k-preserved
 loop-k-preserved c =

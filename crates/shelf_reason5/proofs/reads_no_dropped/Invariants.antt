@@ -1,5 +1,4 @@
 use Rattle.shelf_reason5.proofs.Blocks.{Over}
-use Rattle.std.proofs.Common.{◌-◌}
 use Rattle.shelf_reason5.proofs.reads_no_dropped.Given as goal
 
 abbrev pub invariant-loop-k : goal.invariant-loop-k

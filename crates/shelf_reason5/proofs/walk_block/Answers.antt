@@ -3,11 +3,8 @@ use native.Mathlib.Omega.{arith}
 use Rattle.shelf_reason5.proofs.Walk.{walk_start, no_room, walk_reads, walk_again, walk_done}
 use Rattle.shelf_reason5.proofs.walk_block.Goals as goal
 
-pub returns-then-s-lt2 : goal.returns-then-s-lt2
-returns-then-s-lt2 c = let a = c.args in no_room a.b a.s.now a.at a.dropped.now (omega arith)
-
-pub returns-then-s-at : goal.returns-then-s-at
-returns-then-s-at c = let a = c.args in no_room a.b a.s.now a.at a.dropped.now (omega arith)
+pub returns-then-s-saturating_add : goal.returns-then-s-saturating_add
+returns-then-s-saturating_add c = let a = c.args in no_room a.b a.s.now a.at a.dropped.now (omega (arith, c.saturating_add.ensures))
 
 pub loop-k-init : goal.loop-k-init
 loop-k-init c = let a = c.args in walk_start a.b a.s.now a.at a.dropped.now c.u16_at-count.ensures

@@ -1,5 +1,4 @@
 use Rattle.shelf_reason5.proofs.Walk.{Walking}
-use Rattle.std.proofs.Common.{◌-◌}
 use Rattle.shelf_reason5.proofs.walk_block.Given as goal
 
 abbrev pub invariant-loop-k : goal.invariant-loop-k

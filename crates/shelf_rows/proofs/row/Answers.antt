@@ -1,4 +1,4 @@
-use Rattle.std.proofs.Common.{ap, ◌∙◌, sym}
+use Rattle.std.proofs.Common.{refl, ap, ◌∙◌, sym}
 use Rattle.mir.specs.Option.{as_option}
 use Rattle.shelf_rows.proofs.Told.{no_row, past_row, the_row}
 use Rattle.shelf_rows.proofs.row.Goals as goal
@@ -6,7 +6,7 @@ use Rattle.shelf_rows.proofs.row.Goals.{in_default-via-in-Some+else-t-code, in_d
 
 pub returns-in-Some : goal.returns-in-Some
 returns-in-Some c = λ τ o a l e.
-    the_row c.args.code.bounds.types τ c.args.code.bounds.list c.in-Some.t o c.if-t-code.true c.tail.ensures c.type_place.ensures a l
+    the_row c.args.code.bounds.types τ c.args.code.bounds.list c.in-Some.t o c.if-t-code.true c.type_row.ensures refl a l
     (sym (ap as_option c.in-Some.is) ∙ e)
 
 pub returns-in_default : goal.returns-in_default

@@ -1,12 +1,13 @@
-use Rattle.std.proofs.Common.{refl, sym, ◌∙◌}
+use Rattle.std.proofs.Common.{◌∙◌, sym}
 use Rattle.mir.specs.declared.shape.Shape.{Shape}
-use Rattle.shelf.specs.Agrees.{is_scalar_type}
-use Rattle.shelf_types.proofs.Numbers.{shape_eq, scalar_some}
+use Rattle.shelf_types.proofs.Fitted.{known_type}
+use Rattle.shelf_types.proofs.Numbers.{shape_eq, scalar_some, scalar_none}
 use Rattle.shelf_types.proofs.is_scalar_type.Goals as goal
 
-pub returns-in-Some : goal.returns-in-Some
-returns-in-Some c = λ τ o a l e. c.eq.ensures ∙ shape_eq c.shape_of.result Shape.Other ∙ scalar_some τ _ (rw c.in-Some.is at e) (c.shape_of.ensures τ o a l e)
+pub returns-then-is_some : goal.returns-then-is_some
+returns-then-is_some c = λ τ o a l e.
+    c.eq.ensures ∙ shape_eq c.shape_of.result Shape.Other
+    ∙ scalar_some τ o (sym (known_type _ o e) ∙ sym c.is_some.ensures ∙ c.if-is_some.true) (c.shape_of.ensures τ o a l e)
 
-pub returns-in-None : goal.returns-in-None
-unfolding is_scalar_type
-returns-in-None c = λ τ o a l e. rw (sym (rw c.in-None.is at e)) refl
+pub returns-else-is_some : goal.returns-else-is_some
+returns-else-is_some c = λ τ o a l e. c.if-is_some.false ∙ sym (scalar_none τ o (sym (known_type _ o e) ∙ sym c.is_some.ensures ∙ c.if-is_some.false))

@@ -1,4 +1,5 @@
-use Rattle.std.proofs.Common.{◌%◌, arith}
+use Rattle.std.proofs.Common.{◌∙◌, ◌≤◌, ◌<◌, ◌/◌, ◌%◌, length, arith}
+use Rattle.std.proofs.lemmas.Grind.{get_or_default_zero}
 use Rattle.bytes_sections.proofs.Map.{power, map_short, map_whole, map_cut, map_spare, map_last}
 use Rattle.bytes_sections.proofs.sections.map_part.Goals as goal
 
@@ -8,17 +9,21 @@ returns-then-s-whole c = rw c.at.ensures (map_short c.args.next c.args.s.now c.i
 pub returns-then-bits-eq0 : goal.returns-then-bits-eq0
 returns-then-bits-eq0 c = map_whole c.args.next c.args.s.now c.if-s-whole.false c.if-bits-eq0.true
 
-pub returns-then-s-whole-2 : goal.returns-then-s-whole-2
-returns-then-s-whole-2 c =
-    rw c.at-then-s-whole-2.ensures (map_cut c.args.next c.args.s.now c.if-s-whole.false c.if-bits-eq0.false c.if-s-whole-2.true)
+pub returns-in_default : goal.returns-in_default
+returns-in_default c =
+    let h : length c.args.s.now ≤ c.args.next / 8 = omega (arith, c.in_default.ensures.lookup) in
+    rw c.at-in_default.ensures (map_cut c.args.next c.args.s.now c.if-s-whole.false c.if-bits-eq0.false h)
 
-pub returns-then-bits-s : goal.returns-then-bits-s
-returns-then-bits-s c =
+pub returns-then-bits-last : goal.returns-then-bits-last
+returns-then-bits-last c =
     let a = c.args in
-    rw c.at-then-bits-s.ensures (map_spare a.next a.s.now c.if-s-whole-2.false c.if-bits-eq0.false
-    (rw (power (a.next % 8) (omega arith)) at c.if-bits-s.true))
+    let h : a.next / 8 < length a.s.now = omega (arith, c.in-Some.ensures.lookup) in
+    let v = c.in-Some.ensures.lookup.1 ∙ get_or_default_zero _ _ _ h in
+    rw c.at-then-bits-last.ensures (map_spare a.next a.s.now h c.if-bits-eq0.false (rw (power (a.next % 8) (omega arith), v) at c.if-bits-last.true))
 
 pub returns : goal.returns
 returns c =
     let a = c.args in
-    map_last a.next a.s.now c.if-s-whole-2.false c.if-bits-eq0.false (rw (power (a.next % 8) (omega arith)) at c.if-bits-s.false)
+    let h : a.next / 8 < length a.s.now = omega (arith, c.in-Some.ensures.lookup) in
+    let v = c.in-Some.ensures.lookup.1 ∙ get_or_default_zero _ _ _ h in
+    map_last a.next a.s.now h c.if-bits-eq0.false (rw (power (a.next % 8) (omega arith), v) at c.if-bits-last.false)

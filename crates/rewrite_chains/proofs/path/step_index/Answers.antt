@@ -9,11 +9,11 @@ unfolding step_index
 returns-in-Index c = λ τ g h. rw c.in-Index.is c.const_integer.ensures
 
 pub returns-in_err-found-in-Field : goal.returns-in_err-found-in-Field
-returns-in_err-found-in-Field c = λ τ g h. rw (c.from_residual.ensures, c.in-Field.is) (field_step τ _ _ none (c.in_err-found-in-Field.ensures c.args.code.bounds.list τ (rw c.recorded-recorded.ensures g.known) g.rows (omega (arith, g.values))))
+returns-in_err-found-in-Field c = λ τ g h. rw (c.from_residual.ensures, c.in-Field.is) (field_step τ _ _ none (c.in_err-found-in-Field.ensures c.args.code.bounds.list τ (rw (c.typing.ensures.code, c.typing.ensures.recorded) g.known) (rw c.typing.ensures.code g.rows) (omega (arith, g.values))))
 
 pub returns-in_ok-found-in-Field : goal.returns-in_ok-found-in-Field
 returns-in_ok-found-in-Field c =
-    λ τ g h. rw c.in-Field.is (field_step τ _ _ (some c.in_ok-found-in-Field.found) (c.in_ok-found-in-Field.ensures c.args.code.bounds.list τ (rw c.recorded-recorded.ensures g.known) g.rows (omega (arith, g.values))))
+    λ τ g h. rw c.in-Field.is (field_step τ _ _ (some c.in_ok-found-in-Field.found) (c.in_ok-found-in-Field.ensures c.args.code.bounds.list τ (rw (c.typing.ensures.code, c.typing.ensures.recorded) g.known) (rw c.typing.ensures.code g.rows) (omega (arith, g.values))))
 
 pub returns-in-Tuple : goal.returns-in-Tuple
 unfolding step_index

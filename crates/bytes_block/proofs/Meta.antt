@@ -1,16 +1,14 @@
 -- The numbers beside an instruction's kind: each stands where its bit does.
-use Prim.Native.Nat.{ℕ, ◌+◌, ◌/◌, ◌%◌, ◌≤◌, ◌<◌, zero-le}
+use Prim.Native.Nat.{ℕ, ◌/◌, ◌%◌, ◌≤◌, zero-le}
 use mathlib.Core.Path.{◌≡◌, refl, ◌∙◌, sym}
 use mathlib.Core.List.{List}
-use mathlib.Core.Bool.{Bool, true, false, not}
-use native.Mathlib.Nat.{add-zero}
+use mathlib.Core.Bool.{Bool, true, false}
 use native.Mathlib.Omega.{arith}
 use borrow.Author.Tests.{ne_eqb}
-use lib.ListN.{length, drop}
-use Rattle.bytes_wire.specs.Parse.{Parse, ok, bad, later, and_then, map_parse}
+use lib.ListN.{length}
+use Rattle.bytes_wire.specs.Parse.{Parse, and_then, map_parse}
 use Rattle.bytes_wire.specs.Number.{u32_of}
-use Rattle.bytes_wire.specs.declared.Cause.{Cause}
-use Rattle.bytes_wire.proofs.Laws.{size, size_and, size_map, size_number, number_short, number_some, map_map, map_and, and_map, assoc, and_ok, and_nothing, later_zero, and_same}
+use Rattle.bytes_wire.proofs.Laws.{size, size_and, size_map, size_number, map_map, map_and, and_map, assoc, and_ok, and_nothing, later_zero, and_same}
 use Rattle.mir.specs.Syntax.{Meta}
 use Rattle.bytes_field.specs.Decode.{bit, optional, span_of, expression_of, meta_of}
 use Rattle.bytes_field.specs.Walk.{Walk}
@@ -19,16 +17,6 @@ use Rattle.bytes_block.specs.Decode.{skipped}
 -- a number that leaves what the walk carries, where it stands at all
 abbrev pub numbered : Bool → ℕ → Walk → List ℕ → Parse Walk
 numbered on width w t = map_parse (λ x. w) (skipped on width t)
-
--- the bytes t behind `at` end before it does
-pub cut : (on : Bool) (width : ℕ) (w : Walk) (s : List ℕ) (at : ℕ) {t : List ℕ} → not on ≡ false → t ≡ drop at s → length t < width → ◌≡◌ {A = Parse Walk} (bad Cause.Truncated at) (later at (numbered on width w (drop at s)))
-cut true width w s at e h l = simp (number_short width (drop at s) (rw h at l), add-zero)
-cut false width w s at e h l = absurd (let z : ◌≡◌ {A = ℕ} 0 1 = cc in omega arith)
-
--- they do not
-pub whole : (on : Bool) (width : ℕ) (w : Walk) (s : List ℕ) (at : ℕ) {t : List ℕ} → not on ≡ false → t ≡ drop at s → width ≤ length t → ◌≡◌ {A = Parse Walk} (ok w (at + width)) (later at (numbered on width w (drop at s)))
-whole true width w s at e h l = simp (number_some width (drop at s) (rw h at l))
-whole false width w s at e h l = absurd (let z : ◌≡◌ {A = ℕ} 0 1 = cc in omega arith)
 
 -- the numbers that three bits choose
 abbrev numbers : Bool → Bool → Bool → Walk → List ℕ → Parse Walk

@@ -51,21 +51,14 @@ const LONG: usize = 8;
 
 // A number of `width` bytes, where `on` says that it stands.
 fn then_number(s: &[u8], p: Scan, on: bool, width: usize) -> Result<Scan, Refusal>
-    requires { width ≤ 8 }
     ensures { (seen : List Bool) (buffer : List ℕ) →
         as_scan result seen buffer ≡ and_then s.now (scanned seen buffer p) (λ w t. map_parse (λ x. w) (skipped on width t)) }
 {
     if !on {
         return Ok(p);
     }
-    let t = bytes_field::tail(s, p.size);
-    if t.len() < width {
-        return Err(Cause::Truncated.at(p.size));
-    }
-    Ok(Scan {
-        size: p.size + width,
-        ..p
-    })
+    let t = table::behind(s, p.size);
+    bytes_field::further(bytes_field::read_number(t, p, width), p.size)
 }
 
 // The span, the expression id and the comment whose bits stand.
@@ -119,7 +112,8 @@ pub fn read_head(s: &[u8], late: bool) -> Result<Head, Refusal>
 }
 
 // An instruction, from its bit map on: its bytes, its reads noted, its dests marked.
-// (`n` and `late` are no `Scan`, here and of a terminator: nothing is read yet, so that its size would be passed and not looked at.)
+// (`n` and `late` are no `Scan`, here and of a terminator: a reader of a field goes on from the scan of the field before it, but no caller here
+// has one in hand. Each slot's reads begin in its own row, so that a `Scan` would be made up at each call, with a size that was not read.)
 pub fn read_instruction(
     s: &[u8],
     b: Bounds,
@@ -179,7 +173,7 @@ fn instruction_rows(
     let mut late = false;
     for i in 0..count {
         let slot = first + i;
-        let t = bytes_field::tail(s, here);
+        let t = table::behind(s, here);
         let reads = bytes_index::row_place(slot, bytes_index::READS);
         let p = read_instruction(t, b, reads, late, seen, facts).map_err(|e| e.behind(here))?;
         let end = here + p.size;
@@ -228,7 +222,7 @@ fn terminator_row(
     ensures { TerminatorRead b at slot s.now (as_part result) facts.old facts.new }
 {
     let mut none: [bool; 0] = [false; 0];
-    let t = bytes_field::tail(s, at);
+    let t = table::behind(s, at);
     let reads = bytes_index::row_place(slot, bytes_index::READS);
     let p = read_terminator(t, b, reads, false, &mut none, facts).map_err(|e| e.behind(at))?;
     let end = at + p.size;
@@ -251,7 +245,7 @@ pub fn read_block(
     ensures { CodeRead m b total at first s.now seen.old
         (as_block result seen.new) facts.old facts.new }
 {
-    let t = bytes_field::tail(s, at);
+    let t = table::behind(s, at);
     let n = bytes_count::block_count(t, m.block, m.all, total).map_err(|e| e.behind(at))?;
     let code = instruction_rows(s, at + n.size, n.value, first, b, seen, facts)?;
     let end = terminator_row(s, code, first + n.value, b, facts)?;

@@ -1,5 +1,6 @@
 // Counts, held to their mosts: a count that passes its most is refused at its own offset.
-// (One function over u8 and u16 would be no plainer: its contract would have to tie the order of its type to that of numbers.)
+// (One function over u8 and u16 would be no plainer: its contract would have to tie the order of its type to that of numbers, and where
+// the test is handed over, each call has as much to write as the `if` has.)
 #![tactic(auto)]
 
 ghost use Rattle.std.specs.Prelude.{◌≡◌};

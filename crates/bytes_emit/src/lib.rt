@@ -18,7 +18,8 @@ use mir::{Literal, NameId, TypeId, Value, ValueId};
 // The bit map of an instruction with nothing beside it.
 const NO_BITS: u8 = 0;
 
-// A number of one, two and four bytes, the lowest first. (Byte by byte: a copy of the four would ask for the room first.)
+// A number of one, two and four bytes, the lowest first. (Byte by byte, each where there is room: `copy` of the four
+// would first ask whether there is room for all of them, and which part of them to copy where there is not.)
 pub fn put_u8(out: &mut [u8], to: usize, b: u8)
     ensures { out.new ≡ sets out.old to (b ∷ []) }
 {

@@ -22,10 +22,6 @@ head s at = get_or-drop at s 0 0 ∙ ap (λ i. get_or s i 0) (add-zero at)
 pub stepped : (s : List ℕ) (at : ℕ) (f : List ℕ → Parse Walk) (seen : List Bool) (buffer : List ℕ) (r : Result Scan Refusal) {t : List ℕ} {d : Parse Walk} → t ≡ drop at s → as_scan r seen buffer ≡ f t → d ≡ later at (as_scan r seen buffer) → d ≡ later at (f (drop at s))
 stepped s at f seen buffer r h e g = g ∙ ap (later at) (e ∙ ap f h)
 
--- and that reaches no further than the bytes do
-pub reaches : (s : List ℕ) (at : ℕ) (f : List ℕ → Parse Walk) {d : Parse Walk} → ((u : List ℕ) → size (f u) ≤ length u) → at ≤ length s → d ≡ later at (f (drop at s)) → size d ≤ length s
-reaches s at f l h e = omega (arith, ap size e, size_later at (f (drop at s)), l (drop at s), length-drop at s)
-
 -- how many bytes the answer of a reader of t speaks of, where t are the bytes behind `at`
 pub bytes_within : (s : List ℕ) (at : ℕ) (r : Result Scan Refusal) (seen : List Bool) (buffer : List ℕ) {t : List ℕ} (d : List ℕ → Parse Walk) → t ≡ drop at s → as_scan r seen buffer ≡ d t → ((u : List ℕ) → size (d u) ≤ length u) → bytes_of r ≤ length s - at
 bytes_within s at r seen buffer d h e l = omega (arith, spoken r seen buffer, ap size (e ∙ ap d h), l (drop at s), length-drop at s)

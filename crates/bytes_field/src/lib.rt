@@ -160,18 +160,11 @@ pub fn read_value(s: &[u8], before: Scan, next: u16, buffer: &mut [u16]) -> Resu
     })
 }
 
-// What stands behind a place; nothing where that is past the end.
-pub fn tail(s: &[u8], at: usize) -> &[u8]
-    ensures { result.now ≡ drop at s.now }
-{
-    table::behind(s, at)
-}
-
 // The bytes from `a` to `e`, as far as they stand there.
 pub fn between(s: &[u8], a: usize, e: usize) -> &[u8]
     ensures { result.now ≡ take (e - a) (drop a s.now) }
 {
-    let t = tail(s, a);
+    let t = table::behind(s, a);
     &t[..t.len().min(e.saturating_sub(a))]
 }
 

@@ -1,17 +1,15 @@
 -- Lookups in the table of facts.
-use Prim.Native.Nat.{ℕ, suc, ◌+◌, ◌*◌, ◌-◌, ◌<◌}
+use Prim.Native.Nat.{ℕ, suc, ◌+◌, ◌*◌, ◌-◌}
 use mathlib.Core.Path.{◌≡◌, ap, ◌∙◌, sym}
 use mathlib.Core.List.{List}
 use mathlib.Core.Option.{Option, none, some}
 use native.Mathlib.Numerals.{add-one}
 use Rattle.mir.specs.declared.TypeId.{TypeId}
 use native.Mathlib.Omega.{arith}
-use lib.ListN.{length, get_or, drop}
+use lib.ListN.{get_or, drop}
 use lib.Seq.{get_or-drop}
-use Rattle.mir.specs.Syntax.{Block}
-use Rattle.bytes_field.specs.declared.Bounds.{Bounds}
-use Rattle.bytes_index.specs.Table.{starts_in, row_number}
-use Rattle.bytes_index.specs.Code.{no_block, CodeIn, LastSlot}
+use Rattle.bytes_index.specs.Table.{row_number}
+use Rattle.bytes_index.specs.Code.{LastSlot}
 use Rattle.bytes_index.specs.Recorded.{recorded_number, recorded_from}
 
 -- a number of a section
@@ -21,15 +19,6 @@ in_section from k facts e = e ∙ sym (get_or-drop from facts k 0)
 -- a number of a row, found at its place
 pub in_row : (slot k at : ℕ) (facts : List ℕ) {r : ℕ} → r ≡ get_or facts at 0 → at ≡ 387 + 20 * slot + k → r ≡ row_number facts slot k
 in_row slot k at facts e h = e ∙ ap (λ j. get_or facts j 0) h
-
--- how many instructions a block has: from its first slot to the next block's, its terminator's aside
-module _ (b : Bounds) (s facts : List ℕ) (ks : List Block) (k : ℕ) (c : CodeIn b s facts ks) (h : k < length ks) {from to : ℕ} (f : from ≡ get_or (starts_in facts) k 0) (t : to ≡ get_or facts (354 + 1 + k) 0) where
-  next_slot : to ≡ from + suc (length (get_or ks k no_block).instructions)
-  next_slot =
-      in_section 354 (suc k) facts (t ∙ ap (λ j. get_or facts j 0) (omega arith)) ∙ c.next k h ∙ ap (λ j. j + suc (length (get_or ks k no_block).instructions)) (sym f)
-
-  pub count_found : to - from - 1 ≡ length (get_or ks k no_block).instructions
-  count_found = omega (arith, next_slot)
 
 -- the slot of a terminator
 module _ (facts : List ℕ) (k : ℕ) {behind : ℕ} (e : behind ≡ get_or facts (354 + 1 + k) 0) where

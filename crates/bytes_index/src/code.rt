@@ -1,6 +1,6 @@
 // An accepted routine as the code goes over it.
-ghost use Rattle.std.specs.Prelude.{◌≡◌, drop, get_or};
-ghost use Rattle.bytes_index.specs.Table.{place_in, recorded_in};
+ghost use Rattle.std.specs.Prelude.{◌≡◌, ◌-◌, drop, get_or, take};
+ghost use Rattle.bytes_index.specs.Table.{place_in, end_in, recorded_in};
 
 use bytes_field::Bounds;
 use mir::TypeId;
@@ -20,6 +20,22 @@ impl<'a> Code<'a> {
         ensures { result.now ≡ drop (place_in self.entry.facts.now slot) self.entry.bytes.now }
     {
         table::behind(self.bytes, crate::place(self.facts, slot))
+    }
+
+    // The bytes of the instruction or the terminator in a slot.
+    pub fn slot_bytes(self, slot: u16) -> &'a [u8]
+        ensures { result.now ≡ take (end_in self.entry.facts.now slot - place_in self.entry.facts.now slot)
+            (drop (place_in self.entry.facts.now slot) self.entry.bytes.now) }
+    {
+        let at = crate::place(self.facts, slot);
+        bytes_field::between(self.bytes, at, crate::end(self.facts, slot))
+    }
+
+    // How many bytes these are, by the table.
+    pub fn slot_size(self, slot: u16) -> usize
+        ensures { result ≡ end_in self.entry.facts.now slot - place_in self.entry.facts.now slot }
+    {
+        crate::end(self.facts, slot).saturating_sub(crate::place(self.facts, slot))
     }
 
     // What stands from the row of a type on, where the table of facts begins with the places of the types.

@@ -94,7 +94,8 @@ pub fn kind_at(facts: &[u16], at: usize) -> Option<Kind>
     Kind::try_from(table::number(facts, at)).ok()
 }
 
-// The number that stands for an instruction's kind.
+// The number that stands for an instruction's kind. (For callers outside the pass, which asks for the kind,
+// `instruction_kind`.)
 pub fn kind(facts: &[u16], slot: u16) -> u16
     ensures { result ≡ kind_in facts.now slot }
 {
@@ -134,9 +135,7 @@ pub fn instruction_count(facts: &[u16], k: BlockId) -> u16
     ensures { (b : Bounds) (s : List ℕ) (ks : List Block)
         → CodeIn b s facts.now ks → k.0 < length ks → result ≡ length (get_or ks k.0 no_block).instructions }
 {
-    let from = first_slot(facts, k);
-    let to = table::number(facts, STARTS + 1 + k.0 as usize);
-    to.saturating_sub(from).saturating_sub(1)
+    last_slot(facts, k).saturating_sub(first_slot(facts, k))
 }
 
 // The slot of block `k`'s terminator: behind those of its instructions.

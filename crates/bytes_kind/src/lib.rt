@@ -51,7 +51,8 @@ const TERMINATOR_ROWS: [&[Class]; 5] = [
     &[],
 ];
 
-// The fields of a kind of instruction.
+// The fields of a kind of instruction. (It, `row_of_end` and `row_of_type` of bytes_types are three of one line each: a trait of kinds that have
+// a row, with its three impls, would be longer.)
 pub fn row_of_kind(kind: Kind) -> &'static [Class]
     ensures told { number_of_row result.now ≡ get_or rows (number_of_kind kind) 0 }
     ensures few { length result.now ≤ 5 }
@@ -85,7 +86,7 @@ pub fn kind_behind(p: Scan, kind: Kind) -> Scan
     }
 }
 
-// The same of what a reader of the instruction answered.
+// The same of what a reader of the instruction answered. (For callers outside the pass, whose own reader has the good answer in hand.)
 pub fn after_kind(p: Result<Scan, Refusal>, kind: Kind) -> Result<Scan, Refusal>
     ensures { (seen : List Bool) (buffer : List ℕ) →
         as_scan result seen buffer ≡ map_parse (λ w. late_behind (number_of_kind kind) w) (as_scan p seen buffer) }

@@ -3,11 +3,12 @@
 // some bytes further, past the bound of a type that held it.)
 #![tactic(auto)]
 
-ghost use Rattle.std.specs.Prelude.{◌≡◌, List, Bool, cond, ℕ, ◌+◌, ◌*◌, ◌≤◌, ◌<◌, drop, get_or};
+ghost use Rattle.std.specs.Prelude.{◌≡◌, List, Bool, cond, ℕ, ◌+◌, ◌-◌, ◌*◌, ◌≤◌, ◌<◌, drop, get_or};
 ghost use Rattle.mir.specs.Kind.{number_of_kind, NamesKind};
 ghost use Rattle.mir.specs.Option.{as_option};
 ghost use Rattle.std.proofs.Math.ListN.{get_elem?};
 ghost use Rattle.bytes_wire.specs.Parse.{ok};
+ghost use Rattle.bytes_wire.specs.Number.{at16};
 ghost use Rattle.bytes_wire.specs.Value.{value_of};
 ghost use Rattle.mir.specs.declared.Value.{Value as AnyValue};
 ghost use Rattle.mir.specs.declared.Projection.{Projection};
@@ -20,7 +21,7 @@ ghost use Rattle.bytes_operands.specs.Reach.{value_reach, step_reach, list_reach
 use bytes_field::{Bounds, ProjectionKind};
 use bytes_wire::ValueKind;
 use mir::kind::Kind;
-use mir::{NameId, Projection, Value};
+use mir::{NameId, Projection, TypeId, Value, ValueId};
 
 // A kind's operand fields, lists and places aside: how many, how far the first stands behind the kind's first field,
 // and how far the second stands behind the first. (A Store's one stands behind its place.)
@@ -74,7 +75,7 @@ pub fn operands_of(kind: Kind) -> Operands
     }
 }
 
-// How many bytes a field takes whose bit may stand.
+// How many bytes a field takes whose bit may stand. (A choice: to multiply by the bit would be no plainer.)
 fn stands(bits: u8, k: u8, size: usize) -> usize
     requires { (k < 8) × (size < 16) }
     ensures { (result ≡ cond (bit k bits) size 0) × (result < 16) }
@@ -94,10 +95,24 @@ pub fn fields_place(s: &[u8]) -> usize
 pub fn own_fields(s: &[u8]) -> &[u8]
     ensures { result.now ≡ drop (fields_place s.now) s.now }
 {
-    bytes_field::tail(s, fields_place(s))
+    table::behind(s, fields_place(s))
 }
 
-// How many bytes a value takes, by its kind's number.
+// The value that an instruction defines, where that is the first of these own fields.
+pub fn dest(own: &[u8]) -> ValueId
+    ensures { result.0 ≡ at16 own.now 0 }
+{
+    ValueId(bytes_wire::u16_at(own, 0))
+}
+
+// The type that an instruction's last two bytes name.
+pub fn last_type(s: &[u8], end: usize) -> TypeId
+    ensures { 2 ≤ end → result.0 ≡ at16 s.now (end - 2) }
+{
+    TypeId(bytes_wire::u16_at(s, end.saturating_sub(bytes_field::ID)))
+}
+
+// How many bytes a value takes, by its kind's number. (A table by kind: it is no conversion that a trait names.)
 fn value_size(kind: u8) -> usize
     ensures { (result ≡ value_size kind) × (result < 6) }
 {
@@ -128,7 +143,7 @@ pub fn value_at(t: &[u8], at: usize, next: u16) -> Value
 fn found_at(t: &[u8], at: usize, next: u16) -> Option<Value>
     ensures { (x : AnyValue) (n : ℕ) → value_of next (drop at t.now) ≡ ok x n → result ≡ Some x }
 {
-    bytes_wire::read_value(bytes_field::tail(t, at), next)
+    bytes_wire::read_value(table::behind(t, at), next)
         .ok()
         .map(|r| r.value)
 }
@@ -169,8 +184,8 @@ pub fn values_end(t: &[u8], at: usize, before: u8, gap: u8, k: u8) -> usize
     here
 }
 
-// Where the first operand field stands.
-fn operand_first(t: &[u8], kind: Kind) -> usize
+// Where the first operand field stands among an instruction's own fields: of a Store, the value behind its place.
+pub fn operand_first(t: &[u8], kind: Kind) -> usize
     ensures { (result ≡ operand_first t.now (number_of_kind kind)) × (result < operand_reach) }
 {
     if kind == Kind::Store {
@@ -201,7 +216,7 @@ pub fn operand(s: &[u8], b: Bounds, k: u8) -> Option<Value>
 pub fn step_at(t: &[u8], at: usize, next: u16) -> Option<Projection>
     ensures { (p : Projection) (n : ℕ) → projection_of next (drop at t.now) ≡ ok p n → result ≡ Some p }
 {
-    let u = bytes_field::tail(t, at);
+    let u = table::behind(t, at);
     match ProjectionKind::try_from(bytes_wire::byte_at(u, 0)) {
         Ok(ProjectionKind::Index) => found_at(u, 1, next).map(Projection::Index),
         Ok(ProjectionKind::Field) => Some(Projection::Field(NameId(bytes_wire::u16_at(u, 1)))),
@@ -209,15 +224,16 @@ pub fn step_at(t: &[u8], at: usize, next: u16) -> Option<Projection>
     }
 }
 
-// Where the count of an instruction's projections stands.
+// Where the count of an instruction's projections stands, a Load's or a Store's: no other kind is asked for. (A table by
+// kind: it is no conversion that a trait names.)
 fn steps_at(kind: Kind) -> usize
     ensures { (result ≡ steps_at (number_of_kind kind)) × (result < 5) }
 {
     if kind == Kind::Load { 4 } else { 2 }
 }
 
-// How many projections an instruction has.
-fn step_count(t: &[u8], kind: Kind) -> u8
+// How many projections the place of an instruction of this kind has, by its own fields.
+pub fn step_count(t: &[u8], kind: Kind) -> u8
     ensures { result ≡ step_count t.now (number_of_kind kind) }
 {
     match kind {

@@ -6,7 +6,7 @@ use native.Mathlib.Omega.{arith}
 use lib.ListN.{length, get_or, drop}
 use Rattle.std.proofs.lemmas.List.{at_drop_more, drop_all}
 use Rattle.bytes_wire.specs.Parse.{Parse, ok, later, and_then}
-use Rattle.bytes_wire.proofs.Laws.{later_zero, assoc, and_same, and_nothing}
+use Rattle.bytes_wire.proofs.Laws.{assoc, and_same, and_nothing}
 use Rattle.bytes_field.specs.Walk.{Walk, simple_walk, field_walk, row_walk}
 use Rattle.bytes_field.specs.declared.Bounds.{Bounds}
 use Rattle.bytes_row.specs.declared.class.Class.{Class}

@@ -13,6 +13,8 @@ pub enum ListKind {
 
 // A value defined here, a value, a type, a name, a u32, a block, a place, an operation of two values and of one; and lists of values,
 // of types, of values defined here, of names with values, of blocks with values, and of a Call's return types (their count is exact).
+// (The lists are no `List(ListKind)`: a row reads as one list of names, `number_of_class` would be nested, and a list of projections, which
+// no row has, would be a class.)
 #[derive(Clone, Copy, PartialEq, Eq, Debug)]
 pub enum Class {
     Dest,

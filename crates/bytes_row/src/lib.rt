@@ -34,11 +34,13 @@ fn then_value(s: &[u8], p: Scan, next: u16, buffer: &mut [u16]) -> Result<Scan, 
     ensures { (seen : List Bool) → as_scan result seen buffer.new ≡
         and_then s.now (scanned seen buffer.old p) (λ w t. map_parse (uses_value w) (value_of next t)) }
 {
-    let t = bytes_field::tail(s, p.size);
+    let t = table::behind(s, p.size);
     bytes_field::further(bytes_field::read_value(t, p, next, buffer), p.size)
 }
 
 // An element, by the kind of its list.
+// (A kind, and no closure that reads: one would hold marks and buffer, which are lent to be changed; and by the kind the contract says what
+// is walked.)
 fn read_element(
     s: &[u8],
     before: Scan,
@@ -70,30 +72,8 @@ fn read_element(
     }
 }
 
-// As many elements as a list counts.
-// (A `for`, here and in `read_row`: the closure of a `try_fold` would hold marks and buffer, and a contract would have to say what they become.)
-fn read_elements(
-    s: &[u8],
-    before: Scan,
-    count: u8,
-    k: ListKind,
-    b: Bounds,
-    seen: &mut [bool],
-    buffer: &mut [u16],
-) -> Result<Scan, Refusal>
-    ensures { as_scan result seen.new buffer.new ≡ times (pair_walk b (first_of (number_of_list k)) (second_of (number_of_list k))) count
-        (walk_before seen.old buffer.old before) s.now }
-{
-    let mut w = Scan { size: 0, ..before };
-    for i in 0..count {
-        let t = bytes_field::tail(s, w.size);
-        let r = read_element(t, w, k, b, seen, buffer);
-        w = bytes_field::further(r, w.size)?;
-    }
-    Ok(w)
-}
-
 // A list: its count, then as many elements.
+// (A `for`, here and in `row_behind`: the closure of a `try_fold` would hold marks and buffer, and a contract would have to say what they become.)
 fn read_list(
     s: &[u8],
     before: Scan,
@@ -110,9 +90,16 @@ fn read_list(
     if miscounts(count.value, l) {
         return Err(Cause::CallCounts.at(0));
     }
-    let t = bytes_field::tail(s, count.size);
-    let r = read_elements(t, before, count.value, k, b, seen, buffer);
-    bytes_field::further(r, count.size)
+    let mut w = Scan {
+        size: count.size,
+        ..before
+    };
+    for i in 0..count.value {
+        let t = table::behind(s, w.size);
+        let r = read_element(t, w, k, b, seen, buffer);
+        w = bytes_field::further(r, w.size)?;
+    }
+    Ok(w)
 }
 
 // A place: its base, then its projections.
@@ -131,12 +118,14 @@ fn read_place(
         most: b.projections,
         exact: None,
     };
-    let t = bytes_field::tail(s, p.size);
+    let t = table::behind(s, p.size);
     let r = read_list(t, p, l, ListKind::Projections, b, seen, buffer);
     bytes_field::further(r, p.size)
 }
 
 // One field of a row. `many` is what a Call's return types must count, the first byte of its fields.
+// (A class, and no closure that reads: rows are constants, and one would hold marks and buffer, which are lent to be changed. Five arms differ
+// only in the kind of list: `Class` says why.)
 // (A number for any row, though only a Call's is read: an Option would have each reader of a row ask whether it is that of a Call.)
 fn read_field(
     s: &[u8],
@@ -177,29 +166,7 @@ fn read_field(
     }
 }
 
-// The fields of a row, one after another.
-fn read_row(
-    s: &[u8],
-    before: Scan,
-    row: &[Class],
-    many: u8,
-    b: Bounds,
-    seen: &mut [bool],
-    buffer: &mut [u16],
-) -> Result<Scan, Refusal>
-    ensures { as_scan result seen.new buffer.new ≡
-        row_walk b many (length row.now) (number_of_row row.now) (walk_before seen.old buffer.old before) s.now }
-{
-    let mut w = Scan { size: 0, ..before };
-    for c in row {
-        let t = bytes_field::tail(s, w.size);
-        let r = read_field(t, w, *c, many, b, seen, buffer);
-        w = bytes_field::further(r, w.size)?;
-    }
-    Ok(w)
-}
-
-// A row behind what was read.
+// A row behind what was read: its fields, one after another.
 pub fn row_behind(
     s: &[u8],
     p: Scan,
@@ -212,12 +179,16 @@ pub fn row_behind(
     ensures { as_scan result seen.new buffer.new ≡
         and_then s.now (scanned seen.old buffer.old p) (λ w t. row_walk b many (length row.now) (number_of_row row.now) w t) }
 {
-    let t = bytes_field::tail(s, p.size);
-    let r = read_row(t, p, row, many, b, seen, buffer);
-    bytes_field::further(r, p.size)
+    let mut w = p;
+    for c in row {
+        let t = table::behind(s, w.size);
+        let r = read_field(t, w, *c, many, b, seen, buffer);
+        w = bytes_field::further(r, w.size)?;
+    }
+    Ok(w)
 }
 
-// A row behind what another reader answered.
+// A row behind what another reader answered. (For callers outside the pass, whose own readers have the good answer in hand.)
 pub fn then_row(
     s: &[u8],
     p: Result<Scan, Refusal>,

@@ -30,9 +30,9 @@ pub fn read_sizes(s: &[u8], m: Mosts) -> Result<Sizes, Refusal>
     ensures { as_sizes result ≡ sizes_of m s.now }
 {
     let next = bytes_count::section_count(s, m.next)?;
-    let second = bytes_field::tail(s, BLOCKS);
+    let second = table::behind(s, BLOCKS);
     let blocks = bytes_count::section_count(second, m.blocks).map_err(|e| e.behind(BLOCKS))?;
-    let third = bytes_field::tail(s, ENTRY);
+    let third = table::behind(s, ENTRY);
     let entry = bytes_wire::read_below(third, blocks.value).map_err(|e| e.behind(ENTRY))?;
     Ok(Sizes {
         next: next.value,
@@ -66,7 +66,7 @@ pub fn map_part(s: &[u8], next: u16) -> Result<usize, Refusal>
 fn map_bit(s: &[u8], map: usize, v: ValueId) -> bool
     ensures { result ≡ has_recorded (drop map s.now) v.0 }
 {
-    let b = bytes_wire::byte_at(bytes_field::tail(s, map), (v.0 / 8) as usize);
+    let b = bytes_wire::byte_at(table::behind(s, map), (v.0 / 8) as usize);
     bytes_field::bit(b, (v.0 % 8) as u8)
 }
 

@@ -14,7 +14,7 @@ pub const STRUCT_NAMES: usize = 4;
 
 pub const STRUCT_TYPES: usize = 6;
 
-pub const STRUCT_APART: usize = 4;
+pub const STRUCT_APART: usize = bytes_before::FIELD;
 
 // A FixedArray: its element's type, and its size.
 pub const ARRAY_ELEMENT: usize = 1;

@@ -61,8 +61,7 @@ pub fn field_count(row: &[u8]) -> u8
 pub fn field_name(row: &[u8], i: u8) -> NameId
     ensures { result.0 ≡ at16 row.now (4 + 4 * i) }
 {
-    let at = layout::STRUCT_NAMES + layout::STRUCT_APART * i as usize;
-    NameId(bytes_wire::u16_at(row, at))
+    bytes_before::name_at(row, layout::STRUCT_NAMES, i)
 }
 
 // Field `i` of the fields that begin at `from`: a new name, then a type below the struct's own number.
@@ -101,7 +100,7 @@ fn struct_type(s: &[u8], most: u8, own: u16) -> Result<usize, Refusal>
 {
     bytes_wire::read_u16(&s[1..]).map_err(|e| e.behind(1))?;
     let at = layout::STRUCT_COUNT;
-    let counted = bytes_field::tail(s, at);
+    let counted = table::behind(s, at);
     let count = bytes_count::list_count(counted, most).map_err(|e| e.behind(at))?;
     struct_fields(s, layout::STRUCT_NAMES, count.value, own)
 }
@@ -148,7 +147,7 @@ pub fn read_types(s: &[u8], limit: u16, most: u8, starts: &mut [u16]) -> Result<
     for k in 0..count.value {
         let size = read_type(&s[at..], most, k).map_err(|e| e.behind(at))?;
         let end = at + size;
-        if bytes_before::type_before(s, starts, k, at, end) {
+        if bytes_before::type_before(bytes_field::between(s, at, end), s, starts, k) {
             return Err(Cause::Repeated.at(at));
         }
         at = end;

@@ -38,7 +38,7 @@ impl Cause {
     }
 }
 
-// The number document 01 gives the cause.
+// The number document 01 gives the cause. (No From: it would be as long, and have a law of its own to state.)
 pub fn cause_number(c: Cause) -> u8
     ensures { result ≡ number_of_cause c }
 {

@@ -1,4 +1,5 @@
-// Says whether the bytes on standard input are a routine: prints what crate bytes_text makes of the first 65,536.
+// Says whether the bytes on standard input are a routine: prints what crate bytes_text makes of the first 65,536. (`lower` has the
+// four lines below with another text, and says why.)
 #![tactic(auto)]
 
 use std::io;

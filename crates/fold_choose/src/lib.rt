@@ -1,5 +1,6 @@
 // Which builds are folded, and which blocks are skipped: flags by slot, and behind them by block.
-// (The settings stay beside the routine: most of what is called here is given the routine alone; graph and choice are lent to be changed.)
+// (Routine and settings are no struct: of what other crates are asked here `fill_structs` alone takes both, so that each other call would
+// take the struct apart; graph and choice are lent to be changed.)
 #![tactic(auto)]
 
 ghost use Rattle.std.specs.Prelude.{◌≡◌, false, length};
@@ -86,7 +87,7 @@ fn choose_block(
     ensures decides_block { DecidesBlock settings values.entry (length graph.old) code.entry slots
         choice.old choice.new }
 {
-    if !any_build(code.facts, slots.first, slots.first + slots.count) {
+    if !any_build(code.facts, slots.first, slots.end()) {
         return;
     }
     fill_graph(code, settings, slots, values, graph);

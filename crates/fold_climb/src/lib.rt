@@ -15,7 +15,8 @@ use mir::{ValueId, most};
 
 // Where the parts of the graph begin, how many numbers an edge takes, and how long the graph is (specs/Scanned.antt). An
 // edge is the child, the parent, and the kind of the parent's build; there are at most so many. (Flags are 1 and 0
-// there and kinds are their numbers: the graph is one table of u16 in the fixed memory of the pass, as specs/Scanned.antt reads it.)
+// there and kinds are their numbers, as specs/Scanned.antt reads one table of numbers: of flags and edges apart each clause would speak of
+// three.)
 pub const BUILT: usize = 1;
 
 pub const BARRED: usize = BUILT + most::VALUES;

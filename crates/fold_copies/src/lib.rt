@@ -38,14 +38,14 @@ fn rows(facts: &[u16], first: u16, k: u16) -> &[u16]
 fn instruction<'a>(code: Code<'a>, row: &[u16]) -> &'a [u8]
     ensures { result.now ≡ drop (get_or row.now 0 0) code.entry.bytes.now }
 {
-    bytes_field::tail(code.bytes, table::place(row, 0))
+    table::behind(code.bytes, table::place(row, 0))
 }
 
 // The value that stands behind a dest at the head of the fields.
 fn source(u: &[u8], next: u16) -> Result<Read<Value>, Refusal>
     ensures { as_parse result ≡ value_of next (drop 2 u.now) }
 {
-    bytes_wire::read_value(bytes_field::tail(u, 2), next)
+    bytes_wire::read_value(table::behind(u, 2), next)
 }
 
 // The copy of the value that was read of the fields `u`.
@@ -55,7 +55,7 @@ fn copied(u: &[u8], x: Result<Read<Value>, Refusal>, asked: Option<Shape>) -> Op
     let source = x.ok()?.value.operand()?;
     Some(BlockCopy {
         source,
-        dest: ValueId(bytes_wire::u16_at(u, 0)),
+        dest: bytes_operands::dest(u),
         asked,
     })
 }
@@ -65,7 +65,7 @@ fn assigned(code: Code, u: &[u8], x: Result<Read<Value>, Refusal>) -> Option<Blo
     ensures { AssignCopy code.entry u.now x (as_copy result) }
 {
     let Ok(r) = x else { return None };
-    let t = TypeId(bytes_wire::u16_at(bytes_field::tail(u, r.size), 2));
+    let t = TypeId(bytes_wire::u16_at(table::behind(u, r.size), 2));
     match fold_shapes::type_shape(code, t) {
         Shape::Other => None,
         shape => copied(u, x, Some(shape)),

@@ -4,8 +4,8 @@ ghost use Rattle.mir.specs.Most.{most_values};
 
 use bytes_index::Code;
 
-// The shapes of their types, which types are eligible, and which block reads each. (Lists by value, and shapes by their numbers, as the
-// laws of fold/specs read them.)
+// The shapes of their types, which types are eligible, and which block reads each. (Three lists by value and no list of structs: what looks
+// a value up here is lent one of them alone, and climb, phis and looked the shapes; shapes by their numbers, as the laws read them.)
 #[derive(Clone, Copy)]
 pub struct CrossFacts<'a> {
     pub code: Code<'a>,

@@ -26,8 +26,8 @@ fn eligible_build(code: Code, slot: u16, eligible: &[bool]) -> Option<ValueId>
     if !kind.is_build() {
         return None;
     }
-    let u = bytes_operands::own_fields(code.instruction(slot));
-    let dest = ValueId(bytes_wire::u16_at(u, 0));
+    let own = bytes_operands::own_fields(code.instruction(slot));
+    let dest = bytes_operands::dest(own);
     table::flag(eligible, dest.0 as usize).then_some(dest)
 }
 

@@ -10,8 +10,8 @@ ghost use Rattle.fold_family.specs.Search.{FindsFamily, Storing, ClearsMembers, 
 use mir::{ValueId, most};
 
 // Where in the table of a block's copies what stands (specs/Copies.antt): a copy takes three numbers, its dest, the shape asked
-// for, and the row before it of the same source. A row is one more than the copy's number, 0 for none. (One table of u16 in fixed
-// memory, as the laws read it, and no array of structs: the rows of the values stand in it too.)
+// for, and the row before it of the same source. A row is one more than the copy's number, 0 for none. (One table of
+// numbers, as the laws read it, in which the rows of the values stand too.)
 pub const WIDTH: usize = 3;
 
 pub const DEST: usize = 0;
@@ -25,7 +25,7 @@ pub const FIRSTS: usize = WIDTH * most::INSTRUCTIONS;
 
 pub const SIZE: usize = FIRSTS + most::VALUES;
 
-// A root of any shape is asked for. (A number and no Option: it stands in a table of u16, in fixed memory.)
+// A root of any shape is asked for. (A number and no Option: it stands in that table.)
 pub const ANY: u16 = 0;
 
 // The most turns that a search takes: one for each value, and one for each copy of a block.
@@ -166,8 +166,8 @@ pub fn is_alone(copies: &[u16], v: ValueId) -> bool
     (v.0 as usize) < most::VALUES && table::number(copies, FIRSTS + v.0 as usize) == 0
 }
 
-// The `n` members that a search has listed; the whole list where it is shorter. (A list and a number, since the search writes into the
-// caller's list, in fixed memory, and says how many it wrote.)
+// The `n` members that a search has listed; the whole list where it is shorter. (A list and a number, since the search writes into a
+// list of any length that the caller lends, and says how many it wrote.)
 pub fn first_members(members: &[u16], n: u16) -> &[u16]
     ensures { result.now ≡ take n members.now }
 {

@@ -1,6 +1,6 @@
 -- What is found of a family, of the array in a slot, and of all arrays of a block.
 use Prim.Native.Nat.{ℕ, ◌+◌, ◌≤◌, ◌<◌}
-use mathlib.Core.Path.{◌≡◌, ap, ◌∙◌, sym, subst}
+use mathlib.Core.Path.{◌≡◌, refl, ap, ◌∙◌, sym, subst}
 use mathlib.Core.List.{List, []}
 use mathlib.Core.Bool.{Bool, false}
 use mathlib.Core.Logic.{⊎_elim}
@@ -31,33 +31,47 @@ use Rattle.fold_family.proofs.Sweeps.{family_length}
 use Rattle.fold_copies.specs.Found.{ScanCopies}
 use Rattle.fold_climb.proofs.Found.{dest, array_place}
 use Rattle.fold_scan.specs.Noted.{dest_in}
+use Rattle.fold_scan.proofs.Placed.{build_at, build_place}
 use Rattle.fold_looked.specs.declared.tables.Tables.{Tables}
-use Rattle.fold_looked.specs.Looked.{Looking, LooksInto, LooksAt, LooksAll, FillsLooked}
+use Rattle.fold_looked.specs.declared.BuildFamily.{BuildFamily}
+use Rattle.fold_looked.specs.Looked.{Looking, FindsBuild, LooksAt, LooksAll, FillsLooked}
 use Rattle.fold_looked.proofs.Behind.{copies_behind, dynamics_behind, behind_few}
 
--- a family is found, its marks are cleared, its members are held against the dynamic marks
-pub looks_into : (tables : Tables) (shp : ℕ) (v : ValueId) (clear marks after : Marks) (room members listed : List ℕ) (found : Found) (r : Bool)
+-- a build's dest is its first field; its family is found, whose members are held against the dynamic marks
+pub finds_build : (code : Code) (slot : ℕ) (tables : Tables) (clear m : Marks) (room members listed : List ℕ) (v : ValueId) (shp : ℕ) (found : Found) (looked : Bool)
+    → v.0 ≡ dest_in code.bytes.now code.facts.now slot → shp ≡ get_or tables.shapes.now v.0 0
     → length members ≡ length room → listed ≡ take found.members members
-    → FindsFamily tables.copies.now shp v clear marks room members found → ClearsMembers listed (length listed) marks after → MemberIndexed listed (length listed) tables.dynamic.now r
-    → LooksInto tables shp v clear after room r
-looks_into tables shp v clear marks after room members listed found r long el finds clears index τ is k ss h =
-    let f = finds τ is k.rows (le_trans (copies_few τ is) k.short) ss h k.few k.wide k.cleared in
-    let few : length marks ≤ length members = omega (arith, k.few, k.wide, ap length f.same, family_length τ v is) in
-    let all : Members listed (length listed) marks = rw el (first_listed members found.members marks f.listed few) in
-    let again : after ≡ clear = clears all ∙ ap (λ n. replicate n false) (ap length f.same ∙ family_length τ v is) ∙ sym k.cleared in
-    (again, index τ v is (subst (Members listed (length listed)) f.same all) k.dynamic_all)
+    → FindsFamily tables.copies.now shp v clear m room members found → MemberIndexed listed (length listed) tables.dynamic.now looked
+    → FindsBuild code slot tables clear m room members (record { dest = v; found = found; looked = looked })
+finds_build code slot tables clear m room members listed v shp found looked ds ss long el finds index σ τ is i d eligible k sh l at h =
+    elim (build_place code.bounds code.bytes.now code.facts.now slot i d at h) [
+      | build_at a low ↦
+          let z : v ≡ d = ap (λ (x : ℕ). record { 0 = x }) (ds ∙ sym a) in
+          let below : v.0 < length τ.recorded = rw (z, l) low in
+          let f = finds τ is k.rows (le_trans (copies_few τ is) k.short) (ss ∙ sh.shaped v.0 below) below k.few k.wide k.cleared in
+          let few : length m ≤ length members = omega (arith, k.few, k.wide, ap length f.same, family_length τ v is) in
+          let all : Members listed (length listed) m = rw el (first_listed members found.members m f.listed few) in
+          rw (sym z) record {
+            dest = refl;
+            family = f;
+            looked = index τ v is (subst (Members listed (length listed)) f.same all) k.dynamic_all;
+          }
+    ]
 
--- the dest of the array in a slot is its first field
-pub looks_at : (code : Code) (slot : ℕ) (tables : Tables) (clear after : Marks) (room : List ℕ) (r : Bool) (v : ValueId) (shp : ℕ)
-    → kind_in code.facts.now slot ≡ 16 → v.0 ≡ dest_in code.bytes.now code.facts.now slot → shp ≡ get_or tables.shapes.now v.0 0 → LooksInto tables shp v clear after room r
-    → LooksAt code slot tables clear after room r
-looks_at code slot tables clear after room r v shp ka ds ss looks σ τ is i eligible k sh l at =
+-- where it is an array, and its marks are cleared
+pub looks_at : (code : Code) (slot : ℕ) (tables : Tables) (clear m after : Marks) (room members listed : List ℕ) (r : BuildFamily)
+    → kind_in code.facts.now slot ≡ 16 → FindsBuild code slot tables clear m room members r
+    → length members ≡ length room → listed ≡ take r.found.members members → ClearsMembers listed (length listed) m after
+    → LooksAt code slot tables clear after room r.looked
+looks_at code slot tables clear m after room members listed r ka finds long el clears σ τ is i eligible k sh l at =
     elim (array_place code.bounds [] false (drop (place_in code.facts.now slot) code.bytes.now) i _ at.read (sym at.kind ∙ ka)) [
       | dest w g a low ↦
-          let z : v ≡ w = ap (λ (x : ℕ). record { 0 = x }) (ds ∙ sym a) in
-          let h : v.0 < length τ.recorded = rw (z, l) low in
-          let x = looks τ is k (ss ∙ sh.shaped v.0 h) h in
-          (x.0, λ d q e. let y : v ≡ d = cc in rw (sym y) x.1)
+          let x = finds σ τ is i w eligible k sh l at g in
+          let f = x.family in
+          let few : length m ≤ length members = omega (arith, k.few, k.wide, ap length f.same, family_length τ w is) in
+          let all : Members listed (length listed) m = rw el (first_listed members r.found.members m f.listed few) in
+          let again : after ≡ clear = clears all ∙ ap (λ n. replicate n false) (ap length f.same ∙ family_length τ w is) ∙ sym k.cleared in
+          (again, λ d q e. let y : w ≡ d = cc in rw (sym y) x.looked)
     ]
 
 -- instruction k of a block has its flag, where it is an array

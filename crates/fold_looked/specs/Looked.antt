@@ -6,7 +6,7 @@ use Rattle.mir.specs.Syntax.{Instruction}
 use Rattle.mir.specs.declared.kind.Kind.{Kind}
 use Rattle.mir.specs.Kind.{number_of_kind}
 use Rattle.mir.specs.Reads.{kind_number}
-use Rattle.mir.specs.Lookup.{Types, value_row, shape}
+use Rattle.mir.specs.Lookup.{Types}
 use Rattle.mir.specs.Most.{most_values, most_instructions}
 use Rattle.mir.specs.Phis.{behind_phis}
 use Rattle.bytes_index.specs.Table.{kind_in}
@@ -17,6 +17,8 @@ use Rattle.fold.specs.declared.Settings.{Settings}
 use Rattle.fold.specs.Numbers.{array_kind}
 use Rattle.fold.specs.Family.{Marks, build_dest, has_dynamic_index}
 use Rattle.fold.specs.Tables.{ShapesAt, CodeGround}
+use Rattle.fold_family.specs.Search.{FamilyFound}
+use Rattle.fold_looked.specs.declared.BuildFamily.{BuildFamily}
 use Rattle.fold_looked.specs.declared.tables.Tables.{Tables}
 use Rattle.fold_family.specs.Copies.{copies, RowsAt, dynamics}
 
@@ -37,16 +39,24 @@ pub record Looking (τ : Types) (is : List Instruction) (table : List ℕ) (dyna
   pub cleared : clear ≡ replicate (length τ.recorded) false
   pub dynamic_all : dynamic ≡ dynamics (replicate (length τ.recorded) false) is
 
--- the promises: of the answer that the family of v is looked into so, whose marks are clear again behind it,
-abbrev pub LooksInto : Tables → ℕ → ValueId → Marks → Marks → List ℕ → Bool → Type 0
-LooksInto tables shp v clear after room r =
-    (τ : Types) (is : List Instruction)
-    → Looking τ is tables.copies.now tables.dynamic.now clear room
-    → shp ≡ shape (value_row τ v)
-    → v.0 < length τ.recorded
-    → (after ≡ clear) × (r ≡ has_dynamic_index τ v is)
+-- what is found of the build of d among some instructions, m being the marks of its family and members their list
+pub record BuildFound (τ : Types) (is : List Instruction) (d : ValueId) (m : Marks) (members : List ℕ) (r : BuildFamily) : Type 0 where
+  pub dest : r.dest ≡ d
+  pub family : FamilyFound τ is d m members r.found
+  pub looked : r.looked ≡ has_dynamic_index τ d is
 
--- of the same for the build in a slot, where that is an array,
+-- the promises: of what is found of the build in a slot, where the marks are clear before,
+abbrev pub FindsBuild : Code → ℕ → Tables → Marks → Marks → List ℕ → List ℕ → BuildFamily → Type 0
+FindsBuild code slot tables clear m room members r =
+    (σ : Settings) (τ : Types) (is : List Instruction) (i : Instruction) (d : ValueId) (eligible : List Bool)
+    → Looking τ is tables.copies.now tables.dynamic.now clear room
+    → ShapesAt σ τ tables.shapes.now eligible
+    → length τ.recorded ≡ code.bounds.next
+    → InstructionIn code.bounds code.bytes.now code.facts.now slot i
+    → build_dest i.kind ≡ some d
+    → BuildFound τ is d m members r
+
+-- of the answer that the build in a slot is looked into so, where that is an array, and of the marks, which are clear again behind it,
 abbrev pub LooksAt : Code → ℕ → Tables → Marks → Marks → List ℕ → Bool → Type 0
 LooksAt code slot tables clear after room r =
     (σ : Settings) (τ : Types) (is : List Instruction) (i : Instruction) (eligible : List Bool)

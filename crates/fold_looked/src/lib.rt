@@ -4,9 +4,10 @@
 pub mod tables;
 
 ghost use Rattle.std.specs.Prelude.{◌≡◌, false};
-ghost use Rattle.fold_looked.specs.Looked.{NonePasses, NoneArrays, LooksInto, LooksAt, LooksAll, FillsLooked};
+ghost use Rattle.fold_looked.specs.Looked.{NonePasses, NoneArrays, FindsBuild, LooksAt, LooksAll, FillsLooked};
 
 use bytes_index::{Code, Slots};
+use fold_family::Found;
 use mir::kind::Kind;
 use mir::{ValueId, most};
 pub use tables::Tables;
@@ -28,32 +29,47 @@ fn any_array(facts: &[u16], from: u16, to: u16) -> bool
     any_kind(facts, from, to, |kind| kind == Kind::MakeFixedArray)
 }
 
-// Whether a member of the family of `v` is looked into so; the marks of `family` are clear, before and after.
-fn looked_into(
-    tables: Tables,
-    shape: u8,
-    v: ValueId,
-    family: &mut [bool],
-    members: &mut [u16],
-) -> bool
-    ensures { LooksInto tables.entry shape v family.old family.new members.old result }
-{
-    let found = fold_family::family(tables.copies, shape, v, family, members);
-    let members = fold_family::first_members(members, found.members);
-    fold_family::unmark(members, family);
-    fold_family::member_indexed(members, tables.dynamic)
+// What is found of a build: its dest, its family, and whether a member of that is looked into by an index that is not known.
+#[derive(Clone, Copy)]
+pub struct BuildFamily {
+    pub dest: ValueId,
+    pub found: Found,
+    pub looked: bool,
 }
 
-// The same of the build in a slot, where that is an array.
+// Finds that of the build in a slot: `family` is clear, one for each value, and gets the family's marks; `members` lists them.
+pub fn find_build(
+    code: Code,
+    slot: u16,
+    tables: Tables,
+    family: &mut [bool],
+    members: &mut [u16],
+) -> BuildFamily
+    ensures { FindsBuild code.entry slot tables.entry family.old family.new members.old members.new result }
+{
+    let dest = fold_scan::dest(code, slot);
+    let shape = bytes_wire::byte_at(tables.shapes, dest.0 as usize);
+    let found = fold_family::family(tables.copies, shape, dest, family, members);
+    let listed = fold_family::first_members(members, found.members);
+    let looked = fold_family::member_indexed(listed, tables.dynamic);
+    BuildFamily {
+        dest,
+        found,
+        looked,
+    }
+}
+
+// Whether the build in a slot is an array of whose family a member is looked into so; the marks of `family` are clear, before and after.
 fn look(code: Code, slot: u16, tables: Tables, family: &mut [bool], members: &mut [u16]) -> bool
     ensures { LooksAt code.entry slot tables.entry family.old family.new members.old result }
 {
     if bytes_index::instruction_kind(code.facts, slot) != Some(Kind::MakeFixedArray) {
         return false;
     }
-    let v = fold_scan::dest(code, slot);
-    let shape = bytes_wire::byte_at(tables.shapes, v.0 as usize);
-    looked_into(tables, shape, v, family, members)
+    let build = find_build(code, slot, tables, family, members);
+    let listed = fold_family::first_members(members, build.found.members);
+    fold_family::unmark(listed, family);
+    build.looked
 }
 
 // Gives each of a block's instructions the flag whether it is an array that is looked into so.
@@ -94,7 +110,7 @@ fn look_copies(code: Code, slots: Slots, shapes: &[u8], looked: &mut [bool])
 pub fn fill_looked(code: Code, slots: Slots, shapes: &[u8], looked: &mut [bool])
     ensures { FillsLooked code.entry slots shapes.now looked.old looked.new }
 {
-    if any_array(code.facts, slots.first, slots.first + slots.count) {
+    if any_array(code.facts, slots.first, slots.end()) {
         look_copies(code, slots, shapes, looked);
     }
 }

@@ -31,16 +31,15 @@ fn aggregate_phi(code: Code, slot: u16, shapes: &[u8]) -> bool
 pub fn is_skipped(code: Code, slots: Slots, shapes: &[u8]) -> bool
     ensures { Skips code.entry slots shapes.now result }
 {
-    let end = slots.first + slots.count;
-    (slots.first..end).any(|slot| aggregate_phi(code, slot, shapes))
+    (slots.first..slots.end()).any(|slot| aggregate_phi(code, slot, shapes))
 }
 
-// How many phis stand in front of a block's instructions. The pass does not ask for it: a family is found without a number of sweeps.
+// How many phis stand in front of a block's instructions. (The shelf test asks for it; a family is found
+// without a number of sweeps.)
 pub fn phi_count(facts: &[u16], slots: Slots) -> u16
     ensures few { result ≤ slots.count }
     ensures counted { PhisIn facts.now slots result }
 {
-    let end = slots.first + slots.count;
-    let phis = (slots.first..end).take_while(|slot| is_phi(facts, *slot));
+    let phis = (slots.first..slots.end()).take_while(|slot| is_phi(facts, *slot));
     phis.count() as u16
 }

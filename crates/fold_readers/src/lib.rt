@@ -19,7 +19,7 @@ use mir::{BlockId, ValueId};
 pub use number::BlockNumber;
 
 // The table has a number for each value: 0 where no block reads it, k + 1 where block k alone does, and this where several do. (One byte
-// for each value, in fixed memory: a table of `Readers` would take two, and the laws read numbers.)
+// for each value, as the laws read numbers: with a table of `Readers` each clause would speak of its numbers by a `map`.)
 const SEVERAL: u8 = 255;
 
 // Which blocks read a value.
@@ -34,13 +34,15 @@ pub enum Readers {
 const BLOCKS: u16 = 254;
 
 // What a value's number in the table says.
-fn readers_of(x: u8) -> Readers
-    ensures { readers_number result ≡ x }
-{
-    match x {
-        0 => Readers::None,
-        SEVERAL => Readers::Several,
-        _ => Readers::One(x - 1),
+impl From<u8> for Readers {
+    ghost from_gives = { λ x r. readers_number r ≡ x };
+
+    fn from(x: u8) -> Readers {
+        match x {
+            0 => Readers::None,
+            SEVERAL => Readers::Several,
+            _ => Readers::One(x - 1),
+        }
     }
 }
 
@@ -48,7 +50,7 @@ fn readers_of(x: u8) -> Readers
 fn seen_by(own: BlockNumber, x: u8) -> u8
     ensures { result ≡ seen_by own.number x }
 {
-    match readers_of(x) {
+    match Readers::from(x) {
         Readers::None => own.number + 1,
         Readers::One(k) if k == own.number => x,
         _ => SEVERAL,
@@ -92,10 +94,11 @@ fn note_block(own: BlockNumber, facts: &[u16], slots: Slots, readers: &mut [u8])
     for k in 0..slots.count {
         note_instruction(own, facts, slots.first + k, readers);
     }
-    note_reads(own, facts, slots.first + slots.count, readers);
+    note_reads(own, facts, slots.end(), readers);
 }
 
-// A block's number as the table has it; 0 for one past those that it has room for, which no accepted routine has.
+// A block's number as the table has it; 0 for one past those that it has room for, which no accepted routine has. (No From: past
+// the room it answers 0.)
 pub fn block_number(k: BlockId) -> BlockNumber
     ensures { k.0 < block_limit → result.number ≡ k.0 }
 {
@@ -121,7 +124,7 @@ pub fn note_readers(code: Code, readers: &mut [u8])
 pub fn is_foreign(own: BlockNumber, x: u8) -> bool
     ensures { result ≡ foreign own.number x }
 {
-    match readers_of(x) {
+    match Readers::from(x) {
         Readers::None => false,
         Readers::One(k) => k != own.number,
         Readers::Several => true,

@@ -15,7 +15,8 @@ use mir::shape::Shape;
 use mir::{Projection, ValueId, most};
 
 // What is known of all values: the shapes of their types, which types are eligible, which values are aggregates that are used
-// across blocks. (Lists by value, and shapes by their numbers, as the laws of fold/specs read them.)
+// across blocks. (Three lists by value and no list of structs: climb, phis and looked are lent the shapes alone, fold_structs the marks of
+// `cross`; shapes by their numbers, as the laws of fold/specs read them.)
 #[derive(Clone, Copy)]
 pub struct ValueFacts<'a> {
     pub shapes: &'a [u8],
@@ -27,8 +28,7 @@ pub struct ValueFacts<'a> {
 pub fn dest(code: Code, slot: u16) -> ValueId
     ensures { result.0 ≡ dest_in code.entry.bytes.now code.entry.facts.now slot }
 {
-    let t = bytes_operands::own_fields(code.instruction(slot));
-    ValueId(bytes_wire::u16_at(t, 0))
+    bytes_operands::dest(bytes_operands::own_fields(code.instruction(slot)))
 }
 
 // Notes that a value is wanted whole.
@@ -77,7 +77,7 @@ fn note_reads(graph: &mut [u16], facts: &[u16], slot: u16, kind: Kind, d: ValueI
     }
 }
 
-// A first projection that is no Integer literal.
+// A first projection that is no Integer literal. (No `is_some_and`: its closure would hold this match but for the last arm.)
 #[tactic(auto, unfolding(fold_climb::specs::Edges::varies_first))]
 fn varies(p: Option<Projection>) -> bool
     ensures { result ≡ varies_found (as_option p) }

@@ -1,12 +1,14 @@
 -- A type's row says its shape and its number of parts.
-use Prim.Native.Nat.{ℕ, zero, suc, ◌≤◌, ◌<◌}
+use Prim.Native.Nat.{ℕ, zero, suc, ◌<◌}
 use mathlib.Core.Path.{◌≡◌, refl, ◌∙◌, sym}
 use mathlib.Core.List.{List, [], ◌∷◌}
 use mathlib.Core.Bool.{true, false, cond}
 use mathlib.Core.Bool as B
-use mathlib.Core.Option.{none, some}
+use mathlib.Core.Option.{Option, none, some}
 use native.Mathlib.Omega.{arith}
-use lib.ListN.{length, get_or, drop}
+use borrow.Author.Tests.{ltb-true, ltb-false}
+use lib.ListN.{length, get_or, get_elem?, drop}
+use lib.Dec.{ltb}
 use Rattle.table.proofs.Elements.{some_at, none_at}
 use Rattle.bytes_wire.specs.Parse.{Parse, ok, and_then, map_parse, seq_of}
 use Rattle.bytes_wire.specs.Number.{u32_of, below, at32}
@@ -18,11 +20,24 @@ use Rattle.bytes_field.proofs.Rows.{count_first}
 use Rattle.mir.specs.MirType.{MirType}
 use Rattle.bytes_types.specs.Decode.{struct_of, type_kinds, type_of}
 use Rattle.bytes_struct.proofs.Placed.{StructAt, struct_at, struct_stands}
+use Rattle.bytes_types.specs.Index.{TypesAt}
 use Rattle.bytes_index.specs.declared.code.Code.{Code}
 use Rattle.fold.specs.declared.Settings.{Settings}
 use Rattle.mir.specs.Lookup.{Types, row_of, shape}
 use Rattle.fold.specs.Scalarizable.{is_scalarizable}
-use Rattle.fold_shapes.specs.Shapes.{row_shape, row_eligible, Said, OfType, RowSays}
+use Rattle.fold_shapes.specs.Shapes.{row_shape, row_eligible, row_in, OfType}
+
+-- what a row says of its type, and the empty one of none
+pub record Said (o : Option MirType) (t : List ℕ) : Type 0 where
+  pub shaped : shape o ≡ row_shape t
+  pub fits : (σ : Settings) → is_scalarizable σ o ≡ row_eligible σ t
+
+abbrev pub RowSays : Code → Option TypeId → List ℕ → Type 0
+RowSays code o row =
+    (most : ℕ) (τ : Types)
+    → TypesAt most code.bytes.now code.facts.now τ.rows
+    → length τ.rows ≡ code.bounds.types
+    → Said (row_of τ o) row
 
 -- a list has as many as its first byte says
 list_length : {A : Type 0} (most : ℕ) (dec : List ℕ → Parse A) (s : List ℕ) {xs : List A} {n : ℕ} → list_of most dec s ≡ ok xs n → length xs ≡ get_or s 0 0
@@ -94,21 +109,34 @@ type_said most own (suc (suc (suc (suc (suc (suc (suc (suc (suc (suc zero)))))))
 type_said most own (suc (suc (suc (suc (suc (suc (suc (suc (suc (suc (suc a)))))))))) ∷ t) e =
     absurd (no_ok (tagged_inv (type_kinds most own) (suc (suc (suc (suc (suc (suc (suc (suc (suc (suc (suc a)))))))))) ∷ t) e).1)
 
--- the row of a type says its shapes
-pub row_says : (code : Code) (t : TypeId) {u : List ℕ} → t.0 < code.bounds.types → u ≡ drop (get_or code.facts.now t.0 0) code.bytes.now → RowSays code (some t) u
+-- what holds of each type and the bytes that it is read from, and of none and no bytes, holds of a type of a routine and its row
+pub row_holds : (P : Option MirType → List ℕ → Type 0) (code : Code) (o : Option TypeId) (τ : Types) {most : ℕ} {u : List ℕ}
+    → P none []
+    → ((own : ℕ) (t : List ℕ) (ty : MirType) (n : ℕ) → type_of most own t ≡ ok ty n → P (some ty) t)
+    → u ≡ row_in code o
+    → TypesAt most code.bytes.now code.facts.now τ.rows
+    → length τ.rows ≡ code.bounds.types
+    → P (row_of τ o) u
 unfolding row_of
-row_says code t h f most τ a m =
-    let p : t.0 < length τ.rows = omega (arith, h) in
-    rw (f, some_at τ.rows t.0 MirType.Unit p) (type_said most t.0 (drop (get_or code.facts.now t.0 0) code.bytes.now) (a.each t.0 p))
+row_holds P code none τ p f e a m = rw e p
+row_holds P code (some t) τ p f e a m = rw e (go (ltb t.0 code.bounds.types) refl)
+  where
+    there : List ℕ
+    there = drop (get_or code.facts.now t.0 0) code.bytes.now
 
--- where there is no row nothing is said
-pub none_says : (code : Code) → RowSays code none []
-unfolding row_of shape is_scalarizable
-none_says code most τ a m = record { shaped = refl; fits = λ σ. refl }
+    go : (b : B.Bool) → ltb t.0 code.bounds.types ≡ b → P (get_elem? τ.rows t.0) (cond b there [])
+    go true h =
+        let q : t.0 < length τ.rows = omega (arith, ltb-true t.0 code.bounds.types h) in
+        rw (some_at τ.rows t.0 MirType.Unit q) (f t.0 there _ _ (a.each t.0 q))
+    go false h = rw (none_at τ.rows t.0 (omega (arith, ltb-false t.0 code.bounds.types h))) p
 
-pub other_says : (code : Code) (t : TypeId) → code.bounds.types ≤ t.0 → RowSays code (some t) []
-unfolding row_of shape is_scalarizable
-other_says code t h most τ a m = rw (none_at τ.rows t.0 (omega (arith, h))) record { shaped = refl; fits = λ σ. refl }
+-- so the row says its shapes
+none_said : Said none []
+unfolding shape is_scalarizable
+none_said = record { shaped = refl; fits = λ σ. refl }
+
+pub row_says : (code : Code) (o : Option TypeId) {u : List ℕ} → u ≡ row_in code o → RowSays code o u
+row_says code o e most τ a m = row_holds Said code o τ none_said (λ own t ty n. type_said most own t) e a m
 
 -- what is said of a type is what its row says
 abbrev types_of : List MirType → Types

@@ -16,7 +16,8 @@ use Rattle.fold.specs.declared.Settings.{Settings}
 use Rattle.mir.specs.Lookup.{Types, row_of, recorded_type, value_row, shape}
 use Rattle.fold.specs.Scalarizable.{is_scalarizable}
 use Rattle.fold.specs.Tables.{Known}
-use Rattle.fold_shapes.specs.Shapes.{row_shape, row_eligible, RowSays}
+use Rattle.fold_shapes.specs.Shapes.{row_shape, row_eligible}
+use Rattle.fold_shapes.proofs.Rows.{RowSays}
 
 -- a recorded type's number, taken apart again
 pub recorded_back : (o : Option TypeId) → recorded_from (recorded_number o) ≡ o

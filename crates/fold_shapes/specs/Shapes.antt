@@ -1,16 +1,15 @@
 -- What the code reads off the bytes of a type's row, and what it promises. proofs/Rows.antt ties the bytes to the types.
-use Rattle.std.specs.Prelude.{ℕ, ◌≤◌, ◌≡◌, List, [], ◌∷◌, Bool, false, ◌&&◌, length, get_or, leb}
-use Rattle.std.proofs.Math.Option.{Option}
+use Rattle.std.specs.Prelude.{ℕ, ◌≤◌, ◌≡◌, List, [], ◌∷◌, Bool, false, ◌&&◌, cond, length, drop, get_or, leb, ltb}
+use Rattle.std.proofs.Math.Option.{Option, none, some}
 use Rattle.std.proofs.Math.ListN.{get_elem?}
 use Rattle.bytes_wire.specs.Number.{at32}
 use Rattle.mir.specs.declared.TypeId.{TypeId}
 use Rattle.mir.specs.MirType.{MirType}
-use Rattle.mir.specs.Lookup.{Types, row_of, shape}
+use Rattle.mir.specs.Lookup.{Types}
 use Rattle.bytes_types.specs.Index.{TypesAt}
 use Rattle.bytes_index.specs.declared.code.Code.{Code}
 use Rattle.bytes_index.specs.declared.code.Typing.{Typing}
 use Rattle.fold.specs.declared.Settings.{Settings}
-use Rattle.fold.specs.Scalarizable.{is_scalarizable}
 use Rattle.fold.specs.Numbers.{tuple_shape, struct_shape, array_shape}
 use Rattle.fold.specs.Tables.{Known, ShapesAt}
 
@@ -32,10 +31,10 @@ row_eligible σ t =
     (get_or t 0 0)
     false
 
--- what a row says of its type, and the empty one of none
-pub record Said (o : Option MirType) (t : List ℕ) : Type 0 where
-  pub shaped : shape o ≡ row_shape t
-  pub fits : (σ : Settings) → is_scalarizable σ o ≡ row_eligible σ t
+-- the row of a type of a routine, which is empty where there is no such type, or none
+abbrev pub row_in : Code → Option TypeId → List ℕ
+row_in code none = []
+row_in code (some t) = cond (ltb t.0 code.bounds.types) (drop (get_or code.facts.now t.0 0) code.bytes.now) []
 
 -- the promises: what f says of type t of a routine,
 abbrev pub OfType : {A : Type 0} → (Option MirType → A) → Code → TypeId → A → Type 0
@@ -44,14 +43,6 @@ OfType f code t answer =
     → TypesAt most code.bytes.now code.facts.now ts
     → length ts ≡ code.bounds.types
     → answer ≡ f (get_elem? ts t.0)
-
--- what a row says of a type, or of none,
-abbrev pub RowSays : Code → Option TypeId → List ℕ → Type 0
-RowSays code o row =
-    (most : ℕ) (τ : Types)
-    → TypesAt most code.bytes.now code.facts.now τ.rows
-    → length τ.rows ≡ code.bounds.types
-    → Said (row_of τ o) row
 
 -- and the tables of all values: what stood in them, and what stands in them
 abbrev pub FillsShapes : Settings → Typing → List ℕ → List Bool → List ℕ → List Bool → Type 0

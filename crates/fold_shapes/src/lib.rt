@@ -8,7 +8,7 @@ ghost use Rattle.mir.specs.Lookup.{shape};
 ghost use Rattle.mir.specs.Option.{as_option};
 ghost use Rattle.mir.specs.Shape.{number_of_shape};
 ghost use Rattle.fold.specs.Scalarizable.{is_scalarizable};
-ghost use Rattle.fold_shapes.specs.Shapes.{row_shape, row_eligible, OfType, RowSays, FillsShapes};
+ghost use Rattle.fold_shapes.specs.Shapes.{row_shape, row_eligible, row_in, OfType, FillsShapes};
 
 use bytes_index::{Code, Typing};
 use bytes_types::layout;
@@ -38,19 +38,16 @@ fn row_eligible(t: &[u8], settings: Settings) -> bool
             settings.tuples,
             bytes_wire::byte_at(t, layout::TUPLE_COUNT) as u32,
         ),
-        Some(TypeKind::Struct) => (
-            settings.structs,
-            bytes_wire::byte_at(t, layout::STRUCT_COUNT) as u32,
-        ),
+        Some(TypeKind::Struct) => (settings.structs, bytes_types::field_count(t) as u32),
         Some(TypeKind::FixedArray) => (settings.tuples, bytes_wire::u32_at(t, layout::ARRAY_SIZE)),
         _ => (false, 0),
     };
     on && size <= settings.most as u32
 }
 
-// The row of a type, which is empty where there is no such type, or none.
-fn type_row<'a>(code: Code<'a>, t: Option<TypeId>) -> &'a [u8]
-    ensures { RowSays code.entry (as_option t) result.now }
+// The row of a type, from its kind on; empty where there is no such type, or none.
+pub fn type_row<'a>(code: Code<'a>, t: Option<TypeId>) -> &'a [u8]
+    ensures { result.now ≡ row_in code.entry (as_option t) }
 {
     match t {
         Some(t) if t.0 < code.bounds.types => code.type_row(t),

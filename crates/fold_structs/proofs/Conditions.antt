@@ -55,7 +55,7 @@ type_at types t p e =
     ]
 
 -- the type of a number
-abbrev pub typed : ℕ → TypeId
+abbrev typed : ℕ → TypeId
 typed n = record { 0 = n }
 
 -- what the code takes in place of a recorded type

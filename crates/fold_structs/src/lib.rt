@@ -8,7 +8,7 @@ use bytes_index::{Code, Slots};
 use fold::Settings;
 use mir::kind::Kind;
 use mir::shape::Shape;
-use mir::{NameId, TypeId, ValueId};
+use mir::{NameId, TypeId};
 use rewrite_parts::Listed;
 
 // A name is given among the inits of a MakeStruct.
@@ -29,28 +29,24 @@ fn all_given(inits: Listed, row: &[u8]) -> bool
 fn told_by(code: Code, y: TypeId, own: &[u8]) -> bool
     ensures { TellsRow code.entry y own.now result }
 {
-    let inits = Listed {
-        bytes: own,
-        at: rewrite_parts::PARTS,
-        count: bytes_wire::byte_at(own, rewrite_parts::COUNT),
-    };
+    let inits = Listed::behind(own, rewrite_parts::COUNT);
     fold_shapes::type_shape(code, y) == Shape::Struct && all_given(inits, code.type_row(y))
 }
 
-// Whether the MakeStruct `t` of `size` bytes passes its conditions: its named type stands last. (`t` goes on behind it, as an
-// instruction is defined by how it reads from its place on.)
+// Whether the MakeStruct `t` of `size` bytes passes its conditions: its named type stands last. (`t` goes on behind it, and
+// is no slice of that length: what is promised speaks of how an instruction reads from its place on.)
 fn struct_passes(code: Code, settings: Settings, cross: &[bool], t: &[u8], size: usize) -> bool
     ensures { Passes code.entry settings cross.now t.now size result }
 {
     if size < bytes_field::ID {
         return false;
     }
-    let named = TypeId(bytes_wire::u16_at(t, size - bytes_field::ID));
+    let named = bytes_operands::last_type(t, size);
     if !fold_shapes::type_eligible(code, named, settings) {
         return false;
     }
     let own = bytes_operands::own_fields(t);
-    let d = ValueId(bytes_wire::u16_at(own, 0));
+    let d = bytes_operands::dest(own);
     if table::flag(cross, d.0 as usize) {
         return false;
     }
@@ -65,9 +61,13 @@ fn struct_at(code: Code, settings: Settings, cross: &[bool], slot: u16) -> bool
     if bytes_index::instruction_kind(code.facts, slot) != Some(Kind::MakeStruct) {
         return false;
     }
-    let at = bytes_index::place(code.facts, slot);
-    let size = bytes_index::end(code.facts, slot).saturating_sub(at);
-    struct_passes(code, settings, cross, code.instruction(slot), size)
+    struct_passes(
+        code,
+        settings,
+        cross,
+        code.instruction(slot),
+        code.slot_size(slot),
+    )
 }
 
 // Gives each of a block's instructions a flag: whether it is a MakeStruct that passes its conditions.

@@ -1,5 +1,7 @@
 // Lowers the routine on standard input with the usual settings: keeps the first 65,536 bytes, lends 65,536 for the output, and prints the
-// text of the answer (crate pass_text), which nothing cuts.
+// text of the answer (crate pass_text), which nothing cuts. (The four lines below are those of `checker` with another text: a function over
+// both would take the length as a const argument and the writer as an `impl Fn`, and would have to require that it can be called with
+// that room and answers no more, which is longer than they are.)
 #![tactic(auto)]
 
 use std::io;

@@ -34,8 +34,8 @@ pub struct Ran {
     pub totals: Totals,
 }
 
-// The run with the totals by value. It stays beside `run`: tried in one, and the proof did not close, since what is known of
-// lent totals says nothing of their ranges.
+// The run with the totals by value. (Beside `run`: tried in one, and the proof did not close, since what is known of lent totals says
+// nothing of their ranges.)
 fn lower_counted(input: &[u8], output: &mut [u8], settings: Settings, totals: Totals) -> Ran
     ensures { Counted settings input.now output.old output.new result.answer totals result.totals }
 {

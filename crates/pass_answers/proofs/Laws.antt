@@ -1,18 +1,14 @@
 -- What the code answers counts as what is given.
-use Prim.Native.Nat.{ℕ, zero, suc}
+use Prim.Native.Nat.{ℕ}
 use mathlib.Core.Path.{◌≡◌, refl, sym, ap, ◌∙◌}
 use mathlib.Core.List.{List}
-use mathlib.Core.Bool.{not}
-use native.Mathlib.Omega.{arith}
-use borrow.Author.Tests.{lt-ltb, ne_eqb}
-use lib.Dec.{ltb, eqb}
 use Rattle.rewrite.specs.declared.Counts.{Counts}
 use Rattle.shelf.specs.Answer.{Answer as Given, refused, lowered}
 use Rattle.pass_numbers.specs.declared.Numbers.{Numbers}
 use Rattle.pass_numbers.specs.declared.Totals.{Totals}
 use Rattle.pass_numbers.specs.Totals.{with_counts}
 use Rattle.pass_numbers.proofs.Laws.{Fit, with_none}
-use Rattle.std.specs.Prelude.{Result, Ok, Err}
+use Rattle.std.specs.Prelude.{Result, Ok, Err, MatchResult}
 use Rattle.pass_answers.specs.declared.Lowered.{Lowered}
 use Rattle.pass_answers.specs.declared.Refused.{Refused}
 use Rattle.pass_answers.specs.Numbers.{numbers_of, leaves, as_answer, Answers}
@@ -20,6 +16,11 @@ use Rattle.pass_answers.specs.Totals.{totals_after, after_answer}
 
 pub answers : (o o' : Given) (r : Result Lowered Refused) (out out' : List ℕ) → o ≡ o' → as_answer r ≡ numbers_of o' → out' ≡ leaves o' out → Answers o r out out'
 answers o o' r out out' e f g = rw e (record { says = f; left = g })
+
+-- a refusal counts nothing, and what is not refused its counts
+pub after_either : (t : Totals) (r : Result Lowered Refused) (t' : Totals) → MatchResult r (λ l. t' ≡ with_counts t l.counts) (λ _. t' ≡ t) → t' ≡ after_answer t r
+after_either t (Ok l) t' h = h
+after_either t (Err r) t' h = h
 
 -- the counts among an answer's numbers
 abbrev counts_in : Numbers → Counts

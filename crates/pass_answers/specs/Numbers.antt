@@ -1,5 +1,5 @@
 -- What a call answers, as numbers, and what it leaves in the output.
-use Rattle.std.specs.Prelude.{ℕ, ◌≡◌, List, Bool, length, Result, Ok, Err}
+use Rattle.std.specs.Prelude.{ℕ, ◌≡◌, List, Bool, not, eqb, length, Result, Ok, Err}
 use Rattle.std.proofs.lemmas.List.Edits.{sets}
 use Rattle.bytes_wire.specs.Parse.{number_of_cause}
 use Rattle.bytes_wire.specs.Value.{bool_byte}
@@ -37,7 +37,7 @@ as_refusal Refused.TooLarge = refusal 12 0
 
 abbrev pub as_answer : Result Lowered Refused → Numbers
 as_answer (Err r) = as_refusal r
-as_answer (Ok l) = acceptance l.result l.counts (number_of_reason l.reason) l.size
+as_answer (Ok l) = acceptance (not (eqb l.counts.builds 0)) l.counts (number_of_reason l.reason) l.size
 
 -- the code answers what is given, and leaves what it should
 pub record Answers (o : Given) (r : Result Lowered Refused) (out out' : List ℕ) : Type 0 where

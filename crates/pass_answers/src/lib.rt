@@ -41,26 +41,30 @@ impl From<Clash> for Refused {
     }
 }
 
-// What is not refused: the result, the counts, the shelf reason, and how many bytes the rewritten routine has.
+// What is not refused: the counts, the shelf reason, and how many bytes the rewritten routine has.
 #[derive(Clone, Copy)]
 pub struct Lowered {
-    pub result: bool,
     pub counts: Counts,
-    pub reason: ShelfReason,
+    pub reason: Result<(), ShelfReason>,
     pub size: usize,
 }
 
 impl Lowered {
-    // The result goes by the builds.
-    pub fn new(c: Counts, reason: ShelfReason, size: usize) -> Lowered
+    pub fn new(c: Counts, reason: Result<(), ShelfReason>, size: usize) -> Lowered
         ensures { as_answer (Ok result) ≡ acceptance (not (eqb c.builds 0)) c (number_of_reason reason) size }
     {
         Lowered {
-            result: 0 < c.builds,
             counts: c,
             reason,
             size,
         }
+    }
+
+    // The result: whether the routine is changed, which goes by the builds.
+    pub fn changed(self) -> bool
+        ensures { result ≡ not (eqb self.counts.builds 0) }
+    {
+        0 < self.counts.builds
     }
 }
 
@@ -88,7 +92,7 @@ pub fn numbers_of(a: Result<Lowered, Refused>) -> Numbers
     match a {
         Err(r) => refusal_of(r),
         Ok(l) => Numbers {
-            result: l.result as u64,
+            result: l.changed() as u64,
             counts: Totals::from(l.counts),
             reason: shelf_test::reason_number(l.reason) as u64,
             size: l.size as u64,
@@ -97,12 +101,9 @@ pub fn numbers_of(a: Result<Lowered, Refused>) -> Numbers
     }
 }
 
-// The totals after an answer: a refusal counts nothing. (A match, whose proof the check finds; that of `map_or` it does not.)
+// The totals after an answer: a refusal counts nothing.
 pub fn totals_after(t: Totals, a: Result<Lowered, Refused>) -> Totals
     ensures { result ≡ after_answer t a }
 {
-    match a {
-        Err(_) => t,
-        Ok(l) => pass_numbers::with_counts(t, l.counts),
-    }
+    a.map_or(t, |l| pass_numbers::with_counts(t, l.counts))
 }

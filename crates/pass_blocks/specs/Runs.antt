@@ -6,6 +6,7 @@ use Rattle.bytes_block.specs.Encode.{block_bytes}
 use Rattle.fold.specs.Family.{Marks}
 use Rattle.rewrite.specs.Step.{no_counts}
 use Rattle.rewrite.specs.Run.{Rewritten}
+use Rattle.rewrite_parts.specs.Rows.{rows_size}
 use Rattle.rewrite_progress.specs.Effect.{type_numbers, mark_all}
 use Rattle.rewrite_progress.specs.declared.Progress.{Progress}
 use Rattle.rewrite.specs.declared.Clash.{Clash}
@@ -16,7 +17,7 @@ highest_start = 67108864
 
 -- the places of the rows in the working table
 abbrev pub row_places : ℕ
-row_places = 2432
+row_places = rows_size
 
 -- the bytes of rewritten blocks
 abbrev pub body_of : Rewritten → List ℕ

@@ -18,9 +18,13 @@ use rewrite::Clash;
 use rewrite_progress::{Progress, Run};
 
 // In the working table the rows of parts come first; from here on it has the types of the fresh numbers.
-pub const FRESH: usize = 2432;
-// The places of the working table: the rows, and 4,608 types.
-pub const WORK: usize = 7040;
+pub const FRESH: usize = rewrite_parts::ROWS;
+
+// The most values of a list of an accepted routine: each may be rebuilt under a number of its own.
+const LISTED: usize = 16;
+
+// The places of the working table.
+pub const WORK: usize = FRESH + LISTED * most::SLOTS;
 
 // Writes the blocks from `to` on; `work` is given the types of the fresh numbers, `dropped` the marks of the values that are
 // left out.
@@ -48,7 +52,7 @@ pub fn run_blocks(
 }
 
 // Writes the blocks from `to` on, where there is room for their `size` bytes: copied from `body`, where a run wrote them, or by
-// another run, where they are longer than that.
+// another run, where they are longer than that. (`size` is no length of `body`: the blocks may be longer or shorter than the buffer.)
 pub fn put_body(run: Run, body: &[u8], size: usize, out: &mut [u8], to: usize)
     requires near { to ≤ highest_start }
     requires few { run.code.bounds.blocks ≤ most_blocks }

@@ -12,7 +12,7 @@ use Rattle.text.specs.Written.{Written}
 use Rattle.pass_input.proofs.Copied.{take_sets}
 use Rattle.pass_families.specs.Lines.{marked_from}
 use Rattle.pass_families.specs.Shown.{found_numbers}
-use Rattle.pass_families.specs.declared.BuildFamily.{BuildFamily}
+use Rattle.fold_looked.specs.declared.BuildFamily.{BuildFamily}
 
 -- a flag as a number
 flag_number : (b : Bool) → bool_byte b ≡ one b
@@ -29,8 +29,8 @@ behind_six a b c d e f n rest members t =
 -- all numbers of a line, where the members are asked for
 pub with_members : (named : Bool) (k j : ℕ) (r : BuildFamily) (m : Marks) (room rest : List ℕ) (n : ℕ)
     → named ≡ true → Written (marked_from 0 m) 0 room rest n → n ≤ length m → length m ≤ 256 → length room ≡ 256
-    → take (6 + n) (k ∷ j ∷ r.dest.0 ∷ r.members ∷ r.turns ∷ bool_byte r.looked ∷ (rest ++ [])) ≡ found_numbers named k j r m
+    → take (6 + n) (k ∷ j ∷ r.dest.0 ∷ r.found.members ∷ r.found.turns ∷ bool_byte r.looked ∷ (rest ++ [])) ≡ found_numbers named k j r m
 with_members named k j r m room rest n on w few low long =
     let z : n ≡ length (marked_from 0 m) = omega (arith, w.place) in
     let t : take n rest ≡ marked_from 0 m = rw (z, w.stored) (take_sets (marked_from 0 m) room (omega (arith, z))) in
-    rw (on, flag_number r.looked) (behind_six k j r.dest.0 r.members r.turns (one r.looked) n rest (marked_from 0 m) t)
+    rw (on, flag_number r.looked) (behind_six k j r.dest.0 r.found.members r.found.turns (one r.looked) n rest (marked_from 0 m) t)

@@ -9,28 +9,20 @@ use Rattle.bytes_index.specs.declared.code.Code.{Code}
 use Rattle.bytes_index.specs.declared.slots.Slots.{Slots}
 use Rattle.bytes_index.specs.Code.{InstructionIn, InstructionsIn}
 use Rattle.fold.specs.declared.Settings.{Settings}
-use Rattle.fold.specs.Family.{Marks, build_dest, family, has_dynamic_index}
+use Rattle.fold.specs.Family.{Marks, build_dest}
 use Rattle.fold.specs.Tables.{ShapesAt, CodeGround}
-use Rattle.fold_family.specs.Turns.{one, size, turns_of}
+use Rattle.fold_family.specs.Turns.{one}
 use Rattle.fold_looked.specs.Looked.{Looking}
 use Rattle.text.specs.Written.{Written}
 use Rattle.text_lines.specs.Lines.{numbers_line}
 use Rattle.pass_input.specs.Accepted.{Accepted}
-use Rattle.pass_families.specs.declared.BuildFamily.{BuildFamily}
+use Rattle.fold_looked.specs.declared.BuildFamily.{BuildFamily}
 use Rattle.fold_looked.specs.declared.tables.Tables.{Tables}
 use Rattle.pass_families.specs.Lines.{marked_from, line_numbers, build_line, instruction_lines, block_lines}
 
--- what is said of the build of d among some instructions, m being the marks of its family
-pub record BuildShown (τ : Types) (is : List Instruction) (d : ValueId) (m : Marks) (r : BuildFamily) : Type 0 where
-  pub dest : r.dest ≡ d
-  pub marks : m ≡ family τ d is
-  pub members : r.members ≡ size (family τ d is)
-  pub turns : r.turns ≡ turns_of τ d is
-  pub looked : r.looked ≡ has_dynamic_index τ d is
-
 -- the numbers of a line, by what was found
 abbrev pub found_numbers : Bool → ℕ → ℕ → BuildFamily → Marks → List ℕ
-found_numbers named k j r m = k ∷ j ∷ r.dest.0 ∷ r.members ∷ r.turns ∷ one r.looked ∷ cond named (marked_from 0 m) []
+found_numbers named k j r m = k ∷ j ∷ r.dest.0 ∷ r.found.members ∷ r.found.turns ∷ one r.looked ∷ cond named (marked_from 0 m) []
 
 -- what is known of a block's instructions where its lines are put
 pub record Prepared (code : Code) (tables : Tables) (τ : Types) (is : List Instruction) : Type 0 where
@@ -42,18 +34,7 @@ pub record Prepared (code : Code) (tables : Tables) (τ : Types) (is : List Inst
   pub shaped : ShapesAt settings τ tables.shapes.now eligible
   pub values : length τ.recorded ≡ code.bounds.next
 
--- the promises: of what is found of the build in a slot,
-abbrev pub FindsBuild : Code → ℕ → Tables → Marks → Marks → List ℕ → BuildFamily → Type 0
-FindsBuild code slot tables clear marks room r =
-    (σ : Settings) (τ : Types) (is : List Instruction) (i : Instruction) (d : ValueId) (eligible : List Bool)
-    → Looking τ is tables.copies.now tables.dynamic.now clear room
-    → ShapesAt σ τ tables.shapes.now eligible
-    → length τ.recorded ≡ code.bounds.next
-    → InstructionIn code.bounds code.bytes.now code.facts.now slot i
-    → build_dest i.kind ≡ some d
-    → BuildShown τ is d marks r
-
--- of the line of the build in a slot, which is instruction j of block k,
+-- the promises: of the line of the build in a slot, which is instruction j of block k,
 abbrev pub PutsBuild : Bool → Code → ℕ → ℕ → ℕ → Tables → List ℕ → List ℕ → ℕ → Type 0
 PutsBuild named code k j slot tables before after r =
     (τ : Types) (is : List Instruction) (i : Instruction) (d : ValueId)

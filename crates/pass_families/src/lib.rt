@@ -1,7 +1,5 @@
 // What the program `families` prints of bytes: a line for each build of a routine, or the refusal.
-// (The text is another part of the caller's at each call, and comes from the heap: how long it is stays a clause. A block's code and
-// tables and whether members are named stay three parameters: a record of them would be made once, and taken apart in each of the three
-// functions that have them all.)
+// (The text is another part of the caller's at each call, and comes from the heap: how long it is stays a clause.)
 #![tactic(auto)]
 
 ghost use Rattle.std.specs.Prelude.{◌*◌, ◌≤◌, length};
@@ -12,12 +10,12 @@ ghost use Rattle.text_lines.specs.Lines.{numbers_line};
 ghost use Rattle.pass_input.specs.Accepted.{Accepted};
 ghost use Rattle.pass_families.specs.Widths.{line_width, longest_text};
 ghost use Rattle.pass_families.specs.Lines.{marked_from, families_of};
-ghost use Rattle.pass_families.specs.Shown.{found_numbers, FindsBuild, PutsBuild, PutsOne, PutsAll, PutsBlock, PutsBlocks, PutsRoutine};
+ghost use Rattle.pass_families.specs.Shown.{found_numbers, PutsBuild, PutsOne, PutsAll, PutsBlock, PutsBlocks, PutsRoutine};
 
 use bytes_index::{Code, Slots};
 use fold::Settings;
-use fold_looked::Tables;
-use mir::{BlockId, ValueId, most};
+use fold_looked::{BuildFamily, Tables};
+use mir::{BlockId, most};
 
 // The numbers of a line: block, instruction, dest, how many members the family has, how many turns the search for them took, and 1
 // where a member is looked into by an index that is not known, else 0. The members can stand behind.
@@ -43,39 +41,6 @@ struct Site {
     slot: u16,
 }
 
-// What a line says of a build: its dest, how many members its family has, how many turns the search for them took, and whether a
-// member is looked into by an index that is not known.
-#[derive(Clone, Copy)]
-pub struct BuildFamily {
-    pub dest: ValueId,
-    pub members: u16,
-    pub turns: u16,
-    pub looked: bool,
-}
-
-// Finds that of the build in a slot: `family` is clear, one for each value, and gets the family's marks.
-fn find_build(
-    code: Code,
-    slot: u16,
-    tables: Tables,
-    family: &mut [bool],
-    members: &mut [u16],
-) -> BuildFamily
-    ensures { FindsBuild code.entry slot tables.entry family.old family.new members.old result }
-{
-    let v = fold_scan::dest(code, slot);
-    let shape = bytes_wire::byte_at(tables.shapes, v.0 as usize);
-    let found = fold_family::family(tables.copies, shape, v, family, members);
-    let listed = fold_family::first_members(members, found.members);
-    let looked = fold_family::member_indexed(listed, tables.dynamic);
-    BuildFamily {
-        dest: v,
-        members: found.members,
-        turns: found.turns,
-        looked,
-    }
-}
-
 // Lists the marked values at the head of a line, the least first; how many they are.
 fn list_members(family: &[bool], line: &mut [u64]) -> usize
     requires { length family.now ≤ length line.old }
@@ -92,19 +57,19 @@ fn list_members(family: &[bool], line: &mut [u64]) -> usize
     n
 }
 
-// The line of what was found of a build, whose family has these marks; where `named`, with its members. Answers its length.
-fn put_line(at: Site, found: BuildFamily, family: &[bool], named: bool, text: &mut [u8]) -> usize
+// The line of what is found of a build, whose family has these marks; where `named`, with its members. Answers its length.
+fn put_line(at: Site, build: BuildFamily, family: &[bool], named: bool, text: &mut [u8]) -> usize
     requires { length family.now ≤ most_values }
-    ensures written { Written (numbers_line (found_numbers named at.block at.instruction found family.now)) 0 text.old text.new result }
+    ensures written { Written (numbers_line (found_numbers named at.block at.instruction build family.now)) 0 text.old text.new result }
     ensures upper_bound { result ≤ line_width }
 {
     let numbers: [u64; NUMBERS] = [
         at.block as u64,
         at.instruction as u64,
-        found.dest.0 as u64,
-        found.members as u64,
-        found.turns as u64,
-        found.looked as u64,
+        build.dest.0 as u64,
+        build.found.members as u64,
+        build.found.turns as u64,
+        build.looked as u64,
     ];
     if !named {
         return text_lines::numbers_line(text, &numbers);
@@ -115,57 +80,60 @@ fn put_line(at: Site, found: BuildFamily, family: &[bool], named: bool, text: &m
     text_lines::numbers_line(text, &line[..NUMBERS + many])
 }
 
-// The line of the build in a slot.
-fn put_build(code: Code, at: Site, tables: Tables, named: bool, text: &mut [u8]) -> usize
-    ensures written { PutsBuild named code.entry at.block at.instruction at.slot tables.entry
-        text.old text.new result }
-    ensures upper_bound { result ≤ line_width }
-{
-    let mut family: [bool; most::VALUES] = [false; most::VALUES];
-    let mut members: [u16; most::VALUES] = [0; most::VALUES];
-    let marks = &mut family[..tables.dynamic.len()];
-    let found = find_build(code, at.slot, tables, marks, &mut members);
-    put_line(at, found, marks, named, text)
-}
-
-// The line of an instruction that is a build; nothing of any other.
-fn put_one(code: Code, at: Site, tables: Tables, named: bool, text: &mut [u8]) -> usize
-    ensures written { PutsOne named code.entry at.block at.instruction at.slot tables.entry
-        text.old text.new result }
-    ensures upper_bound { result ≤ line_width }
-{
-    let Some(kind) = bytes_index::instruction_kind(code.facts, at.slot) else {
-        return 0;
-    };
-    if !kind.is_build() {
-        return 0;
-    }
-    put_build(code, at, tables, named, text)
-}
-
-// The lines of block `k`.
-fn put_all(
-    code: Code,
-    k: BlockId,
-    slots: Slots,
-    tables: Tables,
+// A block as its lines are put: its code, the tables that its families are found by, and whether members are named.
+#[derive(Clone, Copy)]
+struct View<'a, 'b> {
+    code: Code<'a>,
+    tables: Tables<'b>,
     named: bool,
-    text: &mut [u8],
-) -> usize
-    requires { line_width * slots.count ≤ length text.old }
-    ensures written { PutsAll named code.entry k.0 slots tables.entry text.old text.new result }
-    ensures upper_bound { result ≤ line_width * slots.count }
-{
-    let mut to = 0;
-    for j in 0..slots.count {
-        let at = Site {
-            block: k.0,
-            instruction: j,
-            slot: slots.first + j,
-        };
-        to = to + put_one(code, at, tables, named, &mut text[to..]);
+}
+
+impl<'a, 'b> View<'a, 'b> {
+    // The line of the build in a slot.
+    fn put_build(self, at: Site, text: &mut [u8]) -> usize
+        ensures written { PutsBuild self.entry.named self.entry.code at.block at.instruction at.slot self.entry.tables
+            text.old text.new result }
+        ensures upper_bound { result ≤ line_width }
+    {
+        let mut family: [bool; most::VALUES] = [false; most::VALUES];
+        let mut members: [u16; most::VALUES] = [0; most::VALUES];
+        let marks = &mut family[..self.tables.dynamic.len()];
+        let build = fold_looked::find_build(self.code, at.slot, self.tables, marks, &mut members);
+        put_line(at, build, marks, self.named, text)
     }
-    to
+
+    // The line of an instruction that is a build; nothing of any other.
+    fn put_one(self, at: Site, text: &mut [u8]) -> usize
+        ensures written { PutsOne self.entry.named self.entry.code at.block at.instruction at.slot self.entry.tables
+            text.old text.new result }
+        ensures upper_bound { result ≤ line_width }
+    {
+        let Some(kind) = bytes_index::instruction_kind(self.code.facts, at.slot) else {
+            return 0;
+        };
+        if !kind.is_build() {
+            return 0;
+        }
+        self.put_build(at, text)
+    }
+
+    // The lines of the block, whose number is `k`.
+    fn put_all(self, k: BlockId, slots: Slots, text: &mut [u8]) -> usize
+        requires { line_width * slots.count ≤ length text.old }
+        ensures written { PutsAll self.entry.named self.entry.code k.0 slots self.entry.tables text.old text.new result }
+        ensures upper_bound { result ≤ line_width * slots.count }
+    {
+        let mut to = 0;
+        for j in 0..slots.count {
+            let at = Site {
+                block: k.0,
+                instruction: j,
+                slot: slots.first + j,
+            };
+            to = to + self.put_one(at, &mut text[to..]);
+        }
+        to
+    }
 }
 
 // The lines of block `k`, which is scanned for its copies first. (How many values there are is known of accepted bytes alone, whose
@@ -191,7 +159,12 @@ fn put_block(
         copies: &copies,
         dynamic,
     };
-    put_all(code, k, slots, tables, named, text)
+    let view = View {
+        code,
+        tables,
+        named,
+    };
+    view.put_all(k, slots, text)
 }
 
 // The lines of all blocks.

@@ -27,7 +27,7 @@ use Rattle.shelf_test.specs.Number.{number_of_reason}
 use Rattle.shelf_test.specs.Shelved.{input_reason}
 use Rattle.shelf_test.proofs.Reasons.{reason_undropped}
 use Rattle.pass_numbers.proofs.Laws.{given_refused}
-use Rattle.std.specs.Prelude.{Result, Err}
+use Rattle.std.specs.Prelude.{Result, Err, ⊤}
 use Rattle.pass_answers.specs.declared.Lowered.{Lowered}
 use Rattle.pass_answers.specs.declared.Refused.{Refused}
 use lib.Dec.{eqb}
@@ -77,7 +77,7 @@ module _ {σ : Settings} {s facts : List ℕ} {b : Bounds} (u : Unchanged σ s f
   none_dropped v = ap (λ (w : Rewritten). among v w.dropped) untouched
 
   -- where it has room
-  pub same_written : length s ≤ length out → (k : ShelfReason) → number_of_reason k ≡ input_reason x → (r : Result Lowered Refused) → as_answer r ≡ acceptance false no_counts (number_of_reason k) (length s) → (out' : List ℕ) → out' ≡ sets out 0 s → Answers (given σ (length out) s) r out out'
+  pub same_written : length s ≤ length out → (k : Result ⊤ ShelfReason) → number_of_reason k ≡ input_reason x → (r : Result Lowered Refused) → as_answer r ≡ acceptance false no_counts (number_of_reason k) (length s) → (out' : List ℕ) → out' ≡ sets out 0 s → Answers (given σ (length out) s) r out out'
   same_written l k ek r er out' eo =
       let e : encode x ≡ s = canon u.accepted in
       answers _ (lowered false no_counts (number_of_reason k) (encode x)) r out out'

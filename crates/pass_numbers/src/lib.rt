@@ -15,7 +15,8 @@ use rewrite::Counts;
 pub const LARGEST: u8 = 16;
 
 // What all runs of one caller counted (sroa.rs, `Stats`, which `run(&mut self)` adds to); a total stays at the largest
-// number once it is there. Beside `Counts`, since a total has 64 bits and a run's count 32.
+// number once it is there. (No generic `Counts<N>`: the definitions and lemmas on a run's counts, up to the machine's,
+// would name its type of number too, and the five would still be widened and added each by its name, as here.)
 #[derive(Clone, Copy, Default)]
 pub struct Totals {
     pub builds: u64,

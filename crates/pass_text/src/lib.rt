@@ -12,12 +12,13 @@ const LENT: usize = 65536;
 
 pub const LONGEST: usize = 131328;
 
-// The usual settings, as numbers: the entry for C, which is called, takes no others.
+// The usual settings: tuples and structs are on. (Numbers, as the entry for C takes them, where a flag is on when it is not 0.)
 const ON: u64 = 1;
 
 const MOST: u64 = 8;
 
-// Writes what is to be printed of some bytes, and returns its length.
+// Writes what is to be printed of some bytes, and returns its length. (By the entry for C and its ten numbers: what is printed is what C
+// is told.)
 pub fn lower_text(s: &[u8], text: &mut [u8]) -> usize
     ensures written { Written (text_of (answer defaults lent_bytes s.now)) 0 text.old text.new result }
     ensures upper_bound { result ≤ longest_text }

@@ -1,11 +1,11 @@
 -- What the code answers is the outcome of the call.
 use Prim.Native.Nat.{ℕ, ◌+◌, ◌≤◌, ◌<◌}
 use mathlib.Core.Path.{◌≡◌, refl, ap, ◌∙◌, sym}
-use mathlib.Core.List.{List, [], ◌++◌, append_assoc}
+use mathlib.Core.List.{List, ◌++◌, append_assoc}
 use mathlib.Core.Bool.{Bool, true, false, not}
 use native.Mathlib.Nat.{zero-add}
 use native.Mathlib.Omega.{arith}
-use lib.ListN.{length, get_or, take, drop, replicate, length-append, length-drop}
+use lib.ListN.{length, take, drop, replicate, length-append, length-drop}
 use lib.Seq.{sets, length-sets, take_all, get_or-take, length-take-le}
 use lib.Dec.{eqb}
 use Rattle.bytes_field.specs.declared.Bounds.{Bounds}
@@ -38,7 +38,7 @@ use Rattle.shelf_test.specs.declared.ShelfReason.{ShelfReason}
 use Rattle.shelf_test.specs.Number.{number_of_reason}
 use Rattle.shelf_test.specs.Shelved.{Shelved}
 use Rattle.pass_numbers.proofs.Laws.{given_refused}
-use Rattle.std.specs.Prelude.{Result, Ok, Err}
+use Rattle.std.specs.Prelude.{Result, Ok, Err, ⊤}
 use Rattle.rewrite.specs.declared.Clash.{Clash}
 use Rattle.pass_answers.specs.declared.Lowered.{Lowered}
 use Rattle.pass_answers.specs.declared.Refused.{Refused}
@@ -194,7 +194,7 @@ module _ {run : Run} {trial : Trial} (m : Measured run trial) where
           let z : sets out 0 (head ++ body_of w) ≡ sets (sets out 0 head) (0 + length head) (body_of w) = sets_append out 0 head (body_of w) in
           g ∙ ap (λ k. sets out₁ k (body_of w)) h.0 ∙ ap (λ t. sets t (0 + length head) (body_of w)) h.1 ∙ sym z
 
-      pub answers_written : (k : ShelfReason) (r : Result Lowered Refused) → number_of_reason k ≡ shelf_reason with_debug x w → as_answer r ≡ acceptance (not (eqb p.counts.builds 0)) p.counts (number_of_reason k) (to + p.to) → Answers (given σ (length out) s) r out out₂
+      pub answers_written : (k : Result ⊤ ShelfReason) (r : Result Lowered Refused) → number_of_reason k ≡ shelf_reason with_debug x w → as_answer r ≡ acceptance (not (eqb p.counts.builds 0)) p.counts (number_of_reason k) (to + p.to) → Answers (given σ (length out) s) r out out₂
       answers_written k r f z =
           let i : to + p.to ≡ length (encode (rewrite σ x)) = omega (arith, whole_length, begun.place, h.0) in
           let j : out₂ ≡ sets out 0 (encode (rewrite σ x)) = written_all ∙ ap (sets out 0) (sym (rewritten_bytes σ x)) in

@@ -50,7 +50,7 @@ fn first_row<'a>(s: &'a [u8]) -> (Row<'a>, &'a [u8])
         told: bytes_field::between(s, told_at, bytes_at),
         bytes: bytes_field::between(s, bytes_at, end),
     };
-    (row, bytes_field::tail(s, end))
+    (row, table::behind(s, end))
 }
 
 // Calls the pass, which is lent `out`; whether it answers as the row tells.
@@ -82,7 +82,7 @@ fn replay(s: &[u8]) -> Tally
 {
     let mut tally = Tally { rows: 0, others: 0 };
     let mut rest = s;
-    // A row tells how long it is: no index is counted, and an iterator over rows would be this loop with a state of its own.
+    // (A row tells how long it is: no index is counted, and an iterator over rows would be this loop with a state of its own.)
     while !rest.is_empty() {
         let (row, behind) = first_row(rest);
         if !answers_alike(row) {

@@ -38,22 +38,22 @@ has_parts {S} {o} {r} {v} (found w xs f g) e = let z : v ≡ w = cc in rw z (has
 has_parts (nothing f) e = absurd (let u : ◌≡◌ {A = ℕ} 0 1 = cc in omega arith)
 
 -- an instruction that stays
-pub stays : {next : ℕ} {s : List ℕ} {marks : Marks} {rows : List ℕ} {used : ℕ} {S : AggStates} {i : Instruction} {p : Piece} → p ≡ kept S i → Rep next s marks rows used S → Decided next s marks rows S i p (record { action = Action.Keep; used = used })
+pub stays : {next : ℕ} {s : List ℕ} {marks : Marks} {rows : List ℕ} {used : ℕ} {S : AggStates} {i : Instruction} {p : Piece} → p ≡ kept S i → Rep next s marks rows used S → Decided next s marks rows S i p (record { value = Action.Keep; used = used })
 unfolding kept
 stays e r = record { rep = rw e r; does = e }
 
 -- one whose dest is tracked
-pub tracks : {next : ℕ} {s : List ℕ} {marks : Marks} {rows : List ℕ} {used : ℕ} {S : AggStates} {i : Instruction} (c : Counted) (d : ValueId) (xs : List Value) {p : Piece} → p ≡ tracked (counted_as c) S d xs → Rep next s marks rows used (insert_state S d xs) → Decided next s marks rows S i p (record { action = Action.Track d c; used = used })
+pub tracks : {next : ℕ} {s : List ℕ} {marks : Marks} {rows : List ℕ} {used : ℕ} {S : AggStates} {i : Instruction} (c : Counted) (d : ValueId) (xs : List Value) {p : Piece} → p ≡ tracked (counted_as c) S d xs → Rep next s marks rows used (insert_state S d xs) → Decided next s marks rows S i p (record { value = Action.Track d c; used = used })
 unfolding tracked left
 tracks c d xs e r = record { rep = rw e r; does = rw e refl }
 
 -- a struct's build, by whether its parts were found
-pub struct_tracks : {next : ℕ} {s : List ℕ} {marks : Marks} {rows : List ℕ} {used : ℕ} {S : AggStates} {i : Instruction} {x : Piece} (d : ValueId) (o : Option (List Value)) → x ≡ step_build S i d o → true ≡ is_some o → Rep next s marks rows used (given_parts S d o) → Decided next s marks rows S i x (record { action = Action.Track d Counted.Build; used = used })
+pub struct_tracks : {next : ℕ} {s : List ℕ} {marks : Marks} {rows : List ℕ} {used : ℕ} {S : AggStates} {i : Instruction} {x : Piece} (d : ValueId) (o : Option (List Value)) → x ≡ step_build S i d o → true ≡ is_some o → Rep next s marks rows used (given_parts S d o) → Decided next s marks rows S i x (record { value = Action.Track d Counted.Build; used = used })
 unfolding step_build given_parts is_some
 struct_tracks d none e g r = absurd (let u : ◌≡◌ {A = ℕ} 0 1 = cc in omega arith)
 struct_tracks d (some xs) e g r = tracks Counted.Build d xs e r
 
-pub struct_stays : {next : ℕ} {s : List ℕ} {marks : Marks} {rows : List ℕ} {used : ℕ} {S : AggStates} {i : Instruction} {x : Piece} (d : ValueId) (o : Option (List Value)) → x ≡ step_build S i d o → false ≡ is_some o → Rep next s marks rows used (given_parts S d o) → Decided next s marks rows S i x (record { action = Action.Keep; used = used })
+pub struct_stays : {next : ℕ} {s : List ℕ} {marks : Marks} {rows : List ℕ} {used : ℕ} {S : AggStates} {i : Instruction} {x : Piece} (d : ValueId) (o : Option (List Value)) → x ≡ step_build S i d o → false ≡ is_some o → Rep next s marks rows used (given_parts S d o) → Decided next s marks rows S i x (record { value = Action.Keep; used = used })
 unfolding step_build given_parts is_some
 struct_stays d none e g r = stays e r
 struct_stays d (some xs) e g r = absurd (let u : ◌≡◌ {A = ℕ} 0 1 = cc in omega arith)

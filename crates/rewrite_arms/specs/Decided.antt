@@ -27,7 +27,7 @@ use Rattle.rewrite_parts.specs.declared.listed.Listed.{Listed}
 use Rattle.bytes_struct.specs.Fields.{Names}
 use Rattle.rewrite_arms.specs.declared.Counted.{Counted}
 use Rattle.rewrite_arms.specs.declared.Action.{Action}
-use Rattle.rewrite_arms.specs.declared.Decision.{Decision}
+use Rattle.rewrite_arms.specs.declared.Used.{Used}
 use Rattle.rewrite_arms.specs.declared.Plan.{Plan}
 use Rattle.rewrite_arms.specs.declared.spot.Spot.{Spot}
 
@@ -49,9 +49,9 @@ Does next s S i p (Action.Track d c) = p ≡ left (counted_as c) (d ∷ []) p.st
 Does next s S i p (Action.Assign d place t) = Assigned next s S p d place t
 
 -- the tables hold the states behind the piece, and the action does it
-pub record Decided (next : ℕ) (s : List ℕ) (tracked : Marks) (rows : List ℕ) (S : AggStates) (i : Instruction) (p : Piece) (r : Decision) : Type 0 where
+pub record Decided (next : ℕ) (s : List ℕ) (tracked : Marks) (rows : List ℕ) (S : AggStates) (i : Instruction) (p : Piece) (r : Used Action) : Type 0 where
   pub rep : Rep next s tracked rows r.used p.states
-  pub does : Does next s S i p r.action
+  pub does : Does next s S i p r.value
 
 -- the spot of the instruction in a slot
 pub record SpotAt (s facts : List ℕ) (slot : ℕ) (p : Spot) : Type 0 where
@@ -164,7 +164,7 @@ pub record ListedAt (code : Code) (p : Spot) (l : Listed) : Type 0 where
   pub many : l.count ≡ get_or code.bytes.now (p.off + 2) 0
 
 -- a build of a struct by its type
-abbrev pub FieldsBuilt : Code → Spot → TypeId → Marks → List ℕ → ℕ → Marks → List ℕ → Decision → Type 0
+abbrev pub FieldsBuilt : Code → Spot → TypeId → Marks → List ℕ → ℕ → Marks → List ℕ → Used Action → Type 0
 FieldsBuilt code p t marks rows used marks' rows' r =
     (next : ℕ) (S : AggStates) (i : Instruction) (x : Piece)
     → Rep next code.bytes.now marks rows used S

@@ -27,8 +27,6 @@ pub use spot::Spot;
 // and then these.
 pub const DEST_BYTES: usize = rewrite_parts::COUNT;
 
-pub const PARTS: usize = rewrite_parts::PARTS;
-
 // What an instruction that is left out counts as.
 #[derive(Clone, Copy)]
 pub enum Counted {
@@ -55,10 +53,10 @@ pub enum Action {
     },
 }
 
-// What to do, and how much of the rows is used then.
+// What was decided, settled or reached, and how much of the rows is used then.
 #[derive(Clone, Copy)]
-pub struct Decision {
-    pub action: Action,
+pub struct Used<T> {
+    pub value: T,
     pub used: usize,
 }
 
@@ -101,13 +99,6 @@ pub fn tracked_source(tracked: &[bool], x: Value, whole: bool) -> Option<ValueId
     rewrite_parts::tracked(tracked, v).then_some(v)
 }
 
-// The type that an instruction's last two bytes name.
-pub fn last_type(s: &[u8], end: usize) -> TypeId
-    ensures { 2 ≤ end → result.0 ≡ at16 s.now (end - 2) }
-{
-    TypeId(bytes_wire::u16_at(s, end.saturating_sub(bytes_field::ID)))
-}
-
 // The type is an aggregate.
 pub fn is_aggregate(code: Code, t: TypeId) -> bool
     ensures { (most : ℕ) (τ : Types) → TypesAt most code.entry.bytes.now code.entry.facts.now τ.rows → length τ.rows ≡ code.entry.bounds.types
@@ -139,11 +130,7 @@ pub fn plan_struct(code: Code, dest: ValueId, named: TypeId) -> Plan
 pub fn listed<'a>(code: Code<'a>, p: Spot) -> Listed<'a>
     ensures { ListedAt code.entry p result }
 {
-    Listed {
-        bytes: code.bytes,
-        at: p.off + PARTS,
-        count: bytes_wire::byte_at(code.bytes, p.off + DEST_BYTES),
-    }
+    Listed::behind(code.bytes, p.off + DEST_BYTES)
 }
 
 // A build of a struct by its type: its dest gets the values of its inits and it is left out, where all are given.
@@ -154,28 +141,24 @@ pub fn build_fields(
     tracked: &mut [bool],
     rows: &mut [u16],
     used: usize,
-) -> Decision
+) -> Used<Action>
     requires { used < used_below }
     ensures used_bound { result.used ≤ used + row_most }
     ensures fields_built { FieldsBuilt code.entry p t tracked.old rows.old used
         tracked.new rows.new result }
 {
     let row = code.type_row(t);
-    let names = Listed {
-        bytes: row,
-        at: layout::STRUCT_NAMES,
-        count: bytes_types::field_count(row),
-    };
+    let names = Listed::behind(row, layout::STRUCT_COUNT);
     match rewrite_parts::track_named(tracked, rows, used, p.dest, listed(code, p), names) {
-        Some(end) => Decision {
-            action: Action::Track {
+        Some(end) => Used {
+            value: Action::Track {
                 dest: p.dest,
                 what: Counted::Build,
             },
             used: end,
         },
-        None => Decision {
-            action: Action::Keep,
+        None => Used {
+            value: Action::Keep,
             used,
         },
     }

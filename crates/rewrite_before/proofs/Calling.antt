@@ -24,6 +24,7 @@ use Rattle.rewrite.specs.Rebuild.{Rebuilt, rebuild_all, wanted_arguments}
 use Rattle.rewrite.specs.Step.{Piece, step_call}
 use Rattle.rewrite_parts.specs.Rows.{rows_in, fresh_in}
 use Rattle.rewrite_parts.specs.Here.{Here}
+use Rattle.bytes_emit.specs.Written.{Writes}
 use Rattle.rewrite_progress.specs.declared.Progress.{Progress}
 use Rattle.std.specs.Prelude.{Result, Ok, Err}
 use Rattle.rewrite.specs.declared.Clash.{Clash}
@@ -31,7 +32,7 @@ use Rattle.rewrite_progress.specs.Effect.{output_of, rebuilt_effect, piece_effec
 use Rattle.rewrite_wanted.specs.Asked.{Setting, asked_list}
 use Rattle.rewrite_list.specs.declared.values.ValueList.{ValueList}
 use Rattle.rewrite_list.specs.declared.values.ListedValues.{ListedValues}
-use Rattle.rewrite_list.specs.Lists.{AllPut}
+use Rattle.rewrite_list.specs.Lists.{OfListIn, BuildsPut, AllPut}
 use Rattle.rewrite_before.specs.Materialized.{onward, call_list, call_behind, with_values, Around, CallWritten, InstructionWritten, CallPut}
 use Rattle.rewrite_before.proofs.Standing.{CallKnown, call_known}
 use Rattle.rewrite_before.proofs.Effects.{Idle, idle, clash_put, went_put, spent, as_many, call_clash, call_fresh, call_kept, call_anew}
@@ -76,7 +77,7 @@ module _ (vs : ListedValues) (slot : ℕ) (out work : List ℕ) (p : Progress) (
     few = omega (arith, fresh_same)
 
     puts : Puts (output_of out (fresh_in work) dropped p) (rebuilt_effect R) R.clash out₁ (fresh_in work₁) dropped r
-    puts = subst (λ m. AllPut (record { code = vs.code; fields = vs.fields; list = m; tracked = vs.tracked }) out work p out₁ work₁ r) hl u τ S xs setting known.lies known.listed few dropped
+    puts = subst (OfListIn vs.code vs.fields.now vs.tracked.now (rows_in work) p.fresh (λ τ S R. BuildsPut R out work p out₁ work₁ r)) hl u τ S xs setting known.lies known.listed few dropped
 
     short : n ≤ 268
     short = instruction_size vs.code.bounds [] false t bs te a.ground.listed a.ground.projected
@@ -91,7 +92,7 @@ module _ (vs : ListedValues) (slot : ℕ) (out work : List ℕ) (p : Progress) (
     anew_case : (q' s' : Progress) (out₂ : List ℕ) (to end : ℕ) → r ≡ Ok q' → (q'.fresh ≡ p.fresh → ⊥) → end ≡ end_in vs.code.facts.now slot - place_in vs.code.facts.now slot - fields_place t → vs.list.first ≤ 1024 → CallWritten vs (record { to = q'.to; fresh = p.fresh }) end out₁ out₂ to → s' ≡ onward q' to 1 (q'.fresh - p.fresh)
         → Puts (output_of out (fresh_in work) dropped p) (piece_effect q) q.clash out₂ (fresh_in work₁) dropped (Ok s')
     anew_case q' s' out₂ to end z c he hs v o =
-        let v' = subst (λ m. CallWritten (record { code = vs.code; fields = vs.fields; list = m; tracked = vs.tracked }) (record { to = q'.to; fresh = p.fresh }) (n - fields_place t) out₁ out₂ to) hl (subst (λ j. CallWritten vs (record { to = q'.to; fresh = p.fresh }) j out₁ out₂ to) he v) in
+        let v' = subst (λ m. (rows : List ℕ) → Around vs.fields.now m (n - fields_place t) → OfListIn vs.code vs.fields.now vs.tracked.now rows p.fresh (λ τ S R. Writes (0 ∷ 3 ∷ with_values vs.fields.now m (n - fields_place t) R.values) out₁ out₂ q'.to to) m) hl (subst (λ j. CallWritten vs (record { to = q'.to; fresh = p.fresh }) j out₁ out₂ to) he v) in
         let around : Around vs.fields.now (call_list vs.fields.now) (n - fields_place t) = record { before = omega (arith, ap (λ (m : ValueList). m.first) hl); behind = omega (arith, short) } in
         let W : List ℕ = 0 ∷ 3 ∷ with_values vs.fields.now (call_list vs.fields.now) (n - fields_place t) R.values in
         let made : q'.fresh ≡ p.fresh + length R.fresh = spent out (fresh_in work) dropped p R r out₁ (fresh_in work₁) puts q' z in

@@ -23,6 +23,7 @@ use Rattle.rewrite.specs.Rebuild.{Rebuilt, rebuild_all, aggregate_type}
 use Rattle.rewrite.specs.Step.{Piece, store_kept}
 use Rattle.rewrite_parts.specs.Rows.{rows_in, fresh_in}
 use Rattle.rewrite_parts.specs.Here.{Here}
+use Rattle.bytes_emit.specs.Written.{Writes}
 use Rattle.rewrite_progress.specs.declared.Progress.{Progress}
 use Rattle.std.specs.Prelude.{Result, Ok, Err}
 use Rattle.rewrite.specs.declared.Clash.{Clash}
@@ -30,7 +31,7 @@ use Rattle.rewrite_progress.specs.Effect.{output_of, rebuilt_effect, piece_effec
 use Rattle.rewrite_wanted.specs.declared.Asks.{Asks}
 use Rattle.rewrite_wanted.specs.Asked.{Setting, asked_at, asked_list}
 use Rattle.rewrite_list.specs.declared.values.ListedValues.{ListedValues}
-use Rattle.rewrite_list.specs.Lists.{AllPut}
+use Rattle.rewrite_list.specs.Lists.{OfListIn, BuildsPut, AllPut}
 use Rattle.rewrite_before.specs.Materialized.{onward, store_first, store_list, list_end, with_values, Around, AnewWritten, InstructionWritten, StorePut}
 use Rattle.rewrite_before.proofs.Standing.{StoreKnown, store_known}
 use Rattle.rewrite_before.proofs.Effects.{clash_put, went_put, spent, StoreCase, store_case, store_clash, store_fresh, store_kept_lem, store_built}
@@ -75,7 +76,7 @@ module _ (vs : ListedValues) (slot : ℕ) (out work : List ℕ) (p : Progress)
     few = omega (arith, ap length (store_fresh S i to' x ty R q cases))
 
     puts : Puts (output_of out (fresh_in work) dropped p) (rebuilt_effect R) R.clash out₁ (fresh_in work₁) dropped r
-    puts = subst (λ m. AllPut (record { code = vs.code; fields = vs.fields; list = m; tracked = vs.tracked }) out work p out₁ work₁ r) hl u τ S (x ∷ []) setting known.lies refl few dropped
+    puts = subst (OfListIn vs.code vs.fields.now vs.tracked.now (rows_in work) p.fresh (λ τ S R. BuildsPut R out work p out₁ work₁ r)) hl u τ S (x ∷ []) setting known.lies refl few dropped
 
     short : n ≤ 268
     short = instruction_size vs.code.bounds [] false vs.fields.now bs te a.ground.listed a.ground.projected
@@ -91,7 +92,7 @@ module _ (vs : ListedValues) (slot : ℕ) (out work : List ℕ) (p : Progress)
         → Puts (output_of out (fresh_in work) dropped p) (piece_effect q) q.clash out₂ (fresh_in work₁) dropped (Ok s')
     unfolding after
     anew_case q' s' out₂ to end z c he v o =
-        let v' = subst (λ m. AnewWritten (record { code = vs.code; fields = vs.fields; list = m; tracked = vs.tracked }) (record { to = q'.to; fresh = p.fresh }) n out₁ out₂ to) hl (subst (λ j. AnewWritten vs (record { to = q'.to; fresh = p.fresh }) j out₁ out₂ to) he v) in
+        let v' = subst (λ m. (rows : List ℕ) → Around vs.fields.now m n → OfListIn vs.code vs.fields.now vs.tracked.now rows p.fresh (λ τ S R. Writes (with_values vs.fields.now m n R.values) out₁ out₂ q'.to to) m) hl (subst (λ j. AnewWritten vs (record { to = q'.to; fresh = p.fresh }) j out₁ out₂ to) he v) in
         let around : Around vs.fields.now (store_list vs.fields.now) n = record { before = omega (arith, known.near, short); behind = omega (arith, short) } in
         let W = with_values vs.fields.now (store_list vs.fields.now) n R.values in
         let made : q'.fresh ≡ p.fresh + length R.fresh = spent out (fresh_in work) dropped p R r out₁ (fresh_in work₁) puts q' z in

@@ -18,6 +18,7 @@ use Rattle.rewrite.specs.State.{AggStates}
 use Rattle.rewrite.specs.Rebuild.{Rebuilt, rebuild_all}
 use Rattle.rewrite.specs.Run.{Walked, finish, returned}
 use Rattle.rewrite_parts.specs.Rows.{Rep, rows_in, fresh_in}
+use Rattle.bytes_emit.specs.Written.{Writes}
 use Rattle.rewrite_progress.specs.declared.Progress.{Progress}
 use Rattle.std.specs.Prelude.{Result, Ok, Err}
 use Rattle.rewrite.specs.declared.Clash.{Clash}
@@ -26,8 +27,8 @@ use Rattle.rewrite_progress.specs.Effect.{output_of, rebuilt_effect, walked_effe
 use Rattle.rewrite_wanted.specs.declared.Asks.{Asks}
 use Rattle.rewrite_wanted.specs.Asked.{Setting, asked_list}
 use Rattle.rewrite_list.specs.declared.values.ListedValues.{ListedValues}
-use Rattle.rewrite_list.specs.Lists.{Lies, AllPut}
-use Rattle.rewrite_before.specs.Materialized.{onward, return_list, with_values, AnewWritten, ReturnPut}
+use Rattle.rewrite_list.specs.Lists.{Lies, OfListIn, BuildsPut, AllPut}
+use Rattle.rewrite_before.specs.Materialized.{onward, return_list, with_values, Around, AnewWritten, ReturnPut}
 use Rattle.rewrite_before.proofs.Returning.{asked_returns, return_many, return_around, return_bytes, return_lies}
 use Rattle.rewrite_before.proofs.Effects.{clash_put, went_put, spent, as_many, return_effect}
 
@@ -68,11 +69,11 @@ module _ (vs : ListedValues) (slot : ℕ) (out work : List ℕ) (p : Progress) (
     few = omega (arith, fresh_same)
 
     puts : Puts (output_of out (fresh_in work) dropped p) (rebuilt_effect R) R.clash out₁ (fresh_in work₁) dropped r
-    puts = subst (λ m. AllPut (record { code = vs.code; fields = vs.fields; list = m; tracked = vs.tracked }) out work p out₁ work₁ r) hl u τ S xs setting lie long few dropped
+    puts = subst (OfListIn vs.code vs.fields.now vs.tracked.now (rows_in work) p.fresh (λ τ S R. BuildsPut R out work p out₁ work₁ r)) hl u τ S xs setting lie long few dropped
 
     went_case : (q s' : Progress) (out₂ : List ℕ) (to : ℕ) → r ≡ Ok q → AnewWritten vs (record { to = q.to; fresh = p.fresh }) 0 out₁ out₂ to → s' ≡ onward q to 0 (q.fresh - p.fresh) → Puts (output_of out (fresh_in work) dropped p) (walked_effect w) w.clash out₂ (fresh_in work₁) dropped (Ok s')
     went_case q s' out₂ to z v o =
-        let v' = subst (λ m. AnewWritten (record { code = vs.code; fields = vs.fields; list = m; tracked = vs.tracked }) (record { to = q.to; fresh = p.fresh }) 0 out₁ out₂ to) hl v in
+        let v' = subst (λ m. (rows : List ℕ) → Around vs.fields.now m 0 → OfListIn vs.code vs.fields.now vs.tracked.now rows p.fresh (λ τ S R. Writes (with_values vs.fields.now m 0 R.values) out₁ out₂ q.to to) m) hl v in
         let made : q.fresh - p.fresh ≡ length R.fresh = omega (arith, spent out (fresh_in work) dropped p R r out₁ (fresh_in work₁) puts q z) in
         let W = with_values vs.fields.now (return_list vs.fields.now) 0 R.values in
         went_put out (fresh_in work) dropped p R r out₁ (fresh_in work₁) puts q W out₂ to 0 (length R.fresh) _ _ s' z

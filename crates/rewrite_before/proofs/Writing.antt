@@ -37,16 +37,13 @@ front_bytes n [] = let z : n - 0 ≡ n = omega arith in rw z refl
 front_bytes n (x ∷ t) = let z : n - 0 ≡ n = omega arith in rw z refl
 
 -- an instruction
-pub instruction_copied : (code : Code) (slot at end : ℕ) (t out out' : List ℕ) (to r : ℕ)
-    → at ≡ place_in code.facts.now slot
-    → end ≡ end_in code.facts.now slot
-    → t ≡ take (end - at) (drop at code.bytes.now)
+pub instruction_copied : (code : Code) (slot : ℕ) (t out out' : List ℕ) (to r : ℕ)
+    → t ≡ take (end_in code.facts.now slot - place_in code.facts.now slot) (drop (place_in code.facts.now slot) code.bytes.now)
     → (length t ≤ 1024 → Writes t out out' to r)
     → InstructionWritten code slot out out' to r
-instruction_copied code slot at end t out out' to r e h f w = λ τ i g l.
+instruction_copied code slot t out out' to r q w = λ τ i g l.
     let m = end_in code.facts.now slot - place_in code.facts.now slot in
     let u = drop (place_in code.facts.now slot) code.bytes.now in
-    let q : t ≡ take m u = f ∙ rw (e, h) refl in
     let bs : Bytes u = bytes_drop code.bytes.now (place_in code.facts.now slot) g.bytes in
     rw ((whole_canon code.bounds u i m bs l.read).same ∙ sym q) (w (omega (arith, instruction_size code.bounds [] false u bs l.read g.listed g.projected, ap length q, part_most m u)))
 

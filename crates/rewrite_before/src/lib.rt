@@ -2,8 +2,7 @@
 // The builds are written first, then the instruction or terminator with the fresh numbers put in.
 #![tactic(auto)]
 
-ghost use Rattle.bytes_index.specs.Table.{place_in, end_in};
-ghost use Rattle.std.specs.Prelude.{◌≡◌, ℕ, ◌+◌, ◌-◌, ◌≤◌, ◌<◌};
+ghost use Rattle.std.specs.Prelude.{◌≡◌, ℕ, ◌+◌, ◌≤◌, ◌<◌};
 ghost use Rattle.rewrite_parts.specs.Rows.{rows_in};
 ghost use Rattle.rewrite_list.specs.Lists.{most_copied};
 ghost use Rattle.rewrite_progress.specs.Effect.{low_enough, Low, PutLow, counts_below, most_lines};
@@ -14,7 +13,6 @@ ghost use Rattle.bytes_emit.specs.Written.{value_room, rebuilt_room, call_room};
 use bytes_index::Code;
 use mir::kind::Kind;
 use rewrite::{Clash, Counts};
-use rewrite_chains::{STORE_FIRST_STEP, STORE_STEPS};
 use rewrite_list::{ListedValues, ValueList, Written};
 use rewrite_progress::Progress;
 use rewrite_wanted::Asks;
@@ -54,13 +52,6 @@ fn put_further(p: Progress, to: usize, lines: u32, made: u32) -> Progress
     }
 }
 
-// How many bytes a slot's instruction has.
-fn size(code: Code, slot: u16) -> usize
-    ensures { result ≡ end_in code.entry.facts.now slot - place_in code.entry.facts.now slot }
-{
-    bytes_index::end(code.facts, slot).saturating_sub(bytes_index::place(code.facts, slot))
-}
-
 // A slot's instruction as it stands, behind what is written.
 fn put_kept(out: &mut [u8], p: Progress, code: Code, slot: u16) -> Progress
     requires { (p.to < value_room) × ((p.lines < counts_below) × (p.counts.materializations < counts_below)) }
@@ -68,15 +59,13 @@ fn put_kept(out: &mut [u8], p: Progress, code: Code, slot: u16) -> Progress
     ensures upper_bound { result.to ≤ p.to + most_copied }
     ensures instruction_written { InstructionWritten code.entry slot out.old out.new p.to result.to }
 {
-    let at = bytes_index::place(code.facts, slot);
-    let end = bytes_index::end(code.facts, slot);
-    let to = rewrite_list::copy_bytes(out, p.to, bytes_field::between(code.bytes, at, end));
+    let to = rewrite_list::copy_bytes(out, p.to, code.slot_bytes(slot));
     put_further(p, to, 1, 0)
 }
 
 // Writes the fields up to `end` with the fresh numbers put in from number `from.fresh` on, and returns the place behind them.
 fn put_anew(out: &mut [u8], from: Written, values: ListedValues, end: usize) -> usize
-    requires { (from.to < rebuilt_room) × ((from.fresh < counts_below) × (values.list.first < counts_below)) }
+    requires { (from.to < rebuilt_room) × (from.fresh < counts_below) }
     ensures upper_bound { result ≤ from.to + anew_most }
     ensures anew_written { AnewWritten values.entry from end out.old out.new result }
 {
@@ -106,7 +95,7 @@ fn call_list(f: &[u8]) -> ValueList
 
 // Writes a Call without span, expression id and comment: its fields up to `end` with the fresh numbers put in.
 fn put_call_anew(out: &mut [u8], from: Written, values: ListedValues, end: usize) -> usize
-    requires { (from.to < call_room) × ((from.fresh < counts_below) × (values.list.first < counts_below)) }
+    requires { (from.to < call_room) × (from.fresh < counts_below) }
     ensures upper_bound { result ≤ from.to + call_most }
     ensures call_written { CallWritten values.entry from end out.old out.new result }
 {
@@ -115,9 +104,9 @@ fn put_call_anew(out: &mut [u8], from: Written, values: ListedValues, end: usize
     put_anew(out, Written { to, ..from }, values, end)
 }
 
-// put_call, put_store and put_return stay three: where the list stands, what goes in front of it, what is counted and whether the
+// (`put_call`, `put_store` and `put_return` stay three: where the list stands, what goes in front of it, what is counted and whether the
 // instruction may stay as it stands differ, and a function for all would take each of these and promise the three things it does.
-// One for the builds and what follows them, of a Call and a Store, would take which of the two goes behind them and what it counts.
+// One for the builds and what follows them, of a Call and a Store, would take which of the two goes behind them and what it counts.)
 
 // A slot's Call: rebuilds of its tracked arguments at aggregate parameter types, then the Call anew; as it stands where
 // there are none.
@@ -155,7 +144,9 @@ pub fn put_call(
         to: q.to,
         fresh: p.fresh,
     };
-    let end = size(code, slot).saturating_sub(bytes_operands::fields_place(t));
+    let end = code
+        .slot_size(slot)
+        .saturating_sub(bytes_operands::fields_place(t));
     let to = put_call_anew(out, from, values, end);
     Ok(put_further(q, to, 1, q.fresh - p.fresh))
 }
@@ -164,10 +155,8 @@ pub fn put_call(
 fn store_list(t: &[u8]) -> ValueList
     ensures { (result ≡ store_list t.now) × (result.first < counts_below) }
 {
-    let f = bytes_operands::own_fields(t);
-    let steps = bytes_wire::byte_at(f, STORE_STEPS);
-    let first = bytes_operands::fields_place(t)
-        + bytes_operands::projections_end(f, STORE_FIRST_STEP, steps);
+    let own = bytes_operands::own_fields(t);
+    let first = bytes_operands::fields_place(t) + bytes_operands::operand_first(own, Kind::Store);
     ValueList {
         first,
         many: 1,
@@ -212,7 +201,7 @@ pub fn put_store(
         to: q.to,
         fresh: p.fresh,
     };
-    let to = put_anew(out, from, values, size(code, slot));
+    let to = put_anew(out, from, values, code.slot_size(slot));
     Ok(put_further(q, to, 1, 0))
 }
 

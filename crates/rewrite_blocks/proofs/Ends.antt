@@ -1,17 +1,18 @@
 -- The terminator of a block: only a Return is written anew.
-use Prim.Native.Nat.{ℕ, ◌+◌, ◌-◌, ◌≤◌, ◌<◌}
+use Prim.Native.Nat.{ℕ, ◌+◌, ◌-◌, ◌*◌, ◌≤◌}
 use mathlib.Core.Path.{◌≡◌, refl, ap, ◌∙◌, sym}
 use mathlib.Core.List.{List}
 use native.Mathlib.Omega.{arith}
 use native.Mathlib.Nat.{add-zero}
 use lib.ListN.{length, get_or, take, drop}
-use lib.Seq.{sets, get_or-take, get_or-drop}
+use lib.Seq.{sets}
 use Rattle.bytes_wire.specs.WellFormed.{Bytes}
 use Rattle.mir.specs.declared.Value.{Value}
 use Rattle.bytes_wire.proofs.Canon.{bytes_drop}
 use Rattle.mir.specs.Syntax.{Terminator, Jump, If, BranchCmp, Return, Unreachable}
 use Rattle.bytes_field.specs.Encode.{terminator_bytes}
 use Rattle.bytes_index.specs.declared.code.Code.{Code}
+use Rattle.bytes_laws.proofs.EachKind.{terminator}
 use Rattle.bytes_laws.proofs.Instruction.{terminator_canon}
 use Rattle.bytes_index.specs.Table.{place_in, end_in}
 use Rattle.bytes_index.specs.Code.{TerminatorIn}
@@ -24,15 +25,6 @@ use Rattle.std.specs.Prelude.{Ok}
 use Rattle.rewrite_progress.specs.Effect.{output_of, behind, further, walked_effect, mark_all, type_numbers, Puts}
 use Rattle.rewrite_perform.specs.Performed.{moved_to}
 use Rattle.rewrite_perform.proofs.Counting.{puts_went}
-
--- a terminator has a first byte
-not_empty : (t : Terminator) → 1 ≤ length (terminator_bytes t)
-unfolding terminator_bytes
-not_empty (Jump p) = omega arith
-not_empty (If x p q) = omega arith
-not_empty (BranchCmp op x y p q) = omega arith
-not_empty (Return xs) = omega arith
-not_empty Unreachable = omega arith
 
 data ReturnEnd (t : Terminator) : Type 0 where
   is_return : (xs : List Value) → t ≡ Return xs → ReturnEnd t
@@ -54,18 +46,21 @@ not_three τ S m (Return xs) h = absurd (h refl)
 not_three τ S m Unreachable h = refl
 
 -- the terminator t of a slot, whose first byte is k
-module _ (code : Code) (slot : ℕ) (t : Terminator) (h : Bytes code.bytes.now) (line : TerminatorIn code.bounds code.bytes.now code.facts.now slot t) (at k : ℕ) (ea : at ≡ place_in code.facts.now slot) (ek : k ≡ get_or code.bytes.now at 0) where
+module _ (code : Code) (slot : ℕ) (t : Terminator) (h : Bytes code.bytes.now) (line : TerminatorIn code.bounds code.bytes.now code.facts.now slot t) (part : List ℕ) (k : ℕ) (ep : part ≡ take (end_in code.facts.now slot - place_in code.facts.now slot) (drop (place_in code.facts.now slot) code.bytes.now)) (ek : k ≡ get_or part 0 0) where
   abbrev from : ℕ
   from = place_in code.facts.now slot
 
   canon_size : length (terminator_bytes t) ≡ end_in code.facts.now slot - from
   canon_size = (terminator_canon code.bounds (drop from code.bytes.now) (bytes_drop code.bytes.now from h) line.read).size
 
-  canon_same : terminator_bytes t ≡ take (end_in code.facts.now slot - from) (drop from code.bytes.now)
-  canon_same = (terminator_canon code.bounds (drop from code.bytes.now) (bytes_drop code.bytes.now from h) line.read).same
+  small : end_in code.facts.now slot - from ≤ 1 + (15 + code.bounds.list * 5)
+  small = ((terminator code.bounds).each (drop from code.bytes.now) t (end_in code.facts.now slot - from) (bytes_drop code.bytes.now from h) line.read).small
+
+  own : part ≡ terminator_bytes t
+  own = ep ∙ sym (terminator_canon code.bounds (drop from code.bytes.now) (bytes_drop code.bytes.now from h) line.read).same
 
   tag_is : get_or (terminator_bytes t) 0 0 ≡ k
-  tag_is = ap (λ l. get_or l 0 0) canon_same ∙ get_or-take (end_in code.facts.now slot - from) (drop from code.bytes.now) 0 0 (omega (arith, canon_size, not_empty t)) ∙ get_or-drop from code.bytes.now 0 0 ∙ sym (ek ∙ ap (λ n. get_or code.bytes.now n 0) (ea ∙ sym (add-zero from)))
+  tag_is = ap (λ l. get_or l 0 0) (sym own) ∙ sym ek
 
   -- a Return
   pub return_end : (P : Type 0) → k ≡ 3 → ((xs : List Value) → t ≡ Return xs → TerminatorIn code.bounds code.bytes.now code.facts.now slot (Return xs) → P) → P
@@ -75,13 +70,12 @@ module _ (code : Code) (slot : ℕ) (t : Terminator) (h : Bytes code.bytes.now) 
       ]
 
   -- any other stays as it stands
-  pub other_end : (τ : Types) (S : AggStates) (m end : ℕ) (part out out' types : List ℕ) (dropped : Marks) (p r : Progress) → (k ≡ 3 → ⊥)
-      → (end ≡ end_in code.facts.now slot) × (end < 65536) → part ≡ take (end - at) (drop at code.bytes.now)
+  pub other_end : (τ : Types) (S : AggStates) (m : ℕ) (out out' types : List ℕ) (dropped : Marks) (p r : Progress) → (k ≡ 3 → ⊥)
+      → code.bounds.list ≤ 16
       → (length part ≤ 65536 → (r ≡ moved_to p (p.to + length part) (p.lines + 0)) × (out' ≡ sets out p.to part))
       → Puts (output_of out types dropped p) (walked_effect (finish τ S m t)) (finish τ S m t).clash out' types dropped (Ok r)
   unfolding behind further walked_effect ends mark_all type_numbers
-  other_end τ S m end part out out' types dropped p r n ee f w =
+  other_end τ S m out out' types dropped p r n listed w =
       let z : finish τ S m t ≡ ends t = not_three τ S m t (λ x. n (sym tag_is ∙ x)) in
-      let own : part ≡ terminator_bytes t = f ∙ ap (λ j. take (end - j) (drop j code.bytes.now)) ea ∙ ap (λ j. take (j - from) (drop from code.bytes.now)) ee.0 ∙ sym canon_same in
-      let d = w (omega (arith, ap length own, canon_size, ee.0, ee.1)) in
+      let d = w (omega (arith, ap length own, canon_size, small, listed)) in
       rw z (puts_went _ _ _ out' types dropped r refl (rw (d.0, d.1, own) (simp (add-zero))))

@@ -26,7 +26,7 @@ use Rattle.rewrite_progress.specs.declared.Run.{Run}
 use Rattle.rewrite_progress.specs.Ground.{Coded}
 use Rattle.rewrite_progress.specs.Chosen.{skips_from, Follows}
 use Rattle.rewrite_progress.specs.Effect.{behind, further, walked_effect, rewritten_effect, type_numbers, mark_all, Puts, Low, PutLow}
-use Rattle.rewrite_step.specs.declared.Reached.{Reached}
+use Rattle.rewrite_arms.specs.declared.Used.{Used}
 use Rattle.rewrite_perform.specs.Performed.{moved_to}
 use Rattle.rewrite_step.specs.Stepping.{Lent, lent_as, output_in, PutsIn, Enough, SteppedLow}
 use Rattle.rewrite_perform.proofs.Lows.{low_mono, low_moved}
@@ -55,7 +55,7 @@ slots_found facts k found at f e m =
 
 module _ (run : Run) (k : ℕ) (p : Progress) where
   -- the block is not skipped: its slots are found, no value is tracked, its body begins behind its count
-  module _ (off : get_or run.choice.now (skips_from + k) false ≡ false) (at : Slots) (found : BlockSlots run.code.facts.now k at) (l : Lent) (w : Reached) (long : rows_size ≤ length l.work) (body : w.progress ≡ moved_to p (p.to + 2) 0)
+  module _ (off : get_or run.choice.now (skips_from + k) false ≡ false) (at : Slots) (found : BlockSlots run.code.facts.now k at) (l : Lent) (w : Used Progress) (long : rows_size ≤ length l.work) (body : w.value ≡ moved_to p (p.to + 2) 0)
       (clear : (next : ℕ) (input rows : List ℕ) → w.used ≤ length rows → length input < 65536 → Rep next input l.tracked rows w.used no_states) (used : w.used ≡ rows_from) where
     module _ (τ : Types) (c : Choice) (ks : List Block) (co : Coded run.code.bounds run.code.bytes.now run.code.facts.now τ ks) (fo : Follows c run.code.facts.now run.choice.now ks) (h : k < length ks) (en : Enough run.code.bounds p (rewritten run τ c p (get_or ks k no_block ∷ [])).fresh) where
       abbrev this : Block
@@ -84,30 +84,30 @@ module _ (run : Run) (k : ℕ) (p : Progress) where
             many = sym (found.count run.code.bounds run.code.bytes.now ks co.code h (co.small k h));
             flags = λ j d m e. ap (λ n. get_or run.choice.now (n + j) false) here ∙ fo.fold k j d h skip m e;
             rep = clear run.code.bounds.next run.code.bytes.now (rows_in l.work) (omega (arith, used, length-take-le rows_size l.work long)) co.short;
-            bound = transfer (λ q. Enough run.code.bounds q (own q).fresh) (moved_to p (p.to + 2) 0) w.progress (sym body) (omega (arith, en, ap (λ y. length y) same.1.1));
+            bound = transfer (λ q. Enough run.code.bounds q (own q).fresh) (moved_to p (p.to + 2) 0) w.value (sym body) (omega (arith, en, ap (λ y. length y) same.1.1));
           }
 
-      module _ (l' : Lent) (r : Result Reached Clash) (put : InstructionsPut run at l w l' r) where
+      module _ (l' : Lent) (r : Result (Used Progress) Clash) (put : InstructionsPut run at l w l' r) where
         -- an array rebuild met another count
         pub block_clash : (x y : Clash) → r ≡ Err x → PutsIn (output_in l p) (rewritten_effect alone) alone.clash l' (Err y)
-        block_clash x y e = puts_clash _ _ _ _ _ _ y (same.1.0 ∙ transfer (λ q. (own q).clash ≡ true) w.progress (moved_to p (p.to + 2) 0) body ((put τ (c.folds this) this begun).clashed x e))
+        block_clash x y e = puts_clash _ _ _ _ _ _ y (same.1.0 ∙ transfer (λ q. (own q).clash ≡ true) w.value (moved_to p (p.to + 2) 0) body ((put τ (c.folds this) this begun).clashed x e))
 
         -- its terminator is put out
-        ended_as : (v : Reached) (work out : List ℕ) (a : Result Progress Clash) → r ≡ Ok v
-            → EndPut run.code (at.first + at.count) l'.tracked l'.work l'.out v.progress work out a
+        ended_as : (v : Used Progress) (work out : List ℕ) (a : Result Progress Clash) → r ≡ Ok v
+            → EndPut run.code (at.first + at.count) l'.tracked l'.work l'.out v.value work out a
             → Puts (output_in l (moved_to p (p.to + 2) 0)) (walked_effect (own (moved_to p (p.to + 2) 0))) (own (moved_to p (p.to + 2) 0)).clash out (fresh_in work) l'.dropped a
         unfolding walk
         ended_as v work out a e ended =
             let left = (put τ (c.folds this) this begun).went v e in
             let line = transfer (λ n. TerminatorIn run.code.bounds run.code.bytes.now run.code.facts.now (at.first + n) this.terminator) (length this.instructions) at.count begun.many begun.block.terminator in
             let end = ended τ left.states v.used this.terminator l'.dropped co.ground left.rep line left.bound in
-            let whole : Puts (output_in l w.progress) (walked_effect (own w.progress)) (own w.progress).clash out (fresh_in work) l'.dropped a =
+            let whole : Puts (output_in l w.value) (walked_effect (own w.value)) (own w.value).clash out (fresh_in work) l'.dropped a =
             record { clashed = λ x y. sym left.clash ∙ end.clashed x y; went = λ q y. (sym left.clash ∙ (end.went q y).0, (end.went q y).1 ∙ left.same) } in
-            transfer (λ q. Puts (output_in l q) (walked_effect (own q)) (own q).clash out (fresh_in work) l'.dropped a) w.progress (moved_to p (p.to + 2) 0) body whole
+            transfer (λ q. Puts (output_in l q) (walked_effect (own q)) (own q).clash out (fresh_in work) l'.dropped a) w.value (moved_to p (p.to + 2) 0) body whole
 
         -- then its count is put in front, unless it met another count
-        pub block_end : (v : Reached) (work out out' : List ℕ) (a z : Result Progress Clash) → r ≡ Ok v
-            → EndPut run.code (at.first + at.count) l'.tracked l'.work l'.out v.progress work out a
+        pub block_end : (v : Used Progress) (work out out' : List ℕ) (a z : Result Progress Clash) → r ≡ Ok v
+            → EndPut run.code (at.first + at.count) l'.tracked l'.work l'.out v.value work out a
             → CountPut p out a out' z
             → p.lines ≡ 0
             → Puts (output_in l p) (rewritten_effect alone) alone.clash out' (fresh_in work) l'.dropped z
@@ -138,8 +138,8 @@ module _ (run : Run) (k : ℕ) (p : Progress) where
 pub low_begun : (n : ℕ) (p w : Progress) → w ≡ moved_to p (p.to + 2) 0 → Low n p → Low (n + 1) w
 low_begun n p w e l = low_moved n p l w (p.to + 2) 0 e (omega arith) (omega arith)
 
-pub low_walked : (n j used : ℕ) (v : Reached) → j ≤ most_instructions → SteppedLow (n + 1 + j) used (Ok v) → Low (n + 129) v.progress
-low_walked n j used v h l = low_mono (n + 1 + j) (n + 129) v.progress (omega arith) l.0
+pub low_walked : (n j used : ℕ) (v : Used Progress) → j ≤ most_instructions → SteppedLow (n + 1 + j) used (Ok v) → Low (n + 129) v.value
+low_walked n j used v h l = low_mono (n + 1 + j) (n + 129) v.value (omega arith) l.0
 
 pub low_end : (n : ℕ) (v : Progress) (q z : Result Progress Clash) → Low (n + 129) v → ((k : ℕ) → Low k v → PutLow (k + 1) q) → ((k : ℕ) → PutLow k q → PutLow k z) → PutLow (n + 130) z
 low_end n v q z l f g = g (n + 130) (transfer (λ m. PutLow m q) (n + 129 + 1) (n + 130) (omega arith) (f (n + 129) l))

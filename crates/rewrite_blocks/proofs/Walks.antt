@@ -17,7 +17,8 @@ use Rattle.rewrite_parts.specs.Rows.{Room, row_most, rows_size, rows_in}
 use Rattle.rewrite_progress.specs.declared.Run.{Run}
 use Rattle.rewrite_progress.specs.Effect.{Output, behind, further, piece_effect, walked_effect, Low}
 use Rattle.rewrite_progress.proofs.Laws.{behind_then, glue_effect}
-use Rattle.rewrite_step.specs.declared.Reached.{Reached}
+use Rattle.rewrite_arms.specs.declared.Used.{Used}
+use Rattle.rewrite_progress.specs.declared.Progress.{Progress}
 use Rattle.std.specs.Prelude.{Result, Ok, Err}
 use Rattle.rewrite.specs.declared.Clash.{Clash}
 use Rattle.rewrite_step.specs.Stepping.{Lent, output_in, fresh_from, Enough, SteppedLow, Gone, Steps, StepsOn}
@@ -25,9 +26,9 @@ use Rattle.rewrite_perform.proofs.Lows.{low_mono}
 use Rattle.bytes_index.specs.declared.slots.Slots.{Slots}
 use Rattle.rewrite_blocks.specs.Blocks.{walk_from, walk_of, Left, Begun, Ready, InstructionsPut}
 
-module _ (run : Run) (τ : Types) (folds : ValueId → Bool) (t : Terminator) (o : Output) (whole : Walked) (i : Instruction) (rest : List Instruction) (l : Lent) (w : Reached) (left : Left run τ folds t o whole (i ∷ rest) l w) where
+module _ (run : Run) (τ : Types) (folds : ValueId → Bool) (t : Terminator) (o : Output) (whole : Walked) (i : Instruction) (rest : List Instruction) (l : Lent) (w : Used Progress) (left : Left run τ folds t o whole (i ∷ rest) l w) where
   abbrev at : ℕ
-  at = fresh_from run.code.bounds w.progress
+  at = fresh_from run.code.bounds w.value
 
   -- the next piece, and what comes behind it
   abbrev piece : Piece
@@ -36,11 +37,11 @@ module _ (run : Run) (τ : Types) (folds : ValueId → Bool) (t : Terminator) (o
   abbrev behind_it : Walked
   behind_it = walk run.settings τ folds piece.states (at + length piece.fresh) rest t
 
-  glued : walk_from run τ folds left.states w.progress (i ∷ rest) t ≡ glue piece behind_it
+  glued : walk_from run τ folds left.states w.value (i ∷ rest) t ≡ glue piece behind_it
   unfolding walk
   glued = refl
 
-  pub left_bound : Enough run.code.bounds w.progress piece.fresh
+  pub left_bound : Enough run.code.bounds w.value piece.fresh
   unfolding glue
   left_bound = omega (arith, left.bound, ap (λ x. length x.fresh) glued, length-append piece.fresh behind_it.fresh)
 
@@ -48,15 +49,15 @@ module _ (run : Run) (τ : Types) (folds : ValueId → Bool) (t : Terminator) (o
   unfolding glue
   left_clash h = sym left.clash ∙ ap (λ x. x.clash) glued ∙ ap (λ x. x || behind_it.clash) h
 
-  module _ (l' : Lent) (v : Reached) (g : Gone run.code.bounds.next run.code.bytes.now (output_in l w.progress) piece l' v) where
+  module _ (l' : Lent) (v : Used Progress) (g : Gone run.code.bounds.next run.code.bytes.now (output_in l w.value) piece l' v) where
     -- as many fresh numbers as the piece took are taken
-    further_on : fresh_from run.code.bounds v.progress ≡ at + length piece.fresh
+    further_on : fresh_from run.code.bounds v.value ≡ at + length piece.fresh
     unfolding behind further piece_effect
     further_on =
-        let z : v.progress.fresh ≡ w.progress.fresh + length piece.fresh = ap (λ x. x.progress.fresh) g.out in
+        let z : v.value.fresh ≡ w.value.fresh + length piece.fresh = ap (λ x. x.progress.fresh) g.out in
         omega (arith, z)
 
-    moved : walk_from run τ folds piece.states v.progress rest t ≡ behind_it
+    moved : walk_from run τ folds piece.states v.value rest t ≡ behind_it
     moved = ap (λ n. walk run.settings τ folds piece.states n rest t) further_on
 
     pub left_again : Left run τ folds t o whole rest l' v
@@ -65,25 +66,25 @@ module _ (run : Run) (τ : Types) (folds : ValueId → Bool) (t : Terminator) (o
         record {
           states = piece.states;
           rep = g.rep;
-          same = ap (λ x. behind (output_in l' v.progress) (walked_effect x)) moved ∙ ap (λ x. behind x (walked_effect behind_it)) g.out ∙ behind_then (output_in l w.progress) (piece_effect piece) (walked_effect behind_it) ∙ ap (λ e. behind (output_in l w.progress) e) (sym (glue_effect piece behind_it)) ∙ sym (ap (λ x. behind (output_in l w.progress) (walked_effect x)) glued) ∙ left.same;
+          same = ap (λ x. behind (output_in l' v.value) (walked_effect x)) moved ∙ ap (λ x. behind x (walked_effect behind_it)) g.out ∙ behind_then (output_in l w.value) (piece_effect piece) (walked_effect behind_it) ∙ ap (λ e. behind (output_in l w.value) e) (sym (glue_effect piece behind_it)) ∙ sym (ap (λ x. behind (output_in l w.value) (walked_effect x)) glued) ∙ left.same;
           clash = ap (λ x. x.clash) moved ∙ sym (ap (λ x. x || behind_it.clash) g.safe) ∙ sym (ap (λ x. x.clash) glued) ∙ left.clash;
           bound = omega (arith, left.bound, ap (λ x. length x.fresh) glued, length-append piece.fresh behind_it.fresh, ap (λ x. length x.fresh) moved, further_on);
         }
 
 -- the loop, from the tables l₀ and the progress w₀ on
-pub record Walking (run : Run) (at : Slots) (l₀ : Lent) (w₀ : Reached) (l : Lent) (w : Reached) (j : ℕ) : Type 0 where
+pub record Walking (run : Run) (at : Slots) (l₀ : Lent) (w₀ : Used Progress) (l : Lent) (w : Used Progress) (j : ℕ) : Type 0 where
   pub few : j ≤ at.count
-  pub low : (n : ℕ) → Low n w₀.progress → Low (n + j) w.progress
+  pub low : (n : ℕ) → Low n w₀.value → Low (n + j) w.value
   pub used : w.used ≤ w₀.used + row_most * j
   pub tracked_size : length l.tracked ≡ length l₀.tracked
   pub dropped_size : length l.dropped ≡ length l₀.dropped
   pub work_size : length l.work ≡ length l₀.work
   pub out_size : length l.out ≡ length l₀.out
   pub left : (τ : Types) (folds : ValueId → Bool) (x : Block) → Begun run at l₀ w₀ τ folds x
-      → Left run τ folds x.terminator (output_in l₀ w₀.progress) (walk_of run τ folds w₀.progress x) (drop j x.instructions) l w
+      → Left run τ folds x.terminator (output_in l₀ w₀.value) (walk_of run τ folds w₀.value x) (drop j x.instructions) l w
 
-module _ (run : Run) (at : Slots) (l₀ : Lent) (w₀ : Reached) where
-  module _ (l : Lent) (w : Reached) (j : ℕ) (inv : Walking run at l₀ w₀ l w j) where
+module _ (run : Run) (at : Slots) (l₀ : Lent) (w₀ : Used Progress) where
+  module _ (l : Lent) (w : Used Progress) (j : ℕ) (inv : Walking run at l₀ w₀ l w j) where
     -- all instructions are behind
     pub walking_done : at.count ≤ j → InstructionsPut run at l₀ w₀ l (Ok w)
     walking_done h τ folds x a =
@@ -97,14 +98,14 @@ module _ (run : Run) (at : Slots) (l₀ : Lent) (w₀ : Reached) where
       pub walking_long : rows_size ≤ length l.work
       walking_long = omega (arith, ready.long, inv.work_size)
 
-      module _ (h : j < at.count) (fold : Bool) (ef : fold ≡ get_or run.choice.now (at.first + j) false) (l' : Lent) (r : Result Reached Clash) (st : StepsOn run.code run.settings (at.first + j) fold l w l' r) where
+      module _ (h : j < at.count) (fold : Bool) (ef : fold ≡ get_or run.choice.now (at.first + j) false) (l' : Lent) (r : Result (Used Progress) Clash) (st : StepsOn run.code run.settings (at.first + j) fold l w l' r) where
         -- there is room for one more row
         room : Room (rows_in l.work) w.used
         room = omega (arith, length-take-le rows_size l.work walking_long, inv.used, ready.used, ready.most)
 
         module _ (τ : Types) (folds : ValueId → Bool) (x : Block) (a : Begun run at l₀ w₀ τ folds x) where
           abbrev whole : Walked
-          whole = walk_of run τ folds w₀.progress x
+          whole = walk_of run τ folds w₀.value x
 
           abbrev this : Instruction
           this = get_or x.instructions j no_instruction
@@ -115,40 +116,40 @@ module _ (run : Run) (at : Slots) (l₀ : Lent) (w₀ : Reached) where
           below : j < length x.instructions
           below = omega (arith, a.many)
 
-          next_left : Left run τ folds x.terminator (output_in l₀ w₀.progress) whole (this ∷ rest) l w
+          next_left : Left run τ folds x.terminator (output_in l₀ w₀.value) whole (this ∷ rest) l w
           next_left = rw (← drop-cons x.instructions j no_instruction below) (inv.left τ folds x a)
 
-          turned : Steps run.code.bounds.next run.code.bytes.now (output_in l w.progress) (step run.settings τ folds next_left.states (fresh_from run.code.bounds w.progress) this) l' r
+          turned : Steps run.code.bounds.next run.code.bytes.now (output_in l w.value) (step run.settings τ folds next_left.states (fresh_from run.code.bounds w.value) this) l' r
           turned =
               st τ next_left.states folds this
               (record { ground = a.ground; rep = next_left.rep; line = a.block.instructions j below })
               room
               (λ d e. ef ∙ a.flags j d below e)
-              (left_bound run τ folds x.terminator (output_in l₀ w₀.progress) whole this rest l w next_left)
+              (left_bound run τ folds x.terminator (output_in l₀ w₀.value) whole this rest l w next_left)
 
-          went_turn : (v : Reached) → r ≡ Ok v → Left run τ folds x.terminator (output_in l₀ w₀.progress) whole rest l' v
-          went_turn v e = left_again run τ folds x.terminator (output_in l₀ w₀.progress) whole this rest l w next_left l' v (turned.went v e)
+          went_turn : (v : Used Progress) → r ≡ Ok v → Left run τ folds x.terminator (output_in l₀ w₀.value) whole rest l' v
+          went_turn v e = left_again run τ folds x.terminator (output_in l₀ w₀.value) whole this rest l w next_left l' v (turned.went v e)
 
         -- an array rebuild met another count
         pub walking_clash : (y z : Clash) → r ≡ Err y → InstructionsPut run at l₀ w₀ l' (Err z)
         walking_clash y z e τ folds x a =
             record {
-              clashed = λ _ _. left_clash run τ folds x.terminator (output_in l₀ w₀.progress) (whole τ folds x a) (this τ folds x a) (rest τ folds x a) l w (next_left τ folds x a) ((turned τ folds x a).clashed y e);
+              clashed = λ _ _. left_clash run τ folds x.terminator (output_in l₀ w₀.value) (whole τ folds x a) (this τ folds x a) (rest τ folds x a) l w (next_left τ folds x a) ((turned τ folds x a).clashed y e);
               went = λ v z. absurd (let u : ◌≡◌ {A = ℕ} 0 1 = cc in omega arith);
             }
 
         -- one more is behind
-        pub walking_again : (v : Reached) → r ≡ Ok v → ((n : ℕ) → Low n w.progress → SteppedLow (n + 1) (w.used + row_most) r)
+        pub walking_again : (v : Used Progress) → r ≡ Ok v → ((n : ℕ) → Low n w.value → SteppedLow (n + 1) (w.used + row_most) r)
             → length l'.tracked ≡ length l.tracked
             → length l'.dropped ≡ length l.dropped
             → length l'.work ≡ length l.work
             → length l'.out ≡ length l.out
             → Walking run at l₀ w₀ l' v (j + 1)
         walking_again v e lo lt ld lw lu =
-            let lows : (n : ℕ) → Low n w.progress → Low (n + 1) v.progress × (v.used ≤ w.used + row_most) = λ n y. rw e at (lo n y) in
+            let lows : (n : ℕ) → Low n w.value → Low (n + 1) v.value × (v.used ≤ w.used + row_most) = λ n y. rw e at (lo n y) in
             record {
               few = omega arith;
-              low = λ n y. low_mono (n + j + 1) (n + (j + 1)) v.progress (omega arith) (lows (n + j) (inv.low n y)).0;
+              low = λ n y. low_mono (n + j + 1) (n + (j + 1)) v.value (omega arith) (lows (n + j) (inv.low n y)).0;
               used = omega (arith, (lows (4801 + j) (inv.low 4801 ready.low)).1, inv.used);
               tracked_size = lt ∙ inv.tracked_size;
               dropped_size = ld ∙ inv.dropped_size;

@@ -20,7 +20,7 @@ use Rattle.fold.specs.Tables.{CodeGround}
 use Rattle.rewrite_progress.specs.Ground.{Coded}
 use Rattle.rewrite_progress.specs.Chosen.{Follows}
 use Rattle.rewrite_progress.specs.Effect.{Output, output_of, behind, walked_effect, rewritten_effect, Puts, Low}
-use Rattle.rewrite_step.specs.declared.Reached.{Reached}
+use Rattle.rewrite_arms.specs.declared.Used.{Used}
 use Rattle.rewrite_step.specs.Stepping.{Lent, output_in, PutsIn, fresh_from, Enough}
 use Rattle.bytes_index.specs.declared.slots.Slots.{Slots}
 
@@ -53,15 +53,15 @@ walk_of run τ folds p x = walk_from run τ folds no_states p x.instructions x.t
 -- Of a block whose walk is `whole` from the output o on, the instructions `rest` and the terminator t are left at w: what
 -- they give from the states that the tables hold is what the whole walk gives.
 pub record Left (run : Run) (τ : Types) (folds : ValueId → Bool) (t : Terminator) (o : Output) (whole : Walked)
-    (rest : List Instruction) (l : Lent) (w : Reached) : Type 0 where
+    (rest : List Instruction) (l : Lent) (w : Used Progress) : Type 0 where
   pub states : AggStates
   pub rep : Rep run.code.bounds.next run.code.bytes.now l.tracked (rows_in l.work) w.used states
-  pub same : behind (output_in l w.progress) (walked_effect (walk_from run τ folds states w.progress rest t)) ≡ behind o (walked_effect whole)
-  pub clash : (walk_from run τ folds states w.progress rest t).clash ≡ whole.clash
-  pub bound : Enough run.code.bounds w.progress (walk_from run τ folds states w.progress rest t).fresh
+  pub same : behind (output_in l w.value) (walked_effect (walk_from run τ folds states w.value rest t)) ≡ behind o (walked_effect whole)
+  pub clash : (walk_from run τ folds states w.value rest t).clash ≡ whole.clash
+  pub bound : Enough run.code.bounds w.value (walk_from run τ folds states w.value rest t).fresh
 
 -- the block x stands in the slots, its flags say which builds are folded, nothing is tracked, the fresh numbers are enough
-pub record Begun (run : Run) (at : Slots) (l : Lent) (w : Reached)
+pub record Begun (run : Run) (at : Slots) (l : Lent) (w : Used Progress)
     (τ : Types) (folds : ValueId → Bool) (x : Block) : Type 0 where
   pub ground : CodeGround run.code τ
   pub block : BlockIn run.code.bounds run.code.bytes.now run.code.facts.now at.first x
@@ -69,24 +69,24 @@ pub record Begun (run : Run) (at : Slots) (l : Lent) (w : Reached)
   pub flags : (j : ℕ) (d : ValueId) → j < length x.instructions
       → build_dest (get_or x.instructions j no_instruction).kind ≡ some d → get_or run.choice.now (at.first + j) false ≡ folds d
   pub rep : Rep run.code.bounds.next run.code.bytes.now l.tracked (rows_in l.work) w.used no_states
-  pub bound : Enough run.code.bounds w.progress (walk_of run τ folds w.progress x).fresh
+  pub bound : Enough run.code.bounds w.value (walk_of run τ folds w.value x).fresh
 
 -- the numbers that the loop over a block's instructions begins with
-pub record Ready (at : Slots) (w : Reached) (work : List ℕ) : Type 0 where
+pub record Ready (at : Slots) (w : Used Progress) (work : List ℕ) : Type 0 where
   pub most : at.count ≤ most_instructions
-  pub low : Low 4801 w.progress
+  pub low : Low 4801 w.value
   pub used : w.used ≡ rows_from
   pub long : rows_size ≤ length work
 
 -- all instructions of x are behind, or an array rebuild met another count
 pub record Through (run : Run) (τ : Types) (folds : ValueId → Bool) (x : Block)
-    (l : Lent) (w : Reached) (l' : Lent) (r : Result Reached Clash) : Type 0 where
-  pub clashed : (y : Clash) → r ≡ Err y → (walk_of run τ folds w.progress x).clash ≡ true
-  pub went : (v : Reached) → r ≡ Ok v
-      → Left run τ folds x.terminator (output_in l w.progress) (walk_of run τ folds w.progress x) [] l' v
+    (l : Lent) (w : Used Progress) (l' : Lent) (r : Result (Used Progress) Clash) : Type 0 where
+  pub clashed : (y : Clash) → r ≡ Err y → (walk_of run τ folds w.value x).clash ≡ true
+  pub went : (v : Used Progress) → r ≡ Ok v
+      → Left run τ folds x.terminator (output_in l w.value) (walk_of run τ folds w.value x) [] l' v
 
 -- the instructions of a block that begins in these slots are put out
-abbrev pub InstructionsPut : Run → Slots → Lent → Reached → Lent → Result Reached Clash → Type 0
+abbrev pub InstructionsPut : Run → Slots → Lent → Used Progress → Lent → Result (Used Progress) Clash → Type 0
 InstructionsPut run at l w l' r =
     (τ : Types) (folds : ValueId → Bool) (x : Block) →
     Begun run at l w τ folds x →

@@ -10,15 +10,18 @@ ghost use Rattle.rewrite_progress.specs.Effect.{low_enough, Low, PutLow, start_l
 ghost use Rattle.rewrite_step.specs.Stepping.{lent_as, SteppedLow};
 ghost use Rattle.rewrite_blocks.specs.Blocks.{EndPut, BlockSlots, Ready, InstructionsPut, Lendable, OnePut, AllPut};
 ghost use Rattle.mir.specs.Most.{most_blocks};
+ghost use Rattle.mir.specs.TerminatorKind.{number_of_terminator_kind};
+ghost use Rattle.mir.specs.declared.terminator.TerminatorKind.{TerminatorKind};
 
 use bytes_index::Slots;
 use mir::terminator::TerminatorKind;
 use mir::{BlockId, most};
 use rewrite::Clash;
+use rewrite_arms::Used;
 use rewrite_before::Site;
+use rewrite_decide::Turn;
 use rewrite_parts::ROWS_FROM;
 use rewrite_progress::{Progress, Run, SKIPS};
-use rewrite_step::Reached;
 
 // The most instructions of a block.
 const MOST_INSTRUCTIONS: u16 = most::INSTRUCTIONS as u16;
@@ -39,7 +42,7 @@ fn block_slots(facts: &[u16], k: BlockId) -> Slots
 
 // Whether a terminator of this kind is a Return.
 fn is_return(kind: u8) -> bool
-    ensures { result ≡ eqb kind 3 }
+    ensures { result ≡ eqb kind (number_of_terminator_kind TerminatorKind.Return) }
 {
     matches!(TerminatorKind::try_from(kind), Ok(TerminatorKind::Return))
 }
@@ -52,11 +55,10 @@ fn put_end(out: &mut [u8], p: Progress, site: Site, work: &mut [u16]) -> Result<
         site.entry.tracked.now work.old out.old p work.new out.new result }
 {
     let Site { code, slot, .. } = site;
-    let at = bytes_index::place(code.facts, slot);
-    if is_return(bytes_wire::byte_at(code.bytes, at)) {
+    let part = code.slot_bytes(slot);
+    if is_return(bytes_wire::byte_at(part, 0)) {
         return rewrite_before::put_return(out, p, site, work);
     }
-    let part = bytes_field::between(code.bytes, at, bytes_index::end(code.facts, slot));
     Ok(rewrite_perform::put_part(out, p, part, 0))
 }
 
@@ -68,10 +70,10 @@ fn put_instructions(
     dropped: &mut [bool],
     work: &mut [u16],
     out: &mut [u8],
-    w: Reached,
-) -> Result<Reached, Clash>
+    w: Used<Progress>,
+) -> Result<Used<Progress>, Clash>
     requires { Ready at w work.old }
-    ensures by_index { (n : ℕ) → Low n w.progress → SteppedLow (n + at.count) (w.used + row_most * at.count) result }
+    ensures by_index { (n : ℕ) → Low n w.value → SteppedLow (n + at.count) (w.used + row_most * at.count) result }
     ensures instructions_put { InstructionsPut run.entry at
         (lent_as tracked.old dropped.old work.old out.old) w
         (lent_as tracked.new dropped.new work.new out.new) result }
@@ -79,18 +81,13 @@ fn put_instructions(
     let mut v = w;
     for j in 0..at.count {
         let slot = at.first + j;
-        let fold = table::flag(run.choice, slot as usize);
-        v = rewrite_step::step(
-            run.code,
-            run.settings,
+        let turn = Turn {
+            code: run.code,
+            settings: run.settings,
             slot,
-            fold,
-            tracked,
-            dropped,
-            work,
-            out,
-            v,
-        )?;
+            fold: table::flag(run.choice, slot as usize),
+        };
+        v = rewrite_step::step(turn, tracked, dropped, work, out, v)?;
     }
     Ok(v)
 }
@@ -115,17 +112,17 @@ fn put_rewritten(
     rewrite_parts::clear(tracked);
     let at = block_slots(run.code.facts, k);
     let body = rewrite_perform::moved(p, p.to + COUNT_BYTES, 0);
-    let w = Reached {
-        progress: body,
+    let w = Used {
+        value: body,
         used: ROWS_FROM,
     };
     let q = put_instructions(run, at, tracked, dropped, work, out, w)?;
     let site = Site {
         code: run.code,
-        slot: at.first + at.count,
+        slot: at.end(),
         tracked,
     };
-    let done = put_end(out, q.progress, site, work);
+    let done = put_end(out, q.value, site, work);
     rewrite_perform::put_count(out, p, done)
 }
 

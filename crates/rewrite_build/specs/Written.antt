@@ -18,6 +18,10 @@ use Rattle.rewrite_parts.specs.Rows.{RowAt}
 use Rattle.bytes_struct.specs.Fields.{first_name, Names}
 use Rattle.rewrite.specs.declared.Clash.{Clash}
 
+-- the most bytes of a value
+abbrev pub value_most : ℕ
+value_most = 5
+
 -- the most bytes of a rebuild
 abbrev pub rebuild_most : ℕ
 rebuild_most = 1792

@@ -12,7 +12,7 @@ ghost use Rattle.bytes_field.specs.Encode.{each_bytes, value_id_bytes, field_ini
 ghost use Rattle.rewrite.specs.Rebuild.{fitted, named, rebuild_at, clashes};
 ghost use Rattle.rewrite_parts.specs.Rows.{most_parts, ValueAt};
 ghost use Rattle.bytes_emit.specs.Written.{Writes, value_room, instruction_room, build_room};
-ghost use Rattle.rewrite_build.specs.Written.{rebuild_most, OfParts, OfFields, OfType, OfTable, Rebuilds};
+ghost use Rattle.rewrite_build.specs.Written.{value_most, rebuild_most, OfParts, OfFields, OfType, OfTable, Rebuilds};
 
 use bytes_index::Code;
 use bytes_types::layout;
@@ -27,7 +27,7 @@ const HEAD_BYTES: usize = 5;
 // Writes the value that stands at a place of the input, and returns the place behind it.
 pub fn put_value_at(out: &mut [u8], to: usize, s: &[u8], at: usize, next: u16) -> usize
     requires { to < value_room }
-    ensures upper_bound { result ≤ to + 5 }
+    ensures upper_bound { result ≤ to + value_most }
     ensures writes { (x : Value) → ValueAt next s.now at x → Writes (value_bytes x) out.old out.new to result }
 {
     bytes_emit::put_value(out, to, bytes_operands::value_at(s, at, next))
@@ -43,7 +43,7 @@ pub struct Placed<'a> {
 // Part k; past the parts that there are Unit.
 fn put_part(out: &mut [u8], to: usize, parts: Placed, k: u8) -> usize
     requires { to < value_room }
-    ensures upper_bound { result ≤ to + 5 }
+    ensures upper_bound { result ≤ to + value_most }
     ensures of_parts { OfParts parts.entry.code parts.entry.places.now (λ xs.
         Writes (value_bytes (get_or xs k unit)) out.old out.new to result) }
 {
@@ -64,7 +64,7 @@ fn put_part(out: &mut [u8], to: usize, parts: Placed, k: u8) -> usize
 // `want` parts: those there are, then Units.
 fn put_parts(out: &mut [u8], to: usize, parts: Placed, want: u8) -> usize
     requires { to < instruction_room }
-    ensures upper_bound { result ≤ to + 5 * want }
+    ensures upper_bound { result ≤ to + value_most * want }
     ensures of_parts { OfParts parts.entry.code parts.entry.places.now (λ xs.
         Writes (each_bytes value_bytes (fitted want xs)) out.old out.new to result) }
 {

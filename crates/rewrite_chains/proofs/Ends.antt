@@ -137,7 +137,7 @@ module _ {b : Bounds} {s facts : List ℕ} {slot : ℕ} {tracked : Marks} {rows 
   first : {at : ℕ} (v : ValueId) (vs : List ValueId) → reads i.kind ≡ v ∷ vs → at ≡ read_in facts slot 0 → at ≡ v.0
   first v vs k ea = ea ∙ o.line.reads_in.each 0 (rw k (omega arith)) ∙ ap (λ (xs : List ValueId). (get_or xs 0 (record { 0 = 0 })).0) k
 
-  pub place_read : {j : InstructionKind} {steps : ℕ} {p : Place} {at many : ℕ} → OfPlace j steps p → i.kind ≡ j → at ≡ read_in facts slot 0 → many ≡ get_or u steps 0 → PlaceRead b t p at many
+  pub place_read : {j : InstructionKind} {kind : ℕ} {p : Place} {at many : ℕ} → OfPlace j kind p → i.kind ≡ j → at ≡ read_in facts slot 0 → many ≡ step_count u kind → PlaceRead b t p at many
   place_read {at} {many} (of_load d p y) k ea em =
       let z : at ≡ p.base.0 = first p.base _ (ap reads k) ea in
       record { steps = steps_at i size e (ap place_steps k); based = z; below = rw z (rw k at fits).1.0; long = sym (ap (λ j. length (place_steps j)) k) ∙ counted 5 (ap kind_number k) ∙ sym em }

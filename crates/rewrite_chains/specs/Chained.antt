@@ -97,10 +97,10 @@ loaded_part τ S p =
     on_some (first_integer p.projections) (λ k.
     on_some (S p.base.0) (λ xs. chain τ S (Value.Operand p.base) p.projections))
 
--- the instruction is a Load or a Store with this place, the number of its projections at `steps` of its own fields
+-- the instruction is a Load or a Store with this place, and this is its kind's number
 pub data OfPlace : InstructionKind → ℕ → Place → Type 0 where
-  of_load : (d : ValueId) (p : Place) (y : TypeId) → OfPlace (InstructionKind.Load d p y) 4 p
-  of_store : (p : Place) (x : Value) (y : TypeId) → OfPlace (InstructionKind.Store p x y) 2 p
+  of_load : (d : ValueId) (p : Place) (y : TypeId) → OfPlace (InstructionKind.Load d p y) 5 p
+  of_store : (p : Place) (x : Value) (y : TypeId) → OfPlace (InstructionKind.Store p x y) 6 p
 
 -- no part is taken from a place, and none changed
 pub record EndsNowhere (τ : Types) (S : AggStates) (p : Place) : Type 0 where
@@ -119,10 +119,10 @@ Ends next τ S p (Some l) = EndsIn next τ S p l
 
 -- the Load or the Store in a slot: where its place ends
 abbrev pub LastFound : Code → ℕ → Parts → ℕ → Answered LastStep → Type 0
-LastFound code slot parts steps r =
+LastFound code slot parts kind r =
     (τ : Types) (S : AggStates) (used : ℕ) (i : Instruction) (p : Place)
     → Here code.bounds code.bytes.now code.facts.now slot parts.tracked.now parts.rows.now used τ S i
-    → OfPlace i.kind steps p
+    → OfPlace i.kind kind p
     → Ends code.bounds.next τ S p r
 
 -- the states behind a Store: those it is forwarded into, else as they were

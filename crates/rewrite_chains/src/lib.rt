@@ -4,22 +4,16 @@
 mod path;
 
 ghost use Rattle.std.specs.Prelude.{◌+◌, ◌≤◌, ◌<◌, IfSome};
+ghost use Rattle.mir.specs.Kind.{number_of_kind};
 ghost use Rattle.rewrite_parts.specs.Rows.{row_most, used_below};
 ghost use Rattle.rewrite_chains.specs.Chained.{FoundInType, LastFound};
 ghost use Rattle.rewrite_chains.specs.Chained.{PartLoaded, StoredAt, PartStored, LastStored, StoreForwarded};
 
 use bytes_index::{Code, Typing};
 use bytes_struct::FoundField;
+use mir::kind::Kind;
 use mir::{NameId, Projection, ValueId};
 use rewrite_parts::Parts;
-
-// Where the number of projections stands in the fields of a Load, behind its dest and its base, and in those of a Store,
-// behind its base; the projections stand behind it.
-const LOAD_STEPS: usize = 2 * bytes_field::ID;
-
-pub const STORE_STEPS: usize = bytes_field::ID;
-
-pub const STORE_FIRST_STEP: usize = STORE_STEPS + 1;
 
 // A field by its name in the recorded type of a value, where it has one.
 pub fn value_field(typing: Typing, v: ValueId, name: NameId) -> Option<FoundField>
@@ -36,13 +30,13 @@ pub struct LastStep {
     pub step: Projection,
 }
 
-// Where the place of the Load or the Store in a slot ends; the number of its projections stands at `steps` of its own fields. None
-// where there are no projections, or no value that the last could name a part of.
-fn last_step(code: Code, slot: u16, parts: Parts, steps: usize) -> Option<LastStep>
-    ensures { LastFound code.entry slot parts.entry steps result }
+// Where the place of the Load or the Store in a slot ends, by its kind. None where there are no projections, or no value that the last
+// could name a part of.
+fn last_step(code: Code, slot: u16, parts: Parts, kind: Kind) -> Option<LastStep>
+    ensures { LastFound code.entry slot parts.entry (number_of_kind kind) result }
 {
     let t = code.instruction(slot);
-    let n = bytes_wire::byte_at(bytes_operands::own_fields(t), steps);
+    let n = bytes_operands::step_count(bytes_operands::own_fields(t), kind);
     if n == 0 {
         return None;
     }
@@ -56,7 +50,7 @@ fn last_step(code: Code, slot: u16, parts: Parts, steps: usize) -> Option<LastSt
 pub fn load_part(code: Code, slot: u16, parts: Parts) -> Option<usize>
     ensures { PartLoaded code.entry slot parts.entry result }
 {
-    let last = last_step(code, slot, parts, LOAD_STEPS)?;
+    let last = last_step(code, slot, parts, Kind::Load)?;
     path::step_part(code, parts, last.holder, last.step)
 }
 
@@ -66,9 +60,8 @@ fn stored_place(code: Code, slot: u16) -> usize
 {
     let t = code.instruction(slot);
     let u = bytes_operands::own_fields(t);
-    let n = bytes_wire::byte_at(u, STORE_STEPS);
-    let far = bytes_operands::projections_end(u, STORE_FIRST_STEP, n);
-    bytes_index::place(code.facts, slot) + bytes_operands::fields_place(t) + far
+    let first = bytes_operands::operand_first(u, Kind::Store);
+    bytes_index::place(code.facts, slot) + bytes_operands::fields_place(t) + first
 }
 
 // Part `k` of `v` is the value at a place now, where `v` is tracked and has that part: how much of the rows is used then.
@@ -125,7 +118,7 @@ pub fn forward_store(
         tracked.new rows.new result }
 {
     let parts = Parts { tracked, rows };
-    let last = last_step(code, slot, parts, STORE_STEPS)?;
+    let last = last_step(code, slot, parts, Kind::Store)?;
     let place = stored_place(code, slot);
     store_last(code, tracked, rows, used, last.holder, last.step, place)
 }

@@ -79,7 +79,8 @@ fn walk(code: Code, t: &[u8], parts: Parts, base: ValueId, k: u8) -> Option<Valu
     Some(v)
 }
 
-// The projection is an Index by an Integer literal.
+// The projection is an Index by an Integer literal. (`varies` of fold_scan and `is_dynamic` of fold_copies ask the same of an Index, but
+// each answers in its own way for a Field, a Tuple and none: around one method two of the three would match these again.)
 fn is_integer(p: Option<Projection>) -> bool
     ensures { result ≡ integer_step (as_option p) }
 {

@@ -18,7 +18,8 @@ use Rattle.rewrite_parts.specs.Rows.{ValueAt, Rep, Room}
 use Rattle.rewrite_parts.specs.declared.Parts.{Parts}
 use Rattle.rewrite_parts.specs.Here.{Here}
 use Rattle.rewrite_arms.specs.Decided.{call_kind, store_kind, Decided, SpotAt, Listing, Planned}
-use Rattle.rewrite_arms.specs.declared.Decision.{Decision}
+use Rattle.rewrite_arms.specs.declared.Action.{Action}
+use Rattle.rewrite_arms.specs.declared.Used.{Used}
 use Rattle.rewrite_arms.specs.declared.Plan.{Plan}
 use Rattle.rewrite_arms.specs.declared.spot.Spot.{Spot}
 use Rattle.rewrite_decide.specs.declared.Source.{Source}
@@ -62,7 +63,7 @@ StepPlanned code σ slot fold p parts r =
     → Planned code.bounds.next code.bytes.now code.facts.now S i p (step σ τ folds S m i) r
 
 -- a build of a tuple or an array: the dest gets the values of its list
-abbrev pub ValuesBuilt : Code → Spot → Marks → List ℕ → ℕ → Marks → List ℕ → Decision → Type 0
+abbrev pub ValuesBuilt : Code → Spot → Marks → List ℕ → ℕ → Marks → List ℕ → Used Action → Type 0
 ValuesBuilt code p tracked rows used tracked' rows' r =
     (next : ℕ) (S : AggStates) (i : Instruction) (x : Piece)
     → Rep next code.bytes.now tracked rows used S
@@ -72,7 +73,7 @@ ValuesBuilt code p tracked rows used tracked' rows' r =
     → Decided next code.bytes.now tracked' rows' S i x r
 
 -- a plan that leads to the piece x is carried out: what it does is the piece
-abbrev pub CarriedOut : Plan → Code → Spot → Marks → List ℕ → ℕ → Marks → List ℕ → Decision → Type 0
+abbrev pub CarriedOut : Plan → Code → Spot → Marks → List ℕ → ℕ → Marks → List ℕ → Used Action → Type 0
 CarriedOut plan code p tracked rows used tracked' rows' r =
     (next : ℕ) (S : AggStates) (i : Instruction) (x : Piece)
     → Planned next code.bytes.now code.facts.now S i p x plan
@@ -82,7 +83,7 @@ CarriedOut plan code p tracked rows used tracked' rows' r =
     → Decided next code.bytes.now tracked' rows' S i x r
 
 -- what is decided of the instruction in a slot, which is no Call and no Store
-abbrev pub StepDecided : Code → Settings → ℕ → Bool → Marks → List ℕ → ℕ → Marks → List ℕ → Decision → Type 0
+abbrev pub StepDecided : Code → Settings → ℕ → Bool → Marks → List ℕ → ℕ → Marks → List ℕ → Used Action → Type 0
 StepDecided code σ slot fold tracked rows used tracked' rows' r =
     (τ : Types) (S : AggStates) (folds : ValueId → Bool) (m : ℕ) (i : Instruction)
     → Here code.bounds code.bytes.now code.facts.now slot tracked rows used τ S i

@@ -15,7 +15,7 @@ use bytes_index::Code;
 use fold::Settings;
 use mir::kind::Kind;
 use mir::{NameId, TypeId, Value, ValueId};
-use rewrite_arms::{Action, Counted, DEST_BYTES, Decision, Plan, Spot};
+use rewrite_arms::{Action, Counted, DEST_BYTES, Plan, Spot, Used};
 use rewrite_parts::Parts;
 
 // What an extract or an insert says of its source: the value, the place behind it, where the name or the index of the part stands, and
@@ -27,7 +27,16 @@ pub struct Source {
     pub named: TypeId,
 }
 
-// The instruction in a slot.
+// The instruction that is decided of: its routine, the settings, its slot, and whether it is a build that is taken apart.
+#[derive(Clone, Copy)]
+pub struct Turn<'a> {
+    pub code: Code<'a>,
+    pub settings: Settings,
+    pub slot: u16,
+    pub fold: bool,
+}
+
+// The instruction in a slot. (Its dest by its place, which the spot has: what follows reads the routine's bytes from places too.)
 fn find_spot(code: Code, slot: u16) -> Spot
     ensures { SpotAt code.entry.bytes.now code.entry.facts.now slot result }
 {
@@ -49,7 +58,7 @@ fn find_source(code: Code, p: Spot) -> Source
     Source {
         value: bytes_operands::value_at(code.bytes, at, code.bounds.next),
         end: bytes_operands::value_end(code.bytes, at),
-        named: rewrite_arms::last_type(code.bytes, p.end),
+        named: bytes_operands::last_type(code.bytes, p.end),
     }
 }
 
@@ -72,7 +81,7 @@ fn assign(code: Code, p: Spot, parts: Parts) -> Plan
     ensures { (slot : ℕ) → KindPlanned assign_kind always code.entry slot p parts.entry result }
 {
     let x = bytes_operands::value_at(code.bytes, p.off + DEST_BYTES, code.bounds.next);
-    let t = rewrite_arms::last_type(code.bytes, p.end);
+    let t = bytes_operands::last_type(code.bytes, p.end);
     let whole = rewrite_arms::is_aggregate(code, t);
     rewrite_arms::plan_assign(x, whole, parts.tracked)
 }
@@ -81,7 +90,7 @@ fn assign(code: Code, p: Spot, parts: Parts) -> Plan
 fn load(code: Code, slot: u16, p: Spot, parts: Parts) -> Plan
     ensures { KindPlanned load_kind of_tuples code.entry slot p parts.entry result }
 {
-    let t = rewrite_arms::last_type(code.bytes, p.end);
+    let t = bytes_operands::last_type(code.bytes, p.end);
     let found = rewrite_chains::load_part(code, slot, parts);
     let whole = rewrite_arms::is_aggregate(code, t);
     rewrite_arms::plan_take(code, found, t, whole, parts.tracked)
@@ -133,14 +142,15 @@ fn insert_element(code: Code, p: Spot, parts: Parts) -> Plan
     rewrite_arms::plan_insert(from.value, k, from.end + bytes_field::WORD, parts)
 }
 
-// What is to be done with the dest of the instruction in a slot. `fold`: it is a build that is taken apart.
-fn plan(code: Code, settings: Settings, slot: u16, fold: bool, p: Spot, parts: Parts) -> Plan
-    ensures { StepPlanned code.entry settings slot fold p parts.entry result }
+// What is to be done with the dest of an instruction.
+fn plan(turn: Turn, p: Spot, parts: Parts) -> Plan
+    ensures { StepPlanned turn.entry.code turn.entry.settings turn.entry.slot turn.entry.fold p parts.entry result }
 {
+    let Turn { code, slot, .. } = turn;
     let Some(kind) = bytes_index::instruction_kind(code.facts, slot) else {
         return Plan::Keep;
     };
-    if !active(settings, fold, kind) {
+    if !active(turn.settings, turn.fold, kind) {
         return Plan::Keep;
     }
     match kind {
@@ -149,7 +159,7 @@ fn plan(code: Code, settings: Settings, slot: u16, fold: bool, p: Spot, parts: P
         Kind::MakeTuple | Kind::MakeFixedArray => Plan::Values,
         Kind::ExtractTupleElement => extract_element(code, p, parts),
         Kind::MakeStruct => {
-            rewrite_arms::plan_struct(code, p.dest, rewrite_arms::last_type(code.bytes, p.end))
+            rewrite_arms::plan_struct(code, p.dest, bytes_operands::last_type(code.bytes, p.end))
         }
         Kind::ExtractStructField => extract_field(code, p, parts),
         Kind::InsertField => insert_field(code, p, parts),
@@ -165,7 +175,7 @@ fn build_values(
     tracked: &mut [bool],
     rows: &mut [u16],
     used: usize,
-) -> Decision
+) -> Used<Action>
     requires { used < used_below }
     ensures used_bound { result.used ≤ used + row_most }
     ensures values_built { ValuesBuilt code.entry p tracked.old rows.old used
@@ -173,8 +183,8 @@ fn build_values(
 {
     let d = p.dest;
     let to = rewrite_parts::track_values(tracked, rows, used, d, rewrite_arms::listed(code, p), 0);
-    Decision {
-        action: Action::Track {
+    Used {
+        value: Action::Track {
             dest: d,
             what: Counted::Build,
         },
@@ -190,7 +200,7 @@ fn carry_out(
     tracked: &mut [bool],
     rows: &mut [u16],
     used: usize,
-) -> Decision
+) -> Used<Action>
     requires { used < used_below }
     ensures used_bound { result.used ≤ used + row_most }
     ensures carried_out { CarriedOut plan code.entry p tracked.old rows.old used
@@ -198,19 +208,19 @@ fn carry_out(
 {
     let d = p.dest;
     match plan {
-        Plan::Keep => Decision {
-            action: Action::Keep,
+        Plan::Keep => Used {
+            value: Action::Keep,
             used,
         },
         Plan::Share { source: v, what: c } => {
             rewrite_parts::share(tracked, rows, d, v);
-            Decision {
-                action: Action::Track { dest: d, what: c },
+            Used {
+                value: Action::Track { dest: d, what: c },
                 used,
             }
         }
-        Plan::Assign { place, named: t } => Decision {
-            action: Action::Assign {
+        Plan::Assign { place, named: t } => Used {
+            value: Action::Assign {
                 dest: d,
                 place,
                 named: t,
@@ -223,8 +233,8 @@ fn carry_out(
             place,
         } => {
             let to = rewrite_parts::replace(tracked, rows, used, d, v, k, place);
-            Decision {
-                action: Action::Track {
+            Used {
+                value: Action::Track {
                     dest: d,
                     what: Counted::Insert,
                 },
@@ -236,23 +246,15 @@ fn carry_out(
     }
 }
 
-// What becomes of the instruction in a slot, where it is no Call and no Store.
-pub fn decide(
-    code: Code,
-    settings: Settings,
-    slot: u16,
-    fold: bool,
-    tracked: &mut [bool],
-    rows: &mut [u16],
-    used: usize,
-) -> Decision
+// What becomes of an instruction that is no Call and no Store.
+pub fn decide(turn: Turn, tracked: &mut [bool], rows: &mut [u16], used: usize) -> Used<Action>
     requires { used < used_below }
     ensures used_bound { result.used ≤ used + row_most }
-    ensures step_decided { StepDecided code.entry settings slot fold
+    ensures step_decided { StepDecided turn.entry.code turn.entry.settings turn.entry.slot turn.entry.fold
         tracked.old rows.old used tracked.new rows.new result }
 {
-    let p = find_spot(code, slot);
+    let p = find_spot(turn.code, turn.slot);
     let parts = Parts { tracked, rows };
-    let what = plan(code, settings, slot, fold, p, parts);
-    carry_out(what, code, p, tracked, rows, used)
+    let what = plan(turn, p, parts);
+    carry_out(what, turn.code, p, tracked, rows, used)
 }

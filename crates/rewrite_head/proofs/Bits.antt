@@ -1,9 +1,11 @@
 -- The recorded types of old and fresh values by number, and the map's number bit by bit.
-use Prim.Native.Nat.{ℕ, zero, suc, ◌+◌, ◌-◌, ◌*◌, ◌/◌, ◌%◌, ◌≤◌, ◌<◌}
+use Prim.Native.Nat.{ℕ, zero, suc, ◌+◌, ◌-◌, ◌*◌, ◌/◌, ◌%◌, ◌^◌, ◌≤◌, ◌<◌}
 use mathlib.Core.Path.{◌≡◌, refl, ap, ◌∙◌, sym}
 use mathlib.Core.List.{List, [], ◌∷◌, map}
 use mathlib.Core.Option.{Option, none, some}
+use native.Mathlib.Nat.{add-zero, add-mul, two-pow-succ}
 use native.Mathlib.Omega.{arith}
+use Rattle.std.proofs.Math.Pow.{pow_mono}
 use lib.ListN.{length, get_or, drop, length-append, length-map, get_or-append, get_or-eq_default}
 use lib.Seq.{get_or-append-add, drop-nil}
 use Rattle.mir.specs.declared.TypeId.{TypeId}
@@ -12,7 +14,8 @@ use Rattle.bytes_sections.specs.Encode.{map_number}
 use Rattle.bytes_sections.specs.Index.{recorded_number, recorded_from}
 use Rattle.rewrite_progress.specs.Effect.{type_numbers}
 use Rattle.rewrite_progress.proofs.Laws.{numbers_length}
-use Rattle.rewrite_head.specs.Head.{with_fresh, Tabled}
+use Rattle.rewrite_head.specs.declared.recorded.RecordedTypes.{RecordedTypes}
+use Rattle.rewrite_head.specs.Head.{OfRecorded, with_fresh, Tabled}
 
 -- how many values there are
 pub length_fresh : (rs : List (Option TypeId)) (ts : List TypeId) → length (with_fresh rs ts) ≡ length rs + length ts
@@ -61,46 +64,47 @@ low_bit (r ∷ rs) (suc v) =
     let e : suc v + 1 ≡ suc (v + 1) = omega arith in
     rw e (low_bit rs v)
 
--- a bit is 0 or 1
-stands_small : (o : Option TypeId) → stands o ≤ 1
-stands_small none = omega arith
-stands_small (some t) = omega arith
+-- the bits of a byte from bit k on, which stand before those of the bytes behind it
+pub record Bits (values : RecordedTypes) (v byte k : ℕ) : Type 0 where
+  pub low : k ≤ 8
+  pub small : byte + 1 ≤ 2 ^ (8 - k)
+  pub bits : OfRecorded values (λ all. map_number (drop (v + k) all) ≡ byte + 2 ^ (8 - k) * map_number (drop (v + 8) all))
 
--- the bits of a byte
-pub eight : (x a b c d e f g h y : ℕ) → a ≤ 1 → b ≤ 1 → c ≤ 1 → d ≤ 1 → e ≤ 1 → f ≤ 1 → g ≤ 1 → h ≤ 1 → x ≡ a + 2 * (b + 2 * (c + 2 * (d + 2 * (e + 2 * (f + 2 * (g + 2 * (h + 2 * y))))))) → (a + 2 * b + 4 * c + 8 * d + 16 * (e + 2 * f + 4 * g + 8 * h) ≡ x % 256) × (x / 256 ≡ y)
-eight x a b c d e f g h y i j k l m n o p q =
-    let z : x ≡ (a + 2 * b + 4 * c + 8 * d + 16 * (e + 2 * f + 4 * g + 8 * h)) + 256 * y = omega arith in
-    let w : a + 2 * b + 4 * c + 8 * d + 16 * (e + 2 * f + 4 * g + 8 * h) < 256 = omega arith in
-    parts (a + 2 * b + 4 * c + 8 * d + 16 * (e + 2 * f + 4 * g + 8 * h)) z w
-  where
-    parts : (u : ℕ) → x ≡ u + 256 * y → u < 256 → (u ≡ x % 256) × (x / 256 ≡ y)
-    parts u z w = (omega arith, omega arith)
+module _ (values : RecordedTypes) (v : ℕ) where
+  pub bits_start : Bits values v 0 8
+  bits_start = record { low = omega arith; small = omega arith; bits = λ rs ts h. omega arith }
 
--- the byte from value v on
-module _ (rs : List (Option TypeId)) (v : ℕ) where
-  unrolled : map_number (drop v rs) ≡ stands (get_or rs v none) + 2 * (stands (get_or rs (v + 1) none) + 2 * (stands (get_or rs (v + 2) none) + 2 * (stands (get_or rs (v + 3) none) + 2 * (stands (get_or rs (v + 4) none) + 2 * (stands (get_or rs (v + 5) none) + 2 * (stands (get_or rs (v + 6) none) + 2 * (stands (get_or rs (v + 7) none) + 2 * map_number (drop (v + 8) rs))))))))
-  unrolled =
-      let e2 : v + 1 + 1 ≡ v + 2 = omega arith in
-      let e3 : v + 2 + 1 ≡ v + 3 = omega arith in
-      let e4 : v + 3 + 1 ≡ v + 4 = omega arith in
-      let e5 : v + 4 + 1 ≡ v + 5 = omega arith in
-      let e6 : v + 5 + 1 ≡ v + 6 = omega arith in
-      let e7 : v + 6 + 1 ≡ v + 7 = omega arith in
-      let e8 : v + 7 + 1 ≡ v + 8 = omega arith in
-      let l0 = low_bit rs v in
-      let l1 = rw e2 at (low_bit rs (v + 1)) in
-      let l2 = rw e3 at (low_bit rs (v + 2)) in
-      let l3 = rw e4 at (low_bit rs (v + 3)) in
-      let l4 = rw e5 at (low_bit rs (v + 4)) in
-      let l5 = rw e6 at (low_bit rs (v + 5)) in
-      let l6 = rw e7 at (low_bit rs (v + 6)) in
-      let l7 = rw e8 at (low_bit rs (v + 7)) in
-      omega (arith, l0, l1, l2, l3, l4, l5, l6, l7)
+  module _ (byte k : ℕ) (c : Bits values v byte k) (more : 0 < k) where
+    -- twice as many
+    twice : 2 ^ (8 - (k - 1)) ≡ 2 ^ (8 - k) + 2 ^ (8 - k)
+    twice = let z : 8 - (k - 1) ≡ suc (8 - k) = omega (arith, c.low) in rw z (two-pow-succ (8 - k))
 
-  pub map_byte : (a b c d e f g h : ℕ) → a ≡ stands (get_or rs v none) → b ≡ stands (get_or rs (v + 1) none) → c ≡ stands (get_or rs (v + 2) none)
-      → d ≡ stands (get_or rs (v + 3) none) → e ≡ stands (get_or rs (v + 4) none) → f ≡ stands (get_or rs (v + 5) none) → g ≡ stands (get_or rs (v + 6) none)
-      → h ≡ stands (get_or rs (v + 7) none)
-      → (a + 2 * b + 4 * c + 8 * d + 16 * (e + 2 * f + 4 * g + 8 * h) ≡ map_number (drop v rs) % 256) × (map_number (drop v rs) / 256 ≡ map_number (drop (v + 8) rs))
-  map_byte a b c d e f g h p0 p1 p2 p3 p4 p5 p6 p7 =
-      let s : (n : ℕ) → stands (get_or rs n none) ≤ 1 = λ n. stands_small (get_or rs n none) in
-      rw (p0, p1, p2, p3, p4, p5, p6, p7) (eight (map_number (drop v rs)) _ _ _ _ _ _ _ _ (map_number (drop (v + 8) rs)) (s v) (s (v + 1)) (s (v + 2)) (s (v + 3)) (s (v + 4)) (s (v + 5)) (s (v + 6)) (s (v + 7)) unrolled)
+    -- before the last bit there is room for one more
+    pub bits_low : byte + 1 ≤ 128
+    bits_low =
+        let m : 2 ^ (8 - k) ≤ 2 ^ 7 = pow_mono {j = 7} (omega (arith, more)) in
+        omega (arith, c.small)
+
+    pub bits_again : (bit : ℕ) → bit ≤ 1 → OfRecorded values (λ all. bit ≡ stands (get_or all (v + (k - 1)) none)) → Bits values v (2 * byte + bit) (k - 1)
+    bits_again bit l e = record {
+      low = omega (arith, c.low);
+      small = omega (arith, c.small, twice);
+      bits = λ rs ts h.
+          let R = with_fresh rs ts in
+          let Y = map_number (drop (v + 8) R) in
+          let z : v + (k - 1) + 1 ≡ v + k = omega arith in
+          let p : map_number (drop (v + (k - 1)) R) ≡ stands (get_or R (v + (k - 1)) none) + 2 * map_number (drop (v + k) R) = rw z at (low_bit R (v + (k - 1))) in
+          let q : 2 ^ (8 - (k - 1)) * Y ≡ 2 ^ (8 - k) * Y + 2 ^ (8 - k) * Y = ap (λ n. n * Y) twice ∙ add-mul (2 ^ (8 - k)) (2 ^ (8 - k)) Y in
+          omega (arith, p, q, c.bits rs ts h, e rs ts h);
+    }
+
+  pub bits_done : (byte k : ℕ) → Bits values v byte k → k ≤ 0 → OfRecorded values (λ all. (byte ≡ map_number (drop v all) % 256) × (map_number (drop v all) / 256 ≡ map_number (drop (v + 8) all)))
+  bits_done byte k c l rs ts h =
+      let R = with_fresh rs ts in
+      let z : k ≡ 0 = omega arith in
+      let p : map_number (drop v R) ≡ byte + 256 * map_number (drop (v + 8) R) = rw (z, add-zero) at (c.bits rs ts h) in
+      let s : byte < 256 = omega (arith, rw z at c.small) in
+      parts (map_number (drop v R)) (map_number (drop (v + 8) R)) p s
+    where
+      parts : (x y : ℕ) → x ≡ byte + 256 * y → byte < 256 → (byte ≡ x % 256) × (x / 256 ≡ y)
+      parts x y z w = (omega arith, omega arith)

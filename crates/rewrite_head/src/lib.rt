@@ -48,11 +48,7 @@ fn type_of(values: RecordedTypes, v: usize) -> Option<TypeId>
     if v < old {
         return bytes_lookup::recorded_type(values.old, ValueId(v as u16));
     }
-    let k = v - old;
-    if k < values.fresh.len() {
-        return Some(TypeId(values.fresh[k]));
-    }
-    None
+    Some(TypeId(*values.fresh.get(v - old)?))
 }
 
 // Value v's bit of the map.
@@ -64,23 +60,16 @@ fn bit_of(values: RecordedTypes, v: usize) -> u8
 }
 
 // The eight bits from value v on, the lowest first.
-// No fold: eight names and one sum are no longer, and the proof goes bit by bit.
 fn map_byte(values: RecordedTypes, v: usize) -> u8
     requires { v < bits_below }
     ensures { OfRecorded values.entry (λ all.
         (result ≡ map_number (drop v all) % 256) × (map_number (drop v all) / 256 ≡ map_number (drop (v + 8) all))) }
 {
-    let a = bit_of(values, v);
-    let b = bit_of(values, v + 1);
-    let c = bit_of(values, v + 2);
-    let d = bit_of(values, v + 3);
-    let e = bit_of(values, v + 4);
-    let f = bit_of(values, v + 5);
-    let g = bit_of(values, v + 6);
-    let h = bit_of(values, v + 7);
-    let low = a + 2 * b + 4 * c + 8 * d;
-    let high = e + 2 * f + 4 * g + 8 * h;
-    low + 16 * high
+    let mut byte = 0;
+    for k in (0..BYTE_BITS).rev() {
+        byte = 2 * byte + bit_of(values, v + k);
+    }
+    byte
 }
 
 // The map, from `to` on; returns the place behind it.
@@ -90,7 +79,7 @@ fn put_map(out: &mut [u8], to: usize, values: RecordedTypes) -> usize
     ensures of_recorded { OfRecorded values.entry (λ all.
         out.new ≡ sets out.old to (to_bytes ((all_values values.entry + 7) / 8) (map_number all))) }
 {
-    let bytes = (count(values) + 7) / BYTE_BITS;
+    let bytes = count(values).div_ceil(BYTE_BITS);
     for k in 0..bytes {
         let byte = map_byte(values, BYTE_BITS * k);
         bytes_emit::put_u8(out, to + k, byte);

@@ -29,6 +29,10 @@ use Rattle.rewrite_list.specs.declared.Written.{Written}
 abbrev pub most_copied : ℕ
 most_copied = 1024
 
+-- the most values of a list: their count is one byte
+abbrev pub most_listed : ℕ
+most_listed = 255
+
 -- the fresh numbers of a run are below this
 abbrev pub fresh_below : ℕ
 fresh_below = 2147483648
@@ -85,15 +89,18 @@ OfValue next taken wants P =
     → EnoughFor (next + taken) (one_wanted τ S (next + taken) x o)
     → P τ S x (one_wanted τ S (next + taken) x o)
 
--- and of what becomes of the values of a list
-abbrev pub OfList : ListedValues → List ℕ → ℕ → (Types → AggStates → Rebuilt → Type 0) → Type 0
-OfList vs rows taken P =
+-- and of what becomes of the values of a list l that stands in t
+abbrev pub OfListIn : Code → List ℕ → Marks → List ℕ → ℕ → (Types → AggStates → Rebuilt → Type 0) → ValueList → Type 0
+OfListIn code t tracked rows taken P l =
     (τ : Types) (S : AggStates) (xs : List Value)
-    → Setting vs.code vs.tracked.now rows τ S
-    → Lies vs.code.bounds.next vs.fields.now vs.list.first xs
-    → length xs ≡ vs.list.many
-    → EnoughFor (vs.code.bounds.next + taken) (rebuild_all τ S (vs.code.bounds.next + taken) (list_wanted τ vs.fields.now vs.list xs))
-    → P τ S (rebuild_all τ S (vs.code.bounds.next + taken) (list_wanted τ vs.fields.now vs.list xs))
+    → Setting code tracked rows τ S
+    → Lies code.bounds.next t l.first xs
+    → length xs ≡ l.many
+    → EnoughFor (code.bounds.next + taken) (rebuild_all τ S (code.bounds.next + taken) (list_wanted τ t l xs))
+    → P τ S (rebuild_all τ S (code.bounds.next + taken) (list_wanted τ t l xs))
+
+abbrev pub OfList : ListedValues → List ℕ → ℕ → (Types → AggStates → Rebuilt → Type 0) → Type 0
+OfList vs rows taken P = OfListIn vs.code vs.fields.now vs.tracked.now rows taken P vs.list
 
 -- the builds of R are put out; their types stand behind the rows of the working table
 abbrev pub BuildsPut : Rebuilt → List ℕ → List ℕ → Progress → List ℕ → List ℕ → Result Progress Clash → Type 0

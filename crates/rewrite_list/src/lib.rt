@@ -6,22 +6,19 @@ pub mod values;
 ghost use Rattle.std.specs.Prelude.{◌≡◌, ◌+◌, ◌≤◌, ◌<◌, length, IfOk};
 ghost use Rattle.rewrite_parts.specs.Rows.{rows_in};
 ghost use Rattle.bytes_emit.specs.Written.{Writes, value_room, instruction_room, build_room, rebuilt_room};
-ghost use Rattle.rewrite_build.specs.Written.{rebuild_most};
+ghost use Rattle.rewrite_build.specs.Written.{rebuild_most, value_most};
 ghost use Rattle.table.specs.Number.{numbers_below};
 ghost use Rattle.rewrite_progress.specs.Effect.{low_enough, Low, counts_below};
-ghost use Rattle.rewrite_list.specs.Lists.{most_copied, PutFew, Roomy, fresh_below, values_most};
+ghost use Rattle.rewrite_list.specs.Lists.{most_copied, most_listed, PutFew, Roomy, fresh_below, values_most};
 ghost use Rattle.rewrite_list.specs.Lists.{TrackedPut, WantedPut, AllPut, WantedWritten, AllWritten};
 
 use bytes_index::Code;
 use mir::{Value, ValueId};
 use rewrite::Clash;
 use rewrite_parts::ROWS;
-use rewrite_progress::Progress;
+use rewrite_progress::{NUMBERS, Progress};
 use rewrite_wanted::Build;
 pub use values::{ListedValues, ValueList};
-
-// How many value numbers there are: a number has two bytes.
-const NUMBERS: u32 = 65536;
 
 // The most bytes that are copied at once.
 const MOST_COPIED: usize = 1024;
@@ -78,7 +75,9 @@ fn put_tracked(
     rewrite_build::put_rebuild(out, to, code, build.named, d, parts)
 }
 
-// What is wanted of a value: nothing, or its rebuild, under the next fresh number.
+// What is wanted of a value: nothing, or its rebuild, under the next fresh number. (`work` is two tables in one slice, the rows and from
+// `ROWS` on the types of the fresh numbers, as `rows_in` and `fresh_in` read it: of two, each function that is lent it would
+// take both.)
 fn put_wanted(
     out: &mut [u8],
     p: Progress,
@@ -112,8 +111,8 @@ pub fn put_builds(
     values: ListedValues,
     work: &mut [u16],
 ) -> Result<Progress, Clash>
-    requires { Low low_enough p × (values.list.first < counts_below) }
-    ensures put_few { PutFew p 255 result }
+    requires { Low low_enough p }
+    ensures put_few { PutFew p most_listed result }
     ensures work_unchanged { rows_in work.new ≡ rows_in work.old }
     ensures all_put { AllPut values.entry out.old work.old p out.new work.new result }
 {
@@ -143,7 +142,7 @@ fn put_wanted_value(
     wants: Option<Build>,
 ) -> Written
     requires { (w.to < instruction_room) × (w.fresh < fresh_below) }
-    ensures to_bound { (result.to ≤ w.to + 5) × (result.fresh ≤ w.fresh + 1) }
+    ensures to_bound { (result.to ≤ w.to + value_most) × (result.fresh ≤ w.fresh + 1) }
     ensures wanted_written { WantedWritten next t.now at wants out.old w out.new result }
 {
     match wants {
@@ -164,7 +163,7 @@ fn put_wanted_value(
 
 // The values of a list, with the fresh numbers put in from number `from.fresh` on.
 pub fn put_values(out: &mut [u8], from: Written, values: ListedValues) -> usize
-    requires { (from.to < build_room) × ((from.fresh < counts_below) × (values.list.first < counts_below)) }
+    requires { (from.to < build_room) × (from.fresh < counts_below) }
     ensures upper_bound { result ≤ from.to + values_most }
     ensures all_written { AllWritten values.entry from out.old out.new result }
 {

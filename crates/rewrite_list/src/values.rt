@@ -1,4 +1,7 @@
 // Lists of values as the writers go over them.
+ghost use Rattle.std.specs.Prelude.{◌<◌};
+ghost use Rattle.rewrite_progress.specs.Effect.{counts_below};
+
 use bytes_index::Code;
 use rewrite_wanted::Asks;
 
@@ -11,11 +14,13 @@ pub struct ValueList {
     pub asks: Asks,
 }
 
-// A list that stands in the fields of an instruction or a terminator of a routine, and which values are tracked there.
+// A list that stands in the fields of an instruction or a terminator of a routine, and which values are tracked there. It begins near,
+// so that the places behind it have room.
 #[derive(Clone, Copy)]
 pub struct ListedValues<'a> {
     pub code: Code<'a>,
     pub fields: &'a [u8],
     pub list: ValueList,
     pub tracked: &'a [bool],
+    ghost near: { list.first < counts_below },
 }

@@ -1,6 +1,7 @@
 // The parts of tracked values: rows of places of the input, in tables that the caller lends. `tracked` has a mark for
 // each value that is tracked; `rows` says at its number where its row begins, behind these: the number of its parts, then
-// the place of each. No row changes: a changed value gets a new one. (Rows in one table and no list for each value: there is no heap.)
+// the place of each. No row changes: a changed value gets a new one. (One table of numbers and no rows of their
+// own: the laws, `Rep` and `rows_in`, read one table of numbers.)
 #![tactic(auto)]
 
 pub mod listed;
@@ -12,14 +13,11 @@ ghost use Rattle.rewrite_parts.specs.Rows.{most_parts, row_most, used_below, Add
 ghost use Rattle.rewrite_parts.specs.Filled.{PartsStand, PartsCounted, FindsPart, Cleared, Grown, PlacesPut, RowCopied};
 ghost use Rattle.rewrite_parts.specs.Filled.{Shared, ValuesTracked, Replaced, FindsInit, NamesPut, NamesTracked};
 
-use bytes_types::layout;
 pub use listed::Listed;
 use mir::{NameId, ValueId, most};
 
 // In the own fields of a build the number of its parts stands behind its dest, and the parts behind it.
 pub const COUNT: usize = bytes_field::ID;
-
-pub const PARTS: usize = COUNT + 1;
 
 // The most parts of a value.
 const MOST_PARTS: u16 = 16;
@@ -30,9 +28,9 @@ pub const ROWS_FROM: usize = most::VALUES;
 
 pub const ROWS: usize = ROWS_FROM + most::INSTRUCTIONS * (MOST_PARTS as usize + 1);
 
-// Both tables, where they are only read. Where they are changed they are parameters of their own: of a struct with a `&mut` to each,
+// Both tables, where they are only read. (Where they are changed they are parameters of their own: of a struct with a `&mut` to each,
 // every function would promise by two clauses more that it still has both. So is how much of the rows is used, below a bound: a new
-// row may end past it, so that a type of its own would be made anew at each step.
+// row may end past it, so that a type of its own would be made anew at each step.)
 #[derive(Clone, Copy)]
 pub struct Parts<'a> {
     pub tracked: &'a [bool],
@@ -202,8 +200,7 @@ fn put_named(inits: Listed, names: Listed, rows: &mut [u16], to: usize) -> bool
     ensures names_put { NamesPut inits.entry names.entry rows.old to rows.new result }
 {
     for i in 0..names.count {
-        let at = names.at + layout::STRUCT_APART * i as usize;
-        let name = NameId(bytes_wire::u16_at(names.bytes, at));
+        let name = bytes_before::name_at(names.bytes, names.at, i);
         match find_init(inits, name) {
             None => return false,
             Some(place) => table::set_place(rows, to + i as usize, place),

@@ -1,5 +1,5 @@
 -- What one instruction adds to the output.
-use Prim.Native.Nat.{ℕ, ◌+◌, ◌-◌, ◌≤◌, ◌<◌}
+use Prim.Native.Nat.{ℕ, ◌+◌, ◌-◌, ◌≤◌}
 use mathlib.Core.Path.{◌≡◌, refl, ap, ◌∙◌, sym}
 use mathlib.Core.List.{List, [], ◌∷◌, ◌++◌, append-nil}
 use mathlib.Core.Bool.{false}
@@ -15,7 +15,7 @@ use Rattle.bytes_wire.proofs.Canon.{bytes_drop, value_short}
 use Rattle.mir.specs.Syntax.{Instruction, Assign, plain}
 use Rattle.bytes_field.specs.Encode.{instruction_bytes, field_bytes, value_id_bytes, type_id_bytes}
 use Rattle.bytes_index.specs.declared.code.Code.{Code}
-use Rattle.bytes_laws.proofs.Instruction.{instruction_canon}
+use Rattle.bytes_laws.proofs.Instruction.{instruction_canon, instruction_size}
 use Rattle.bytes_index.specs.Table.{place_in, end_in}
 use Rattle.bytes_index.specs.Code.{InstructionIn}
 use Rattle.mir.specs.Lookup.{Types}
@@ -34,15 +34,17 @@ use Rattle.rewrite_arms.specs.Decided.{counted_as, Does, Assigned, assigned_from
 use Rattle.rewrite_perform.specs.Performed.{moved_to, raised_by}
 
 -- a kept instruction: its bytes as they stand
-kept_out : (code : Code) (τ : Types) (S : AggStates) (i : Instruction) (slot : ℕ) (out out' types : List ℕ) (dropped : Marks) (p r : Progress) (at end : ℕ) (part : List ℕ)
-    → CodeGround code τ → InstructionIn code.bounds code.bytes.now code.facts.now slot i → at ≡ place_in code.facts.now slot → (end ≡ end_in code.facts.now slot) × (end < 65536)
-    → part ≡ take (end - at) (drop at code.bytes.now) → (length part ≤ 65536 → (r ≡ moved_to p (p.to + length part) (p.lines + 1)) × (out' ≡ sets out p.to part))
+kept_out : (code : Code) (τ : Types) (S : AggStates) (i : Instruction) (slot : ℕ) (out out' types : List ℕ) (dropped : Marks) (p r : Progress) (part : List ℕ)
+    → CodeGround code τ → InstructionIn code.bounds code.bytes.now code.facts.now slot i
+    → part ≡ take (end_in code.facts.now slot - place_in code.facts.now slot) (drop (place_in code.facts.now slot) code.bytes.now) → (length part ≤ 65536 → (r ≡ moved_to p (p.to + length part) (p.lines + 1)) × (out' ≡ sets out p.to part))
     → output_of out' types dropped r ≡ behind (output_of out types dropped p) (piece_effect (kept S i))
 unfolding behind further piece_effect kept mark_all type_numbers
-kept_out code τ S i slot out out' types dropped p r at end part g line ea ee f w =
-    let c = instruction_canon code.bounds [] false (drop (place_in code.facts.now slot) code.bytes.now) (bytes_drop code.bytes.now (place_in code.facts.now slot) g.bytes) line.read in
-    let own : part ≡ instruction_bytes i = f ∙ ap (λ n. take (end - n) (drop n code.bytes.now)) ea ∙ ap (λ n. take (n - place_in code.facts.now slot) (drop (place_in code.facts.now slot) code.bytes.now)) ee.0 ∙ sym c.same in
-    let z = w (omega (arith, ap length own, c.size, ee.0, ee.1)) in
+kept_out code τ S i slot out out' types dropped p r part g line f w =
+    let t = drop (place_in code.facts.now slot) code.bytes.now in
+    let bs = bytes_drop code.bytes.now (place_in code.facts.now slot) g.bytes in
+    let c = instruction_canon code.bounds [] false t bs line.read in
+    let own : part ≡ instruction_bytes i = f ∙ sym c.same in
+    let z = w (omega (arith, ap length own, c.size, instruction_size code.bounds [] false t bs line.read g.listed g.projected)) in
     rw (z.0, z.1, own) (simp (append-nil, add-zero))
 
 -- an instruction left out, its dest marked
@@ -81,14 +83,14 @@ module _ (code : Code) (S : AggStates) (i : Instruction) (q : Piece) (act : Acti
   as_piece : (q' : Piece) → q ≡ q' → q'.clash ≡ false → output_of out' types dropped' r ≡ behind (output_of out types dropped p) (piece_effect q') → Done
   as_piece q' e c f = (ap (λ x. x.clash) e ∙ c, f ∙ sym (ap (λ x. behind (output_of out types dropped p) (piece_effect x)) e))
 
-  pub does_keep : (τ : Types) (slot at end : ℕ) (part : List ℕ) → act ≡ Action.Keep → dropped' ≡ dropped
-      → CodeGround code τ → InstructionIn code.bounds code.bytes.now code.facts.now slot i → at ≡ place_in code.facts.now slot → (end ≡ end_in code.facts.now slot) × (end < 65536)
-      → part ≡ take (end - at) (drop at code.bytes.now) → (length part ≤ 65536 → (r ≡ moved_to p (p.to + length part) (p.lines + 1)) × (out' ≡ sets out p.to part))
+  pub does_keep : (τ : Types) (slot : ℕ) (part : List ℕ) → act ≡ Action.Keep → dropped' ≡ dropped
+      → CodeGround code τ → InstructionIn code.bounds code.bytes.now code.facts.now slot i
+      → part ≡ take (end_in code.facts.now slot - place_in code.facts.now slot) (drop (place_in code.facts.now slot) code.bytes.now) → (length part ≤ 65536 → (r ≡ moved_to p (p.to + length part) (p.lines + 1)) × (out' ≡ sets out p.to part))
       → Done
   unfolding kept
-  does_keep τ slot at end part z m g line ea ee f w =
+  does_keep τ slot part z m g line f w =
       let e : q ≡ kept S i = rw z at does in
-      as_piece (kept S i) e refl (rw m (kept_out code τ S i slot out out' types dropped p r at end part g line ea ee f w))
+      as_piece (kept S i) e refl (rw m (kept_out code τ S i slot out out' types dropped p r part g line f w))
 
   pub does_track : (c : Counted) (d : ValueId) → act ≡ Action.Track d c → out' ≡ out → dropped' ≡ mark dropped d → r ≡ raised_by p (counted_as c) → Done
   unfolding left

@@ -10,7 +10,7 @@ ghost use Rattle.rewrite_perform.specs.Performed.{moved_to, raised_by, PartPut, 
 use bytes_index::Code;
 use rewrite::{Clash, Counts};
 use rewrite_arms::{Action, Counted};
-use rewrite_progress::Progress;
+use rewrite_progress::{NUMBERS, Progress};
 
 // A progress at another place and number of instructions; its fresh numbers and counts stay.
 pub fn moved(p: Progress, to: usize, lines: u32) -> Progress
@@ -22,7 +22,9 @@ pub fn moved(p: Progress, to: usize, lines: u32) -> Progress
 // The most bytes of a part that is copied: as many as an input has.
 const MOST_BYTES: usize = 65536;
 
-// Copies a part that has so many instructions, at most 1,024; of one that is longer than an input, nothing.
+// Copies a part that has so many instructions, at most 1,024; of one that is longer than an input, nothing. (Not the guard of
+// `rewrite_list::copy_bytes` with another constant: that bounds the place alone, by 1,024 bytes, as the parts of one Call need it; here a
+// whole block may be a part, and its lines count only where it is copied.)
 pub fn put_part(out: &mut [u8], p: Progress, part: &[u8], lines: u32) -> Progress
     requires { Low low_enough p × (lines ≤ most_lines) }
     ensures by_index { (k : ℕ) → Low k p → Low (k + 1) result }
@@ -61,8 +63,8 @@ pub fn left_out(p: Progress, what: Counted) -> Progress
     }
 }
 
-// Puts out what is decided of a slot's instruction. An action is a value and no closure: it is decided from tables that are not
-// lent here.
+// Puts out what is decided of a slot's instruction. (An action is a value and no closure: it is decided from tables that are not lent
+// here.)
 pub fn perform(
     action: Action,
     code: Code,
@@ -78,14 +80,7 @@ pub fn perform(
         (λ types. output_of out.new types dropped.new result) }
 {
     match action {
-        Action::Keep => {
-            let part = bytes_field::between(
-                code.bytes,
-                bytes_index::place(code.facts, slot),
-                bytes_index::end(code.facts, slot),
-            );
-            put_part(out, p, part, 1)
-        }
+        Action::Keep => put_part(out, p, code.slot_bytes(slot), 1),
         Action::Track { dest: d, what } => {
             table::put(dropped, d.0 as usize, true);
             left_out(p, what)
@@ -107,9 +102,6 @@ pub fn perform(
         }
     }
 }
-
-// How many numbers two bytes have.
-const NUMBERS: u32 = 65536;
 
 // A block that begins at `p` is written from two bytes behind it on: its count of instructions goes in front. A clash is handed on.
 // (It takes the Result and no Progress: of that it could not promise any more what becomes of a clash.)

@@ -7,13 +7,17 @@ use mir::most;
 use rewrite::Counts;
 
 // The flags of a choice: one for each slot, whether its build is folded, and from here on one for each block, whether it is
-// skipped.
+// skipped. (Two tables in one slice, as `Follows` of specs/Chosen
+// reads it: of two, each function that is lent the choice would take both.)
 pub const SKIPS: usize = most::SLOTS;
 
 pub const FLAGS: usize = SKIPS + most::BLOCKS;
 
-// The place behind what is written, the instructions put out in the present block, the fresh numbers taken, the counts. How low
-// they are (`Low` of specs/Effect) is no fact of the type: each writer takes low ones and answers higher ones.
+// How many numbers two bytes have.
+pub const NUMBERS: u32 = 65536;
+
+// The place behind what is written, the instructions put out in the present block, the fresh numbers taken, the counts. (How low
+// they are, `Low` of specs/Effect, is no fact of the type: each writer takes low ones and answers higher ones.)
 #[derive(Clone, Copy, Default)]
 pub struct Progress {
     pub to: usize,

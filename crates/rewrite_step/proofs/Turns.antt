@@ -31,8 +31,7 @@ use Rattle.rewrite_chains.specs.Chained.{states_after}
 use Rattle.rewrite_arms.specs.declared.Action.{Action}
 use Rattle.rewrite_arms.specs.Decided.{Does}
 use Rattle.rewrite_step.specs.declared.Rewrite.{Rewrite}
-use Rattle.rewrite_step.specs.declared.Reached.{Reached}
-use Rattle.rewrite_step.specs.declared.Settled.{Settled}
+use Rattle.rewrite_arms.specs.declared.Used.{Used}
 use Rattle.rewrite_step.specs.Stepping.{Lent, lent_as, output_in, PutsIn, CallPiece, call_piece, StorePiece, store_piece, Becomes, Settles, Steps, fresh_from, SettlesAll, PutsPiece, StepsOn}
 use Rattle.rewrite_perform.specs.Performed.{raised_by, Performs}
 use Rattle.rewrite_perform.proofs.Performing.{left_none}
@@ -103,17 +102,17 @@ store_states τ S n i p x t none = refl
 store_states τ S n i p x t (some xs) = rebuilt_states S i.meta p t _ _
 
 -- a writer's answer, with how much of the rows is used, is a step's
-pub data WithUsed (used : ℕ) (r : Result Progress Clash) (t : Result Reached Clash) : Type 0 where
+pub data WithUsed (used : ℕ) (r : Result Progress Clash) (t : Result (Used Progress) Clash) : Type 0 where
   clash_too : (x y : Clash) → r ≡ Err x → t ≡ Err y → WithUsed used r t
-  went_too : (p : Progress) → r ≡ Ok p → t ≡ Ok (record { progress = p; used = used }) → WithUsed used r t
+  went_too : (p : Progress) → r ≡ Ok p → t ≡ Ok (record { value = p; used = used }) → WithUsed used r t
 
-pub steps_put : (next : ℕ) (s : List ℕ) (o : Output) (q : Piece) (l : Lent) (r : Result Progress Clash) (t : Result Reached Clash) (used : ℕ) → WithUsed used r t → Rep next s l.tracked (rows_in l.work) used q.states → PutsIn o (piece_effect q) q.clash l r → Steps next s o q l t
+pub steps_put : (next : ℕ) (s : List ℕ) (o : Output) (q : Piece) (l : Lent) (r : Result Progress Clash) (t : Result (Used Progress) Clash) (used : ℕ) → WithUsed used r t → Rep next s l.tracked (rows_in l.work) used q.states → PutsIn o (piece_effect q) q.clash l r → Steps next s o q l t
 steps_put next s o q l r t used (clash_too x y e f) h p = record { clashed = λ _ z. p.clashed x e; went = λ w z. absurd (let u : ◌≡◌ {A = ℕ} 0 1 = cc in omega arith) }
 steps_put next s o q l r t used (went_too v e f) h p =
     let z = p.went v e in
     record {
       clashed = λ x y. absurd (let u : ◌≡◌ {A = ℕ} 0 1 = cc in omega arith);
-      went = λ w y. let x : w ≡ record { progress = v; used = used } = cc in rw x (record { safe = z.0; out = z.1; rep = h });
+      went = λ w y. let x : w ≡ record { value = v; used = used } = cc in rw x (record { safe = z.0; out = z.1; rep = h });
     }
 
 -- what becomes of an instruction, by its kind
@@ -122,7 +121,7 @@ module _ (σ : Settings) (τ : Types) (folds : ValueId → Bool) (S : AggStates)
   piece = step σ τ folds S n i
 
   abbrev As : Rewrite → Type 0
-  As r = Settles τ next s tracked rows S n i piece (record { rewrite = r; used = used })
+  As r = Settles τ next s tracked rows S n i piece (record { value = r; used = used })
 
   call_step : (ds : List ValueId) (f : ℕ) (xs : List Value) (ps rs : List TypeId) → i.kind ≡ Call ds f xs ps rs → piece ≡ step_call S i ds f ps rs (rebuild_all τ S n (wanted_arguments τ xs ps)) (rebuild_all τ S n (wanted_arguments τ xs ps)).fresh
   unfolding step step_kind
@@ -233,15 +232,15 @@ module _ (code : Code) (slot : ℕ) (τ : Types) (S : AggStates) (used : ℕ) (i
       ]
 
 -- a whole step: the rows are settled, then all is put out
-pub step_turn : (code : Code) (σ : Settings) (slot : ℕ) (fold : Bool) (l : Lent) (w : Reached) (tracked dropped : Marks) (rows work out : List ℕ) (d : Settled) (r : Result Progress Clash) (t : Result Reached Clash)
+pub step_turn : (code : Code) (σ : Settings) (slot : ℕ) (fold : Bool) (l : Lent) (w : Used Progress) (tracked dropped : Marks) (rows work out : List ℕ) (d : Used Rewrite) (r : Result Progress Clash) (t : Result (Used Progress) Clash)
     → 2432 ≤ length l.work → length rows ≡ length (rows_in l.work)
     → SettlesAll code σ slot fold l.tracked (rows_in l.work) w.used tracked rows d
-    → PutsPiece code slot d.rewrite (lent_as tracked l.dropped (rows ++ fresh_in l.work) l.out) w.progress (lent_as tracked dropped work out) r
+    → PutsPiece code slot d.value (lent_as tracked l.dropped (rows ++ fresh_in l.work) l.out) w.value (lent_as tracked dropped work out) r
     → rows_in work ≡ rows_in (rows ++ fresh_in l.work) → WithUsed d.used r t
     → StepsOn code σ slot fold l w (lent_as tracked dropped work out) t
 step_turn code σ slot fold l w tracked dropped rows work out d r t long same settles puts stays e τ S folds i h room f bd =
-    let q = step σ τ folds S (fresh_from code.bounds w.progress) i in
-    let z = settles τ S folds (fresh_from code.bounds w.progress) i h room f in
+    let q = step σ τ folds S (fresh_from code.bounds w.value) i in
+    let z = settles τ S folds (fresh_from code.bounds w.value) i h room f in
     let size : length rows ≡ 2432 = same ∙ length-take-le 2432 l.work long in
     let front : rows_in (rows ++ fresh_in l.work) ≡ rows = take_at rows (fresh_in l.work) 2432 size in
     let back : fresh_in (rows ++ fresh_in l.work) ≡ fresh_in l.work = drop_at rows (fresh_in l.work) 2432 size in

@@ -20,8 +20,7 @@ use Rattle.rewrite_progress.specs.Effect.{Effect, Output, output_of, behind, pie
 pub use Rattle.rewrite_progress.specs.Effect.{fresh_from, Enough}
 use Rattle.rewrite_arms.specs.Decided.{Does}
 use Rattle.rewrite_step.specs.declared.Rewrite.{Rewrite}
-use Rattle.rewrite_step.specs.declared.Settled.{Settled}
-use Rattle.rewrite_step.specs.declared.Reached.{Reached}
+use Rattle.rewrite_arms.specs.declared.Used.{Used}
 
 -- the tables that a walk is lent: the marks of the tracked and of the dropped values, the working table, the output
 pub record Lent : Type 0 where
@@ -67,28 +66,28 @@ Becomes τ next s S n i q Rewrite.Store = StorePiece τ S n i q
 
 -- the tables hold the states behind the piece q, and the answer is what becomes of the instruction
 pub record Settles (τ : Types) (next : ℕ) (s : List ℕ) (tracked : Marks) (rows : List ℕ) (S : AggStates) (n : ℕ)
-    (i : Instruction) (q : Piece) (r : Settled) : Type 0 where
+    (i : Instruction) (q : Piece) (r : Used Rewrite) : Type 0 where
   pub rep : Rep next s tracked rows r.used q.states
-  pub becomes : Becomes τ next s S n i q r.rewrite
+  pub becomes : Becomes τ next s S n i q r.value
 
 -- a step's answer stays low
-abbrev pub SteppedLow : ℕ → ℕ → Result Reached Clash → Type 0
+abbrev pub SteppedLow : ℕ → ℕ → Result (Used Progress) Clash → Type 0
 SteppedLow k used (Err x) = Unit {0}
-SteppedLow k used (Ok w) = Low k w.progress × (w.used ≤ used)
+SteppedLow k used (Ok w) = Low k w.value × (w.used ≤ used)
 
 -- a piece is put out, and the tables hold its states
-pub record Gone (next : ℕ) (s : List ℕ) (o : Output) (q : Piece) (l : Lent) (w : Reached) : Type 0 where
+pub record Gone (next : ℕ) (s : List ℕ) (o : Output) (q : Piece) (l : Lent) (w : Used Progress) : Type 0 where
   pub safe : q.clash ≡ false
-  pub out : output_in l w.progress ≡ behind o (piece_effect q)
+  pub out : output_in l w.value ≡ behind o (piece_effect q)
   pub rep : Rep next s l.tracked (rows_in l.work) w.used q.states
 
 -- what a step answers
-pub record Steps (next : ℕ) (s : List ℕ) (o : Output) (q : Piece) (l : Lent) (r : Result Reached Clash) : Type 0 where
+pub record Steps (next : ℕ) (s : List ℕ) (o : Output) (q : Piece) (l : Lent) (r : Result (Used Progress) Clash) : Type 0 where
   pub clashed : (x : Clash) → r ≡ Err x → q.clash ≡ true
-  pub went : (w : Reached) → r ≡ Ok w → Gone next s o q l w
+  pub went : (w : Used Progress) → r ≡ Ok w → Gone next s o q l w
 
 -- what is settled of an instruction, whatever its kind
-abbrev pub SettlesAll : Code → Settings → ℕ → Bool → Marks → List ℕ → ℕ → Marks → List ℕ → Settled → Type 0
+abbrev pub SettlesAll : Code → Settings → ℕ → Bool → Marks → List ℕ → ℕ → Marks → List ℕ → Used Rewrite → Type 0
 SettlesAll code σ slot fold tracked rows used tracked' rows' r =
     (τ : Types) (S : AggStates) (folds : ValueId → Bool) (n : ℕ) (i : Instruction) →
     Here code.bounds code.bytes.now code.facts.now slot tracked rows used τ S i →
@@ -106,12 +105,12 @@ PutsPiece code slot rewrite l p l' r =
     PutsIn (output_in l p) (piece_effect q) q.clash l' r
 
 -- a whole step: one instruction is settled and put out
-abbrev pub StepsOn : Code → Settings → ℕ → Bool → Lent → Reached → Lent → Result Reached Clash → Type 0
+abbrev pub StepsOn : Code → Settings → ℕ → Bool → Lent → Used Progress → Lent → Result (Used Progress) Clash → Type 0
 StepsOn code σ slot fold l w l' r =
     (τ : Types) (S : AggStates) (folds : ValueId → Bool) (i : Instruction) →
     Here code.bounds code.bytes.now code.facts.now slot l.tracked (rows_in l.work) w.used τ S i →
     Room (rows_in l.work) w.used →
     FoldsAs fold folds i →
-    let q = step σ τ folds S (fresh_from code.bounds w.progress) i in
-    Enough code.bounds w.progress q.fresh →
-    Steps code.bounds.next code.bytes.now (output_in l w.progress) q l' r
+    let q = step σ τ folds S (fresh_from code.bounds w.value) i in
+    Enough code.bounds w.value q.fresh →
+    Steps code.bounds.next code.bytes.now (output_in l w.value) q l' r

@@ -6,17 +6,16 @@ ghost use Rattle.rewrite_parts.specs.Rows.{row_most, rows_size, used_below, rows
 ghost use Rattle.rewrite_progress.specs.Effect.{low_enough, Low, PutLow};
 ghost use Rattle.rewrite_step.specs.Stepping.{lent_as, SteppedLow, SettlesAll, PutsPiece, StepsOn};
 
-use bytes_index::Code;
-use fold::Settings;
 use mir::kind::Kind;
 use rewrite::Clash;
-use rewrite_arms::{Action, Counted};
+use rewrite_arms::{Action, Counted, Used};
 use rewrite_before::Site;
+use rewrite_decide::Turn;
 use rewrite_parts::ROWS;
 use rewrite_progress::Progress;
 
-// What becomes of an instruction. It is a value and no closure: it is settled while the rows are lent, and carried out when the
-// whole working table is.
+// What becomes of an instruction. (A value and no closure: it is settled while the rows are lent, and carried out when the whole working
+// table is.)
 // Does: what is decided of it.
 // Forwarded: a Store that goes into the parts of a tracked value.
 // Call, Store: a Call, or any other Store, whose tracked values are rebuilt before it.
@@ -28,62 +27,40 @@ pub enum Rewrite {
     Store,
 }
 
-// What is settled of an instruction, and how much of the rows is used then.
-#[derive(Clone, Copy)]
-pub struct Settled {
-    pub rewrite: Rewrite,
-    pub used: usize,
-}
-
-// How far the output is written, and how much of the rows is used.
-#[derive(Clone, Copy)]
-pub struct Reached {
-    pub progress: Progress,
-    pub used: usize,
-}
-
-// Settles what becomes of a slot's instruction; `fold` is whether a build is left out.
-fn settle(
-    code: Code,
-    settings: Settings,
-    slot: u16,
-    fold: bool,
-    tracked: &mut [bool],
-    rows: &mut [u16],
-    used: usize,
-) -> Settled
+// Settles what becomes of an instruction.
+fn settle(turn: Turn, tracked: &mut [bool], rows: &mut [u16], used: usize) -> Used<Rewrite>
     requires { used < used_below }
     ensures used_bound { result.used ≤ used + row_most }
-    ensures settles_all { SettlesAll code.entry settings slot fold
+    ensures settles_all { SettlesAll turn.entry.code turn.entry.settings turn.entry.slot turn.entry.fold
         tracked.old rows.old used tracked.new rows.new result }
 {
-    let kind = bytes_index::instruction_kind(code.facts, slot);
+    let kind = bytes_index::instruction_kind(turn.code.facts, turn.slot);
     if kind == Some(Kind::Call) {
-        return Settled {
-            rewrite: Rewrite::Call,
+        return Used {
+            value: Rewrite::Call,
             used,
         };
     }
     if kind != Some(Kind::Store) {
-        let d = rewrite_decide::decide(code, settings, slot, fold, tracked, rows, used);
-        return Settled {
-            rewrite: Rewrite::Does(d.action),
+        let d = rewrite_decide::decide(turn, tracked, rows, used);
+        return Used {
+            value: Rewrite::Does(d.value),
             used: d.used,
         };
     }
-    if !settings.tuples {
-        return Settled {
-            rewrite: Rewrite::Does(Action::Keep),
+    if !turn.settings.tuples {
+        return Used {
+            value: Rewrite::Does(Action::Keep),
             used,
         };
     }
-    match rewrite_chains::forward_store(code, slot, tracked, rows, used) {
-        Some(end) => Settled {
-            rewrite: Rewrite::Forwarded,
+    match rewrite_chains::forward_store(turn.code, turn.slot, tracked, rows, used) {
+        Some(end) => Used {
+            value: Rewrite::Forwarded,
             used: end,
         },
-        None => Settled {
-            rewrite: Rewrite::Store,
+        None => Used {
+            value: Rewrite::Store,
             used,
         },
     }
@@ -116,42 +93,31 @@ fn carry_out(
     }
 }
 
-// One step: a slot's instruction; `fold` is whether a build is left out. The tables are lent one by one: through a struct that
-// holds them a caller would not know any more that their lengths stay.
+// One step: an instruction. (The tables are lent one by one: through a struct that holds them a caller would not know any more that their
+// lengths stay.)
 pub fn step(
-    code: Code,
-    settings: Settings,
-    slot: u16,
-    fold: bool,
+    turn: Turn,
     tracked: &mut [bool],
     dropped: &mut [bool],
     work: &mut [u16],
     out: &mut [u8],
-    w: Reached,
-) -> Result<Reached, Clash>
-    requires { Low low_enough w.progress × ((w.used < used_below) × (rows_size ≤ length work.old)) }
-    ensures by_index { (k : ℕ) → Low k w.progress → SteppedLow (k + 1) (w.used + row_most) result }
-    ensures steps_on { StepsOn code.entry settings slot fold
+    w: Used<Progress>,
+) -> Result<Used<Progress>, Clash>
+    requires { Low low_enough w.value × ((w.used < used_below) × (rows_size ≤ length work.old)) }
+    ensures by_index { (k : ℕ) → Low k w.value → SteppedLow (k + 1) (w.used + row_most) result }
+    ensures steps_on { StepsOn turn.entry.code turn.entry.settings turn.entry.slot turn.entry.fold
         (lent_as tracked.old dropped.old work.old out.old) w
         (lent_as tracked.new dropped.new work.new out.new) result }
 {
-    let d = settle(
-        code,
-        settings,
-        slot,
-        fold,
-        tracked,
-        &mut work[..ROWS],
-        w.used,
-    );
+    let d = settle(turn, tracked, &mut work[..ROWS], w.used);
     let site = Site {
-        code,
-        slot,
+        code: turn.code,
+        slot: turn.slot,
         tracked,
     };
-    let progress = carry_out(d.rewrite, site, dropped, work, out, w.progress)?;
-    Ok(Reached {
-        progress,
+    let progress = carry_out(d.value, site, dropped, work, out, w.value)?;
+    Ok(Used {
+        value: progress,
         used: d.used,
     })
 }

@@ -33,7 +33,7 @@ fn asked_type(code: Code, t: &[u8], asks: Asks, v: ValueId, i: u8) -> Option<Typ
                 return None;
             }
             let place = bytes_field::ID * i as usize;
-            let named = TypeId(bytes_wire::u16_at(bytes_field::tail(t, first), place));
+            let named = TypeId(bytes_wire::u16_at(table::behind(t, first), place));
             if fold_shapes::type_shape(code, named) == Shape::Other {
                 return None;
             }

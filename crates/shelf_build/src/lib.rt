@@ -8,16 +8,12 @@ ghost use Rattle.shelf_field.specs.Asked.{Judged};
 use bytes_index::Typing;
 use mir::TypeId;
 use mir::shape::Shape;
-use rewrite_parts::Listed;
+use rewrite_parts::{COUNT, Listed};
 
-// Where the dest and the parts stand, these behind their count; and how long the name of a part is.
+// Where the dest stands, and how long the name of a part is.
 const DEST: usize = 0;
 
-const COUNT: usize = 2;
-
-const PARTS: usize = 3;
-
-const NAME_SIZE: u8 = 2;
+const NAME_SIZE: u8 = bytes_field::ID as u8;
 
 // A MakeTuple: the dest is recorded as a tuple, and the values are its parts.
 pub fn make_tuple(typing: Typing, t: &[u8]) -> bool
@@ -25,12 +21,7 @@ pub fn make_tuple(typing: Typing, t: &[u8]) -> bool
 {
     let y = shelf_field::id_type(typing, t, DEST);
     let shaped = shelf_field::has_shape(typing.code, y, Shape::Tuple);
-    let n = bytes_wire::byte_at(t, COUNT);
-    let list = Listed {
-        bytes: t,
-        at: PARTS,
-        count: n,
-    };
+    let list = Listed::behind(t, COUNT);
     let all = shelf_list::parts_fit(typing, list, y);
     shaped & all
 }
@@ -40,13 +31,8 @@ pub fn make_array(typing: Typing, t: &[u8]) -> bool
     ensures { (c : Bool) → Judged (λ b seen. make_array_of b seen c) typing.entry t.now result }
 {
     let y = shelf_field::id_type(typing, t, DEST);
-    let n = bytes_wire::byte_at(t, COUNT);
-    let list = Listed {
-        bytes: t,
-        at: PARTS,
-        count: n,
-    };
-    let e = bytes_operands::values_end(t, PARTS, 0, 0, n);
+    let list = Listed::behind(t, COUNT);
+    let e = bytes_operands::values_end(t, list.at, 0, 0, list.count);
     let part = shelf_field::type_at(t, typing.code.bounds, e);
     let shaped = shelf_field::has_shape(typing.code, y, Shape::FixedArray);
     let same = shelf_types::same_type(shelf_rows::part_type(typing.code, y, 0), part);
@@ -60,16 +46,11 @@ pub fn make_struct(typing: Typing, t: &[u8]) -> bool
     ensures { Judged make_struct_of typing.entry t.now result }
 {
     let code = typing.code;
-    let n = bytes_wire::byte_at(t, COUNT);
-    let list = Listed {
-        bytes: t,
-        at: PARTS,
-        count: n,
-    };
-    let e = bytes_operands::values_end(t, PARTS, NAME_SIZE, 0, n);
+    let list = Listed::behind(t, COUNT);
+    let e = bytes_operands::values_end(t, list.at, NAME_SIZE, 0, list.count);
     let y = shelf_field::type_at(t, code.bounds, e);
     let row = code.type_row(TypeId(bytes_wire::u16_at(t, e)));
-    if !shelf_rows::has_parts(code, y, n as u32) {
+    if !shelf_rows::has_parts(code, y, list.count as u32) {
         return false;
     }
     if !shelf_field::has_shape(code, y, Shape::Struct) {

@@ -5,62 +5,38 @@ ghost use Rattle.bytes_field.specs.Decode.{call_of, phi_of, debug_of};
 ghost use Rattle.shelf_field.specs.Asked.{Judged};
 ghost use Rattle.shelf_call.specs.Shown.{JudgedByAny};
 
+use bytes_field::ID;
 use bytes_index::Typing;
 use rewrite_parts::Listed;
 
-// Where a Call's dests stand, behind their count; and how long a number of a value or a type, and the callee's, is.
-const DESTS_COUNT: usize = 0;
+// Where the count of a Call's dests stands.
+const DESTS: usize = 0;
 
-const DESTS: usize = 1;
-
-const APART: usize = 2;
-
-const CALLEE: usize = 2;
-
-// Where a Phi's dest, its type and its sources stand, these behind their count.
+// Where a Phi's dest, its type and the count of its sources stand.
 const DEST: usize = 0;
 
 const TYPE: usize = 2;
 
-const SOURCES_COUNT: usize = 4;
+const SOURCES: usize = 4;
 
-const SOURCES: usize = 5;
+// Where the count of a Debug's values stands, behind its message.
+const SHOWN: usize = bytes_field::WORD;
 
-// Where a Debug's values stand, behind its message and their count.
-const SHOWN_COUNT: usize = 4;
-
-const SHOWN: usize = 5;
-
-// A Call has as many arguments as parameter types, each of its type, and its dests have the return types.
+// A Call has as many arguments as parameter types, each of its type, and its dests have the return types. (`rewrite_before::call_list` tells
+// where the arguments stand too, as two numbers beside what is asked of them; here they and the dests are lists: one sum is the same.)
 pub fn call(typing: Typing, t: &[u8]) -> bool
     ensures { Judged call_of typing.entry t.now result }
 {
-    let dests = bytes_wire::byte_at(t, DESTS_COUNT);
-    let at = DESTS + APART * dests as usize + CALLEE;
-    let n = bytes_wire::byte_at(t, at);
-    let e = bytes_operands::values_end(t, at + 1, 0, 0, n);
-    if bytes_wire::byte_at(t, e) != n {
+    let dests = Listed::behind(t, DESTS);
+    let callee = dests.at + ID * dests.count as usize;
+    let arguments = Listed::behind(t, callee + ID);
+    let e = bytes_operands::values_end(t, arguments.at, 0, 0, arguments.count);
+    if bytes_wire::byte_at(t, e) != arguments.count {
         return false;
     }
-    let given = shelf_list::arguments_fit(
-        typing,
-        Listed {
-            bytes: t,
-            at: at + 1,
-            count: n,
-        },
-        e + 1,
-    );
-    let back = e + 1 + APART * n as usize + 1;
-    let had = shelf_list::dests_fit(
-        typing,
-        Listed {
-            bytes: t,
-            at: DESTS,
-            count: dests,
-        },
-        back,
-    );
+    let given = shelf_list::arguments_fit(typing, arguments, e + 1);
+    let back = e + 1 + ID * arguments.count as usize + 1;
+    let had = shelf_list::dests_fit(typing, dests, back);
     given & had
 }
 
@@ -70,16 +46,7 @@ pub fn phi(typing: Typing, t: &[u8]) -> bool
 {
     let y = shelf_field::type_at(t, typing.code.bounds, TYPE);
     let dest = shelf_field::id_has(typing, t, DEST, y);
-    let n = bytes_wire::byte_at(t, SOURCES_COUNT);
-    let sources = shelf_list::sources_fit(
-        typing,
-        Listed {
-            bytes: t,
-            at: SOURCES,
-            count: n,
-        },
-        y,
-    );
+    let sources = shelf_list::sources_fit(typing, Listed::behind(t, SOURCES), y);
     dest & sources
 }
 
@@ -87,13 +54,6 @@ pub fn phi(typing: Typing, t: &[u8]) -> bool
 pub fn debug(typing: Typing, t: &[u8]) -> bool
     ensures { JudgedByAny debug_of typing.entry t.now result }
 {
-    let shown = bytes_wire::byte_at(t, SHOWN_COUNT);
-    shelf_list::all_known(
-        typing,
-        Listed {
-            bytes: t,
-            at: SHOWN,
-            count: shown,
-        },
-    )
+    let shown = Listed::behind(t, SHOWN);
+    shelf_list::all_known(typing, shown)
 }

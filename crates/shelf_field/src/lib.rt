@@ -100,7 +100,8 @@ pub fn has_shape(code: Code, number: Option<TypeId>, shape: Shape) -> bool
     shelf_rows::shape_of(code, number) == shape
 }
 
-// The projection at a place. (Beside that of bytes_operands for its promise, as `value_at`.)
+// The projection at a place. (Beside that of bytes_operands for its promise: of a projection that stands there, as lists of them have it,
+// and not of its size too.)
 pub fn step_at(t: &[u8], at: usize, next: u16) -> Option<Projection>
     ensures { (q : Projection) → StepAt next t.now at q → result ≡ Some q }
 {

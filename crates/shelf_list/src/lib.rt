@@ -14,14 +14,13 @@ ghost use Rattle.shelf_list.specs.Lists.{ValuesAt, SourcesAt, IdsAt};
 ghost use Rattle.shelf_list.specs.Asked.{OfAnyValue, IdTyped, OfEach, PartFits, AgainstType};
 ghost use Rattle.shelf_list.specs.Asked.{ArgumentFits, AgainstTypes, DestFits, DestsFit, GivenFits, FieldFits, FieldsFit};
 
+use bytes_field::ID;
 use bytes_index::Typing;
 use mir::TypeId;
 use rewrite_parts::Listed;
 
-// How far a source's value stands behind its block, and how far apart numbers of values and types stand.
-const SOURCE_VALUE: usize = 2;
-
-const APART: usize = 2;
+// How far a source's value stands behind its block.
+const SOURCE_VALUE: usize = ID;
 
 // Each value of a list fits its part of a type.
 fn all_fit(typing: Typing, list: Listed, number: Option<TypeId>) -> bool
@@ -76,7 +75,7 @@ pub fn arguments_fit(typing: Typing, list: Listed, parameters: usize) -> bool
             requires { Later parameters }
             ensures { ArgumentFits typing.entry list.entry.bytes.now at (parameters + 2 * i) result }
         {
-            let there = parameters + APART * i as usize;
+            let there = parameters + ID * i as usize;
             let number = shelf_field::type_at(list.bytes, typing.code.bounds, there);
             shelf_field::value_fits(typing, list.bytes, at, number)
         },
@@ -90,12 +89,12 @@ pub fn dests_fit(typing: Typing, list: Listed, returns: usize) -> bool
 {
     shelf_field::each_passes(
         list,
-        |at| at + APART,
+        |at| at + ID,
         |i, at|
             requires { Late returns }
             ensures { DestFits typing.entry list.entry.bytes.now at (returns + 2 * i) result }
         {
-            let there = returns + APART * i as usize;
+            let there = returns + ID * i as usize;
             let number = shelf_field::type_at(list.bytes, typing.code.bounds, there);
             shelf_field::id_has(typing, list.bytes, at, number)
         },
@@ -155,7 +154,7 @@ pub fn all_typed(typing: Typing, list: Listed) -> bool
 {
     shelf_field::each_passes(
         list,
-        |at| at + APART,
+        |at| at + ID,
         |_, at|
             ensures { IdTyped typing.entry list.entry.bytes.now at result }
         { shelf_field::id_type(typing, list.bytes, at).is_some() },

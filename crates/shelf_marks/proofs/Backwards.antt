@@ -1,30 +1,21 @@
 -- Reason 2 of a block: from its last instruction to its first, with a mark for each value that is defined.
-use Prim.Native.Nat.{ℕ, zero, suc, ◌+◌, ◌*◌, ◌-◌, ◌≤◌, ◌<◌, zero-le}
-use mathlib.Core.Path.{◌≡◌, refl, ap, ◌∙◌, sym}
+use Prim.Native.Nat.{ℕ, zero, suc, ◌+◌, ◌*◌, ◌-◌, ◌≤◌, ◌<◌}
+use mathlib.Core.Path.{◌≡◌, ap, ◌∙◌, sym}
 use mathlib.Core.List.{List, [], ◌∷◌}
 use mathlib.Core.Bool.{Bool, true, false, not, ◌&&◌, ◌||◌, and-false}
 use native.Mathlib.Omega.{arith}
-use borrow.Author.Tests.{eq-eqb, ne_eqb, not-true, not-false}
+use borrow.Author.Tests.{not-true, not-false}
 use lib.ListN.{length, get_or, set, drop, replicate}
 use lib.Seq.{drop-drop}
-use Rattle.std.specs.Prelude.{Some, None, Option as Answered}
-use Rattle.std.specs.Option.{MatchOption, unwrap_or}
-use Rattle.std.specs.List.{range_with_len, AllWithin, HoldsAt}
-use Rattle.std.proofs.lemmas.List.FromFn.{length-range_with_len, get_or-range_with_len}
-use Rattle.std.specs.Option.{option_eq}
-use Rattle.mir.specs.contracts.kind.KindPartialEq.TheImpl.{eq-value}
-use Rattle.mir.specs.declared.kind.Kind.{Kind}
-use Rattle.mir.specs.Kind.{NamesKind}
-use Rattle.mir.proofs.Numbers.{names_one, kind_other}
 use Rattle.bytes_wire.specs.Number.{at16}
 use Rattle.mir.specs.declared.ValueId.{ValueId}
 use Rattle.mir.specs.Syntax.{Instruction, Block}
-use Rattle.mir.specs.Reads.{reads, dests, kind_number, is_phi}
+use Rattle.mir.specs.Reads.{reads, dests}
 use Rattle.bytes_field.specs.Decode.{instruction_of}
 use Rattle.bytes_index.specs.declared.code.Code.{Code}
 use Rattle.bytes_index.specs.declared.slots.Slots.{Slots}
 use Rattle.bytes_index.specs.Table.{starts_in, place_in, kind_in, ReadsIn}
-use Rattle.bytes_index.specs.Code.{no_instruction, no_block, SlotsOf}
+use Rattle.bytes_index.specs.Code.{no_instruction, no_block, InstructionsIn, SlotsOf}
 use Rattle.bytes_block.specs.Decode.{marks}
 use Rattle.bytes_operands.specs.Fields.{fields_place}
 use Rattle.mir.specs.Lists.{Each}
@@ -32,7 +23,7 @@ use Rattle.mir.specs.Lookup.{Types}
 use Rattle.mir.specs.Phis.{behind_phis}
 use Rattle.shelf.specs.Lists.{every, among, clear}
 use Rattle.shelf.specs.Reads.{counted_reads, defined_in, ordered, with_debug}
-use Rattle.shelf_marks.specs.Tests.{CodedIn, SlotIn, OfSlot, OfBlock, FirstOther, BehindPhis, ordered_behind, dest_count, dest_first, dests_at, dests_of}
+use Rattle.shelf_marks.specs.Tests.{CodedIn, SlotIn, OfSlot, OfBlock, BehindPhis, ordered_behind, dest_count, dest_first, dests_at, dests_of}
 use Rattle.shelf_marks.proofs.Scanning.{next_of, none_of, block_holds, slot_holds, every_same}
 use Rattle.table.proofs.Elements.{clear_at}
 use Rattle.shelf_marks.proofs.Bases.{marks_are, among_append}
@@ -74,54 +65,17 @@ module _ (code : Code) (slot : ℕ) (m : List Bool) where
       let d = dests_in code.bounds t i _ (ap (λ q. instruction_of code.bounds [] false q) here ∙ a.read) in
       em ∙ ap (marks m) (ap (dests_of t) (ek ∙ a.kind) ∙ sym d.same)
 
--- the instructions behind those that are phis in front
-behind_lead : (is : List Instruction) (i : ℕ) → i ≤ length is → ((j : ℕ) → j < i → is_phi (get_or is j no_instruction).kind ≡ true) → (i < length is → is_phi (get_or is i no_instruction).kind ≡ false) → behind_phis is ≡ drop i is
-unfolding behind_phis
-behind_lead [] zero h f g = refl
-behind_lead [] (suc i) h f g = absurd (omega arith)
-behind_lead (x ∷ is) zero h f g = rw (g (omega arith)) refl
-behind_lead (x ∷ is) (suc i) h f g = rw (f 0 (omega arith)) (behind_lead is i (omega arith) (λ j l. f (suc j) (omega arith)) (λ l. g (omega arith)))
-
--- the first of n slots whose instruction is no phi
-pub first_other : (facts : List ℕ) (a n : ℕ) (r : Answered ℕ)
-    → MatchOption r (AllWithin (λ x. kind_in facts x ≡ 9) (range_with_len a n) 0 (length (range_with_len a n)))
-    (λ x. (kind_in facts x ≡ 9 → ⊥) × (i : ℕ) × (i < length (range_with_len a n)) × HoldsAt (λ y. y ≡ x) (range_with_len a n) i × AllWithin (λ y. kind_in facts y ≡ 9) (range_with_len a n) 0 i)
-    → FirstOther facts a n (unwrap_or r (a + n))
-first_other facts a n None h =
-    record {
-      from = omega arith;
-      under = omega arith;
-      phis = λ x l m. let z : a + (x - a) ≡ x = omega arith in rw (get_or-range_with_len a n (x - a) 0 (omega arith), z) at (h (x - a) 0 zero-le (omega (arith, length-range_with_len a n)));
-      other = λ l. absurd (omega arith);
-    }
-first_other facts a n (Some x) h =
-    let l : h.1 < n = omega (arith, h.2, length-range_with_len a n) in
-    let e : x ≡ a + h.1 = sym (h.3 0) ∙ get_or-range_with_len a n h.1 0 l in
-    record {
-      from = omega (arith, e);
-      under = omega (arith, e);
-      phis = λ y o m. let z : a + (y - a) ≡ y = omega arith in rw (get_or-range_with_len a n (y - a) 0 (omega (arith, e, l)), z) at (h.4 (y - a) 0 zero-le (omega (arith, e)));
-      other = λ o. h.0;
-    }
-
--- a kind that is looked up is no Phi, and none is there
-pub no_phi_there : (n : ℕ) (o : Answered Kind) → NamesKind n o → true ≡ not (option_eq eq-value.it o (Some Kind.Phi)) → n ≡ 9 → ⊥
-no_phi_there n o h e z = kind_other o Kind.Phi e (names_one n o Kind.Phi h z)
-
-pub behind_found : (code : Code) (k : ℕ) (at : Slots) → SlotsOf code.facts.now k at → (s : Slots) → FirstOther code.facts.now at.first at.count s.first → s.count ≡ at.first + at.count - s.first → BehindPhis code k s
-behind_found code k at el s f e τ ks c l =
+-- the slots behind the phis in front, of which there are n
+pub behind_found : (code : Code) (k : ℕ) (at : Slots) → SlotsOf code.facts.now k at → (s : Slots) (n : ℕ) → n ≤ at.count → s.first ≡ at.first + n → s.count ≡ at.count - n
+    → ((is : List Instruction) → InstructionsIn code.bounds code.bytes.now code.facts.now at.first is → length is ≡ at.count → behind_phis is ≡ drop n is) → BehindPhis code k s
+behind_found code k at el s n few e d phis τ ks c l =
     let is = (get_or ks k no_block).instructions in
     let w = el code.bounds code.bytes.now ks c.code l in
-    let i = s.first - at.first in
-    let z : at.first + i ≡ s.first = omega (arith, f.from) in
+    let z : n ≡ s.first - get_or (starts_in code.facts.now) k 0 = omega (arith, w.0, e) in
     record {
-      from = omega (arith, w.0, f.from);
-      all = omega (arith, w.0, w.1, e, f.under);
-      same =
-          behind_lead is i (omega (arith, w.1, f.under))
-          (λ j m. eq-eqb (kind_number (get_or is j no_instruction).kind) 9 (sym (slot_holds code k at el j (omega (arith, f.under)) τ ks c l).kind ∙ f.phis (at.first + j) (omega arith) (omega arith)))
-          (λ m. ne_eqb (kind_number (get_or is i no_instruction).kind) 9 (λ y. f.other (omega (arith, w.1, z)) (ap (kind_in code.facts.now) (sym z) ∙ (slot_holds code k at el i (omega (arith, w.1)) τ ks c l).kind ∙ y)))
-          ∙ ap (λ q. drop q is) (ap (λ q. s.first - q) w.0);
+      from = omega (arith, w.0, e);
+      all = omega (arith, w.0, w.1, e, d, few);
+      same = phis is (λ j m. slot_holds code k at el j (omega (arith, w.1)) τ ks c l) (sym w.1) ∙ ap (λ q. drop q is) z;
     }
 
 -- an order that fails further on fails
@@ -141,29 +95,31 @@ pub record Seen (facts : List ℕ) (k : ℕ) (m : List Bool) (is : List Instruct
   pub marked : (v : ℕ) → get_or m v false ≡ among v (defined_in (drop (slot - get_or (starts_in facts) k 0) is))
   pub sound : ordered with_debug (drop (slot - get_or (starts_in facts) k 0) is) ≡ true
 
-pub record Backward (code : Code) (k : ℕ) (m : List Bool) (slot : ℕ) : Type 0 where
+pub record Backward (code : Code) (k from : ℕ) (m : List Bool) (slot : ℕ) : Type 0 where
+  pub behind : from ≤ slot
   pub long : length m ≡ 256
   pub left : (τ : Types) (ks : List Block) → CodedIn code τ ks → k < length ks → Seen code.facts.now k m (get_or ks k no_block).instructions slot
 
 module _ (code : Code) (k : ℕ) (at : Slots) (ef : BehindPhis code k at) where
-  pub backward_start : (m : List Bool) → m ≡ replicate 256 false → length m ≡ 256 → Backward code k m (at.first + at.count)
+  pub backward_start : (m : List Bool) {end : ℕ} → end ≡ at.first + at.count → m ≡ replicate 256 false → length m ≡ 256 → Backward code k at.first m end
   unfolding defined_in ordered
-  backward_start m e l =
+  backward_start m {end} f e l =
       record {
+        behind = omega (arith, f);
         long = l;
         left = λ τ ks c h.
             let is = (get_or ks k no_block).instructions in
             let first = get_or (starts_in code.facts.now) k 0 in
             let w = (ef τ ks c h).all in
-            let z : drop (at.first + at.count - first) is ≡ [] = none_of is (at.first + at.count - first) (omega (arith, w)) in
+            let z : drop (end - first) is ≡ [] = none_of is (end - first) (omega (arith, w, f)) in
             record {
-              under = omega (arith, w);
+              under = omega (arith, w, f);
               marked = λ v. ap (λ q. get_or q v false) e ∙ clear_at 256 v ∙ sym (ap (λ q. among v (defined_in q)) z);
               sound = ap (ordered with_debug) z;
             };
       }
 
-  module _ {m m' : List Bool} {i : ℕ} {r : Bool} (w : Backward code k m (at.first + i)) (g : 0 < i) (em : OfSlot code (at.first + (i - 1)) (λ τ i. marks m (dests i)) m') (er : (vs : List ValueId) → ReadsIn code.facts.now (at.first + (i - 1)) vs → r ≡ clear m' vs) where
+  module _ {m m' : List Bool} {slot : ℕ} {r : Bool} (w : Backward code k at.first m slot) (g : at.first < slot) (em : OfSlot code (slot - 1) (λ τ i. marks m (dests i)) m') (er : (vs : List ValueId) → ReadsIn code.facts.now (slot - 1) vs → r ≡ clear m' vs) where
     module _ (τ : Types) (ks : List Block) (c : CodedIn code τ ks) (h : k < length ks) where
       abbrev own : List Instruction
       own = (get_or ks k no_block).instructions
@@ -172,21 +128,21 @@ module _ (code : Code) (k : ℕ) (at : Slots) (ef : BehindPhis code k at) where
       first = get_or (starts_in code.facts.now) k 0
 
       abbrev j : ℕ
-      j = at.first + (i - 1) - first
+      j = slot - 1 - first
 
       abbrev here : Instruction
       here = get_or own j no_instruction
 
-      split_here : drop j own ≡ here ∷ drop (at.first + i - first) own
+      split_here : drop j own ≡ here ∷ drop (slot - first) own
       split_here =
           let p : j < length own = omega (arith, (w.left τ ks c h).under, (ef τ ks c h).from) in
-          let z : j + 1 ≡ at.first + i - first = omega (arith, (ef τ ks c h).from) in
+          let z : j + 1 ≡ slot - first = omega (arith, (ef τ ks c h).from) in
           next_of own j no_instruction p ∙ ap (λ q. here ∷ drop q own) z
 
-      stands_here : SlotIn code (at.first + (i - 1)) here
-      stands_here = block_holds code k (at.first + (i - 1)) τ ks c h (omega (arith, (ef τ ks c h).from)) (omega (arith, (w.left τ ks c h).under))
+      stands_here : SlotIn code (slot - 1) here
+      stands_here = block_holds code k (slot - 1) τ ks c h (omega (arith, (ef τ ks c h).from)) (omega (arith, (w.left τ ks c h).under))
 
-      marked_here : (v : ℕ) → get_or m' v false ≡ among v (defined_in (here ∷ drop (at.first + i - first) own))
+      marked_here : (v : ℕ) → get_or m' v false ≡ among v (defined_in (here ∷ drop (slot - first) own))
       unfolding defined_in
       marked_here v =
           let d = dests_in code.bounds _ here _ stands_here.read in
@@ -194,25 +150,26 @@ module _ (code : Code) (k : ℕ) (at : Slots) (ef : BehindPhis code k at) where
           ap (λ q. get_or q v false) (em τ here c.ground stands_here)
           ∙ marks_are m (dests here.kind) v low
           ∙ ap (λ q. among v (dests here.kind) || q) ((w.left τ ks c h).marked v)
-          ∙ sym (among_append v (dests here.kind) (defined_in (drop (at.first + i - first) own)))
+          ∙ sym (among_append v (dests here.kind) (defined_in (drop (slot - first) own)))
 
-      order_here : ordered with_debug (drop j own) ≡ (r && ordered with_debug (drop (at.first + i - first) own))
+      order_here : ordered with_debug (drop j own) ≡ (r && ordered with_debug (drop (slot - first) own))
       unfolding ordered
       order_here =
-          let rest = drop (at.first + i - first) own in
+          let rest = drop (slot - first) own in
           let z : r ≡ every (λ v. not (among v.0 (defined_in (here ∷ rest)))) (reads here.kind) =
           er (reads here.kind) stands_here.reads_in ∙ every_same (λ v. not (get_or m' v.0 false)) (λ v. not (among v.0 (defined_in (here ∷ rest)))) (λ v. ap not (marked_here v.0)) (reads here.kind) in
           ap (ordered with_debug) split_here ∙ ap (λ q. q && ordered with_debug rest) (sym z)
 
-    pub backward_again : not r ≡ false → length m' ≡ length m → Backward code k m' (at.first + (i - 1))
+    pub backward_again : not r ≡ false → length m' ≡ length m → Backward code k at.first m' (slot - 1)
     backward_again n lm =
         record {
+          behind = omega (arith, g);
           long = lm ∙ w.long;
           left = λ τ ks c h.
               record {
                 under = omega (arith, (w.left τ ks c h).under);
                 marked = λ v. marked_here τ ks c h v ∙ sym (ap (λ q. among v (defined_in q)) (split_here τ ks c h));
-                sound = order_here τ ks c h ∙ ap (λ q. q && ordered with_debug (drop (at.first + i - first τ ks c h) (own τ ks c h))) (not-false r n) ∙ (w.left τ ks c h).sound;
+                sound = order_here τ ks c h ∙ ap (λ q. q && ordered with_debug (drop (slot - first τ ks c h) (own τ ks c h))) (not-false r n) ∙ (w.left τ ks c h).sound;
               };
         }
 
@@ -220,15 +177,15 @@ module _ (code : Code) (k : ℕ) (at : Slots) (ef : BehindPhis code k at) where
     backward_stop n τ ks c h =
         let is = (get_or ks k no_block).instructions in
         let from = get_or (starts_in code.facts.now) k 0 in
-        let z : ordered with_debug (drop (at.first + (i - 1) - from) is) ≡ false = order_here τ ks c h ∙ ap (λ q. q && ordered with_debug (drop (at.first + i - from) is)) (not-true r n) in
-        let d : at.first - from + (i - 1) ≡ at.first + (i - 1) - from = omega (arith, (ef τ ks c h).from) in
-        let y : drop (i - 1) (drop (at.first - from) is) ≡ drop (at.first + (i - 1) - from) is = drop-drop (i - 1) (at.first - from) is ∙ ap (λ q. drop q is) d in
-        sym (ap (ordered with_debug) (ef τ ks c h).same ∙ ordered_fails with_debug (i - 1) (drop (at.first - from) is) (ap (ordered with_debug) y ∙ z))
+        let z : ordered with_debug (drop (slot - 1 - from) is) ≡ false = order_here τ ks c h ∙ ap (λ q. q && ordered with_debug (drop (slot - from) is)) (not-true r n) in
+        let d : at.first - from + (slot - 1 - at.first) ≡ slot - 1 - from = omega (arith, (ef τ ks c h).from) in
+        let y : drop (slot - 1 - at.first) (drop (at.first - from) is) ≡ drop (slot - 1 - from) is = drop-drop (slot - 1 - at.first) (at.first - from) is ∙ ap (λ q. drop q is) d in
+        sym (ap (ordered with_debug) (ef τ ks c h).same ∙ ordered_fails with_debug (slot - 1 - at.first) (drop (at.first - from) is) (ap (ordered with_debug) y ∙ z))
 
-  pub backward_done : {m : List Bool} {i : ℕ} → Backward code k m (at.first + i) → i ≤ 0 → OfBlock code k (λ τ x. ordered_behind x.instructions) true
-  backward_done {m} {i} w g τ ks c h =
+  pub backward_done : {m : List Bool} {slot : ℕ} → Backward code k at.first m slot → slot ≤ at.first → OfBlock code k (λ τ x. ordered_behind x.instructions) true
+  backward_done {m} {slot} w f τ ks c h =
       let is = (get_or ks k no_block).instructions in
       let from = get_or (starts_in code.facts.now) k 0 in
-      let e : at.first + i ≡ at.first = omega arith in
+      let e : slot ≡ at.first = omega (arith, w.behind) in
       let z : ordered with_debug (drop (at.first - from) is) ≡ true = rw e at ((w.left τ ks c h).sound) in
       sym (ap (ordered with_debug) (ef τ ks c h).same ∙ z)

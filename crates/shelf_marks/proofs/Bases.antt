@@ -1,5 +1,5 @@
 -- The marks of the aggregates that are stored into, and reason 3 over all blocks.
-use Prim.Native.Nat.{ℕ, zero, suc, ◌+◌, ◌≤◌, ◌<◌}
+use Prim.Native.Nat.{ℕ, zero, suc, ◌+◌, ◌-◌, ◌≤◌, ◌<◌}
 use mathlib.Core.Path.{◌≡◌, refl, ap, ◌∙◌, sym}
 use mathlib.Core.List.{List, [], ◌∷◌, ◌++◌}
 use mathlib.Core.Bool.{true, false, cond, not, ◌&&◌, ◌||◌, or-true, or-false, or_assoc}
@@ -154,19 +154,24 @@ pub record Based (code : Code) (k : ℕ) (m₀ m : List B.Bool) (i : ℕ) : Type
   pub long : length m ≡ length m₀
   pub left : SlotsLeft code k (λ τ q is. marks q (bases_in τ is)) m₀ m i
 
-module _ (code : Code) (k : ℕ) (at : Slots) {m₀ m : List B.Bool} {i : ℕ} (el : SlotsOf code.facts.now k at) (u : Based code k m₀ m i) where
-  pub based_again : {m' : List B.Bool} → i < at.count → OfSlot code (at.first + i) (λ τ y. marks m (aggregate_base τ (store_base y))) m' → length m' ≡ length m → Based code k m₀ m' (i + 1)
+pub based_start : (code : Code) (k : ℕ) (m : List B.Bool) (first : ℕ) → Based code k m m (first - first)
+based_start code k m first = let z : first - first ≡ 0 = omega arith in rw z record { long = refl; left = λ τ ks c h. refl }
+
+module _ (code : Code) (k : ℕ) (at : Slots) {m₀ m : List B.Bool} {slot end : ℕ} (el : SlotsOf code.facts.now k at) (ee : end ≡ at.first + at.count) (u : Based code k m₀ m (slot - at.first)) where
+  pub based_again : {m' : List B.Bool} → at.first ≤ slot → slot < end → OfSlot code slot (λ τ y. marks m (aggregate_base τ (store_base y))) m' → length m' ≡ length m → Based code k m₀ m' (slot + 1 - at.first)
   unfolding bases_in
-  based_again g f lm =
-      record {
+  based_again g h f lm =
+      let w : at.first + (slot - at.first) ≡ slot = omega arith in
+      let z : slot - at.first + 1 ≡ slot + 1 - at.first = omega arith in
+      rw (← z) record {
         long = lm ∙ u.long;
-        left = slots_again code k (λ τ q is. marks q (bases_in τ is)) at el u.left g
-            (λ τ ks y is c a. marks_append m (aggregate_base τ (store_base y.kind)) (bases_in τ is) ∙ ap (λ q. marks q (bases_in τ is)) (sym (f τ y c.ground a)));
+        left = slots_again code k (λ τ q is. marks q (bases_in τ is)) at el u.left (omega (arith, ee))
+            (λ τ ks y is c a. marks_append m (aggregate_base τ (store_base y.kind)) (bases_in τ is) ∙ ap (λ q. marks q (bases_in τ is)) (sym (f τ y c.ground (rw w at a))));
       }
 
-  pub based_done : at.count ≤ i → OfBlock code k (λ τ x. marks m₀ (bases_in τ x.instructions)) m
+  pub based_done : end ≤ slot → OfBlock code k (λ τ x. marks m₀ (bases_in τ x.instructions)) m
   unfolding bases_in
-  based_done g τ ks c h = sym (slots_done code k (λ τ q is. marks q (bases_in τ is)) at el u.left g τ ks c h)
+  based_done g τ ks c h = sym (slots_done code k (λ τ q is. marks q (bases_in τ is)) at el u.left (omega (arith, ee)) τ ks c h)
 
 -- phis have none
 bases_behind : (τ : Types) (is : List Instruction) → bases_in τ (behind_phis is) ≡ bases_in τ is

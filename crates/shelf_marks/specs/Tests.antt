@@ -7,7 +7,7 @@ use Rattle.mir.specs.declared.BlockId.{BlockId}
 use Rattle.mir.specs.declared.ValueId.{ValueId}
 use Rattle.mir.specs.Syntax.{Instruction, InstructionKind, Block}
 use Rattle.mir.specs.Reads.{operand}
-use Rattle.bytes_index.specs.Table.{starts_in, kind_in}
+use Rattle.bytes_index.specs.Table.{starts_in}
 use Rattle.bytes_index.specs.Code.{no_block, InstructionIn}
 use Rattle.bytes_index.specs.declared.code.Code.{Code}
 use Rattle.bytes_index.specs.declared.slots.Slots.{Slots}
@@ -92,13 +92,6 @@ dests_at u at (suc n) = record { 0 = at16 u at } ∷ dests_at u (at + 2) n
 -- an instruction's, which stands at the head of t
 abbrev pub dests_of : List ℕ → ℕ → List ValueId
 dests_of t kind = dests_at (drop (fields_place t) t) (dest_first kind) (dest_count (drop (fields_place t) t) kind)
-
--- r is the first of n slots from a on whose instruction is no phi, or the place behind them
-pub record FirstOther (facts : List ℕ) (a n r : ℕ) : Type 0 where
-  pub from : a ≤ r
-  pub under : r ≤ a + n
-  pub phis : (x : ℕ) → a ≤ x → x < r → kind_in facts x ≡ 9
-  pub other : r < a + n → kind_in facts r ≡ 9 → ⊥
 
 -- slots of a block that begins at `first`: the last of its instructions `is`, those behind its phis
 pub record Behind (first : ℕ) (at : Slots) (is : List Instruction) : Type 0 where

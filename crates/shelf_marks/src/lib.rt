@@ -29,7 +29,7 @@ pub fn each_slot<F: Fn(u16) -> bool>(code: Code, k: BlockId, test: F) -> bool
         → OfBlock code.entry k.0 (λ τ x. each_kind (p τ) x.instructions) result }
 {
     let slots = bytes_index::block_slots(code.facts, k);
-    (slots.first..slots.first + slots.count).all(|slot| test(slot))
+    (slots.first..slots.end()).all(|slot| test(slot))
 }
 
 // Whether each block passes a test.

@@ -31,9 +31,8 @@ module _ (b : Bounds) (t : List ℕ) where
     load_agrees m z f =
         then (dest_field b t seen) (λ d u. then (place_field b t) (λ x p. last _ (type_field b t) (λ y v. f d x y u p (type_moved (z ∙ ap (λ n. after (projection_end t) n 5) m) v))))
 
-    pub store_agrees : {n e far : ℕ} → n ≡ get_or t 2 0 → e ≡ after (projection_end t) n 3 → far ≡ value_end t e → ((p : Place) (x : Value) (y : TypeId) → PlaceAt b.next t 0 p → ValueAt b.next t e x → TypeAt b.types t far y
+    pub store_agrees : {e far : ℕ} → e ≡ after (projection_end t) (get_or t 2 0) 3 → far ≡ value_end t e → ((p : Place) (x : Value) (y : TypeId) → PlaceAt b.next t 0 p → ValueAt b.next t e x → TypeAt b.types t far y
         → r ≡ (fits τ x (some y) && place_fits τ p y)) → Stand t 0 (store_of b seen) (λ i e. r ≡ agrees τ i)
     unfolding store_of agrees
-    store_agrees m z z' f =
-        let h = z ∙ ap (λ n. after (projection_end t) n 3) m in
-        then (place_field b t) (λ x p. then (value_field b t) (λ y q. last _ (type_field b t) (λ a v. f x y a p (value_moved h q) (type_moved (z' ∙ ap (value_end t) h) v))))
+    store_agrees h z f =
+        then (place_field b t) (λ x p. then (value_field b t) (λ y q. last _ (type_field b t) (λ a v. f x y a p (value_moved h q) (type_moved (z ∙ ap (value_end t) h) v))))

@@ -5,28 +5,24 @@ ghost use Rattle.bytes_field.specs.Decode.{load_of, store_of};
 ghost use Rattle.shelf_field.specs.Asked.{Judged};
 
 use bytes_index::Typing;
+use mir::kind::Kind;
 
-// Where a Load's dest and its place stand: behind the base, the count of the projections and these.
+// Where a Load's dest, its place and the projections stand: these behind the base and their count.
 const DEST: usize = 0;
 
 const LOADED: usize = 2;
-
-const LOADED_COUNT: usize = 4;
 
 const LOADED_STEPS: usize = 5;
 
 // Where a Store's place stands.
 const STORED: usize = 0;
 
-const STORED_COUNT: usize = 2;
-
-const STORED_STEPS: usize = 3;
-
 // A Load: the dest has the type that is named, and the place leads to it.
 pub fn load(typing: Typing, t: &[u8]) -> bool
     ensures { Judged load_of typing.entry t.now result }
 {
-    let e = bytes_operands::projections_end(t, LOADED_STEPS, bytes_wire::byte_at(t, LOADED_COUNT));
+    let steps = bytes_operands::step_count(t, Kind::Load);
+    let e = bytes_operands::projections_end(t, LOADED_STEPS, steps);
     let y = shelf_field::type_at(t, typing.code.bounds, e);
     let dest = shelf_field::id_has(typing, t, DEST, y);
     let place = shelf_place::place_fits(typing, t, LOADED, y);
@@ -37,7 +33,7 @@ pub fn load(typing: Typing, t: &[u8]) -> bool
 pub fn store(typing: Typing, t: &[u8]) -> bool
     ensures { Judged store_of typing.entry t.now result }
 {
-    let e = bytes_operands::projections_end(t, STORED_STEPS, bytes_wire::byte_at(t, STORED_COUNT));
+    let e = bytes_operands::operand_first(t, Kind::Store);
     let y = shelf_field::type_at(t, typing.code.bounds, bytes_operands::value_end(t, e));
     let value = shelf_field::value_fits(typing, t, e, y);
     let place = shelf_place::place_fits(typing, t, STORED, y);

@@ -5,18 +5,15 @@ ghost use Rattle.bytes_field.specs.Decode.{extract_tuple_of, extract_field_of, i
 ghost use Rattle.shelf_field.specs.Asked.{Judged};
 ghost use Rattle.shelf_parts.specs.Parts.{TakenOut, PutIn};
 
+use bytes_field::{ID, WORD};
 use bytes_index::Typing;
 use mir::shape::Shape;
 use mir::{NameId, TypeId};
 
-// Where the dest and the aggregate stand, and how long an index and a name are.
+// Where the dest and the aggregate stand.
 const DEST: usize = 0;
 
-const AGGREGATE: usize = 2;
-
-const INDEX_SIZE: usize = 4;
-
-const NAME_SIZE: usize = 2;
+const AGGREGATE: usize = ID;
 
 // A part is taken out: the dest has the type that stands at a place, and so has the part.
 fn taken_out(typing: Typing, t: &[u8], at: usize, part: Option<TypeId>) -> bool
@@ -47,7 +44,7 @@ pub fn extract_tuple(typing: Typing, t: &[u8]) -> bool
     let from = shelf_field::operand_type(typing, t, AGGREGATE);
     let k = bytes_wire::u32_at(t, e);
     let part = shelf_types::shaped_part(typing.code, from, Shape::Tuple, k);
-    taken_out(typing, t, e + INDEX_SIZE, part)
+    taken_out(typing, t, e + WORD, part)
 }
 
 // An ExtractStructField takes the field of its name from a struct; the dest and the field have the type that is named.
@@ -58,7 +55,7 @@ pub fn extract_field(typing: Typing, t: &[u8]) -> bool
     let from = shelf_field::operand_type(typing, t, AGGREGATE);
     let name = NameId(bytes_wire::u16_at(t, e));
     let part = shelf_types::field_type(typing.code, from, name);
-    taken_out(typing, t, e + NAME_SIZE, part)
+    taken_out(typing, t, e + ID, part)
 }
 
 // An InsertField: the dest and the old struct have the type that is named, the new value has that of its field.
@@ -66,7 +63,7 @@ pub fn insert_field(typing: Typing, t: &[u8]) -> bool
     ensures { Judged insert_field_of typing.entry t.now result }
 {
     let e = bytes_operands::value_end(t, AGGREGATE);
-    let at = e + NAME_SIZE;
+    let at = e + ID;
     let y = shelf_field::type_at(t, typing.code.bounds, bytes_operands::value_end(t, at));
     let name = NameId(bytes_wire::u16_at(t, e));
     let part = shelf_types::field_type(typing.code, y, name);
@@ -78,7 +75,7 @@ pub fn insert_tuple(typing: Typing, t: &[u8]) -> bool
     ensures { Judged insert_tuple_of typing.entry t.now result }
 {
     let e = bytes_operands::value_end(t, AGGREGATE);
-    let at = e + INDEX_SIZE;
+    let at = e + WORD;
     let y = shelf_field::type_at(t, typing.code.bounds, bytes_operands::value_end(t, at));
     let k = bytes_wire::u32_at(t, e);
     let part = shelf_types::shaped_part(typing.code, y, Shape::Tuple, k);

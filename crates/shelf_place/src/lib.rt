@@ -12,10 +12,9 @@ use mir::shape::Shape;
 use mir::{Projection, TypeId};
 use rewrite_parts::Listed;
 
-// Behind the base of a place stands the count of its projections, and behind that they.
-const COUNT: usize = 2;
-
-const STEPS: usize = 3;
+// Behind the base of a place stands the count of its projections, and behind that they. (`bytes_operands::step_count` tells it of an
+// instruction, by its kind; here a place is given by where it begins, and the kind is not known.)
+const COUNT: usize = bytes_field::ID;
 
 // The type at the end of projections. (A loop, since two things go from step to step: the place and the type.)
 fn end_type(code: Code, steps: Listed, number: Option<TypeId>) -> Option<TypeId>
@@ -98,11 +97,7 @@ pub fn place_fits(typing: Typing, t: &[u8], at: usize, number: Option<TypeId>) -
     requires { Front at }
     ensures { PlaceFits typing.entry t.now at number result }
 {
-    let steps = Listed {
-        bytes: t,
-        at: at + STEPS,
-        count: bytes_wire::byte_at(t, at + COUNT),
-    };
+    let steps = Listed::behind(t, at + COUNT);
     let base = shelf_field::id_type(typing, t, at);
     let there = reached_type(typing.code, base, steps);
     let same = shelf_types::same_type(there, number);

@@ -1,5 +1,6 @@
 // Operations, copies and assertions; `t` are the own fields of an instruction.
-// (`&` of two tests, here and in the crates beside: an answer of `&&` splits by the first test, which makes each proof two.)
+// (`&` of two tests, here and in the crates beside: no test has an effect, so that `&` says what `&&` does, and the answer comes
+// by one way, where with `&&` it would come by two.)
 #![tactic(auto)]
 
 ghost use Rattle.bytes_field.specs.Decode.{assign_of, unary_of, binary_of, cast_of, heap_alloc_of, assert_eq_of};

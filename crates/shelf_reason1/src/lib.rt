@@ -22,10 +22,8 @@ const FIELDS: usize = 1;
 
 const COMPARED: usize = 1;
 
-// How far behind the type table the parameters stand, and where the first stands behind their count.
+// How far behind the type table the parameters stand, behind their count.
 const PARAMETERS: usize = 6;
-
-const FIRST: usize = 1;
 
 // An instruction of a kind, by its own fields.
 fn agrees(typing: Typing, t: &[u8], kind: Kind) -> bool
@@ -54,7 +52,8 @@ fn agrees(typing: Typing, t: &[u8], kind: Kind) -> bool
     }
 }
 
-// The instruction in a slot agrees with the recorded types.
+// The instruction in a slot agrees with the recorded types. (A match: a closure in `is_none_or` would need a contract of its own, as without
+// one nothing is known of what it answers, and with it it takes more lines than the arms.)
 fn one_agrees(code: Code, slot: u16) -> bool
     ensures { OfSlot code.entry slot agrees result }
 {
@@ -72,7 +71,8 @@ fn condition(typing: Typing, t: &[u8]) -> bool
     shelf_types::is_condition(typing, shelf_field::value_at(t, 0, typing.code.bounds.next))
 }
 
-// The operands of a BranchCmp are scalars. (Joined by `&`, as the parts of the routine below: an answer of `&&` splits by the first test.)
+// The operands of a BranchCmp are scalars. (`&`, as of the parts of the routine below: no test has an effect, and where the types agree all
+// are made anyway, so that `&` says what `&&` does, and the answer comes by one way, not by two.)
 fn branch(typing: Typing, t: &[u8]) -> bool
     ensures { OfEnd typing.entry (branch_of typing.entry.code.bounds t.now) result }
 {
@@ -85,15 +85,7 @@ fn branch(typing: Typing, t: &[u8]) -> bool
 fn leave(typing: Typing, t: &[u8]) -> bool
     ensures { OfEnd typing.entry (return_of typing.entry.code.bounds t.now) result }
 {
-    let count = bytes_wire::byte_at(t, 0);
-    shelf_list::all_known(
-        typing,
-        Listed {
-            bytes: t,
-            at: FIRST,
-            count,
-        },
-    )
+    shelf_list::all_known(typing, Listed::behind(t, 0))
 }
 
 // A terminator of a kind, by its own fields.
@@ -114,7 +106,7 @@ fn end_agrees(code: Code, slot: u16) -> bool
     ensures { EndAgrees code.entry slot result }
 {
     let u = code.instruction(slot);
-    let t = bytes_field::tail(u, FIELDS);
+    let t = table::behind(u, FIELDS);
     match TerminatorKind::try_from(bytes_wire::byte_at(u, 0)) {
         Ok(kind) => end_fits(code.typing(), t, kind),
         Err(_) => true,
@@ -144,16 +136,8 @@ pub fn types_agree(code: Code) -> bool
 {
     let typing = code.typing();
     let behind = table::number(code.facts, code.bounds.types as usize) as usize;
-    let t = bytes_field::tail(code.bytes, behind + PARAMETERS);
-    let count = bytes_wire::byte_at(t, 0);
-    let known = shelf_list::all_typed(
-        typing,
-        Listed {
-            bytes: t,
-            at: FIRST,
-            count,
-        },
-    );
+    let t = table::behind(code.bytes, behind + PARAMETERS);
+    let known = shelf_list::all_typed(typing, Listed::behind(t, 0));
     let fit = blocks_agree(code);
     known & fit
 }

@@ -5,7 +5,7 @@ ghost use Rattle.std.specs.Prelude.{◌≡◌, ◌<◌};
 ghost use Rattle.mir.specs.Kind.{number_of_kind};
 ghost use Rattle.mir.specs.Reads.{dests};
 ghost use Rattle.bytes_block.specs.Decode.{marks as marks_of};
-ghost use Rattle.shelf_marks.specs.Tests.{OfSlot, OfBlock, OfRoutine, FirstOther, BehindPhis, ordered_behind, all_ordered, dest_count, dest_first, dests_of};
+ghost use Rattle.shelf_marks.specs.Tests.{OfSlot, OfBlock, OfRoutine, BehindPhis, ordered_behind, all_ordered, dest_count, dest_first, dests_of};
 
 use bytes_index::{Code, Slots};
 use mir::kind::Kind;
@@ -22,7 +22,7 @@ fn dest_count(u: &[u8], kind: Kind) -> u8
     }
 }
 
-// Where the first dest of an instruction of a kind stands: a place in its fields.
+// Where the first dest of an instruction of a kind stands: a place in its fields. (A table by kind: it is no conversion that a trait names.)
 fn dest_first(kind: Kind) -> usize
     ensures { (result ≡ dest_first (number_of_kind kind)) × (result < 2) }
 {
@@ -54,25 +54,15 @@ fn mark_slot(code: Code, slot: u16, marks: &mut [bool])
     }
 }
 
-// The first of some slots whose instruction is no phi; the place behind them where all are phis.
-fn first_other(facts: &[u16], slots: Slots) -> u16
-    ensures { FirstOther facts.now slots.first slots.count result }
-{
-    let end = slots.first + slots.count;
-    (slots.first..end)
-        .find(|slot| bytes_index::instruction_kind(facts, *slot) != Some(Kind::Phi))
-        .unwrap_or(end)
-}
-
 // The slots of block `k` behind its phis.
 fn behind_phis(code: Code, k: BlockId) -> Slots
     ensures { BehindPhis code.entry k.0 result }
 {
     let slots = bytes_index::block_slots(code.facts, k);
-    let first = first_other(code.facts, slots);
+    let n = fold_phis::phi_count(code.facts, slots);
     Slots {
-        first,
-        count: slots.first + slots.count - first,
+        first: slots.first + n,
+        count: slots.count - n,
     }
 }
 
@@ -83,8 +73,7 @@ fn block_ordered(code: Code, k: BlockId) -> bool
 {
     let slots = behind_phis(code, k);
     let mut marks: [bool; most::VALUES] = [false; most::VALUES];
-    for i in (0..slots.count).rev() {
-        let slot = slots.first + i;
+    for slot in (slots.first..slots.end()).rev() {
         mark_slot(code, slot, &mut marks);
         if !shelf_marks::reads_clear(code.facts, slot, &marks) {
             return false;

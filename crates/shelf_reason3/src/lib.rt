@@ -17,7 +17,7 @@ use mir::{BlockId, ValueId, most};
 // Which of a Store's reads is its base: a place among them.
 const BASE: u16 = 0;
 
-// Whether the recorded type of value `v` is an aggregate.
+// Whether the recorded type of value `v` is an aggregate. (A match: with `is_some_and` the proof did not close.)
 fn is_aggregate(code: Code, v: ValueId) -> bool
     ensures { (τ : Types) → CodeGround code.entry τ → result ≡ is_aggregate (value_row τ v) }
 {
@@ -42,14 +42,14 @@ fn mark_base(code: Code, slot: u16, marks: &mut [bool])
     }
 }
 
-// Marks the bases of block `k` so: aggregates that a Store changes. Its loop and the next are their own: a walk that took the change of the
-// marks would have to say how its steps go on from one another, which is longer than the loops.
+// Marks the bases of block `k` so: aggregates that a Store changes. (Its loop and the next are their own: a walk that took the change of the
+// marks would have to say how its steps go on from one another, which is longer than the loops.)
 fn mark_block(code: Code, k: BlockId, marks: &mut [bool])
     ensures { OfBlock code.entry k.0 (λ τ x. marks_of marks.old (bases_in τ x.instructions)) marks.new }
 {
     let slots = bytes_index::block_slots(code.facts, k);
-    for i in 0..slots.count {
-        mark_base(code, slots.first + i, marks);
+    for slot in slots.first..slots.end() {
+        mark_base(code, slot, marks);
     }
 }
 

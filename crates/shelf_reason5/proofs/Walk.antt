@@ -6,10 +6,12 @@ use mathlib.Core.Bool.{Bool, true, false, ◌&&◌}
 use native.Mathlib.Omega.{arith}
 use lib.ListN.{length, drop, take, length-drop, length-append}
 use lib.Seq.{drop-drop, drop_at}
-use Rattle.bytes_wire.specs.Parse.{ok}
-use Rattle.bytes_wire.specs.Number.{from_bytes, to_bytes, at16}
+use Rattle.bytes_wire.specs.Parse.{ok, as_parse}
+use Rattle.bytes_wire.specs.declared.Read.{Read}
+use Rattle.bytes_wire.specs.declared.Refusal.{Refusal}
+use Rattle.bytes_wire.specs.Number.{from_bytes, to_bytes, u16_of, at16}
 use Rattle.bytes_wire.proofs.Laws.{from_16}
-use Rattle.bytes_wire.proofs.Inv.{number_inv}
+use Rattle.bytes_wire.proofs.Inv.{no_ok, number_inv}
 use Rattle.bytes_wire.proofs.RoundTrip.{length_to_bytes, number_back}
 use Rattle.mir.specs.Syntax.{Instruction, Terminator, Block}
 use Rattle.mir.specs.Reads.{reads, terminator_reads}
@@ -20,7 +22,8 @@ use Rattle.mir.specs.Lists.{Each}
 use Rattle.bytes_block.specs.Encode.{block_bytes}
 use Rattle.shelf.specs.Reads.{clean, clean_terminator, with_debug}
 use Rattle.shelf_reason5.specs.Unread.{marked, clean_block, walked, Alone, Legible}
-use Rattle.std.specs.Prelude.{Option, Some, None}
+use Rattle.std.specs.Prelude.{Option, Some, None, Result, Ok, Err}
+use Rattle.std.specs.Result.{result_ok}
 use Rattle.std.proofs.lemmas.Option.{none-some, same_Some}
 use Rattle.shelf.specs.Lists.{clear}
 
@@ -67,19 +70,34 @@ block_length x =
     let t = terminator_bytes x.terminator in
     omega (arith, length-append c (i ++ t), length-append i t, length_to_bytes 2 (length x.instructions))
 
--- nothing is walked yet
-pub walk_start : (b : Bounds) (s : List ℕ) (at : ℕ) (ms : List Bool) {count : ℕ} → count ≡ at16 s at → Walking b s at ms count 0 (at + 2)
-walk_start b s at ms {count} e =
-    record {
-      under = zero-le;
-      left = λ x rest g h.
-          let w = word_at s at (length x.instructions) _ h.many (g ∙ block_split x rest) in
-          some_left x.instructions (record { many = omega (arith, e, w.0); sound = h.each; bytes = w.1; end = omega (arith, block_length x); same = refl });
-    }
+-- the count in front is read: nothing is walked yet
+module _ (b : Bounds) (s : List ℕ) (at : ℕ) (ms : List Bool) {t : List ℕ} (r : Result (Read ℕ) Refusal) (e : as_parse r ≡ u16_of t) (h : t ≡ drop at s) where
+  count_found : {x : Read ℕ} (q : Result (Read ℕ) Refusal) → as_parse q ≡ u16_of t → result_ok q ≡ Some x → u16_of t ≡ ok x.value x.size
+  count_found (Ok y) f z = let p : y ≡ _ = same_Some _ _ z in sym f ∙ ap (λ (v : Read ℕ). ok v.value v.size) p
+  count_found (Err y) f z = absurd (none-some _ z)
 
--- there is no room for a block
-pub no_room : (b : Bounds) (s : List ℕ) (at : ℕ) (ms : List Bool) → length s < at + 2 → (x : Block) (rest : List ℕ) → drop at s ≡ block_bytes x ++ rest → Legible b x → None ≡ walked (clean_block ms x) (at + length (block_bytes x))
-no_room b s at ms h x rest e g = absurd (omega (arith, ap (λ t. length t) e, length-append (block_bytes x) rest, block_length x, length-drop at s))
+  pub count_within : {c : Read ℕ} → result_ok r ≡ Some c → at + c.size ≤ length s
+  count_within z = let f = number_inv 2 t (count_found r e z) in omega (arith, f.0, f.2, ap (λ (q : List ℕ). length q) h, length-drop at s)
+
+  pub walk_start : {c : Read ℕ} → result_ok r ≡ Some c → Walking b s at ms c.value 0 (at + c.size)
+  walk_start {c} z =
+      let f = number_inv 2 t (count_found r e z) in
+      let n : c.value ≡ at16 s at = f.1 ∙ ap (λ q. from_bytes (take 2 q)) h ∙ from_16 s at in
+      let l : at + c.size ≡ at + 2 = omega (arith, f.2) in
+      record {
+        under = zero-le;
+        left = λ x rest g k.
+            let w = word_at s at (length x.instructions) _ k.many (g ∙ block_split x rest) in
+            some_left x.instructions (record { many = omega (arith, n, w.0); sound = k.each; bytes = rw l w.1; end = omega (arith, l, block_length x); same = refl });
+      }
+
+  -- it is always read where a block stands
+  unread : (q : Result (Read ℕ) Refusal) → as_parse q ≡ u16_of t → result_ok q ≡ None → {c n : ℕ} → u16_of t ≡ ok c n → ⊥
+  unread (Ok y) f z g = none-some _ (sym z)
+  unread (Err y) f z g = no_ok (f ∙ g)
+
+  pub no_count : result_ok r ≡ None → (x : Block) (rest : List ℕ) → drop at s ≡ block_bytes x ++ rest → Legible b x → None ≡ walked (clean_block ms x) (at + length (block_bytes x))
+  no_count z x rest g k = absurd (unread r e z (ap (λ q. u16_of q) (h ∙ g ∙ block_split x rest) ∙ number_back 2 (length x.instructions) _ k.many))
 
 -- what an answer says
 pub end_told : (c : Bool) (e end : ℕ) → Some end ≡ walked c e → (c ≡ true) × (end ≡ e)

@@ -1,5 +1,5 @@
 -- A type's row says which literals fit it, the types of its parts, how many it has, and what it points to.
-use Prim.Native.Nat.{ℕ, zero, suc, ◌+◌, ◌*◌, ◌≤◌, ◌<◌}
+use Prim.Native.Nat.{ℕ, zero, suc, ◌+◌, ◌*◌, ◌<◌}
 use mathlib.Core.Path.{◌≡◌, refl, ap, ◌∙◌, sym}
 use mathlib.Core.List.{List, [], ◌∷◌}
 use mathlib.Core.Bool.{true, false, cond}
@@ -9,6 +9,7 @@ use native.Mathlib.Omega.{arith}
 use borrow.Author.Tests.{ltb-true, ltb-false}
 use lib.ListN.{length, get_or, get_elem?, drop}
 use lib.Dec.{ltb}
+use Rattle.std.specs.Prelude.{Option as Answered}
 use Rattle.bytes_wire.specs.Parse.{ok, and_then, map_parse}
 use Rattle.bytes_wire.specs.Number.{u32_of, at32}
 use Rattle.mir.specs.declared.TypeId.{TypeId}
@@ -16,17 +17,20 @@ use Rattle.bytes_wire.proofs.Laws.{from_32}
 use Rattle.bytes_wire.proofs.Inv.{no_ok, behind, later_inv, number_inv, tagged_inv}
 use Rattle.bytes_field.specs.Decode.{type_id_of, list_of}
 use Rattle.mir.specs.MirType.{MirType}
+use Rattle.mir.specs.Option.{as_option}
 use Rattle.bytes_types.specs.Decode.{struct_of, type_kinds, type_of}
-use Rattle.bytes_types.specs.Index.{TypesAt}
+use Rattle.bytes_index.specs.declared.code.Code.{Code}
+use Rattle.fold_shapes.specs.Shapes.{row_in}
+use Rattle.fold_shapes.proofs.Rows.{row_holds}
 use Rattle.bytes_operands.specs.Fields.{after}
 use Rattle.bytes_operands.proofs.Places.{Stand, Field, then, last, made, because, Listed, empty, ◌&◌, apart, list}
 use Rattle.bytes_struct.proofs.Placed.{TypeBelow, type_field, StructAt, struct_at, struct_stands}
-use Rattle.mir.specs.Lookup.{Types, row_of}
+use Rattle.mir.specs.Lookup.{row_of}
 use Rattle.mir.specs.Parts.{field_type, part_type, part_count, counts}
 use Rattle.shelf.specs.Fits.{scalar_kind}
 use Rattle.shelf.specs.Agrees.{pointee}
-use Rattle.table.proofs.Elements.{some_at, none_at}
-use Rattle.shelf_rows.specs.Rows.{kind_at, type_in, Tells}
+use Rattle.table.proofs.Elements.{none_at}
+use Rattle.shelf_rows.specs.Rows.{kind_at, type_in, Tells, Typed}
 
 module _ (own : ℕ) (t : List ℕ) where
   -- the part's number stands at a place
@@ -137,19 +141,6 @@ pub none_tells : Tells none []
 unfolding scalar_kind part_type part_count counts pointee
 none_tells = record { scalar = refl; part = λ k. refl; parts = λ n. refl; points = refl }
 
-module _ (many : ℕ) (τ : Types) where
-  -- no type, and one past the table
-  pub no_row : (o : Option TypeId) → none ≡ o → Tells (row_of τ o) []
-  unfolding row_of
-  no_row o h = rw (sym h) none_tells
-
-  pub past_row : (t : TypeId) (o : Option TypeId) → many ≤ t.0 → length τ.rows ≡ many → some t ≡ o → Tells (row_of τ o) []
-  unfolding row_of
-  past_row t o e l h = rw (sym h, none_at τ.rows t.0 (omega arith)) none_tells
-
-  -- a type of the table
-  pub the_row : (most : ℕ) {s types row : List ℕ} {at : ℕ} (t : TypeId) (o : Option TypeId) → t.0 < many → row ≡ drop at s → at ≡ get_or types t.0 0 → TypesAt most s types τ.rows → length τ.rows ≡ many → some t ≡ o → Tells (row_of τ o) row
-  unfolding row_of
-  the_row most {s} {types} t o m e f a l h =
-      let p : t.0 < length τ.rows = omega arith in
-      rw (sym h, e, f, some_at τ.rows t.0 MirType.Unit p) (type_tells most t.0 (drop (get_or types t.0 0) s) (a.each t.0 p))
+-- the row of a type tells all this of it
+pub row_tells : (code : Code) (number : Answered TypeId) {row : List ℕ} → row ≡ row_in code (as_option number) → Typed code number (λ τ o. Tells (row_of τ o) row)
+row_tells code number e τ o a l h = rw h at (row_holds Tells code (as_option number) τ none_tells (λ own t ty n. type_tells code.bounds.list own t) e a l)

@@ -1,4 +1,6 @@
-// What the row of a recorded type says, read off the type table.
+// What the row of a recorded type says, read off the type table. (A routine and a type's number stay two parameters, here, in shelf_types and
+// in shelf_field: `same_type` takes types alone, `fits` and `id_has` one beside a `Typing`, and the type of a part, a field or a step is a
+// number again, around which a struct of the two would have to be built anew.)
 #![tactic(auto)]
 
 ghost use Rattle.std.specs.Prelude.{◌≡◌};
@@ -10,7 +12,7 @@ ghost use Rattle.mir.specs.Parts.{part_type, part_count, counts};
 ghost use Rattle.shelf.specs.Fits.{scalar_kind};
 ghost use Rattle.shelf.specs.Agrees.{pointee as pointee_of};
 ghost use Rattle.shelf_rows.specs.Rows.{kind_at, type_in, row_scalar, row_part, row_counts, row_pointee};
-ghost use Rattle.shelf_rows.specs.Rows.{literals_number, Typed, Tells, OfRow, TypeInRow};
+ghost use Rattle.shelf_rows.specs.Rows.{literals_number, Typed, OfRow, TypeInRow};
 
 use bytes_index::Code;
 use bytes_types::layout;
@@ -18,16 +20,6 @@ use mir::TypeId;
 use mir::shape::Shape;
 use mir::type_kind::TypeKind;
 use shelf::Literals;
-
-// The row of a type, from its kind on; empty where there is no such type.
-fn row<'a>(code: Code<'a>, number: Option<TypeId>) -> &'a [u8]
-    ensures { Typed code.entry number (λ τ o. Tells (row_of τ o) result.now) }
-{
-    match number {
-        Some(t) if t.0 < code.bounds.types => code.type_row(t),
-        _ => &[],
-    }
-}
 
 // The kind of a row; none where there is no row. (`kind_of` of bytes_types reads 0 past the end, which is Felt.)
 fn kind_at(t: &[u8]) -> Option<TypeKind>
@@ -77,7 +69,8 @@ fn row_part(t: &[u8], k: u32) -> Option<TypeId>
     (k < bytes_wire::byte_at(t, count) as u32).then(|| type_in(t, first + apart * k as usize))
 }
 
-// The type of a row has parts, and `n` of them. (`n` is what is asked, no length of `t`.)
+// The type of a row has parts, and `n` of them. (`n` is what is asked, no length of `t`. Not one match with `row_eligible` of fold_shapes:
+// there each kind has its setting beside its count, and a row that is empty has a kind.)
 fn row_counts(t: &[u8], n: u32) -> bool
     ensures { result ≡ row_counts t.now n }
 {
@@ -100,10 +93,10 @@ fn row_pointee(t: &[u8]) -> Option<TypeId>
 pub fn scalar_kind(code: Code, number: Option<TypeId>) -> Option<Literals>
     ensures { Typed code.entry number (λ τ o. literals_number result ≡ scalar_kind (row_of τ o)) }
 {
-    row_scalar(row(code, number))
+    row_scalar(fold_shapes::type_row(code, number))
 }
 
-// The shape of a type.
+// The shape of a type. (A match: with `map_or` the proof did not close.)
 #[tactic(auto, unfolding(mir::specs::Lookup::shape, mir::specs::Lookup::row_of))]
 pub fn shape_of(code: Code, number: Option<TypeId>) -> Shape
     ensures { OfRow code.entry number shape (number_of_shape result) }
@@ -118,19 +111,19 @@ pub fn shape_of(code: Code, number: Option<TypeId>) -> Shape
 pub fn part_type(code: Code, number: Option<TypeId>, k: u32) -> Option<TypeId>
     ensures { TypeInRow code.entry number (λ row. part_type row k) result }
 {
-    row_part(row(code, number), k)
+    row_part(fold_shapes::type_row(code, number), k)
 }
 
 // The type has parts, and `n` of them.
 pub fn has_parts(code: Code, number: Option<TypeId>, n: u32) -> bool
     ensures { OfRow code.entry number (λ row. counts (part_count row) n) result }
 {
-    row_counts(row(code, number), n)
+    row_counts(fold_shapes::type_row(code, number), n)
 }
 
 // The type that a Pointer points to.
 pub fn pointee(code: Code, number: Option<TypeId>) -> Option<TypeId>
     ensures { TypeInRow code.entry number pointee_of result }
 {
-    row_pointee(row(code, number))
+    row_pointee(fold_shapes::type_row(code, number))
 }

@@ -19,10 +19,8 @@ const INSERTED: u8 = 1;
 fn value_clear(f: Option<Value>, marks: &[bool]) -> bool
     ensures { result ≡ clear marks.now (found_reads (as_option f)) }
 {
-    match f.and_then(|x| x.operand()) {
-        Some(v) => !table::flag(marks, v.0 as usize),
-        None => true,
-    }
+    f.and_then(|x| x.operand())
+        .is_none_or(|v| !table::flag(marks, v.0 as usize))
 }
 
 // Whether the instruction in a slot takes no marked value: as a part, an insert's new value, a Store's value.

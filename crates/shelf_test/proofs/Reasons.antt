@@ -1,7 +1,7 @@
 -- Which reason it is, by the first test that fails.
 use Prim.Native.Nat.{ℕ}
-use mathlib.Core.Path.{◌≡◌, refl, sym}
-use mathlib.Core.Bool.{Bool, true, false, cond, not, and-false, true≢false}
+use mathlib.Core.Path.{◌≡◌, refl, ap, ◌∙◌, sym}
+use mathlib.Core.Bool.{Bool, true, false, cond, not, and-false}
 use native.Mathlib.Omega.{arith}
 use Rattle.mir.specs.Syntax.{Instruction, InstructionKind, Terminator, Block}
 use Rattle.mir.specs.Syntax.{Assign, UnaryOp, BinaryOp, Call, Cast, Load, Store, Debug, Nop, Phi}
@@ -18,9 +18,9 @@ use Rattle.shelf.specs.Lists.{every, among}
 use Rattle.shelf.specs.Reads.{counted_reads, is_deep, shallow, clean, clean_terminator, with_debug}
 use Rattle.shelf_marks.specs.Tests.{all_ordered, all_apart, all_shallow}
 use Rattle.shelf_reason5.specs.Unread.{Written}
+use Rattle.std.specs.Prelude.{Result, Ok, Err, ⊤}
 use Rattle.shelf_test.specs.Number.{number_of_reason}
 use Rattle.shelf_test.specs.declared.ShelfReason.{ShelfReason}
-use Rattle.shelf_test.specs.contracts.ShelfReasonPartialEq.TheImpl.{eq-value}
 use Rattle.shelf_test.specs.Shelved.{output_bounds, input_reason, Shelved}
 use Rattle.shelf.specs.Reason.{types_agree, in_order, kept_apart, no_deep_store, reads_no_dropped, shelf_reason}
 
@@ -135,10 +135,24 @@ first_none true true false rest e = absurd (omega arith)
 first_none true false c rest e = absurd (omega arith)
 first_none false b c rest e = absurd (omega arith)
 
+-- what the test of the input answers: no reason, or one whose number is not 0
+pub first_passed : (x : Routine) (r : Result ⊤ ShelfReason) (u : ⊤) → r ≡ Ok u → number_of_reason r ≡ input_reason x → 0 ≡ input_reason x
+first_passed x r u was e = sym (ap number_of_reason was) ∙ e
+
+not_passed : (k : ShelfReason) → number_of_reason (Err k) ≡ 0 → ⊥
+not_passed ShelfReason.TypesDisagree h = omega (arith, h)
+not_passed ShelfReason.ReadsEarly h = omega (arith, h)
+not_passed ShelfReason.BaseAsPart h = omega (arith, h)
+not_passed ShelfReason.DeepStore h = omega (arith, h)
+not_passed ShelfReason.ReadsDropped h = omega (arith, h)
+
 module _ (x : Routine) (w : Rewritten) where
-  pub reason_first : (n : ℕ) → n ≡ input_reason x → (n ≡ 0 → ⊥) → n ≡ shelf_reason with_debug x w
+  reason_first : (n : ℕ) → n ≡ input_reason x → (n ≡ 0 → ⊥) → n ≡ shelf_reason with_debug x w
   unfolding input_reason shelf_reason
   reason_first n e h = first_some (types_agree with_debug x) (in_order with_debug x) (kept_apart x) _ n e h
+
+  pub reason_refused : (r : Result ⊤ ShelfReason) (k : ShelfReason) → r ≡ Err k → number_of_reason r ≡ input_reason x → number_of_reason (Err k) ≡ shelf_reason with_debug x w
+  reason_refused r k was e = reason_first (number_of_reason (Err k)) (sym (ap number_of_reason was) ∙ e) (not_passed k)
 
   -- where none of them holds, the others
   others : 0 ≡ input_reason x → cond (no_deep_store w.dropped x) (cond (reads_no_dropped with_debug w.dropped w.blocks) 0 5) 4 ≡ shelf_reason with_debug x w
@@ -158,20 +172,3 @@ module _ (x : Routine) (w : Rewritten) where
   pub reason_undropped : (n : ℕ) → n ≡ input_reason x → ((v : ℕ) → among v w.dropped ≡ false) → n ≡ shelf_reason with_debug x w
   unfolding input_reason shelf_reason
   reason_undropped n e h = rw (← none_deep w.dropped h x, ← none_dropped w.dropped h with_debug w.blocks) e
-
--- whether a reason is the first, by its number
-pub first_passed : (k : ShelfReason) → false ≡ not (eq-value.it k ShelfReason.Passed) → 0 ≡ number_of_reason k
-first_passed ShelfReason.Passed e = refl
-first_passed ShelfReason.TypesDisagree e = absurd (true≢false (sym e))
-first_passed ShelfReason.ReadsEarly e = absurd (true≢false (sym e))
-first_passed ShelfReason.BaseAsPart e = absurd (true≢false (sym e))
-first_passed ShelfReason.DeepStore e = absurd (true≢false (sym e))
-first_passed ShelfReason.ReadsDropped e = absurd (true≢false (sym e))
-
-pub not_passed : (k : ShelfReason) → true ≡ not (eq-value.it k ShelfReason.Passed) → number_of_reason k ≡ 0 → ⊥
-not_passed ShelfReason.Passed e h = true≢false e
-not_passed ShelfReason.TypesDisagree e h = omega (arith, h)
-not_passed ShelfReason.ReadsEarly e h = omega (arith, h)
-not_passed ShelfReason.BaseAsPart e h = omega (arith, h)
-not_passed ShelfReason.DeepStore e h = omega (arith, h)
-not_passed ShelfReason.ReadsDropped e h = omega (arith, h)

@@ -60,7 +60,8 @@ pub fn step_type(code: Code, number: Option<TypeId>, p: Option<Projection>) -> O
     }
 }
 
-// Which literals a literal is one of.
+// Which literals a literal is one of. (No `From`: neither type is of this crate, and the numbers that the promise speaks of are of shelf_rows,
+// which stands above the crates of both.)
 #[tactic(auto, unfolding(shelf::specs::Fits::literal_kind))]
 fn literal_kind(l: Literal) -> Literals
     ensures { literals_number (Some result) ≡ literal_kind l }

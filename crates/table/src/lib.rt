@@ -6,12 +6,12 @@ ghost use Rattle.std.specs.Prelude.{◌≡◌, false, ◌%◌, drop, get_or, set
 ghost use Rattle.table.specs.Flags.{any_stands};
 ghost use Rattle.table.specs.Number.{numbers_below};
 
-// The element at a place; past the end `past`. (`get`, `copied` and `unwrap_or` would say it in no fewer words.)
+// The element at a place; past the end `past`.
 #[inline]
 pub fn at<T: Copy>(l: &[T], i: usize, past: T) -> T
     ensures { result ≡ get_or l.now i past }
 {
-    if i < l.len() { l[i] } else { past }
+    l.get(i).copied().unwrap_or(past)
 }
 
 // Stores an element. (Tried with `get_mut`: nothing is promised of what the slice becomes, so the proof didn't close.)

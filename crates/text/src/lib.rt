@@ -1,6 +1,6 @@
 // Numbers and bytes as text. As the writers of bytes_emit, none asks for room: what is past the end is counted and not stored.
-// (No Display: what is printed is defined in specs/Digits and written into lent bytes, with no heap. The bounds of places and lengths are
-// those of bytes_emit, and halve likewise.)
+// (No Display: no writer here can fail, as `write!` can, and what is printed is defined in specs/Digits. The bounds of places and lengths
+// are those of bytes_emit, and halve likewise.)
 #![tactic(auto)]
 
 ghost use Rattle.std.specs.Prelude.{◌≡◌, [], ◌∷◌, ◌+◌, ◌<◌, ◌≤◌, length};
@@ -20,7 +20,8 @@ fn digit(d: u8) -> u8
     DIGITS[d as usize]
 }
 
-// Writes bytes as they are, and returns the place behind them.
+// Writes bytes as they are, and returns the place behind them. (Beside `copy` of bytes_emit for its promise:
+// `Written` is a record, whose laws find their arguments by themselves; those of `Writes`, an abbreviation, would have to be given them.)
 pub fn put_bytes(text: &mut [u8], to: usize, bytes: &[u8]) -> usize
     requires room { to < value_room }
     requires short { length bytes.now < value_room }

@@ -8,6 +8,6 @@ use Rattle.bytes_before.proofs.Among.{any_part}
 pub returns : goal.returns
 returns c =
     let a = c.args in
-    any_from_yields_List (λ j. same_bytes (part a.s.now a.at a.end) (part a.s.now (get_or a.starts.now j 0) (get_or a.starts.now (j + 1) 0))) _ _ _
-    c.any.ensures.ran (YieldsList-from_range 0 a.k a.k refl (omega arith)) (λ x b q k. search (rules, c.between-here.ensures))
-    ∙ any_part (part a.s.now a.at a.end) a.s.now a.starts.now 0 a.k
+    any_from_yields_List (λ j. same_bytes a.here.now (part a.s.now (get_or a.starts.now j 0) (get_or a.starts.now (j + 1) 0))) _ _ _
+    c.any.ensures.ran (YieldsList-from_range 0 a.k a.k refl (omega arith)) (λ x b q k. search rules)
+    ∙ any_part a.here.now a.s.now a.starts.now 0 a.k

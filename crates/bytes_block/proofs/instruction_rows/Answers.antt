@@ -9,7 +9,7 @@ map_err-requires c = λ e q.
     let l = c.loop-i in
     let r = c.read_instruction in
     let h = filling_size a.b a.at a.count a.first a.s.now a.seen.now a.facts.now l.facts l.i l.here l.late l.seen l.invariant.2
-    c.loop-i-test.true r.new.seen r.new.buffer (rw (c.tail-t.ensures, c.row_place-reads.ensures) at r.ensures) q in
+    c.loop-i-test.true r.new.seen r.new.buffer (rw (c.behind-t.ensures, c.row_place-reads.ensures) at r.ensures) q in
     grind (serving, arith, h)
 
 pub returns-in_err-p : goal.returns-in_err-p
@@ -18,7 +18,7 @@ returns-in_err-p c =
     let l = c.loop-i in
     let r = c.read_instruction in
     filling_refused a.b a.at a.count a.first a.s.now a.seen.now a.facts.now l.facts l.i l.here l.late l.seen l.invariant.2
-    c.loop-i-test.true r.new.seen r.new.buffer (rw (c.tail-t.ensures, c.row_place-reads.ensures) at r.ensures) _ (search (rules, of_calls))
+    c.loop-i-test.true r.new.seen r.new.buffer (rw (c.behind-t.ensures, c.row_place-reads.ensures) at r.ensures) _ (search (rules, of_calls))
 
 pub overflow_add-end : goal.overflow_add-end
 overflow_add-end c =
@@ -29,7 +29,7 @@ overflow_add-end c =
     omega (
       arith,
       filling_size a.b a.at a.count a.first a.s.now a.seen.now a.facts.now l.facts l.i l.here l.late l.seen l.invariant.2
-          c.loop-i-test.true r.new.seen r.new.buffer (rw (c.tail-t.ensures, c.row_place-reads.ensures) at r.ensures) q,
+          c.loop-i-test.true r.new.seen r.new.buffer (rw (c.behind-t.ensures, c.row_place-reads.ensures) at r.ensures) q,
     )
 
 pub end_row-requires : goal.end_row-requires
@@ -39,7 +39,7 @@ end_row-requires c =
     let r = c.read_instruction in
     let q : r.result ≡ Ok c.in_ok-p.p = search rules in
     filling_reads a.b a.at a.count a.first a.s.now a.seen.now a.facts.now l.facts l.i l.here l.late l.seen l.invariant.2
-    c.loop-i-test.true r.new.seen r.new.buffer (rw (c.tail-t.ensures, c.row_place-reads.ensures) at r.ensures) q
+    c.loop-i-test.true r.new.seen r.new.buffer (rw (c.behind-t.ensures, c.row_place-reads.ensures) at r.ensures) q
 
 pub loop-i-preserved : goal.loop-i-preserved
 loop-i-preserved c =
@@ -50,8 +50,8 @@ loop-i-preserved c =
       search rules,
       search rules,
       filling_again a.b a.at a.count a.first a.s.now a.seen.now a.facts.now l.facts l.i l.here l.late l.seen l.invariant.2
-          c.loop-i-test.true r.new.seen r.new.buffer (rw (c.tail-t.ensures, c.row_place-reads.ensures) at r.ensures) q _
-          (rw (c.kind_at.ensures, c.tail-t.ensures) at c.end_row.ensures),
+          c.loop-i-test.true r.new.seen r.new.buffer (rw (c.behind-t.ensures, c.row_place-reads.ensures) at r.ensures) q _
+          (rw (c.kind_at.ensures, c.behind-t.ensures) at c.end_row.ensures),
     )
 
 pub returns : goal.returns

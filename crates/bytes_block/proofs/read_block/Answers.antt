@@ -9,7 +9,7 @@ pub map_err-requires : goal.map_err-requires
 map_err-requires c = λ e q.
     let a = c.args in
     let t = drop a.at a.s.now in
-    let h = refused_within as_read (rw c.tail-t.ensures at c.block_count.ensures) (size_block_count a.m a.total t) q in
+    let h = refused_within as_read (rw c.behind-t.ensures at c.block_count.ensures) (size_block_count a.m a.total t) q in
     let k = length-drop a.at a.s.now in
     grind (serving, arith, h, k, c.requires.0)
 
@@ -17,14 +17,14 @@ pub returns-in_err-n : goal.returns-in_err-n
 returns-in_err-n c =
     let a = c.args in
     no_block a.m a.b a.total a.at a.first a.s.now a.seen.now a.facts.now a.facts.now (search (rules, of_calls))
-    (rw c.tail-t.ensures at c.block_count.ensures)
+    (rw c.behind-t.ensures at c.block_count.ensures)
 
 pub overflow_add-at : goal.overflow_add-at
 overflow_add-at c =
     let a = c.args in
     let t = drop a.at a.s.now in
     let q : c.block_count.result ≡ Ok c.in_ok-n.n = search rules in
-    let v = block_counted a.m a.total t (sym (was as_read (rw c.tail-t.ensures at c.block_count.ensures) q)) in
+    let v = block_counted a.m a.total t (sym (was as_read (rw c.behind-t.ensures at c.block_count.ensures) q)) in
     omega (arith, v.size, v.there, length-drop a.at a.s.now, c.requires.0)
 
 pub instruction_rows-requires : goal.instruction_rows-requires
@@ -32,7 +32,7 @@ instruction_rows-requires c =
     let a = c.args in
     let t = drop a.at a.s.now in
     let q : c.block_count.result ≡ Ok c.in_ok-n.n = search rules in
-    let v = block_counted a.m a.total t (sym (was as_read (rw c.tail-t.ensures at c.block_count.ensures) q)) in
+    let v = block_counted a.m a.total t (sym (was as_read (rw c.behind-t.ensures at c.block_count.ensures) q)) in
     (omega (arith, v.size, v.there, length-drop a.at a.s.now, c.requires.0), omega (arith, c.requires.1, v.own))
 
 pub returns-in_err-code : goal.returns-in_err-code
@@ -41,7 +41,7 @@ returns-in_err-code c =
     let q : c.block_count.result ≡ Ok c.in_ok-n.n = search rules in
     let p : c.instruction_rows.result ≡ Err c.in_err-code.field-0.0 = search rules in
     let z : c.from_residual-in_err-code.result ≡ Err c.in_err-code.field-0.0 = search rules in
-    rw z (code_stop a.m a.b a.total a.at a.first a.s.now a.seen.now a.facts.now _ (sym (was as_read (rw c.tail-t.ensures at c.block_count.ensures) q)) _ _ _ c.instruction_rows.ensures p)
+    rw z (code_stop a.m a.b a.total a.at a.first a.s.now a.seen.now a.facts.now _ (sym (was as_read (rw c.behind-t.ensures at c.block_count.ensures) q)) _ _ _ c.instruction_rows.ensures p)
 
 pub terminator_row-requires : goal.terminator_row-requires
 terminator_row-requires c =
@@ -49,8 +49,8 @@ terminator_row-requires c =
     let t = drop a.at a.s.now in
     let q : c.block_count.result ≡ Ok c.in_ok-n.n = search rules in
     let p : c.instruction_rows.result ≡ Ok c.in_ok-code.code = search rules in
-    let v = block_counted a.m a.total t (sym (was as_read (rw c.tail-t.ensures at c.block_count.ensures) q)) in
-    code_size a.m a.b a.total a.at a.first a.s.now a.seen.now a.facts.now a.facts.now (sym (was as_read (rw c.tail-t.ensures at c.block_count.ensures) q)) _ _ _ c.instruction_rows.ensures p
+    let v = block_counted a.m a.total t (sym (was as_read (rw c.behind-t.ensures at c.block_count.ensures) q)) in
+    code_size a.m a.b a.total a.at a.first a.s.now a.seen.now a.facts.now a.facts.now (sym (was as_read (rw c.behind-t.ensures at c.block_count.ensures) q)) _ _ _ c.instruction_rows.ensures p
     (omega (arith, v.size, v.there, length-drop a.at a.s.now, c.requires.0))
 
 pub returns-in_err-end : goal.returns-in_err-end
@@ -60,7 +60,7 @@ returns-in_err-end c =
     let p : c.instruction_rows.result ≡ Ok c.in_ok-code.code = search rules in
     let o : c.terminator_row.result ≡ Err c.in_err-end.field-0.0 = search rules in
     let z : c.from_residual-in_err-end.result ≡ Err c.in_err-end.field-0.0 = search rules in
-    rw z (code_end a.m a.b a.total a.at a.first a.s.now a.seen.now a.facts.now _ (sym (was as_read (rw c.tail-t.ensures at c.block_count.ensures) q)) _ _ _ c.instruction_rows.ensures p _ c.terminator_row.ensures o)
+    rw z (code_end a.m a.b a.total a.at a.first a.s.now a.seen.now a.facts.now _ (sym (was as_read (rw c.behind-t.ensures at c.block_count.ensures) q)) _ _ _ c.instruction_rows.ensures p _ c.terminator_row.ensures o)
 
 pub returns : goal.returns
 returns c =
@@ -68,4 +68,4 @@ returns c =
     let q : c.block_count.result ≡ Ok c.in_ok-n.n = search rules in
     let p : c.instruction_rows.result ≡ Ok c.in_ok-code.code = search rules in
     let o : c.terminator_row.result ≡ Ok c.in_ok-end.end = search rules in
-    code_some a.m a.b a.total a.at a.first a.s.now a.seen.now a.facts.now _ (sym (was as_read (rw c.tail-t.ensures at c.block_count.ensures) q)) _ _ _ c.instruction_rows.ensures p _ c.terminator_row.ensures o
+    code_some a.m a.b a.total a.at a.first a.s.now a.seen.now a.facts.now _ (sym (was as_read (rw c.behind-t.ensures at c.block_count.ensures) q)) _ _ _ c.instruction_rows.ensures p _ c.terminator_row.ensures o

@@ -8,7 +8,7 @@ map_err-requires c = λ e q.
     let a = c.args in
     let r = c.read_terminator in
     let h = end_size a.b a.s.now a.facts.now r.new.buffer _ r.new.seen a.slot a.at c.requires _
-    (rw (c.tail-t.ensures, c.row_place-reads.ensures) at r.ensures) q in
+    (rw (c.behind-t.ensures, c.row_place-reads.ensures) at r.ensures) q in
     grind (serving, arith, h)
 
 pub overflow_add-end : goal.overflow_add-end
@@ -19,7 +19,7 @@ overflow_add-end c =
     omega (
       arith,
       end_size a.b a.s.now a.facts.now r.new.buffer _ r.new.seen a.slot a.at c.requires _
-          (rw (c.tail-t.ensures, c.row_place-reads.ensures) at r.ensures) q,
+          (rw (c.behind-t.ensures, c.row_place-reads.ensures) at r.ensures) q,
     )
 
 pub end_row-requires : goal.end_row-requires
@@ -28,7 +28,7 @@ end_row-requires c =
     let r = c.read_terminator in
     let q : r.result ≡ Ok c.in_ok-p.p = search rules in
     end_reads a.b a.s.now a.facts.now r.new.buffer _ r.new.seen a.slot a.at c.requires _
-    (rw (c.tail-t.ensures, c.row_place-reads.ensures) at r.ensures) q
+    (rw (c.behind-t.ensures, c.row_place-reads.ensures) at r.ensures) q
 
 pub returns : goal.returns
 returns c =
@@ -36,4 +36,4 @@ returns c =
     let r = c.read_terminator in
     let q : r.result ≡ Ok c.in_ok-p.p = search rules in
     end_some a.b a.s.now a.facts.now r.new.buffer _ r.new.seen a.slot a.at c.requires _
-    (rw (c.tail-t.ensures, c.row_place-reads.ensures) at r.ensures) q _ c.end_row.ensures
+    (rw (c.behind-t.ensures, c.row_place-reads.ensures) at r.ensures) q _ c.end_row.ensures

@@ -1,10 +1,9 @@
-use Rattle.std.proofs.Common.{arith, ◌∙◌, ◌≡◌, sym, ap, rules, Err}
+use Rattle.std.proofs.Common.{arith, ◌∙◌, ◌≡◌, sym, rules, Err}
 use borrow.Author.Tests.{not-true, not-false}
-use Rattle.bytes_wire.specs.Parse.{later}
-use Rattle.bytes_field.proofs.Sizes.{size_pair, size_times}
-use Rattle.bytes_field.proofs.Laws.{bytes_within}
+use Rattle.bytes_field.proofs.Sizes.{size_pair}
+use Rattle.bytes_field.proofs.Laws.{again, done, stepped, bytes_within}
 use Rattle.bytes_field.proofs.Listing.{no_count, count_other, elements}
-use Rattle.bytes_field.specs.Walk.{walk_before, pair_walk, times, first_of, second_of}
+use Rattle.bytes_field.specs.Walk.{walk_before, pair_walk, first_of, second_of}
 use Rattle.bytes_row.specs.Class.{number_of_list}
 use Rattle.bytes_row.proofs.read_list.Goals as goal
 
@@ -17,14 +16,13 @@ returns-then-miscounts c =
 pub further-requires : goal.further-requires
 further-requires c =
     let a = c.args in
-    let g = c.in_ok-count.count in
-    let w = walk_before a.seen.now a.buffer.now a.before in
-    let f = pair_walk a.b (first_of (number_of_list a.k)) (second_of (number_of_list a.k)) in
+    let o = c.loop-i in
+    let l = c.read_element-r.new in
+    let w = walk_before o.seen o.buffer o.w in
     omega (
       arith,
-      bytes_within a.s.now g.size c.read_elements-r.result c.read_elements-r.new.seen c.read_elements-r.new.buffer (λ t. times f g.value w t)
-          c.tail-t.ensures c.read_elements-r.ensures
-          (λ u. size_times f (λ v t. size_pair a.b (first_of (number_of_list a.k)) (second_of (number_of_list a.k)) v t) g.value w u),
+      bytes_within a.s.now o.w.size c.read_element-r.result l.seen l.buffer (λ t. pair_walk a.b (first_of (number_of_list a.k)) (second_of (number_of_list a.k)) w t)
+          c.behind-t.ensures c.read_element-r.ensures (λ t. size_pair a.b (first_of (number_of_list a.k)) (second_of (number_of_list a.k)) w t),
     )
 
 pub returns-in_err-count : goal.returns-in_err-count
@@ -33,13 +31,34 @@ returns-in_err-count c =
     let z : c.from_residual.result ≡ Err c.in_err-count.field-0.0 = search rules in
     rw z (no_count a.b a.l (first_of (number_of_list a.k)) (second_of (number_of_list a.k)) (walk_before a.seen.now a.buffer.now a.before) a.s.now (sym (c.in_err-count.ensures)))
 
+pub returns-in_err-w : goal.returns-in_err-w
+returns-in_err-w c =
+    let a = c.args in
+    let o = c.loop-i in
+    let l = c.read_element-r.new in
+    let z : c.from_residual-in_err-w.result ≡ Err c.in_err-w.field-0.0 = search rules in
+    rw z (sym (again _ _ _ _ _ _ o.invariant.3 _ c.loop-i-test.true (stepped a.s.now o.w.size (λ t. pair_walk a.b (first_of (number_of_list a.k)) (second_of (number_of_list a.k))
+    (walk_before o.seen o.buffer o.w) t) l.seen l.buffer c.read_element-r.result c.behind-t.ensures c.read_element-r.ensures
+    (c.in_err-w.ensures l.seen l.buffer))).left
+    ∙ elements a.b a.l (first_of (number_of_list a.k)) (second_of (number_of_list a.k)) (walk_before a.seen.now a.buffer.now a.before) a.s.now (sym (c.in_ok-count.ensures))
+    (not-false _ (sym c.miscounts.ensures ∙ c.if-miscounts.false)))
+
+pub loop-i-preserved : goal.loop-i-preserved
+loop-i-preserved c =
+    let a = c.args in
+    let o = c.loop-i in
+    let l = c.read_element-r.new in (
+      search rules,
+      search rules,
+      search rules,
+      again _ _ _ _ _ _ o.invariant.3 _ c.loop-i-test.true (stepped a.s.now o.w.size (λ t. pair_walk a.b (first_of (number_of_list a.k)) (second_of (number_of_list a.k))
+          (walk_before o.seen o.buffer o.w) t) l.seen l.buffer c.read_element-r.result c.behind-t.ensures c.read_element-r.ensures
+          (c.in_ok-w.ensures l.seen l.buffer)),
+    )
+
 pub returns : goal.returns
 returns c =
     let a = c.args in
-    let g = c.in_ok-count.count in
-    let w = walk_before a.seen.now a.buffer.now a.before in
-    c.further.ensures c.read_elements-r.new.seen c.read_elements-r.new.buffer
-    ∙ ap (later g.size) (c.read_elements-r.ensures
-    ∙ ap (λ t. times (pair_walk a.b (first_of (number_of_list a.k)) (second_of (number_of_list a.k))) g.value w t) c.tail-t.ensures)
-    ∙ elements a.b a.l (first_of (number_of_list a.k)) (second_of (number_of_list a.k)) w a.s.now (sym (c.in_ok-count.ensures))
+    done _ _ _ _ _ _ c.loop-i.invariant.3 c.loop-i-test.false
+    ∙ elements a.b a.l (first_of (number_of_list a.k)) (second_of (number_of_list a.k)) (walk_before a.seen.now a.buffer.now a.before) a.s.now (sym (c.in_ok-count.ensures))
     (not-false _ (sym c.miscounts.ensures ∙ c.if-miscounts.false))

@@ -15,7 +15,7 @@ further-requires c =
     let w = walk_before a.seen.now c.read_base.new.buffer g in
     omega (
       arith,
-      bytes_within a.s.now g.size c.read_list-r.result l.seen l.buffer (λ t. list_walk a.b m 10 0 w t) c.tail-t.ensures c.read_list-r.ensures
+      bytes_within a.s.now g.size c.read_list-r.result l.seen l.buffer (λ t. list_walk a.b m 10 0 w t) c.behind-t.ensures c.read_list-r.ensures
           (λ u. size_list a.b m 10 0 w u),
     )
 
@@ -32,6 +32,6 @@ returns c =
     let l = c.read_list-r.new in
     let w = walk_before a.seen.now c.read_base.new.buffer g in
     c.further.ensures l.seen l.buffer
-    ∙ ap (later g.size) (c.read_list-r.ensures ∙ ap (λ t. list_walk a.b (any_many a.b.projections) 10 0 w t) c.tail-t.ensures)
+    ∙ ap (later g.size) (c.read_list-r.ensures ∙ ap (λ t. list_walk a.b (any_many a.b.projections) 10 0 w t) c.behind-t.ensures)
     ∙ place_walked a.b (walk_before a.seen.now a.buffer.now a.before) a.s.now
     (c.in_ok-p.ensures a.seen.now)

@@ -12,6 +12,6 @@ further-requires c =
     omega (
       arith,
       bytes_within a.s.now a.p.size c.read_value.result [] c.read_value.new.buffer
-          (λ t. map_parse (uses_value (walk_before [] a.buffer.now a.p)) (value_of a.next t)) c.tail-t.ensures (c.read_value.ensures [])
+          (λ t. map_parse (uses_value (walk_before [] a.buffer.now a.p)) (value_of a.next t)) c.behind-t.ensures (c.read_value.ensures [])
           (λ u. rw size_map (size_value a.next u)),
     )

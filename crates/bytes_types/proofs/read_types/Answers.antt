@@ -49,7 +49,7 @@ returns-then-type_before c =
     rw c.at.ensures (read_bad a.limit a.most a.s.now a.starts.now l.starts (search rules)
     (table_old a.limit a.most a.s.now _ l.starts c.in_ok-count.count.value l.k l.at l.invariant c.loop-k-test.true
     (told as_part (λ t. map_parse unit (type_of a.most l.k t)) l.at a.s.now c.read_type.ensures q)
-    (λ j. omega (arith, c.type_inv.s j)) c.type_before.result (tested _ _ _ _ _ _ c.type_before.ensures) c.if-type_before.true))
+    (λ j. omega (arith, c.type_inv.s j)) c.type_before.result (tested _ _ _ _ _ _ (rw c.between.ensures at c.type_before.ensures)) c.if-type_before.true))
 
 pub loop-k-preserved : goal.loop-k-preserved
 loop-k-preserved c =
@@ -58,7 +58,7 @@ loop-k-preserved c =
     let q : c.read_type.result ≡ Ok c.in_ok-size.size = search rules in
     table_again a.limit a.most a.s.now _ l.starts c.in_ok-count.count.value l.k l.at l.invariant c.loop-k-test.true
     (told as_part (λ t. map_parse unit (type_of a.most l.k t)) l.at a.s.now c.read_type.ensures q)
-    (λ j. omega (arith, c.type_inv.s j)) c.type_before.result (tested _ _ _ _ _ _ c.type_before.ensures) c.if-type_before.false
+    (λ j. omega (arith, c.type_inv.s j)) c.type_before.result (tested _ _ _ _ _ _ (rw c.between.ensures at c.type_before.ensures)) c.if-type_before.false
     c.requires.1 _ c.set_place-in-loop-k.ensures
 
 pub returns : goal.returns

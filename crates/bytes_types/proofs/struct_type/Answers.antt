@@ -28,13 +28,13 @@ pub returns-in_err-count : goal.returns-in_err-count
 returns-in_err-count c =
     let a = c.args in
     let q : c.read_u16.result ≡ Ok c.in_ok-map_err.field-0 = search rules in
-    behind_bad as_read part_used 3 (search (rules, of_calls)) (rw c.tail-counted.ensures at c.list_count.ensures)
+    behind_bad as_read part_used 3 (search (rules, of_calls)) (rw c.behind-counted.ensures at c.list_count.ensures)
     (λ k o e. struct_uncounted a.most a.own a.s.now (told as_parse u16_of 1 a.s.now c.read_u16.ensures q) e)
 
 pub struct_fields-requires : goal.struct_fields-requires
 struct_fields-requires c =
     let q : c.list_count.result ≡ Ok c.in_ok-count.count = search rules in
-    struct_long c.args.most c.args.own c.args.s.now (sym (was as_read (rw c.tail-counted.ensures at c.list_count.ensures) q))
+    struct_long c.args.most c.args.own c.args.s.now (sym (was as_read (rw c.behind-counted.ensures at c.list_count.ensures) q))
 
 pub returns : goal.returns
 returns c =
@@ -42,4 +42,4 @@ returns c =
     let q : c.read_u16.result ≡ Ok c.in_ok-map_err.field-0 = search rules in
     let p : c.list_count.result ≡ Ok c.in_ok-count.count = search rules in
     c.struct_fields.ensures ∙ struct_some a.most a.own a.s.now (told as_parse u16_of 1 a.s.now c.read_u16.ensures q)
-    (sym (was as_read (rw c.tail-counted.ensures at c.list_count.ensures) p))
+    (sym (was as_read (rw c.behind-counted.ensures at c.list_count.ensures) p))

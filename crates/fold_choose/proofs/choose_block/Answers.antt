@@ -1,4 +1,4 @@
-use Rattle.std.proofs.Common.{◌+◌, arith}
+use Rattle.std.proofs.Common.{arith}
 use mathlib.Core.Bool.{false}
 use lib.ListN.{length-replicate}
 use Rattle.fold_choose.proofs.Buildless.{none_built}
@@ -8,8 +8,8 @@ pub returns-then-not-any_build-clause-decides_block : goal.returns-then-not-any_
 returns-then-not-any_build-clause-decides_block c =
     let a = c.args in
     λ τ all g f st room long j d l e. absurd
-    (none_built a.code.bounds a.code.bytes.now a.code.facts.now a.slots.first (a.slots.first + a.slots.count) all
-    (c.any_build.ensures c.if-not-any_build.true) st.stands (omega (arith, st.counted)) j d l e)
+    (none_built a.code.bounds a.code.bytes.now a.code.facts.now a.slots.first c.end.result all
+    (c.any_build.ensures c.if-not-any_build.true) st.stands (omega (arith, st.counted, c.end.ensures)) j d l e)
 
 pub returns-clause-decides_block : goal.returns-clause-decides_block
 returns-clause-decides_block c =

@@ -1,5 +1,5 @@
 use Rattle.std.proofs.Common.{arith}
-use Rattle.fold_choose.proofs.Flags.{deciding_on, decided_all}
+use Rattle.fold_choose.proofs.Flags.{deciding_on}
 use Rattle.fold_choose.proofs.decide_all.Goals as goal
 
 pub loop-j-preserved : goal.loop-j-preserved
@@ -8,9 +8,3 @@ loop-j-preserved c =
     deciding_on a.settings a.view.shapes.now a.view.graph.now a.looked.now a.code a.slots
     a.choice.now c.loop-j.j c.loop-j.choice c.loop-j.invariant (omega arith) c.loop-j-test.true c.decide_one-yes.result c.flag-given.result c.flag-given.ensures
     c.decide_one-yes.ensures c.put.new.l c.put.ensures
-
-pub returns-clause-decides_all : goal.returns-clause-decides_all
-returns-clause-decides_all c =
-    let a = c.args in
-    decided_all a.settings a.view.shapes.now a.view.graph.now a.looked.now a.code a.slots
-    a.choice.now c.loop-j.j c.loop-j.choice c.loop-j.invariant c.loop-j-test.false

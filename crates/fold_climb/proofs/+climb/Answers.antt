@@ -1,4 +1,3 @@
-use Rattle.std.proofs.Common.{arith}
 use mathlib.Core.Path.{sym, ap, ◌∙◌}
 use Rattle.fold_climb.specs.Scanned.{sight_of, edges_down}
 use Rattle.fold_climb.proofs.Depth.{climb_met, climb_barred}
@@ -23,9 +22,6 @@ pub returns-then-array : goal.returns-then-array
 returns-then-array t c =
     turn_array _ _ _ _ _ _ c.loop-k.invariant c.loop-k-test.true
     (rw c.child.ensures at (sym c.if-eq.ensures)) (sym c.if-array.ensures)
-
-pub climb-requires : goal.climb-requires
-climb-requires t c = (omega (arith, c.decreases, c.loop-k.invariant.clear), tt)
 
 pub returns-in_err-met : goal.returns-in_err-met
 returns-in_err-met t c =

@@ -11,6 +11,6 @@ returns-then-not-is_build c =
 pub returns : goal.returns
 returns c =
     let a = c.args in
-    λ i h. rw c.then_some.ensures (found_build a.code.bounds _ _ _ (record { 0 = c.u16_at.result }) a.eligible.now _ c.own_fields-u.ensures
-    c.u16_at.ensures c.flag.ensures (one_of_three _ (sym (ap build_kind c.in_ok-kind.ensures) ∙ sym c.is_build.ensures ∙ c.if-not-is_build.false)) i
+    λ i h. rw c.then_some.ensures (found_build a.code.bounds _ _ _ c.dest-dest.result a.eligible.now _ c.own_fields-own.ensures
+    c.dest-dest.ensures c.flag.ensures (one_of_three _ (sym (ap build_kind c.in_ok-kind.ensures) ∙ sym c.is_build.ensures ∙ c.if-not-is_build.false)) i
     (headed a.code.bounds a.code.bytes.now a.code.facts.now a.slot i c.instruction.ensures h))

@@ -6,6 +6,7 @@ use Rattle.fold_looked.proofs.look.Goals as goal
 pub returns : goal.returns
 returns c =
     let a = c.args in
-    looks_at a.code a.slot a.tables a.family.now c.looked_into.new.family
-    a.members.now c.looked_into.result c.dest-v.result c.byte_at-shape.result
-    (kind_found _ c.instruction_kind.result Kind.MakeFixedArray c.instruction_kind.ensures c.if-ne.ensures) c.dest-v.ensures c.byte_at-shape.ensures c.looked_into.ensures
+    let b = c.find_build-build in
+    looks_at a.code a.slot a.tables a.family.now b.new.family c.unmark.new.marks a.members.now b.new.members _ b.result
+    (kind_found _ c.instruction_kind.result Kind.MakeFixedArray c.instruction_kind.ensures c.if-ne.ensures)
+    b.ensures b.auto.members c.first_members-listed.ensures c.unmark.ensures

@@ -1,8 +1,6 @@
-use Rattle.std.proofs.Common.{◌≡◌, refl, ◌∙◌, ◌+◌, rules, arith}
+use Rattle.std.proofs.Common.{◌≡◌, refl, ◌∙◌, rules, arith}
 use Rattle.std.specs.List.{prefix_len, range_with_len}
 use Rattle.std.proofs.lemmas.List.Folds.{length-prefix_len}
-use Rattle.std.proofs.lemmas.List.FromFn.{length-range_with_len}
-use Rattle.std.proofs.lemmas.List.Sums.{prefix_len-le-length}
 use Rattle.std.proofs.lemmas.Iterator.{YieldsList-from_range}
 use Rattle.std.proofs.lemmas.Iterator.Consumers.{count_from_yields_List}
 use Rattle.std.proofs.lemmas.Iterator.Search.{YieldsList-from_take_while}
@@ -18,14 +16,9 @@ counted c =
     let n = a.slots.count in
     count_from_yields_List _ _ c.count.ensures.ran
     (YieldsList-from_take_while _ (phi_in a.facts.now)
-    (YieldsList-from_range first (first + n) n (c.take_while-phis.ensures.source ∙ refl) (omega arith))
+    (YieldsList-from_range first c.end.result n (c.take_while-phis.ensures.source ∙ refl) (omega (arith, c.end.ensures)))
     c.take_while-phis.ensures.closure c.take_while-phis.ensures.done (λ x b q k. search rules))
     ∙ length-prefix_len (phi_in a.facts.now) (range_with_len first n)
 
 pub returns-clause-counted : goal.returns-clause-counted
 returns-clause-counted c b s is at l = rw (counted c, ← l) (front_phis b s c.args.facts.now c.args.slots.first is at)
-
-pub returns-clause-few : goal.returns-clause-few
-returns-clause-few c =
-    let a = c.args in
-    omega (arith, counted c, prefix_len-le-length (phi_in a.facts.now) (range_with_len a.slots.first a.slots.count), length-range_with_len a.slots.first a.slots.count)

@@ -13,4 +13,4 @@ returns c =
     let a = c.args in
     let l = c.loop-k in
     reading_done a.own.number a.facts.now a.slots _ l.readers _ l.k l.invariant c.loop-k-test.false
-    c.note_reads.ensures
+    (rw c.end.ensures at c.note_reads.ensures)

@@ -11,7 +11,7 @@ pub returns-then-eq : goal.returns-then-eq
 returns-then-eq c =
     let a = c.args in
     told_all a.code a.y a.own.now _ c.type_shape.ensures (ap number_of_shape (same_true the_type tt _ Shape.Struct (sym c.eq.ensures ∙ c.if-eq.true)))
-    _ c.byte_at.ensures _ c.type_row.ensures c.all_given.result c.all_given.ensures
+    _ c.behind-inits.ensures.many _ c.type_row.ensures c.all_given.result (rw (c.behind-inits.ensures.bytes, c.behind-inits.ensures.place) at c.all_given.ensures)
 
 pub returns-else-eq : goal.returns-else-eq
 returns-else-eq c =

@@ -1,13 +1,8 @@
 use Rattle.std.proofs.Common.{arith}
 use Rattle.pass_input.proofs.Accepted.{next_few}
 use Rattle.pass_families.proofs.Parts.{part_length}
-use Rattle.pass_families.proofs.Putting.{slots_few, next_start, putting_blocks, putting_on_blocks, puts_blocks}
+use Rattle.pass_families.proofs.Putting.{slots_few, next_start, putting_on_blocks, puts_blocks}
 use Rattle.pass_families.proofs.put_blocks.Goals as goal
-
-pub loop-k-init : goal.loop-k-init
-loop-k-init c =
-    let a = c.args in
-    (omega arith, omega arith, putting_blocks a.named a.code a.shapes.now a.text.now)
 
 pub put_block-to-requires : goal.put_block-to-requires
 put_block-to-requires c =

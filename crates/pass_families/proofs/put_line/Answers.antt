@@ -10,6 +10,6 @@ returns-clause-written c =
     let m = c.list_members-many in
     let e = c.copy_from_slice.ensures.after in
     written_as (ap numbers_line
-    (rw e (with_members a.named a.at.block a.at.instruction a.found a.family.now _ m.new.line m.result
+    (rw e (with_members a.named a.at.block a.at.instruction a.build a.family.now _ m.new.line m.result
     c.if-not-named.false m.ensures.listed m.ensures.upper_bound c.requires (rw e refl))))
     c.numbers_line-2.ensures.written

@@ -7,9 +7,10 @@ returns-in-Some-clause-fields_built c =
     let l = c.listed.ensures in
     λ next S i x r q d f.
     let row = c.type_row-row.ensures in
-    let m = c.field_count.ensures ∙ ap (λ (l : List ℕ). get_or l 3 0) row in
+    let n = c.behind-names.ensures in
+    let m = n.many ∙ ap (λ (l : List ℕ). get_or l 3 0) row in
     let w =
-    c.in-Some.ensures.names_tracked next S f.inits f.fields (rw l.bytes r) q d (rw (l.bytes, l.place) f.stand) (f.many ∙ sym l.many) (rw row f.named)
+    c.in-Some.ensures.names_tracked next S f.inits f.fields (rw l.bytes r) q d (rw (l.bytes, l.place) f.stand) (f.many ∙ sym l.many) (rw (n.bytes, n.place, row) f.named)
     (f.count ∙ sym m) (omega (arith, f.few, f.count, m)) in
     struct_tracks _ _ f.piece w.0 (rw l.bytes at w.1)
 
@@ -18,8 +19,9 @@ returns-in-None-clause-fields_built c =
     let l = c.listed.ensures in
     λ next S i x r q d f.
     let row = c.type_row-row.ensures in
-    let m = c.field_count.ensures ∙ ap (λ (l : List ℕ). get_or l 3 0) row in
+    let n = c.behind-names.ensures in
+    let m = n.many ∙ ap (λ (l : List ℕ). get_or l 3 0) row in
     let w =
-    c.in-None.ensures.names_tracked next S f.inits f.fields (rw l.bytes r) q d (rw (l.bytes, l.place) f.stand) (f.many ∙ sym l.many) (rw row f.named)
+    c.in-None.ensures.names_tracked next S f.inits f.fields (rw l.bytes r) q d (rw (l.bytes, l.place) f.stand) (f.many ∙ sym l.many) (rw (n.bytes, n.place, row) f.named)
     (f.count ∙ sym m) (omega (arith, f.few, f.count, m)) in
     struct_stays _ _ f.piece w.0 (rw l.bytes at w.1)

@@ -11,6 +11,7 @@ returns-in_err-q-clause-call_put c =
       fields = c.own_fields-fields.result;
       list = c.call_list-list.result;
       tracked = c.args.site.tracked;
+      near = omega (arith, c.call_list-list.ensures.1);
     })
     _ _ c.args.work.now _ _ c.instruction-t.ensures c.own_fields-fields.ensures
     c.call_list-list.ensures.0 _ _ c.put_builds.new.work c.put_builds.ensures.all_put _ _
@@ -23,6 +24,7 @@ returns-then-q-p-clause-call_put c =
       fields = c.own_fields-fields.result;
       list = c.call_list-list.result;
       tracked = c.args.site.tracked;
+      near = omega (arith, c.call_list-list.ensures.1);
     })
     _ _ c.args.work.now _ _ c.instruction-t.ensures c.own_fields-fields.ensures
     c.call_list-list.ensures.0 _ _ c.put_builds.new.work
@@ -36,9 +38,10 @@ returns-clause-call_put c =
       fields = c.own_fields-fields.result;
       list = c.call_list-list.result;
       tracked = c.args.site.tracked;
+      near = omega (arith, c.call_list-list.ensures.1);
     })
     _ _ c.args.work.now _ _ c.instruction-t.ensures c.own_fields-fields.ensures
     c.call_list-list.ensures.0 _ _ c.put_builds.new.work
     c.put_builds.ensures.all_put _ _ _ _ _ c.in_ok-q.was c.if-q-p.false
-    (omega (arith, c.saturating_sub-end.ensures, c.size.ensures, c.fields_place.ensures)) c.call_list-list.ensures.1
+    (omega (arith, c.saturating_sub-end.ensures, c.slot_size.ensures, c.fields_place.ensures)) c.call_list-list.ensures.1
     c.put_call_anew-to.ensures.call_written c.put_further.ensures

@@ -3,4 +3,4 @@ use Rattle.rewrite_before.proofs.put_kept.Goals as goal
 
 pub returns-clause-instruction_written : goal.returns-clause-instruction_written
 returns-clause-instruction_written c = rw c.put_further.ensures
-    (instruction_copied c.args.code _ _ _ _ _ _ _ _ c.place-at.ensures.0 c.end-end.ensures.0 c.between.ensures c.copy_bytes-to.ensures.writes)
+    (instruction_copied c.args.code _ _ _ _ _ _ c.slot_bytes.ensures c.copy_bytes-to.ensures.writes)

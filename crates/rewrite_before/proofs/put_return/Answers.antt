@@ -1,3 +1,4 @@
+use native.Mathlib.Omega.{arith}
 use mathlib.Core.Path.{ap}
 use Rattle.rewrite_wanted.specs.declared.Asks.{Asks}
 use Rattle.std.proofs.lemmas.Result.{err_from_is_err_and}
@@ -12,6 +13,7 @@ returns-in_err-q-clause-return_put c =
       fields = c.instruction-fields.result;
       list = (record { first = 2; many = c.byte_at.result; asks = Asks.Recorded });
       tracked = c.args.site.tracked;
+      near = omega arith;
     })
     _ _ c.args.work.now _ c.instruction-fields.ensures
     (ap (λ m. record { first = 2; many = m; asks = Asks.Recorded }) c.byte_at.ensures) _ _ c.put_builds.new.work
@@ -25,6 +27,7 @@ returns-clause-return_put c =
       fields = c.instruction-fields.result;
       list = (record { first = 2; many = c.byte_at.result; asks = Asks.Recorded });
       tracked = c.args.site.tracked;
+      near = omega arith;
     })
     _ _ c.args.work.now _ c.instruction-fields.ensures
     (ap (λ m. record { first = 2; many = m; asks = Asks.Recorded }) c.byte_at.ensures) _ _ c.put_builds.new.work

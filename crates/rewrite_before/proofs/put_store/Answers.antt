@@ -10,6 +10,7 @@ returns-in_err-q-clause-store_put c =
       fields = c.instruction-fields.result;
       list = c.store_list-list.result;
       tracked = c.args.site.tracked;
+      near = c.store_list-list.ensures.1;
     })
     _ _ c.args.work.now _ c.instruction-fields.ensures c.store_list-list.ensures.0 _ _
     c.put_builds.new.work c.put_builds.ensures.all_put _ _
@@ -22,6 +23,7 @@ returns-then-q-p-clause-store_put c =
       fields = c.instruction-fields.result;
       list = c.store_list-list.result;
       tracked = c.args.site.tracked;
+      near = c.store_list-list.ensures.1;
     })
     _ _ c.args.work.now _ c.instruction-fields.ensures
     c.store_list-list.ensures.0 _ _ c.put_builds.new.work c.put_builds.ensures.all_put _ _ _ _ c.in_ok-q.was
@@ -34,8 +36,9 @@ returns-clause-store_put c =
       fields = c.instruction-fields.result;
       list = c.store_list-list.result;
       tracked = c.args.site.tracked;
+      near = c.store_list-list.ensures.1;
     })
     _ _ c.args.work.now _ c.instruction-fields.ensures
     c.store_list-list.ensures.0 _ _ c.put_builds.new.work c.put_builds.ensures.all_put _ _ _ _ _ c.in_ok-q.was
-    c.if-q-p.false c.size.ensures c.put_anew-to.ensures.anew_written
+    c.if-q-p.false c.slot_size.ensures c.put_anew-to.ensures.anew_written
     c.put_further.ensures

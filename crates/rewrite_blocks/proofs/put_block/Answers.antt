@@ -1,5 +1,4 @@
 use Prim.Native.Nat.{◌+◌}
-use mathlib.Core.Path.{◌∙◌, sym}
 use native.Mathlib.Omega.{arith}
 use Rattle.bytes_sections.specs.Decode.{mosts}
 use Rattle.rewrite_step.specs.Stepping.{lent_as}
@@ -15,6 +14,3 @@ returns-then-flag c = let a = c.args in record {
       (λ τ ks co h. c.block_bytes-part.ensures mosts a.run.code.bounds ks co.ground.bytes (rw c.blocks-then-flag.ensures co.blocks) h)
       c.put_part.ensures.part_put;
 }
-
-pub returns-clause-one_put : goal.returns-clause-one_put
-returns-clause-one_put c = c.put_rewritten.ensures.one_put (sym c.flag.ensures ∙ c.if-flag.false)

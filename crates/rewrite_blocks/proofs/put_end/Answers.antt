@@ -10,7 +10,7 @@ pub returns-then-is_return-clause-end_put : goal.returns-then-is_return-clause-e
 returns-then-is_return-clause-end_put c =
     let a = c.args in
     λ τ S used t dropped g rep line bd. return_end a.site.code a.site.slot t g.bytes line _ _
-    c.place-at.ensures.0 c.byte_at.ensures _ (eqb-true _ 3 (sym c.is_return.ensures ∙ c.if-is_return.true))
+    c.slot_bytes-part.ensures c.byte_at.ensures _ (eqb-true _ 3 (sym c.is_return.ensures ∙ c.if-is_return.true))
     (λ xs z y. c.put_return.ensures.return_put τ S used xs dropped (finish τ S (a.site.code.bounds.next + a.p.fresh) t) g rep y
     (ap (finish τ S (a.site.code.bounds.next + a.p.fresh)) z) bd)
 
@@ -18,5 +18,5 @@ pub returns-clause-end_put : goal.returns-clause-end_put
 returns-clause-end_put c =
     let a = c.args in
     λ τ S used t dropped g rep line bd. other_end a.site.code a.site.slot t g.bytes line _ _
-    c.place-at.ensures.0 c.byte_at.ensures τ S (a.site.code.bounds.next + a.p.fresh) _ _ a.out.now _ (fresh_in a.work.now) dropped a.p _
-    (eqb-false _ 3 (sym c.is_return.ensures ∙ c.if-is_return.false)) c.end.ensures c.between-part.ensures c.put_part.ensures.part_put
+    c.slot_bytes-part.ensures c.byte_at.ensures τ S (a.site.code.bounds.next + a.p.fresh) a.out.now _ (fresh_in a.work.now) dropped a.p _
+    (eqb-false _ 3 (sym c.is_return.ensures ∙ c.if-is_return.false)) g.listed c.put_part.ensures.part_put

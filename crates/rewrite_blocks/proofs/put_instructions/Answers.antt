@@ -22,7 +22,7 @@ returns-in_err-v-clause-instructions_put c = let a = c.args in
     let l' = lent_as t.new.tracked t.new.dropped t.new.work t.new.out in
     let e = err_from_is_err_and c.from_residual.result c.from_residual.ensures.1 in
     rw e.1 (walking_clash a.run a.at l₀ a.w l₁ l.v l.j l.invariant c.requires
-    c.loop-j-test.true _ c.flag-fold.ensures l' t.result t.ensures.steps_on _ _ c.in_err-v.was)
+    c.loop-j-test.true _ c.flag.ensures l' t.result t.ensures.steps_on _ _ c.in_err-v.was)
 
 pub loop-j-preserved : goal.loop-j-preserved
 loop-j-preserved c = let a = c.args in
@@ -32,7 +32,7 @@ loop-j-preserved c = let a = c.args in
     let l₁ = lent_as l.tracked l.dropped l.work l.out in
     let l' = lent_as t.new.tracked t.new.dropped t.new.work t.new.out in
     walking_again a.run a.at l₀ a.w l₁ l.v l.j l.invariant c.requires
-    c.loop-j-test.true _ c.flag-fold.ensures l' t.result t.ensures.steps_on _ c.in_ok-v.was t.ensures.by_index
+    c.loop-j-test.true _ c.flag.ensures l' t.result t.ensures.steps_on _ c.in_ok-v.was t.ensures.by_index
     t.auto.tracked t.auto.dropped t.auto.work t.auto.out
 
 pub returns : goal.returns

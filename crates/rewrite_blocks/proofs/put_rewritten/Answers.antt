@@ -1,7 +1,8 @@
 use Prim.Native.Nat.{◌+◌}
 use mathlib.Core.Path.{refl}
 use native.Mathlib.Omega.{arith}
-use Rattle.rewrite_step.specs.declared.Reached.{Reached}
+use Rattle.rewrite_arms.specs.declared.Used.{Used}
+use Rattle.rewrite_progress.specs.declared.Progress.{Progress}
 use Rattle.std.proofs.lemmas.Result.{err_from_is_err_and}
 use Rattle.rewrite_step.specs.Stepping.{lent_as}
 use Rattle.rewrite_perform.proofs.Lows.{low_mono}
@@ -24,7 +25,7 @@ returns-in_err-q-clause-one_put c = let a = c.args in
     let at = c.block_slots-at in
     let cleared = c.clear in
     let l = lent_as cleared.new.tracked a.dropped.now a.work.now a.out.now in
-    let w : Reached = record { progress = body.result; used = 256 } in
+    let w : Used Progress = record { value = body.result; used = 256 } in
     let l' = lent_as t.new.tracked t.new.dropped t.new.work t.new.out in
     let e = err_from_is_err_and c.from_residual.result c.from_residual.ensures.1 in
     λ off τ ch ks co fo h z en. rw e.1 (block_clash a.run a.k.0 a.p off at.result at.ensures l w pre.1.1 body.ensures
@@ -39,7 +40,7 @@ returns c = let a = c.args in
     let at = c.block_slots-at in
     let cleared = c.clear in
     let l = lent_as cleared.new.tracked a.dropped.now a.work.now a.out.now in
-    let w : Reached = record { progress = body.result; used = 256 } in
+    let w : Used Progress = record { value = body.result; used = 256 } in
     let l' = lent_as t.new.tracked t.new.dropped t.new.work t.new.out in
     let v = c.put_count in record {
       by_index = λ n y. low_end n _ _ v.result
@@ -47,5 +48,5 @@ returns c = let a = c.args in
           c.put_end-done.ensures.by_index v.ensures.by_index;
       one_put = λ off τ ch ks co fo h z en. block_end a.run a.k.0 a.p off at.result at.ensures l w pre.1.1
           body.ensures (λ next s rows x y. cleared.ensures next s rows 256 x (omega arith) pre.1.0 y) refl τ ch ks co fo h en l' t.result
-          t.ensures.instructions_put _ c.put_end-done.new.work _ _ _ v.result c.in_ok-q.was c.put_end-done.ensures.end_put v.ensures.count_put z;
+          t.ensures.instructions_put _ c.put_end-done.new.work _ _ _ v.result c.in_ok-q.was (rw c.end.ensures at c.put_end-done.ensures.end_put) v.ensures.count_put z;
     }

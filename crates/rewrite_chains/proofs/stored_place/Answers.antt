@@ -6,4 +6,4 @@ returns c =
     λ i p x y o k.
     rw (c.place.ensures.0, c.fields_place.ensures)
     (stored_value c.args.code.bounds c.args.code.bytes.now _ _ _ _ i _ p x y c.instruction-t.ensures c.own_fields-u.ensures
-    (rw c.byte_at-n.ensures at c.projections_end-far.ensures.0) o.read k)
+    c.operand_first-first.ensures.0 o.read k)

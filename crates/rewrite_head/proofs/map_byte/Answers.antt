@@ -1,10 +1,6 @@
-use Rattle.rewrite_head.proofs.Bits.{map_byte}
-use Rattle.rewrite_head.specs.Head.{with_fresh}
+use Rattle.rewrite_head.proofs.Bits.{bits_again}
 use Rattle.rewrite_head.proofs.map_byte.Goals as goal
 
-pub returns : goal.returns
-returns c =
-    λ rs ts h. map_byte (with_fresh rs ts) c.args.v _ _ _ _ _ _ _ _ (c.bit_of-a.ensures.of_recorded rs ts h)
-    (c.bit_of-b.ensures.of_recorded rs ts h) (c.bit_of-c.ensures.of_recorded rs ts h) (c.bit_of-d.ensures.of_recorded rs ts h)
-    (c.bit_of-e.ensures.of_recorded rs ts h) (c.bit_of-f.ensures.of_recorded rs ts h)
-    (c.bit_of-g.ensures.of_recorded rs ts h) (c.bit_of-h.ensures.of_recorded rs ts h)
+pub loop-k-preserved : goal.loop-k-preserved
+loop-k-preserved c =
+    bits_again _ _ _ _ c.loop-k.invariant c.loop-k-test.true _ c.bit_of.ensures.upper_bound c.bit_of.ensures.of_recorded

@@ -9,7 +9,7 @@ pub returns-in-Keep-clause-performs : goal.returns-in-Keep-clause-performs
 returns-in-Keep-clause-performs c =
     let a = c.args in
     λ τ S i q types g line d. does_keep a.code S i q a.action d a.out.now _ types a.dropped.now _
-    a.p _ τ a.slot _ _ _ c.in-Keep.is refl g line c.place.ensures.0 c.end.ensures c.between-part.ensures
+    a.p _ τ a.slot _ c.in-Keep.is refl g line c.slot_bytes.ensures
     c.put_part.ensures.part_put
 
 pub returns-in-Track-clause-performs : goal.returns-in-Track-clause-performs

@@ -9,4 +9,4 @@ returns c = λ τ seen i n g e.
     let a = c.args in
     (phi_agrees a.typing.code.bounds a.t.now seen τ (λ d y ss u v l h. let o = c.type_at-y.ensures y v in
     and_both (c.id_has-dest.ensures _ _ τ d (some y) g u o)
-    (c.sources_fit-sources.ensures τ (some y) ss g o l (h ∙ sym c.byte_at-n.ensures)))).each i n e
+    (c.sources_fit-sources.ensures τ (some y) ss g o (rw (c.behind.ensures.bytes, c.behind.ensures.place) l) (h ∙ sym c.behind.ensures.many)))).each i n e

@@ -4,4 +4,4 @@ use Rattle.shelf_reason1.proofs.leave.Goals as goal
 
 pub returns : goal.returns
 returns c = λ τ i n g e.
-    (return_agrees c.args.typing.code.bounds c.args.t.now τ (λ xs l h. c.all_known.ensures _ _ τ xs g l (h ∙ sym c.byte_at-count.ensures))).each i n e
+    (return_agrees c.args.typing.code.bounds c.args.t.now τ (λ xs l h. c.all_known.ensures _ _ τ xs g (rw (c.behind.ensures.bytes, c.behind.ensures.place) l) (h ∙ sym c.behind.ensures.many))).each i n e

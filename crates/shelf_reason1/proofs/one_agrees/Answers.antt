@@ -1,8 +1,7 @@
-use Rattle.shelf_marks.proofs.Numbered.{slot_unknown}
 use Rattle.mir.specs.Kind.{number_of_kind}
 use Rattle.shelf.specs.Agrees.{agrees}
 use Rattle.shelf_reason1.proofs.Whole.{slot_told, kind_typed}
-use Rattle.std.proofs.Common.{[], true}
+use Rattle.std.proofs.Common.{[]}
 use Rattle.shelf_reason1.proofs.one_agrees.Goals as goal
 
 pub returns-in-Some : goal.returns-in-Some
@@ -10,6 +9,3 @@ returns-in-Some c =
     let a = c.args in
     λ τ i g w. slot_told a.code a.slot c.instruction.ensures c.own_fields-t.ensures c.in-Some.ensures i w (λ k m.
     kind_typed c.typing.result a.code c.typing.ensures.code c.typing.ensures.recorded τ c.own_fields-t.result.now (number_of_kind c.in-Some.kind) c.agrees.ensures [] k i.kind m g)
-
-pub returns-in-None : goal.returns-in-None
-returns-in-None c = slot_unknown c.args.code c.args.slot agrees true c.in-None.ensures

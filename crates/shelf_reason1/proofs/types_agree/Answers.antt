@@ -10,9 +10,10 @@ pub returns : goal.returns
 returns c =
     let a = c.args in
     let seen = replicate a.code.bounds.next false in
+    let l = c.behind.ensures in
     λ x n e d.
-    let p = c.tail-t.ensures ∙ ap (λ q. drop (q + 6) a.code.bytes.now) c.number-behind.ensures in
-    let w = parameters_told a.code.bounds c.tail-t.result.now seen x.parameters n (ap (defineds_of a.code.bounds.list a.code.bounds.next seen) p ∙ d) in
+    let p = c.behind-t.ensures ∙ ap (λ q. drop (q + 6) a.code.bytes.now) c.number-behind.ensures in
+    let w = parameters_told a.code.bounds c.behind-t.result.now seen x.parameters n (ap (defineds_of a.code.bounds.list a.code.bounds.next seen) p ∙ d) in
     routine_told with_debug x refl
-    (c.all_typed-known.ensures a.code.bytes.now a.code.facts.now (types_in x) x.parameters (rw (c.typing-typing.ensures.code, c.typing-typing.ensures.recorded) e.ground) (rw c.typing-typing.ensures.code w.0) (w.1 ∙ sym c.byte_at-count.ensures))
+    (c.all_typed-known.ensures a.code.bytes.now a.code.facts.now (types_in x) x.parameters (rw (c.typing-typing.ensures.code, c.typing-typing.ensures.recorded) e.ground) (rw (c.typing-typing.ensures.code, l.bytes, l.place) w.0) (w.1 ∙ sym l.many))
     (c.blocks_agree-fit.ensures (types_in x) x.blocks e)

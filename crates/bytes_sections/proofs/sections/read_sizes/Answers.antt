@@ -13,7 +13,7 @@ returns-in_err-next c =
 pub map_err-requires : goal.map_err-requires
 map_err-requires c = λ e q.
     let a = c.args in
-    let h = refused_within as_read (rw c.tail-second.ensures at c.section_count-2.ensures) (size_most a.m.blocks _) q in
+    let h = refused_within as_read (rw c.behind-second.ensures at c.section_count-2.ensures) (size_most a.m.blocks _) q in
     let k = length-drop 2 a.s.now in
     grind (serving, arith, h, k)
 
@@ -21,12 +21,12 @@ pub returns-in_err-blocks : goal.returns-in_err-blocks
 returns-in_err-blocks c =
     let a = c.args in
     let p = count_read a.m.next a.s.now 0 zero-le (sym (c.in_ok-next.ensures)) in
-    behind_bad as_read (λ z. ok z 6) 2 (search (rules, of_calls)) (rw c.tail-second.ensures at c.section_count-2.ensures) (λ k o e. sizes_blocks a.m a.s.now p e)
+    behind_bad as_read (λ z. ok z 6) 2 (search (rules, of_calls)) (rw c.behind-second.ensures at c.section_count-2.ensures) (λ k o e. sizes_blocks a.m a.s.now p e)
 
 pub map_err-requires-2 : goal.map_err-requires-2
 map_err-requires-2 c = λ e q.
     let a = c.args in
-    let h = refused_within as_read (rw c.tail-third.ensures at c.read_below.ensures) (size_below _ _) q in
+    let h = refused_within as_read (rw c.behind-third.ensures at c.read_below.ensures) (size_below _ _) q in
     let k = length-drop 4 a.s.now in
     grind (serving, arith, h, k)
 
@@ -35,8 +35,8 @@ returns-in_err-entry c =
     let a = c.args in
     let b : c.section_count-2.result ≡ Ok c.in_ok-blocks.blocks = search rules in
     let p = count_read a.m.next a.s.now 0 zero-le (sym (c.in_ok-next.ensures)) in
-    let q = count_read a.m.blocks a.s.now 2 (omega (arith, p.long)) (sym (was as_read (rw c.tail-second.ensures at c.section_count-2.ensures) b)) in
-    behind_bad as_read (λ z. ok z 6) 4 (search (rules, of_calls)) (rw c.tail-third.ensures at c.read_below.ensures) (λ k o e. sizes_entry a.m a.s.now p q e)
+    let q = count_read a.m.blocks a.s.now 2 (omega (arith, p.long)) (sym (was as_read (rw c.behind-second.ensures at c.section_count-2.ensures) b)) in
+    behind_bad as_read (λ z. ok z 6) 4 (search (rules, of_calls)) (rw c.behind-third.ensures at c.read_below.ensures) (λ k o e. sizes_entry a.m a.s.now p q e)
 
 pub returns : goal.returns
 returns c =
@@ -44,5 +44,5 @@ returns c =
     let b : c.section_count-2.result ≡ Ok c.in_ok-blocks.blocks = search rules in
     let e : c.read_below.result ≡ Ok c.in_ok-entry.entry = search rules in
     let p = count_read a.m.next a.s.now 0 zero-le (sym (c.in_ok-next.ensures)) in
-    let q = count_read a.m.blocks a.s.now 2 (omega (arith, p.long)) (sym (was as_read (rw c.tail-second.ensures at c.section_count-2.ensures) b)) in
-    sizes_some a.m a.s.now p q (sym (was as_read (rw c.tail-third.ensures at c.read_below.ensures) e))
+    let q = count_read a.m.blocks a.s.now 2 (omega (arith, p.long)) (sym (was as_read (rw c.behind-second.ensures at c.section_count-2.ensures) b)) in
+    sizes_some a.m a.s.now p q (sym (was as_read (rw c.behind-third.ensures at c.read_below.ensures) e))

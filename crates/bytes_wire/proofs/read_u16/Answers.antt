@@ -1,7 +1,0 @@
-use Rattle.std.proofs.Common.{◌∙◌, ap, arith}
-use Rattle.bytes_wire.specs.Parse.{ok}
-use Rattle.bytes_wire.proofs.Chunks.{two}
-use Rattle.bytes_wire.proofs.read_u16.Goals as goal
-
-pub returns : goal.returns
-returns c = ap (λ x. ok x 2) (omega (arith, c.from_le_bytes.ensures, two c.in_ok-bytes.bytes.now c.in_ok-bytes.ensures.long)) ∙ c.in_ok-bytes.ensures.told

@@ -3,11 +3,12 @@ use Rattle.std.specs.Prelude.{true, false, ◌&&◌, length, leb}
 use Rattle.std.proofs.Math.Bool as B
 use Rattle.std.proofs.Math.Option.{Option, none, some}
 use Rattle.mir.specs.MirType.{MirType, Felt, Bool, U32, Tuple, Struct, FixedArray, Pointer, Function, Unit, Error, Unknown}
+use Rattle.fold.specs.declared.Edition.{Edition}
 use Rattle.fold.specs.declared.Settings.{Settings}
 
--- `Config::default()`
+-- `Config::default()`, edition 1
 abbrev pub defaults : Settings
-defaults = record { tuples = true; structs = true; most = 8 }
+defaults = record { tuples = true; structs = true; most = 8; edition = Edition.First }
 
 -- sroa.rs 172, `is_scalarizable`
 unfoldable pub is_scalarizable : Settings → Option MirType → B.Bool

@@ -1,6 +1,7 @@
 -- THE THEOREM of demand 3: no hypothesis but that the pass gave shelf reason 0.
 use Prim.Native.Nat.{ℕ, ◌≤◌}
 use mathlib.Core.Path.{◌≡◌, refl, ap, ◌∙◌, sym}
+use mathlib.Core.Option.{Option, none, some}
 use mathlib.Core.List.{List}
 use mathlib.Core.Bool.{Bool, true, false, cond}
 use native.Mathlib.Omega.{arith}
@@ -16,8 +17,9 @@ use Rattle.bytes_laws_whole.proofs.Whole.{whole_canon, whole_fit}
 use Rattle.bytes_laws_whole.proofs.Example.{mosts_wide}
 use Rattle.fold.specs.declared.Settings.{Settings}
 use Rattle.rewrite.specs.declared.Counts.{Counts}
+use Rattle.rewrite.specs.declared.Fault.{Fault}
 use Rattle.rewrite.specs.Run.{Rewritten, choice, rewritten_by, rewritten_blocks, rewrite_with, rewrite}
-use Rattle.rewrite.specs.Outcome.{Outcome, fitted_in, rewritten, of_input, outcome}
+use Rattle.rewrite.specs.Outcome.{Outcome, fitted_in, unless, rewritten, of_input, outcome}
 use Rattle.rewrite_laws.proofs.Whole.{output_decodes}
 use Rattle.shelf.specs.Reason.{shelf_reason}
 use Rattle.shelf.specs.Answer.{Answer, reason_of, with_reason, answer}
@@ -31,9 +33,9 @@ use Rattle.machine_claim.proofs.Facts.{static}
 
 -- ---- what a lowered answer says
 
--- the routine behind it, its rewriting's bytes, which have room, and its reason
+-- the routine behind it, its rewriting's bytes, which have room, and its reason; the rewriting has no fault
 data From (σ : Settings) (room : ℕ) (p : Parse Routine) (k : ℕ) (bytes : List ℕ) : Type 0 where
-  from : (r : Routine) (n : ℕ) → p ≡ ok r n → bytes ≡ encode (rewrite σ r) → length bytes ≤ room → k ≡ reason_of σ (ok r n) → From σ room p k bytes
+  from : (r : Routine) (n : ℕ) → p ≡ ok r n → bytes ≡ encode (rewrite σ r) → length bytes ≤ room → k ≡ reason_of σ (ok r n) → (rewritten_blocks σ r).fault ≡ none → From σ room p k bytes
 
 no_refusal : {n o : ℕ} {w : Bool} {c : Counts} {k : ℕ} {bytes : List ℕ} → Answer.refused n o ≡ Answer.lowered w c k bytes → ⊥
 no_refusal {n} {o} {w} {c} {k} {bytes} e = let z : ◌≡◌ {A = ℕ} 0 1 = cc in omega arith
@@ -43,17 +45,19 @@ unfolding with_reason
 of_fitted room true v w c e k j all bytes l h = absurd (no_refusal h)
 of_fitted room false v w c e k j all bytes l h = let same : bytes ≡ all = cc in (same, rw same (ltb-false room (length all) l), cc)
 
-of_clash : (room : ℕ) (v : Rewritten) (r : Routine) (x w : Bool) (c : Counts) (k j : ℕ) (bytes : List ℕ) → with_reason j (cond x (Outcome.refused 10 0) (fitted_in room v (encode (rewrite_with v r)))) ≡ Answer.lowered w c k bytes → (bytes ≡ encode (rewrite_with v r)) × (length bytes ≤ room) × (k ≡ j)
-unfolding with_reason fitted_in
-of_clash room v r true w c k j bytes h = absurd (no_refusal h)
-of_clash room v r false w c k j bytes h = of_fitted room (ltb room (length (encode (rewrite_with v r)))) v.changed w c v.counts k j (encode (rewrite_with v r)) bytes refl h
+of_fault : (room : ℕ) (v : Rewritten) (r : Routine) (o : Option Fault) (w : Bool) (c : Counts) (k j : ℕ) (bytes : List ℕ) → with_reason j (unless o (fitted_in room v (encode (rewrite_with v r)))) ≡ Answer.lowered w c k bytes → (bytes ≡ encode (rewrite_with v r)) × (length bytes ≤ room) × (k ≡ j) × (o ≡ none)
+unfolding with_reason unless fitted_in
+of_fault room v r (some f) w c k j bytes h = absurd (no_refusal h)
+of_fault room v r none w c k j bytes h =
+    let z = of_fitted room (ltb room (length (encode (rewrite_with v r)))) v.changed w c v.counts k j (encode (rewrite_with v r)) bytes refl h in
+    (z.0, z.1, z.2, refl)
 
 of_input_lem : (σ : Settings) (room : ℕ) (p : Parse Routine) (w : Bool) (c : Counts) (k : ℕ) (bytes : List ℕ) → with_reason (reason_of σ p) (of_input σ room p) ≡ Answer.lowered w c k bytes → From σ room p k bytes
 unfolding reason_of of_input rewritten rewrite with_reason
 of_input_lem σ room (bad q o) w c k bytes h = absurd (no_refusal h)
 of_input_lem σ room (ok r n) w c k bytes h =
-    let z = of_clash room (rewritten_blocks σ r) r (rewritten_blocks σ r).clash w c k (reason_of σ (ok r n)) bytes h in
-    From.from r n refl z.0 z.1 z.2
+    let z = of_fault room (rewritten_blocks σ r) r (rewritten_blocks σ r).fault w c k (reason_of σ (ok r n)) bytes h in
+    From.from r n refl z.0 z.1 z.2 z.3
 
 of_settings : (σ : Settings) (room : ℕ) (p : Parse Routine) (x w : Bool) (c : Counts) (k : ℕ) (bytes : List ℕ) → with_reason (reason_of σ p) (cond x (Outcome.refused 12 0) (of_input σ room p)) ≡ Answer.lowered w c k bytes → From σ room p k bytes
 unfolding with_reason
@@ -66,7 +70,7 @@ of_answer σ room s w c k bytes h = of_settings σ room (whole_of mosts s) (ltb 
 
 -- the output has room for it
 pub with_room : (σ : Settings) (room : ℕ) (s : List ℕ) (w : Bool) (c : Counts) (k : ℕ) (bytes : List ℕ) → answer σ room s ≡ Answer.lowered w c k bytes → length bytes ≤ room
-with_room σ room s w c k bytes h = elim (of_answer σ room s w c k bytes h) [ from r n e f l g ↦ l ]
+with_room σ room s w c k bytes h = elim (of_answer σ room s w c k bytes h) [ from r n e f l g u ↦ l ]
 
 -- ---- the theorem
 
@@ -80,7 +84,7 @@ pub indistinguishable : {A : Type 0} (M : Meaning A) → CannotTell M
 unfolding RunsAlike rewrite rewritten_by rewritten_blocks
 indistinguishable M σ room s w c k bytes b h q =
     elim (of_answer σ room s w c k bytes h) [
-      | from r n e f l g ↦
+      | from r n e f l g u ↦
           let z : n ≡ length s = (whole_canon mosts s b e).1 in
           let ok_all : whole_of mosts s ≡ ok r (length s) = e ∙ ap (λ q. ok r q) z in
           let fit = whole_fit mosts s mosts_wide b e in
@@ -89,7 +93,7 @@ indistinguishable M σ room s w c k bytes b h q =
             original = r;
             rewritten = rewrite σ r;
             read = ok_all;
-            filed = rw f (output_decodes σ (choice σ r) r fit);
+            filed = rw f (output_decodes σ (choice σ r) r fit u);
             same = runs;
             fine = λ v n p. rw (runs v n p) at p;
           }

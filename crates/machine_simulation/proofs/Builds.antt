@@ -10,14 +10,16 @@ use Rattle.mir.specs.declared.ValueId.{ValueId}
 use Rattle.mir.specs.declared.TypeId.{TypeId}
 use Rattle.mir.specs.declared.Value.{Value}
 use Rattle.mir.specs.MirType.{MirType, StructField}
-use Rattle.mir.specs.Syntax.{Meta, Instruction, InstructionKind, Terminator, Assign, MakeTuple, MakeStruct, MakeFixedArray, FieldInit}
+use Rattle.mir.specs.Syntax.{Meta, Instruction, Terminator, Assign, MakeTuple, MakeStruct, MakeFixedArray, FieldInit}
 use Rattle.mir.specs.Reads.{operands, dests, init_values}
 use Rattle.mir.specs.Lookup.{Types, row_of, recorded_type, value_row, shape, is_struct, struct_fields_of, on_some}
 use Rattle.mir.specs.MirType as Y
 use Rattle.mir.specs.Parts.{given, or_else, struct_row, field_type, part_type, part_count, counts, from_struct_fields, struct_parts}
 use Rattle.rewrite.specs.State.{AggStates, state_of}
 use Rattle.rewrite.specs.Rebuild.{aggregate_type}
-use Rattle.rewrite.specs.Step.{one_build, one_assign, step_build, folded_parts, step_assign, step_kind}
+use Rattle.rewrite.specs.Piece.{one_build, one_assign}
+use Rattle.rewrite.specs.Stays.{stays}
+use Rattle.rewrite.specs.Step.{step_build, folded_parts, step_assign, step_kind}
 use Rattle.machine.specs.Values.{Val, Vals}
 use Rattle.machine.specs.Records.{Env, goes, unwritten, too_large}
 use Rattle.machine.specs.Places.{part_row}
@@ -31,11 +33,8 @@ use Rattle.machine_simulation.proofs.Tools.{both_l, both_r, none_some, all→eve
 use Rattle.machine_simulation.proofs.Frame.{is_part, cons_part_inv, cond_some, parts_in, changes, changed_base}
 use Rattle.machine_simulation.proofs.Invariant.{Ctx, Parts}
 use Rattle.machine_simulation.proofs.Generic.{Good, does, Sim, SimP, reads_low}
-use Rattle.machine_simulation.proofs.Cases.{sim_kept, reads_calm, parts_free, is_typed, Makes, made, stuck, left_out, same_type→eq, same_row, handed_on}
-
--- an instruction from its kind and what stands beside it
-abbrev pub at : Meta → InstructionKind → Instruction
-at m k = record { meta = m; kind = k }
+use Rattle.machine_simulation.proofs.Cases.{reads_calm, parts_free, is_typed, Makes, made, stuck, left_out, same_type→eq, same_row, handed_on, at}
+use Rattle.machine_simulation.proofs.Stays.{sim_stays}
 
 -- ---- typing
 
@@ -70,9 +69,9 @@ sim_build : {A : Type 0} (κ : Ctx A) (φ : ValueId → Bool) (i : Instruction) 
     → ((xs : List Value) → o ≡ some xs → Good κ (i ∷ is) t → Parts κ (i ∷ is) xs)
     → ((xs : List Value) → o ≡ some xs → Good κ (i ∷ is) t → Whole κ.types (recorded_type κ.types d) xs)
     → ((xs : List Value) → o ≡ some xs → Good κ (i ∷ is) t → (E : Env A) (w : List (Val A)) → Makes κ E i w d xs)
-    → SimP κ φ i is t S n (step_build S i d o)
+    → SimP κ φ i is t S n (step_build S (stays κ.set κ.types S n i) d o)
 unfolding step_build
-sim_build κ φ i is t S n d sim nb de none pa sh mk = sim_kept κ φ i is t S n sim
+sim_build κ φ i is t S n d sim nb de none pa sh mk = sim_stays κ φ i is t S n sim
 sim_build κ φ i is t S n d sim nb de (some xs) pa sh mk =
     left_out κ φ i is t S n one_build d xs sim nb de (λ E tk g. pa xs refl g) (λ E tk g. sh xs refl g) (λ E w tk g. mk xs refl g E w)
 
@@ -100,7 +99,7 @@ sim_list : {A : Type 0} (κ : Ctx A) (φ : ValueId → Bool) (i : Instruction) (
     → ((v : ℕ) → T (not (among v (changes κ.types i.kind)))) → dests i.kind ≡ d ∷ []
     → (Good κ (i ∷ is) t → Parts κ (i ∷ is) xs) → (Good κ (i ∷ is) t → T (parts_fit κ.types (recorded_type κ.types d) xs))
     → ((E : Env A) (w : List (Val A)) → does κ i E w ≡ built κ.mean κ.types d (eval_all κ.mean E (part_row κ.types (value_row κ.types d)) xs) w)
-    → SimP κ φ i is t S n (step_build S i d (folded_parts (φ d) (some xs)))
+    → SimP κ φ i is t S n (step_build S (stays κ.set κ.types S n i) d (folded_parts (φ d) (some xs)))
 sim_list κ φ i is t S n d xs sim nb de pa fi ex =
     sim_build κ φ i is t S n d sim nb de (folded_parts (φ d) (some xs))
     (λ ys h g. let e : xs ≡ ys = same ys (folded_inv (φ d) (some xs) ys h) in rw (← e) (pa g))
@@ -274,9 +273,9 @@ assign_does κ m d x u E w y e = rw e
 assign_go : {A : Type 0} (κ : Ctx A) (φ : ValueId → Bool) (m : Meta) (d : ValueId) (x : Value) (u : TypeId) (is : List Instruction) (t : Terminator)
     (S : AggStates) (n : ℕ) → Sim κ φ is t
     → (o : Option (List Value)) → on_some (aggregate_type κ.types u) (λ v. state_of S x) ≡ o
-    → SimP κ φ (at m (Assign d x u)) is t S n (step_assign S (at m (Assign d x u)) d o)
+    → SimP κ φ (at m (Assign d x u)) is t S n (step_assign S (stays κ.set κ.types S n (at m (Assign d x u))) d o)
 unfolding step_assign changed_base typed
-assign_go κ φ m d x u is t S n sim none e = sim_kept κ φ (at m (Assign d x u)) is t S n sim
+assign_go κ φ m d x u is t S n sim none e = sim_stays κ φ (at m (Assign d x u)) is t S n sim
 assign_go κ φ m d x u is t S n sim (some xs) e =
     let i : Instruction = at m (Assign d x u) in
     elim (on_some_inv (aggregate_type κ.types u) (λ v. state_of S x) xs e) [

@@ -1,8 +1,8 @@
 -- What stands behind rebuilds: a Call.
 use mathlib.Core.Path.{◌≡◌, refl, sym, ap, ◌∙◌}
 use Prim.Native.Nat.{ℕ, ◌+◌, ◌≤◌}
-use mathlib.Core.Bool.{Bool, true, false, cond, not}
-use mathlib.Core.Option.{Option, none, some}
+use mathlib.Core.Bool.{Bool, true, false, not}
+use mathlib.Core.Option.{Option, some}
 use mathlib.Core.List.{List, [], ◌∷◌, ◌++◌, append_assoc}
 use native.Mathlib.Omega.{arith}
 use lib.Dec.{T}
@@ -14,10 +14,10 @@ use Rattle.mir.specs.MirType.{MirType}
 use Rattle.mir.specs.Syntax.{Meta, Instruction, Terminator, Call, plain}
 use Rattle.mir.specs.Reads.{operands}
 use Rattle.mir.specs.Lists.{Each}
-use Rattle.mir.specs.Lookup.{Types, row_of, is_aggregate}
+use Rattle.mir.specs.Lookup.{Types}
 use Rattle.rewrite.specs.State.{AggStates}
-use Rattle.rewrite.specs.Rebuild.{Rebuilt, Wanted, rebuild_all, aggregate_type, wanted_arguments}
-use Rattle.rewrite.specs.Step.{step_call, step_kind}
+use Rattle.rewrite.specs.Rebuild.{Rebuilt, Wanted, rebuild_all, wanted_arguments}
+use Rattle.rewrite.specs.Stays.{step_call}
 use Rattle.rewrite.specs.Run.{glue}
 use Rattle.machine.specs.Values.{Val}
 use Rattle.machine.specs.Records.{Env, Event}
@@ -29,14 +29,14 @@ use Rattle.shelf.specs.Lists.{every, among}
 use Rattle.shelf.specs.Fits.{fits, arguments_fit}
 use Rattle.machine_simulation.specs.Typing.{typed}
 use Rattle.shelf.specs.Reads.{counted_reads}
-use Rattle.machine_simulation.proofs.Tools.{both_l, both_r, none_some}
+use Rattle.machine_simulation.proofs.Tools.{both_l, both_r}
 use Rattle.machine_simulation.proofs.Frame.{changes, changed_base}
 use Rattle.machine_simulation.proofs.Retype.{retyped, Alike, exec_later}
 use Rattle.machine_simulation.proofs.Invariant.{Ctx, Tracks, Agree}
 use Rattle.machine_simulation.proofs.Generic.{FineLeft, Match, Good, OkOut, ok_later, recorded_l, reruns, walks, runs_from, does, Sim, SimP, clean_l, clean_r, clean_one, reads_low, dests_low, low_alike, resume}
-use Rattle.machine_simulation.proofs.Cases.{sim_kept, is_typed}
-use Rattle.machine_simulation.proofs.Builds.{at}
-use Rattle.machine_simulation.proofs.Rebuilds.{wanted_values, AtOwn, Ran, ran, agree_same, rebuilt}
+use Rattle.machine_simulation.proofs.Cases.{sim_kept, is_typed, at}
+use Rattle.machine_simulation.proofs.Rebuilds.{wanted_values, AtOwn, Ran, ran, agree_same, rebuilt, aggregate_own}
+use Rattle.machine_simulation.proofs.Twins.{Twins, twins_eval}
 
 -- the first of several instructions
 exec_cons : {A : Type 0} (κ : Ctx A) (i : Instruction) (is : List Instruction) (t : Terminator) (E : Env A) (w : List (Val A)) (rec : List (Event A))
@@ -50,14 +50,14 @@ pub after_builds : {A : Type 0} (κ : Ctx A) (φ : ValueId → Bool) (i j : Inst
     → Tracks κ S E (i ∷ is) → Agree κ E F → Good κ (i ∷ is) t → OkOut κ (n + k) (walks κ φ S (n + k) is t)
     → ((v : ℕ) (ys : List Value) → S v ≡ some ys → T (not (among v (changes κ.types i.kind))))
     → Ran κ n xs r E F
-    → ((G : Env A) → Agree κ E G → ((rows : ℕ → Option MirType) → eval_all κ.mean G rows r.values ≡ eval_all κ.mean E rows xs) → exec κ.mean (retyped κ.types κ.later) j.kind G w ≡ does κ i E w)
+    → ((G : Env A) → Agree κ E G → (T (every (λ v. not (κ.dr v.0)) (operands r.values)) → Twins κ.mean (retyped κ.types κ.later) E G xs r.values) → exec κ.mean (retyped κ.types κ.later) j.kind G w ≡ does κ i E w)
     → FineLeft (runs_from κ (does κ i E w) is t E rec)
     → Match κ (runs_from κ (does κ i E w) is t E rec)
     (reruns κ ((r.before ++ (j ∷ [])) ++ (walks κ φ S (n + k) is t).out) (walks κ φ S (n + k) is t).terminator F w rec)
-after_builds κ φ i j is t S n k xs r E F w rec sim le tk ag g ok hb (ran G sm vl rn) same f =
+after_builds κ φ i j is t S n k xs r E F w rec sim le tk ag g ok hb (ran G sm tw rn) same f =
     let q = walks κ φ S (n + k) is t in
     let ag' = agree_same κ n E F G le ag sm in
-    rw (append_assoc r.before (j ∷ []) q.out) (rw (rn (j ∷ q.out) q.terminator w rec) (rw (exec_cons κ j q.out q.terminator G w rec) (rw (same G ag' vl)
+    rw (append_assoc r.before (j ∷ []) q.out) (rw (rn (j ∷ q.out) q.terminator w rec) (rw (exec_cons κ j q.out q.terminator G w rec) (rw (same G ag' tw)
     (resume κ φ i is t S (n + k) E G w rec sim (omega arith) tk ag' g ok hb (does κ i E w) refl f))))
 
 -- ---- a Call
@@ -68,15 +68,6 @@ unfolding wanted_arguments
 call_values τ [] ps = refl
 call_values τ (x ∷ xs) [] = ap (λ (l : List Value). x ∷ l) (call_values τ xs [])
 call_values τ (x ∷ xs) (p ∷ ps) = ap (λ (l : List Value). x ∷ l) (call_values τ xs ps)
-
--- the type asked for is the parameter's
-aggregate_own : (τ : Types) (p t : TypeId) → aggregate_type τ p ≡ some t → p ≡ t
-unfolding aggregate_type
-aggregate_own τ p t e = own (is_aggregate (row_of τ (some p))) e
-  where
-    own : (b : Bool) → cond b (some p) none ≡ some t → p ≡ t
-    own true z = cc
-    own false z = absurd (none_some z)
 
 -- each argument fits the type that it is rebuilt at
 call_own : (τ : Types) (S : AggStates) (xs : List Value) (ps : List TypeId) → T (arguments_fit τ xs ps) → AtOwn τ S (wanted_arguments τ xs ps)
@@ -108,7 +99,7 @@ clean_call true dr ds f ys ps rs t = t
 clean_call false dr ds f ys ps rs t = t
 
 -- a Call: kept, or built anew behind rebuilds
-call_go : {A : Type 0} (κ : Ctx A) (φ : ValueId → Bool) (m : Meta) (ds : List ValueId) (f : ℕ) (xs : List Value) (ps rs : List TypeId)
+pub call_go : {A : Type 0} (κ : Ctx A) (φ : ValueId → Bool) (m : Meta) (ds : List ValueId) (f : ℕ) (xs : List Value) (ps rs : List TypeId)
     (is : List Instruction) (t : Terminator) (S : AggStates) (n : ℕ) → Sim κ φ is t
     → (us : List TypeId) → (rebuild_all κ.types S n (wanted_arguments κ.types xs ps)).fresh ≡ us
     → SimP κ φ (at m (Call ds f xs ps rs)) is t S n (step_call S (at m (Call ds f xs ps rs)) ds f ps rs (rebuild_all κ.types S n (wanted_arguments κ.types xs ps)) us)
@@ -125,13 +116,6 @@ call_go κ φ m ds f xs ps rs is t S n sim (u ∷ us) e = λ E F w rec le tk ag 
     after_builds κ φ i j is t S n (length (u ∷ us)) (wanted_values ws) r E F w rec sim le tk ag g (ok_later κ n (step_call S i ds f ps rs r (u ∷ us)) q ok) (λ v ys h. tt)
     (rebuilt κ S E (i ∷ is) tk ws (call_own τ S xs ps (is_typed κ i is t g)) n F le ag (rw (call_values τ xs ps) (reads_low κ i is t g))
     (clean_l κ.mean.debug κ.dr r.before (j ∷ []) c1)
-    (clean_call κ.mean.debug κ.dr ds f r.values ps rs (clean_one κ.mean.debug κ.dr j [] (clean_r κ.mean.debug κ.dr r.before (j ∷ []) c1)))
     (rw e (recorded_l (retyped τ κ.later) n (u ∷ us) q.fresh ok.fresh)))
-    (λ G ag' vl. call_same κ m ds f xs r.values ps rs E G w (low_alike κ ds (dests_low κ i is t g)) (λ rows. vl rows ∙ ap (eval_all κ.mean E rows) (call_values τ xs ps))) fn
-
--- a Call
-pub sim_call : {A : Type 0} (κ : Ctx A) (φ : ValueId → Bool) (m : Meta) (ds : List ValueId) (f : ℕ) (xs : List Value) (ps rs : List TypeId)
-    (is : List Instruction) (t : Terminator) (S : AggStates) (n : ℕ) → Sim κ φ is t
-    → SimP κ φ (at m (Call ds f xs ps rs)) is t S n (step_kind κ.set κ.types φ S n (at m (Call ds f xs ps rs)) (Call ds f xs ps rs))
-unfolding step_kind
-sim_call κ φ m ds f xs ps rs is t S n sim = call_go κ φ m ds f xs ps rs is t S n sim (rebuild_all κ.types S n (wanted_arguments κ.types xs ps)).fresh refl
+    (λ G ag' tw. call_same κ m ds f xs r.values ps rs E G w (low_alike κ ds (dests_low κ i is t g)) (λ rows. twins_eval κ.mean (retyped τ κ.later) E G (wanted_values ws) r.values
+    (tw (clean_call κ.mean.debug κ.dr ds f r.values ps rs (clean_one κ.mean.debug κ.dr j [] (clean_r κ.mean.debug κ.dr r.before (j ∷ []) c1)))) rows ∙ ap (eval_all κ.mean E rows) (call_values τ xs ps))) fn

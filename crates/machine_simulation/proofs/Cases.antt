@@ -11,13 +11,14 @@ use Rattle.mir.specs.declared.TypeId.{TypeId}
 use Rattle.mir.specs.declared.Value.{Value}
 use Rattle.mir.specs.MirType.{MirType}
 use Rattle.mir.specs.Syntax.{Instruction, InstructionKind, Terminator, Assign, UnaryOp, BinaryOp, Call, Cast, Load, Store, Debug, Nop, Phi}
-use Rattle.mir.specs.Syntax.{MakeTuple, ExtractTupleElement, MakeStruct, ExtractStructField, InsertField, InsertTuple, MakeFixedArray, AssertEq, HeapAllocCells}
+use Rattle.mir.specs.Syntax.{MakeTuple, ExtractTupleElement, MakeStruct, ExtractStructField, InsertField, InsertTuple, MakeFixedArray, AssertEq, HeapAllocCells, Meta}
 use Rattle.mir.specs.Reads.{reads, dests}
 use Rattle.mir.specs.Lists.{Each}
 use Rattle.mir.specs.Lookup.{Types, row_of, recorded_type, value_row}
 use Rattle.rewrite.specs.State.{AggStates, insert_state, state_of}
 use Rattle.rewrite.specs.declared.Counts.{Counts}
-use Rattle.rewrite.specs.Step.{Piece, no_counts, kept, left, tracked}
+use Rattle.rewrite.specs.Fault.{full_fault}
+use Rattle.rewrite.specs.Piece.{Piece, no_counts, kept, left, tracked}
 use Rattle.rewrite.specs.Run.{Walked, glue}
 use Rattle.machine.specs.Values.{Val, Vals, aggregate}
 use Rattle.machine.specs.Records.{Env, write, write_all, Event, Cause, goes, stops, log}
@@ -39,9 +40,13 @@ use Rattle.machine_simulation.proofs.Retype.{retyped, Alike, looks, looks_in, ex
 use Rattle.machine_simulation.proofs.Invariant.{Ctx, Parts, Tracked, Tracks, Agree, kept_values, parts_later, tracked_on}
 use Rattle.machine_simulation.proofs.Generic.{FineLeft, Match, Good, good_later, OkOut, ok_later, reruns, walks, runs_from, does, Sim, SimP, clean_one, bases_ok, reads_low, dests_low, same_reads, low_alike, resume}
 
+-- an instruction from its kind and what stands beside it
+abbrev pub at : Meta → InstructionKind → Instruction
+at m k = record { meta = m; kind = k }
+
 -- one instruction put out, and nothing tracked
 abbrev pub alone : Counts → Bool → AggStates → Instruction → Piece
-alone c b S j = record { out = j ∷ []; dropped = []; states = S; fresh = []; counts = c; changed = b; clash = false }
+alone c b S j = record { out = j ∷ []; dropped = []; states = S; fresh = []; counts = c; changed = b; fault = full_fault }
 
 -- no fresh number is taken
 pub more : (m n : ℕ) → m ≤ n → m ≤ n + 0
@@ -73,7 +78,7 @@ base_other τ x b t = either (is_pointer (value_row τ b))
     either false = nor_i (eqb x b.0) false t tt
 
 -- a base that is read is not dropped
-base_read : (τ : Types) (i : InstructionKind) (debug : Bool) (dr : ℕ → Bool) (x : ℕ) → T (dr x)
+pub base_read : (τ : Types) (i : InstructionKind) (debug : Bool) (dr : ℕ → Bool) (x : ℕ) → T (dr x)
     → T (every (λ v. not (dr v.0)) (counted_reads debug i)) → T (not (among x (changes τ i)))
 unfolding changed_base
 base_read τ (Assign d v u) debug dr x s t = tt

@@ -4,9 +4,8 @@ use Prim.Native.Nat.{ℕ, ◌≤◌}
 use mathlib.Core.Bool.{Bool, not}
 use mathlib.Core.Option.{Option, none, some}
 use mathlib.Core.List.{List, [], ◌∷◌, ◌++◌}
-use lib.Dec.{T, eqb_refl, ltb}
+use lib.Dec.{T, ltb}
 use Rattle.mir.specs.declared.ValueId.{ValueId}
-use Rattle.mir.specs.declared.TypeId.{TypeId}
 use Rattle.mir.specs.declared.Value.{Value}
 use Rattle.mir.specs.Syntax.{Meta, Instruction, InstructionKind, Terminator, Assign, UnaryOp, BinaryOp, Call, Cast, Load, Store, Debug, Nop, Phi}
 use Rattle.mir.specs.Syntax.{MakeTuple, ExtractTupleElement, MakeStruct, ExtractStructField, InsertField, InsertTuple, MakeFixedArray, AssertEq, HeapAllocCells}
@@ -15,10 +14,11 @@ use Rattle.mir.specs.Lists.{Each}
 use Rattle.mir.specs.Lookup.{Types}
 use Rattle.mir.specs.Syntax.{Jump, If, BranchCmp, Return, Unreachable}
 use Rattle.mir.specs.declared.BlockId.{BlockId}
+use Rattle.fold.specs.declared.Edition.{Edition}
 use Rattle.rewrite.specs.State.{AggStates}
-use Rattle.rewrite.specs.Rebuild.{Rebuilt, Wanted, rebuild_all, return_type, wanted_returns}
+use Rattle.rewrite.specs.Rebuild.{Rebuilt, wanted_returns}
 use Rattle.rewrite.specs.Step.{step_kind, step}
-use Rattle.rewrite.specs.Run.{ends, returned, finish, glue, walk}
+use Rattle.rewrite.specs.Run.{ends, returned, finish, glue, walk, rebuilt_return}
 use Rattle.machine.specs.Values.{Val, Vals}
 use Rattle.machine.specs.Meaning.{Verdict, says, balks}
 use Rattle.machine.specs.Records.{Env, write_all, Event, unwritten, own, Out, goes, stops, log}
@@ -29,23 +29,24 @@ use Rattle.machine.specs.Evaluate.{eval, eval_all}
 use Rattle.machine.specs.Exec.{exec}
 use Rattle.machine.specs.Run.{onward, needed, branch, judged, exec_terminator, exec_all}
 use Rattle.shelf.specs.Lists.{every}
-use Rattle.shelf.specs.Fits.{same_type, fits}
 use Rattle.shelf.specs.Reads.{counted_reads, clean, clean_terminator}
 use Rattle.shelf.proofs.Flag.{counted_of}
 use Rattle.machine_simulation.specs.Static.{below}
-use Rattle.machine_simulation.proofs.Tools.{both_l, both_r, none_some}
+use Rattle.machine_simulation.proofs.Tools.{both_l, both_r}
 use Rattle.machine_simulation.proofs.Frame.{Same, rest_of, eval_same, eval_all_same, exec_same, write_both}
 use Rattle.machine_simulation.proofs.Retype.{retyped, Alike, looks_in, exec_later, terminator_later}
 use Rattle.machine_simulation.proofs.Invariant.{Ctx, Tracks, Agree}
-use Rattle.machine_simulation.proofs.Generic.{Match, on, over, halt, OkOut, runs, reruns, Sim, SimP, same_reads, low_alike}
-use Rattle.machine_simulation.proofs.Cases.{sim_kept}
-use Rattle.machine_simulation.proofs.Builds.{at, sim_make_tuple, sim_make_struct, sim_make_fixed_array, sim_assign}
+use Rattle.machine_simulation.proofs.Generic.{Match, on, over, halt, OkOut, runs, reruns, Sim, SimP, same_reads, low_alike, Recorded}
+use Rattle.machine_simulation.proofs.Cases.{at}
+use Rattle.machine_simulation.proofs.Builds.{sim_make_tuple, sim_make_struct, sim_make_fixed_array, sim_assign}
 use Rattle.machine_simulation.proofs.Takes.{sim_extract_tuple_element, sim_extract_struct_field}
 use Rattle.machine_simulation.proofs.Loads.{sim_load}
 use Rattle.machine_simulation.proofs.Puts.{sim_insert_tuple, sim_insert_field}
-use Rattle.machine_simulation.proofs.Calls.{sim_call}
 use Rattle.machine_simulation.proofs.Stores.{sim_store}
-use Rattle.machine_simulation.proofs.Rebuilds.{wanted_values, AtOwn, Ran, ran, rebuilt}
+use Rattle.machine_simulation.proofs.Rebuilds.{wanted_values, AtOwn, Ran, ran, rebuilt, type_own}
+use Rattle.machine_simulation.proofs.Deep.{deep_rebuilt}
+use Rattle.machine_simulation.proofs.Stays.{sim_stays}
+use Rattle.machine_simulation.proofs.Twins.{twins_eval}
 
 -- ---- terminators that stay
 
@@ -118,13 +119,6 @@ unfolding wanted_returns
 return_values τ [] = refl
 return_values τ (x ∷ xs) = ap (λ (l : List Value). x ∷ l) (return_values τ xs)
 
--- a value fits its recorded type
-type_own : (τ : Types) (x : Value) (t : TypeId) → return_type τ x ≡ some t → T (fits τ x (some t))
-unfolding return_type fits same_type
-type_own τ (Value.Literal l) t e = absurd (none_some e)
-type_own τ (Value.Operand v) t e = rw e (eqb_refl t.0)
-type_own τ Value.Error t e = absurd (none_some e)
-
 -- a returned value is rebuilt at its own type
 return_own : (τ : Types) (S : AggStates) (xs : List Value) → AtOwn τ S (wanted_returns τ xs)
 unfolding wanted_returns
@@ -144,22 +138,30 @@ runs_nil κ t E w rec = refl
 
 -- a Return behind its rebuilds
 return_ran : {A : Type 0} (κ : Ctx A) (xs : List Value) (n : ℕ) (r : Rebuilt) (E F : Env A) (w : List (Val A)) (rec : List (Event A)) → Ran κ n xs r E F
+    → T (every (λ v. not (κ.dr v.0)) (operands r.values))
     → Match κ (exec_terminator κ.mean κ.types (Return xs) E w rec) (reruns κ r.before (Return r.values) F w rec)
-return_ran κ xs n r E F w rec (ran G sm vl rn) =
+return_ran κ xs n r E F w rec (ran G sm tw rn) cv =
     rw (← (append_nil r.before)) (rw (rn [] (Return r.values) w rec) (rw (runs_nil κ (Return r.values) G w rec)
-    (rw (return_same κ xs r.values E G w rec (vl no_row)) (return_match κ xs E w rec (eval_all κ.mean E no_row xs) refl))))
+    (rw (return_same κ xs r.values E G w rec (twins_eval κ.mean (retyped κ.types κ.later) E G xs r.values (tw cv) no_row)) (return_match κ xs E w rec (eval_all κ.mean E no_row xs) refl))))
+
+-- its rebuilds, in either edition
+return_rebuilt : {A : Type 0} (κ : Ctx A) (e : Edition) (xs : List Value) (S : AggStates) (n : ℕ) (E F : Env A) → κ.m ≤ n → Tracks κ S E [] → Agree κ E F
+    → T (every (λ v. ltb v.0 κ.m) (operands xs)) → T (clean κ.mean.debug κ.dr (rebuilt_return e κ.types S n xs).before)
+    → Recorded (retyped κ.types κ.later) n (rebuilt_return e κ.types S n xs).fresh → Ran κ n xs (rebuilt_return e κ.types S n xs) E F
+unfolding rebuilt_return
+return_rebuilt κ Edition.Second xs S n E F le tk ag lo cl rc = deep_rebuilt κ S E [] tk xs n F le ag lo cl rc
+return_rebuilt κ Edition.First xs S n E F le tk ag lo cl rc =
+    rw (return_values κ.types xs) at (rebuilt κ S E [] tk (wanted_returns κ.types xs) (return_own κ.types S xs) n F le ag (rw (return_values κ.types xs) lo) cl rc)
 
 -- a Return
 sim_return : {A : Type 0} (κ : Ctx A) (xs : List Value) (S : AggStates) (n : ℕ) (E F : Env A) (w : List (Val A)) (rec : List (Event A)) → κ.m ≤ n
     → Tracks κ S E [] → Agree κ E F
-    → T (every (λ v. ltb v.0 κ.m) (operands xs)) → OkOut κ n (returned (rebuild_all κ.types S n (wanted_returns κ.types xs)))
+    → T (every (λ v. ltb v.0 κ.m) (operands xs)) → OkOut κ n (returned (rebuilt_return κ.set.edition κ.types S n xs))
     → Match κ (exec_terminator κ.mean κ.types (Return xs) E w rec)
-    (reruns κ (rebuild_all κ.types S n (wanted_returns κ.types xs)).before (Return (rebuild_all κ.types S n (wanted_returns κ.types xs)).values) F w rec)
+    (reruns κ (rebuilt_return κ.set.edition κ.types S n xs).before (Return (rebuilt_return κ.set.edition κ.types S n xs).values) F w rec)
 unfolding returned clean_terminator
 sim_return κ xs S n E F w rec le tk ag lo ok =
-    let ws : List Wanted = wanted_returns κ.types xs in
-    let r = rebuilt κ S E [] tk ws (return_own κ.types S xs) n F le ag (rw (return_values κ.types xs) lo) ok.reads ok.reads_end ok.fresh in
-    return_ran κ xs n (rebuild_all κ.types S n ws) E F w rec (rw (return_values κ.types xs) at r)
+    return_ran κ xs n (rebuilt_return κ.set.edition κ.types S n xs) E F w rec (return_rebuilt κ κ.set.edition xs S n E F le tk ag lo ok.reads ok.fresh) ok.reads_end
 
 -- every terminator
 pub sim_end : {A : Type 0} (κ : Ctx A) (φ : ValueId → Bool) (t : Terminator) → Sim κ φ [] t
@@ -177,15 +179,15 @@ sim_kind : {A : Type 0} (κ : Ctx A) (φ : ValueId → Bool) (m : Meta) (k : Ins
     (n : ℕ) → Sim κ φ is t → SimP κ φ (at m k) is t S n (step_kind κ.set κ.types φ S n (at m k) k)
 unfolding step_kind
 sim_kind κ φ m (Assign d x u) is t S n sim = sim_assign κ φ m d x u is t S n sim
-sim_kind κ φ m (UnaryOp op d x) is t S n sim = sim_kept κ φ (at m (UnaryOp op d x)) is t S n sim
-sim_kind κ φ m (BinaryOp op d x y) is t S n sim = sim_kept κ φ (at m (BinaryOp op d x y)) is t S n sim
-sim_kind κ φ m (Call ds f xs ps rs) is t S n sim = sim_call κ φ m ds f xs ps rs is t S n sim
-sim_kind κ φ m (Cast d x u v) is t S n sim = sim_kept κ φ (at m (Cast d x u v)) is t S n sim
+sim_kind κ φ m (UnaryOp op d x) is t S n sim = sim_stays κ φ (at m (UnaryOp op d x)) is t S n sim
+sim_kind κ φ m (BinaryOp op d x y) is t S n sim = sim_stays κ φ (at m (BinaryOp op d x y)) is t S n sim
+sim_kind κ φ m (Call ds f xs ps rs) is t S n sim = sim_stays κ φ (at m (Call ds f xs ps rs)) is t S n sim
+sim_kind κ φ m (Cast d x u v) is t S n sim = sim_stays κ φ (at m (Cast d x u v)) is t S n sim
 sim_kind κ φ m (Load d p u) is t S n sim = sim_load κ φ m d p u is t S n sim
 sim_kind κ φ m (Store p x u) is t S n sim = sim_store κ φ m p x u is t S n sim
-sim_kind κ φ m (Debug a xs) is t S n sim = sim_kept κ φ (at m (Debug a xs)) is t S n sim
-sim_kind κ φ m Nop is t S n sim = sim_kept κ φ (at m Nop) is t S n sim
-sim_kind κ φ m (Phi d u ss) is t S n sim = sim_kept κ φ (at m (Phi d u ss)) is t S n sim
+sim_kind κ φ m (Debug a xs) is t S n sim = sim_stays κ φ (at m (Debug a xs)) is t S n sim
+sim_kind κ φ m Nop is t S n sim = sim_stays κ φ (at m Nop) is t S n sim
+sim_kind κ φ m (Phi d u ss) is t S n sim = sim_stays κ φ (at m (Phi d u ss)) is t S n sim
 sim_kind κ φ m (MakeTuple d xs) is t S n sim = sim_make_tuple κ φ m d xs is t S n sim
 sim_kind κ φ m (ExtractTupleElement d x k u) is t S n sim = sim_extract_tuple_element κ φ m d x k u is t S n sim
 sim_kind κ φ m (MakeStruct d fs u) is t S n sim = sim_make_struct κ φ m d fs u is t S n sim
@@ -193,8 +195,8 @@ sim_kind κ φ m (ExtractStructField d x f u) is t S n sim = sim_extract_struct_
 sim_kind κ φ m (InsertField d x f y u) is t S n sim = sim_insert_field κ φ m d x f y u is t S n sim
 sim_kind κ φ m (InsertTuple d x k y u) is t S n sim = sim_insert_tuple κ φ m d x k y u is t S n sim
 sim_kind κ φ m (MakeFixedArray d xs u c) is t S n sim = sim_make_fixed_array κ φ m d xs u c is t S n sim
-sim_kind κ φ m (AssertEq x y) is t S n sim = sim_kept κ φ (at m (AssertEq x y)) is t S n sim
-sim_kind κ φ m (HeapAllocCells d x) is t S n sim = sim_kept κ φ (at m (HeapAllocCells d x)) is t S n sim
+sim_kind κ φ m (AssertEq x y) is t S n sim = sim_stays κ φ (at m (AssertEq x y)) is t S n sim
+sim_kind κ φ m (HeapAllocCells d x) is t S n sim = sim_stays κ φ (at m (HeapAllocCells d x)) is t S n sim
 
 -- the rest of a block does what its rewriting does
 pub sim_rest : {A : Type 0} (κ : Ctx A) (φ : ValueId → Bool) (is : List Instruction) (t : Terminator) → Sim κ φ is t

@@ -11,6 +11,8 @@ use Rattle.mir.specs.declared.Projection.{Projection}
 use Rattle.mir.specs.Syntax.{InstructionKind, Terminator}
 use Rattle.mir.specs.Routine.{Routine}
 use Rattle.bytes_sections.proofs.Examples.{example}
+use Rattle.fold.specs.declared.Edition.{Edition}
+use Rattle.fold.specs.declared.Settings.{Settings}
 use Rattle.rewrite.specs.Run.{Choice, choice, rewrite}
 use Rattle.shelf.specs.Reads.{with_debug}
 use Rattle.machine.specs.Values.{Val, scalar, aggregate, ends, then}
@@ -201,3 +203,68 @@ pub dropped_printed : (run numbers (printing (op 0)) [] 1 ≡ printed_first (agg
     × (run numbers (rewrite defaults (printing (op 0))) [] 1 ≡ record { recorded = []; standing = stopped unwritten })
 unfolding everything
 dropped_printed = (refl, refl)
+
+-- ---- edition 2: "each of them rebuilt first at its recorded type, the tracked parts it keeps before the whole" (document 02)
+
+-- `defaults`, edition 2
+abbrev pub second : Settings
+second = record { tuples = true; structs = true; most = 8; edition = Edition.Second }
+
+-- a tuple with another tuple in it twice, returned
+abbrev pub nested : Routine
+nested =
+    record {
+      types = MirType.Felt ∷ MirType.Tuple (typ 0 ∷ typ 0 ∷ []) ∷ MirType.Tuple (typ 1 ∷ typ 1 ∷ []) ∷ [];
+      next = 2;
+      entry = record { 0 = 0 };
+      parameters = [];
+      recorded = some (typ 1) ∷ some (typ 2) ∷ [];
+      blocks =
+          record {
+            instructions =
+                ins (InstructionKind.MakeTuple (val 0) (integer 7 ∷ integer 8 ∷ []))
+                ∷ ins (InstructionKind.MakeTuple (val 1) (op 0 ∷ op 0 ∷ []))
+                ∷ [];
+            terminator = Terminator.Return (op 1 ∷ []);
+          }
+          ∷ [];
+    }
+
+-- both builds are left out; before the Return the part is rebuilt twice, then the whole
+pub nested_out : (rewrite second nested).blocks ≡
+    record {
+      instructions =
+          ins (InstructionKind.MakeTuple (val 2) (integer 7 ∷ integer 8 ∷ []))
+          ∷ ins (InstructionKind.MakeTuple (val 3) (integer 7 ∷ integer 8 ∷ []))
+          ∷ ins (InstructionKind.MakeTuple (val 4) (op 2 ∷ op 3 ∷ []))
+          ∷ [];
+      terminator = Terminator.Return (op 4 ∷ []);
+    }
+    ∷ []
+unfolding everything
+nested_out = refl
+
+abbrev nested_trace : Trace ℕ
+nested_trace = record { recorded = returned (then (aggregate (then (pair 7 8) (then (pair 7 8) ends))) ends) ∷ []; standing = ended at_return }
+
+pub nested_original : run numbers nested [] 1 ≡ nested_trace
+unfolding everything
+nested_original = refl
+
+pub nested_rewritten : run numbers (rewrite second nested) [] 1 ≡ nested_trace
+unfolding everything
+nested_rewritten = refl
+
+-- the theorem is of it; in edition 1 it has shelf reason 5, and the rebuild reads a value that is gone
+pub nested_static : Static with_debug second (choice second nested) nested
+unfolding shelf
+nested_static = record { recorded = refl; parameters = tt; below = tt; below_ends = tt; fields = tt; once = tt; phis_first = tt; typed = tt; ordered = tt; apart = tt; shallow = tt; clean = tt; clean_ends = tt }
+
+pub nested_first : run numbers (rewrite defaults nested) [] 1 ≡ record { recorded = []; standing = stopped unwritten }
+unfolding everything
+nested_first = refl
+
+-- a Debug of the tuple whose build is left out prints it: it is rebuilt before it
+pub rebuilt_printed : run numbers (rewrite second (printing (op 0))) [] 1 ≡ printed_first (aggregate (then (scalar 7) ends))
+unfolding everything
+rebuilt_printed = refl

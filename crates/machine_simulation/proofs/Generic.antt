@@ -16,7 +16,7 @@ use Rattle.mir.specs.Reads.{reads, dests, terminator_reads}
 use Rattle.mir.specs.Lists.{Each}
 use Rattle.mir.specs.Lookup.{Types, recorded_type}
 use Rattle.rewrite.specs.State.{AggStates}
-use Rattle.rewrite.specs.Step.{Piece}
+use Rattle.rewrite.specs.Piece.{Piece}
 use Rattle.rewrite.specs.Run.{Walked, glue, walk}
 use Rattle.machine.specs.Values.{Val}
 use Rattle.machine.specs.Records.{Env, write_all, Event, End, Cause, Out, goes, ends, stops, Left, next, log}

@@ -10,8 +10,13 @@ pub mod Builds
 pub mod Takes
 pub mod Loads
 pub mod Puts
+pub mod Twins
 pub mod Rebuilds
+pub mod Deep
 pub mod Calls
+pub mod WithReadings
+pub mod StaysFirst
+pub mod Stays
 pub mod Stores
 pub mod TypedStates
 pub mod Ends

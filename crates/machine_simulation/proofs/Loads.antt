@@ -21,7 +21,8 @@ use Rattle.bytes_struct.proofs.Laws.{index_type}
 use Rattle.mir.specs.MirType as Y
 use Rattle.rewrite.specs.State.{AggStates, state_of, step_index, step_part, chain, first_integer}
 use Rattle.rewrite.specs.Rebuild.{aggregate_type}
-use Rattle.rewrite.specs.Step.{hand_on, step_loaded, step_load, step_kind}
+use Rattle.rewrite.specs.Stays.{stays}
+use Rattle.rewrite.specs.Step.{hand_on, step_loaded, step_load, step_kind, walkable}
 use Rattle.machine.specs.Values.{Val, Vals, aggregate, nth, part_of}
 use Rattle.machine.specs.Records.{Env, goes, Step, index, field, tuple}
 use Rattle.mir.specs.Parts.{part_type, part_count, is_pointer}
@@ -36,9 +37,10 @@ use Rattle.machine_simulation.proofs.Tools.{both_l, both_r, both, none_some, is_
 use Rattle.machine_simulation.proofs.Frame.{changed_base, cond_some}
 use Rattle.machine_simulation.proofs.Invariant.{Ctx, Tracked, Tracks}
 use Rattle.machine_simulation.proofs.Generic.{Good, does, Sim, SimP, reads_low}
-use Rattle.machine_simulation.proofs.Cases.{sim_kept, is_typed, same_type→eq, fits_type, same_row, operand_eval}
-use Rattle.machine_simulation.proofs.Builds.{at, through, on_some_inv}
+use Rattle.machine_simulation.proofs.Cases.{is_typed, same_type→eq, fits_type, same_row, operand_eval, at}
+use Rattle.machine_simulation.proofs.Builds.{through, on_some_inv}
 use Rattle.machine_simulation.proofs.Takes.{nth_eval, operand_at, Took, takes, sim_guarded, taken}
+use Rattle.machine_simulation.proofs.Stays.{sim_stays}
 
 -- ---- one step
 
@@ -295,9 +297,9 @@ loaded_as κ φ m d p u is t S n x xs sim lk ch E F w rec le tk ag g ok f =
 loaded_go : {A : Type 0} (κ : Ctx A) (φ : ValueId → Bool) (m : Meta) (d : ValueId) (p : Place) (u : TypeId) (is : List Instruction) (t : Terminator)
     (S : AggStates) (n : ℕ) → Sim κ φ is t
     → (o : Option Value) → on_some (S p.base.0) (λ xs. chain κ.types S (Value.Operand p.base) p.projections) ≡ o
-    → SimP κ φ (at m (Load d p u)) is t S n (step_loaded κ.types S (at m (Load d p u)) d u o)
+    → SimP κ φ (at m (Load d p u)) is t S n (step_loaded κ.types S (stays κ.set κ.types S n (at m (Load d p u))) d u o)
 unfolding step_loaded changed_base typed
-loaded_go κ φ m d p u is t S n sim none e = sim_kept κ φ (at m (Load d p u)) is t S n sim
+loaded_go κ φ m d p u is t S n sim none e = sim_stays κ φ (at m (Load d p u)) is t S n sim
 loaded_go κ φ m d p u is t S n sim (some x) e =
     let τ : Types = κ.types in
     let i : Instruction = at m (Load d p u) in
@@ -309,9 +311,9 @@ loaded_go κ φ m d p u is t S n sim (some x) e =
 -- a Load whose first projection was looked at
 load_go : {A : Type 0} (κ : Ctx A) (φ : ValueId → Bool) (m : Meta) (d : ValueId) (p : Place) (u : TypeId) (is : List Instruction) (t : Terminator)
     (S : AggStates) (n : ℕ) → Sim κ φ is t
-    → (o : Option ℕ) → SimP κ φ (at m (Load d p u)) is t S n (step_load κ.types S (at m (Load d p u)) d p u o)
+    → (o : Option ℕ) → SimP κ φ (at m (Load d p u)) is t S n (step_load κ.types S (stays κ.set κ.types S n (at m (Load d p u))) d p u o)
 unfolding step_load
-load_go κ φ m d p u is t S n sim none = sim_kept κ φ (at m (Load d p u)) is t S n sim
+load_go κ φ m d p u is t S n sim none = sim_stays κ φ (at m (Load d p u)) is t S n sim
 load_go κ φ m d p u is t S n sim (some k) = loaded_go κ φ m d p u is t S n sim (on_some (S p.base.0) (λ xs. chain κ.types S (Value.Operand p.base) p.projections)) refl
 
 -- a Load
@@ -320,4 +322,4 @@ pub sim_load : {A : Type 0} (κ : Ctx A) (φ : ValueId → Bool) (m : Meta) (d :
     → SimP κ φ (at m (Load d p u)) is t S n (step_kind κ.set κ.types φ S n (at m (Load d p u)) (Load d p u))
 unfolding step_kind
 sim_load κ φ m d p u is t S n sim =
-    sim_guarded κ φ (at m (Load d p u)) is t S n κ.set.tuples _ sim (load_go κ φ m d p u is t S n sim (first_integer p.projections))
+    sim_guarded κ φ (at m (Load d p u)) is t S n (κ.set.tuples && walkable κ.set.edition p) _ sim (load_go κ φ m d p u is t S n sim (first_integer p.projections))

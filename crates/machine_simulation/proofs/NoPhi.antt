@@ -1,7 +1,7 @@
 -- What comes out behind the phis has no phi, as what went in has none (refusal 7): so the phis of the rewritten block are the block's.
 use mathlib.Core.Path.{◌≡◌, refl, ap, ◌∙◌}
-use Prim.Native.Nat.{ℕ, suc, ◌+◌}
-use mathlib.Core.Bool.{Bool, true, false, not}
+use Prim.Native.Nat.{ℕ, suc, ◌+◌, zero}
+use mathlib.Core.Bool.{Bool, true, false, not, ◌&&◌}
 use mathlib.Core.Option.{Option, none, some}
 use mathlib.Core.List.{List, [], ◌∷◌, ◌++◌}
 use lib.Dec.{T}
@@ -12,6 +12,7 @@ use Rattle.mir.specs.declared.Value.{Value}
 use Rattle.mir.specs.MirType.{MirType}
 use Rattle.mir.specs.Syntax.{Meta, Place, Instruction, InstructionKind, Terminator, Assign, UnaryOp, BinaryOp, Call, Cast, Load, Store, Debug, Nop, Phi, plain}
 use Rattle.mir.specs.Syntax.{MakeTuple, ExtractTupleElement, MakeStruct, ExtractStructField, InsertField, InsertTuple, MakeFixedArray, AssertEq, HeapAllocCells}
+use Rattle.fold.specs.declared.Edition.{Edition}
 use Rattle.fold.specs.declared.Settings.{Settings}
 use Rattle.mir.specs.Lookup.{Types, row_of, on_some}
 use Rattle.bytes_struct.specs.FindField.{field_index}
@@ -24,10 +25,16 @@ use Rattle.rewrite.specs.State.{AggStates, state_of, chain, first_integer, forwa
 use Rattle.rewrite.specs.State as St
 use Rattle.rewrite.specs.Rebuild.{Rebuilt, rebuild_at, keep_value, rebuild_value, one_value, Wanted, rebuild_all, aggregate_type, wanted_arguments, wanted_returns}
 use Rattle.rewrite.specs.declared.Counts.{Counts}
-use Rattle.rewrite.specs.Step.{Piece, kept, left, tracked, assigned, step_build, folded_parts, step_insert, hand_on, step_extract, extract_index, step_loaded, step_load, store_rebuilt, store_kept, step_store, step_assign, step_call, guarded, step_kind, step}
-use Rattle.rewrite.specs.Run.{ends, returned, finish, glue, walk}
+use Rattle.rewrite.specs.Piece.{Piece, kept, left, tracked, assigned}
+use Rattle.rewrite.specs.Stays.{store_rebuilt, store_kept, step_call, guarded, kept_behind, stays, stays_first, stays_in, stays_second}
+use Rattle.rewrite.specs.Step.{step_build, folded_parts, step_insert, hand_on, step_extract, extract_index, step_loaded, step_load, step_store, step_assign, step_kind, step, walkable}
+use Rattle.rewrite.specs.Run.{ends, returned, finish, glue, walk, rebuilt_return}
 use Rattle.machine_simulation.specs.Static.{no_phi}
 use Rattle.machine_simulation.proofs.Tools.{both_l, both_r, both, split, passes, fails, cond_yes, cond_no}
+use Rattle.machine_simulation.proofs.WithReadings.{kind_with}
+use Rattle.fold.specs.Family.{Marks}
+use Rattle.rewrite.specs.Readings.{readings, with_readings}
+use Rattle.rewrite.specs.Deep.{Inner, begun, deep_all, deep_value, deep_values, rebuild_deep, wanted_own, whole_then}
 
 -- two lists without a phi
 append_no_phi : (a b : List Instruction) → T (no_phi a) → T (no_phi b) → T (no_phi (a ++ b))
@@ -46,22 +53,22 @@ unfolding tracked left no_phi
 tracked_no_phi c S d xs = tt
 
 -- a build
-build_no_phi : (S : AggStates) (i : Instruction) (d : ValueId) (o : Option (List Value)) → T (not (is_phi i.kind)) → T (no_phi (step_build S i d o).out)
+build_no_phi : (S : AggStates) (stay : Piece) (d : ValueId) (o : Option (List Value)) → T (no_phi stay.out) → T (no_phi (step_build S stay d o).out)
 unfolding step_build
-build_no_phi S i d none t = kept_no_phi S i t
-build_no_phi S i d (some xs) t = tracked_no_phi _ S d xs
+build_no_phi S stay d none t = t
+build_no_phi S stay d (some xs) t = tracked_no_phi _ S d xs
 
 -- an insert
-insert_no_phi : (S : AggStates) (i : Instruction) (d : ValueId) (o : Option (List Value)) → T (not (is_phi i.kind)) → T (no_phi (step_insert S i d o).out)
+insert_no_phi : (S : AggStates) (stay : Piece) (d : ValueId) (o : Option (List Value)) → T (no_phi stay.out) → T (no_phi (step_insert S stay d o).out)
 unfolding step_insert
-insert_no_phi S i d none t = kept_no_phi S i t
-insert_no_phi S i d (some xs) t = tracked_no_phi _ S d xs
+insert_no_phi S stay d none t = t
+insert_no_phi S stay d (some xs) t = tracked_no_phi _ S d xs
 
 -- an Assign
-assign_no_phi : (S : AggStates) (i : Instruction) (d : ValueId) (o : Option (List Value)) → T (not (is_phi i.kind)) → T (no_phi (step_assign S i d o).out)
+assign_no_phi : (S : AggStates) (stay : Piece) (d : ValueId) (o : Option (List Value)) → T (no_phi stay.out) → T (no_phi (step_assign S stay d o).out)
 unfolding step_assign
-assign_no_phi S i d none t = kept_no_phi S i t
-assign_no_phi S i d (some xs) t = tracked_no_phi _ S d xs
+assign_no_phi S stay d none t = t
+assign_no_phi S stay d (some xs) t = tracked_no_phi _ S d xs
 
 -- a part handed on or assigned
 hand_no_phi : (S : AggStates) (d : ValueId) (u : TypeId) (x : Value) (o : Option (List Value)) → T (no_phi (hand_on S d u x o).out)
@@ -70,25 +77,25 @@ hand_no_phi S d u x none = tt
 hand_no_phi S d u x (some xs) = tracked_no_phi _ S d xs
 
 -- an extract
-extract_no_phi : (S : AggStates) (i : Instruction) (d : ValueId) (u : TypeId) (o : Option Value) → T (not (is_phi i.kind))
-    → T (no_phi (step_extract S i d u o).out)
+extract_no_phi : (S : AggStates) (stay : Piece) (d : ValueId) (u : TypeId) (o : Option Value) → T (no_phi stay.out)
+    → T (no_phi (step_extract S stay d u o).out)
 unfolding step_extract
-extract_no_phi S i d u none t = kept_no_phi S i t
-extract_no_phi S i d u (some x) t = hand_no_phi S d u x (state_of S x)
+extract_no_phi S stay d u none t = t
+extract_no_phi S stay d u (some x) t = hand_no_phi S d u x (state_of S x)
 
 -- a Load with its chain
-loaded_no_phi : (τ : Types) (S : AggStates) (i : Instruction) (d : ValueId) (u : TypeId) (o : Option Value) → T (not (is_phi i.kind))
-    → T (no_phi (step_loaded τ S i d u o).out)
+loaded_no_phi : (τ : Types) (S : AggStates) (stay : Piece) (d : ValueId) (u : TypeId) (o : Option Value) → T (no_phi stay.out)
+    → T (no_phi (step_loaded τ S stay d u o).out)
 unfolding step_loaded
-loaded_no_phi τ S i d u none t = kept_no_phi S i t
-loaded_no_phi τ S i d u (some x) t = hand_no_phi S d u x (on_some (aggregate_type τ u) (λ a. state_of S x))
+loaded_no_phi τ S stay d u none t = t
+loaded_no_phi τ S stay d u (some x) t = hand_no_phi S d u x (on_some (aggregate_type τ u) (λ a. state_of S x))
 
 -- a Load
-load_no_phi : (τ : Types) (S : AggStates) (i : Instruction) (d : ValueId) (p : Place) (u : TypeId) (o : Option ℕ) → T (not (is_phi i.kind))
-    → T (no_phi (step_load τ S i d p u o).out)
+load_no_phi : (τ : Types) (S : AggStates) (stay : Piece) (d : ValueId) (p : Place) (u : TypeId) (o : Option ℕ) → T (no_phi stay.out)
+    → T (no_phi (step_load τ S stay d p u o).out)
 unfolding step_load
-load_no_phi τ S i d p u none t = kept_no_phi S i t
-load_no_phi τ S i d p u (some k) t = loaded_no_phi τ S i d u (on_some (S p.base.0) (λ xs. chain τ S (Value.Operand p.base) p.projections)) t
+load_no_phi τ S stay d p u none t = t
+load_no_phi τ S stay d p u (some k) t = loaded_no_phi τ S stay d u (on_some (S p.base.0) (λ xs. chain τ S (Value.Operand p.base) p.projections)) t
 
 -- a rebuild
 rebuild_no_phi : (d : ValueId) (xs : List Value) (t : TypeId) (row : Option MirType) → T (no_phi (rebuild_at d xs t row))
@@ -138,11 +145,10 @@ stay_no_phi τ S n i p x u none t = kept_no_phi S i t
 stay_no_phi τ S n i p x u (some xs) t = rebuilt_no_phi S i.meta p u (rebuild_all τ S n (record { value = x; at = some u } ∷ [])) (rebuild_all τ S n (record { value = x; at = some u } ∷ [])).values (all_no_phi τ S n (record { value = x; at = some u } ∷ []))
 
 -- a Store
-store_no_phi : (τ : Types) (S : AggStates) (n : ℕ) (i : Instruction) (p : Place) (x : Value) (u : TypeId) (o : Option AggStates)
-    → T (not (is_phi i.kind)) → T (no_phi (step_store τ S n i p x u o).out)
+store_no_phi : (S : AggStates) (stay : Piece) (o : Option AggStates) → T (no_phi stay.out) → T (no_phi (step_store S stay o).out)
 unfolding step_store left no_phi
-store_no_phi τ S n i p x u none t = stay_no_phi τ S n i p x u (on_some (aggregate_type τ u) (λ a. state_of S x)) t
-store_no_phi τ S n i p x u (some S') t = tt
+store_no_phi S stay none t = t
+store_no_phi S stay (some S') t = tt
 
 -- a Call
 call_no_phi : (S : AggStates) (i : Instruction) (ds : List ValueId) (f : ℕ) (ps rs : List TypeId) (r : Rebuilt) (us : List TypeId)
@@ -155,49 +161,123 @@ call_no_phi S i ds f ps rs r (u ∷ us) t h = append_no_phi r.before (plain (Cal
     one_call ds f xs ps rs = tt
 
 -- an arm that a setting turns off
-guard_no_phi : (b : Bool) (S : AggStates) (i : Instruction) (p : Piece) → T (not (is_phi i.kind)) → T (no_phi p.out) → T (no_phi (guarded b S i p).out)
+guard_no_phi : (b : Bool) (stay p : Piece) → T (no_phi stay.out) → T (no_phi p.out) → T (no_phi (guarded b stay p).out)
 unfolding guarded
-guard_no_phi true S i p t h = h
-guard_no_phi false S i p t h = kept_no_phi S i t
+guard_no_phi true stay p t h = h
+guard_no_phi false stay p t h = t
+
+-- what stays in edition 1
+first_no_phi : (σ : Settings) (τ : Types) (S : AggStates) (n : ℕ) (i : Instruction) (k : InstructionKind) → T (not (is_phi i.kind)) → T (no_phi (stays_first σ τ S n i k).out)
+unfolding stays_first
+first_no_phi σ τ S n i (Assign d x t) h = kept_no_phi S i h
+first_no_phi σ τ S n i (UnaryOp op d x) h = kept_no_phi S i h
+first_no_phi σ τ S n i (BinaryOp op d x y) h = kept_no_phi S i h
+first_no_phi σ τ S n i (Call ds f xs ps rs) h = call_no_phi S i ds f ps rs (rebuild_all τ S n (wanted_arguments τ xs ps)) (rebuild_all τ S n (wanted_arguments τ xs ps)).fresh h (all_no_phi τ S n (wanted_arguments τ xs ps))
+first_no_phi σ τ S n i (Cast d x t u) h = kept_no_phi S i h
+first_no_phi σ τ S n i (Load d p t) h = kept_no_phi S i h
+first_no_phi σ τ S n i (Store p x t) h = guard_no_phi σ.tuples (kept S i) _ (kept_no_phi S i h) (stay_no_phi τ S n i p x t (on_some (aggregate_type τ t) (λ u. state_of S x)) h)
+first_no_phi σ τ S n i (Debug m xs) h = kept_no_phi S i h
+first_no_phi σ τ S n i Nop h = kept_no_phi S i h
+first_no_phi σ τ S n i (Phi d t ss) h = kept_no_phi S i h
+first_no_phi σ τ S n i (MakeTuple d xs) h = kept_no_phi S i h
+first_no_phi σ τ S n i (ExtractTupleElement d x k t) h = kept_no_phi S i h
+first_no_phi σ τ S n i (MakeStruct d fs t) h = kept_no_phi S i h
+first_no_phi σ τ S n i (ExtractStructField d x f t) h = kept_no_phi S i h
+first_no_phi σ τ S n i (InsertField d x f y t) h = kept_no_phi S i h
+first_no_phi σ τ S n i (InsertTuple d x k y t) h = kept_no_phi S i h
+first_no_phi σ τ S n i (MakeFixedArray d xs t c) h = kept_no_phi S i h
+first_no_phi σ τ S n i (AssertEq x y) h = kept_no_phi S i h
+first_no_phi σ τ S n i (HeapAllocCells d x) h = kept_no_phi S i h
+
+-- deep rebuilds
+deep_one_no_phi : (τ : Types) (path : Marks) (inner : Inner) (n : ℕ) (x : Value) (k : ℕ → Rebuilt)
+    → ((x : Value) (j : ℕ) (ws : List Wanted) → T (no_phi (inner x j ws).before)) → ((j : ℕ) → T (no_phi (k j).before)) → (o : Option TypeId) (s : Option (List Value))
+    → T (no_phi (deep_value τ path inner n x k o s).before)
+unfolding deep_value keep_value whole_then
+deep_one_no_phi τ path inner n x k hi h none s = h n
+deep_one_no_phi τ path inner n x k hi h (some t) none = h n
+deep_one_no_phi τ path inner n x k hi h (some t) (some xs) = append_no_phi _ _ (hi x n _) (append_no_phi _ _ (rebuild_no_phi _ _ t (row_of τ (some t))) (h _))
+
+-- of values in order
+deep_values_no_phi : (τ : Types) (S : AggStates) (path : Marks) (inner : Inner)
+    → ((x : Value) (j : ℕ) (ws : List Wanted) → T (no_phi (inner x j ws).before)) → (n : ℕ) (ws : List Wanted) → T (no_phi (deep_values τ S path inner n ws).before)
+unfolding deep_values no_phi
+deep_values_no_phi τ S path inner hi n [] = tt
+deep_values_no_phi τ S path inner hi n (w ∷ ws) = deep_one_no_phi τ path inner n w.value (λ m. deep_values τ S path inner m ws) hi (λ m. deep_values_no_phi τ S path inner hi m ws) w.at (state_of S w.value)
+
+-- to any depth
+deep_all_no_phi : (τ : Types) (S : AggStates) (k : ℕ) (path : Marks) (n : ℕ) (ws : List Wanted) → T (no_phi (deep_all τ S k path n ws).before)
+unfolding deep_all
+deep_all_no_phi τ S zero path n ws = all_no_phi τ S n ws
+deep_all_no_phi τ S (suc k) path n ws = deep_values_no_phi τ S path (λ x. deep_all τ S k (begun path x)) (λ x j us. deep_all_no_phi τ S k (begun path x) j us) n ws
+
+-- with nothing begun
+deep_no_phi : (τ : Types) (S : AggStates) (n : ℕ) (ws : List Wanted) → T (no_phi (rebuild_deep τ S n ws).before)
+unfolding rebuild_deep
+deep_no_phi τ S n ws = deep_all_no_phi τ S _ _ n ws
+
+-- what stays in edition 2
+second_no_phi : (τ : Types) (S : AggStates) (n : ℕ) (i : Instruction) → T (not (is_phi i.kind)) → T (no_phi (stays_second τ S n i).out)
+unfolding stays_second kept_behind no_phi
+second_no_phi τ S n i t =
+    let r = rebuild_deep τ S n (wanted_own τ (readings i.kind)) in
+    append_no_phi r.before _ (deep_no_phi τ S n _) (both (not (is_phi (with_readings i.kind r.values))) true (rw (kind_with i.kind r.values) t) tt)
+
+-- in an edition
+in_no_phi : (e : Edition) (σ : Settings) (τ : Types) (S : AggStates) (n : ℕ) (i : Instruction) → T (not (is_phi i.kind)) → T (no_phi (stays_in e σ τ S n i).out)
+unfolding stays_in
+in_no_phi Edition.Second σ τ S n i t = second_no_phi τ S n i t
+in_no_phi Edition.First σ τ S n i t = first_no_phi σ τ S n i i.kind t
+
+-- in that of the settings
+stays_no_phi : (σ : Settings) (τ : Types) (S : AggStates) (n : ℕ) (i : Instruction) → T (not (is_phi i.kind)) → T (no_phi (stays σ τ S n i).out)
+unfolding stays
+stays_no_phi σ τ S n i t = in_no_phi σ.edition σ τ S n i t
 
 -- every kind
 kind_no_phi : (σ : Settings) (τ : Types) (φ : ValueId → Bool) (S : AggStates) (n : ℕ) (i : Instruction) (k : InstructionKind)
     → T (not (is_phi i.kind)) → T (no_phi (step_kind σ τ φ S n i k).out)
 unfolding step_kind
-kind_no_phi σ τ φ S n i (Assign d x u) t = assign_no_phi S i d (on_some (aggregate_type τ u) (λ a. state_of S x)) t
-kind_no_phi σ τ φ S n i (UnaryOp op d x) t = kept_no_phi S i t
-kind_no_phi σ τ φ S n i (BinaryOp op d x y) t = kept_no_phi S i t
-kind_no_phi σ τ φ S n i (Call ds f xs ps rs) t = call_no_phi S i ds f ps rs (rebuild_all τ S n (wanted_arguments τ xs ps)) (rebuild_all τ S n (wanted_arguments τ xs ps)).fresh t (all_no_phi τ S n (wanted_arguments τ xs ps))
-kind_no_phi σ τ φ S n i (Cast d x u v) t = kept_no_phi S i t
-kind_no_phi σ τ φ S n i (Load d p u) t = guard_no_phi σ.tuples S i _ t (load_no_phi τ S i d p u (first_integer p.projections) t)
-kind_no_phi σ τ φ S n i (Store p x u) t = guard_no_phi σ.tuples S i _ t (store_no_phi τ S n i p x u (forward_store τ S p x) t)
-kind_no_phi σ τ φ S n i (Debug m xs) t = kept_no_phi S i t
-kind_no_phi σ τ φ S n i Nop t = kept_no_phi S i t
-kind_no_phi σ τ φ S n i (Phi d u ss) t = kept_no_phi S i t
-kind_no_phi σ τ φ S n i (MakeTuple d xs) t = build_no_phi S i d (folded_parts (φ d) (some xs)) t
-kind_no_phi σ τ φ S n i (ExtractTupleElement d x k u) t = guard_no_phi σ.tuples S i _ t (extract_no_phi S i d u (on_some (state_of S x) (λ xs. get_elem? xs k)) t)
-kind_no_phi σ τ φ S n i (MakeStruct d fs u) t = build_no_phi S i d (folded_parts (φ d) (struct_parts τ d fs u)) t
-kind_no_phi σ τ φ S n i (ExtractStructField d x f u) t = guard_no_phi σ.structs S i _ t (extract_no_phi S i d u (on_some (extract_index τ x f) (λ k. on_some (state_of S x) (λ xs. get_elem? xs k))) t)
-kind_no_phi σ τ φ S n i (InsertField d x f y u) t = guard_no_phi σ.structs S i _ t (insert_no_phi S i d (on_some (field_index (row_of τ (some u)) f) (λ k. on_some (state_of S x) (λ xs. St.replaced xs k y))) t)
-kind_no_phi σ τ φ S n i (InsertTuple d x k y u) t = guard_no_phi σ.tuples S i _ t (insert_no_phi S i d (on_some (state_of S x) (λ xs. St.replaced xs k y)) t)
-kind_no_phi σ τ φ S n i (MakeFixedArray d xs u c) t = build_no_phi S i d (folded_parts (φ d) (some xs)) t
-kind_no_phi σ τ φ S n i (AssertEq x y) t = kept_no_phi S i t
-kind_no_phi σ τ φ S n i (HeapAllocCells d x) t = kept_no_phi S i t
+kind_no_phi σ τ φ S n i (Assign d x u) t = assign_no_phi S _ d (on_some (aggregate_type τ u) (λ a. state_of S x)) (stays_no_phi σ τ S n i t)
+kind_no_phi σ τ φ S n i (UnaryOp op d x) t = stays_no_phi σ τ S n i t
+kind_no_phi σ τ φ S n i (BinaryOp op d x y) t = stays_no_phi σ τ S n i t
+kind_no_phi σ τ φ S n i (Call ds f xs ps rs) t = stays_no_phi σ τ S n i t
+kind_no_phi σ τ φ S n i (Cast d x u v) t = stays_no_phi σ τ S n i t
+kind_no_phi σ τ φ S n i (Load d p u) t = guard_no_phi (σ.tuples && walkable σ.edition p) _ _ (stays_no_phi σ τ S n i t) (load_no_phi τ S _ d p u (first_integer p.projections) (stays_no_phi σ τ S n i t))
+kind_no_phi σ τ φ S n i (Store p x u) t = guard_no_phi (σ.tuples && walkable σ.edition p) _ _ (stays_no_phi σ τ S n i t) (store_no_phi S _ (forward_store τ S p x) (stays_no_phi σ τ S n i t))
+kind_no_phi σ τ φ S n i (Debug m xs) t = stays_no_phi σ τ S n i t
+kind_no_phi σ τ φ S n i Nop t = stays_no_phi σ τ S n i t
+kind_no_phi σ τ φ S n i (Phi d u ss) t = stays_no_phi σ τ S n i t
+kind_no_phi σ τ φ S n i (MakeTuple d xs) t = build_no_phi S _ d (folded_parts (φ d) (some xs)) (stays_no_phi σ τ S n i t)
+kind_no_phi σ τ φ S n i (ExtractTupleElement d x k u) t = guard_no_phi σ.tuples _ _ (stays_no_phi σ τ S n i t) (extract_no_phi S _ d u (on_some (state_of S x) (λ xs. get_elem? xs k)) (stays_no_phi σ τ S n i t))
+kind_no_phi σ τ φ S n i (MakeStruct d fs u) t = build_no_phi S _ d (folded_parts (φ d) (struct_parts τ d fs u)) (stays_no_phi σ τ S n i t)
+kind_no_phi σ τ φ S n i (ExtractStructField d x f u) t = guard_no_phi σ.structs _ _ (stays_no_phi σ τ S n i t) (extract_no_phi S _ d u (on_some (extract_index τ x f) (λ k. on_some (state_of S x) (λ xs. get_elem? xs k))) (stays_no_phi σ τ S n i t))
+kind_no_phi σ τ φ S n i (InsertField d x f y u) t = guard_no_phi σ.structs _ _ (stays_no_phi σ τ S n i t) (insert_no_phi S _ d (on_some (field_index (row_of τ (some u)) f) (λ k. on_some (state_of S x) (λ xs. St.replaced xs k y))) (stays_no_phi σ τ S n i t))
+kind_no_phi σ τ φ S n i (InsertTuple d x k y u) t = guard_no_phi σ.tuples _ _ (stays_no_phi σ τ S n i t) (insert_no_phi S _ d (on_some (state_of S x) (λ xs. St.replaced xs k y)) (stays_no_phi σ τ S n i t))
+kind_no_phi σ τ φ S n i (MakeFixedArray d xs u c) t = build_no_phi S _ d (folded_parts (φ d) (some xs)) (stays_no_phi σ τ S n i t)
+kind_no_phi σ τ φ S n i (AssertEq x y) t = stays_no_phi σ τ S n i t
+kind_no_phi σ τ φ S n i (HeapAllocCells d x) t = stays_no_phi σ τ S n i t
 
 -- the terminator's rebuilds
-finish_no_phi : (τ : Types) (S : AggStates) (n : ℕ) (t : Terminator) → T (no_phi (finish τ S n t).out)
+return_no_phi : (e : Edition) (τ : Types) (S : AggStates) (n : ℕ) (xs : List Value) → T (no_phi (rebuilt_return e τ S n xs).before)
+unfolding rebuilt_return
+return_no_phi Edition.Second τ S n xs = deep_no_phi τ S n (wanted_own τ xs)
+return_no_phi Edition.First τ S n xs = all_no_phi τ S n (wanted_returns τ xs)
+
+-- before a terminator
+finish_no_phi : (σ : Settings) (τ : Types) (S : AggStates) (n : ℕ) (t : Terminator) → T (no_phi (finish σ τ S n t).out)
 unfolding finish ends returned no_phi
-finish_no_phi τ S n (Jump b) = tt
-finish_no_phi τ S n (If x a b) = tt
-finish_no_phi τ S n (BranchCmp op x y a b) = tt
-finish_no_phi τ S n (Return xs) = all_no_phi τ S n (wanted_returns τ xs)
-finish_no_phi τ S n Unreachable = tt
+finish_no_phi σ τ S n (Jump b) = tt
+finish_no_phi σ τ S n (If x a b) = tt
+finish_no_phi σ τ S n (BranchCmp op x y a b) = tt
+finish_no_phi σ τ S n (Return xs) = return_no_phi σ.edition τ S n xs
+finish_no_phi σ τ S n Unreachable = tt
 
 -- a walk puts out no phi
 pub walk_no_phi : (σ : Settings) (τ : Types) (φ : ValueId → Bool) (S : AggStates) (n : ℕ) (is : List Instruction) (t : Terminator) → T (no_phi is)
     → T (no_phi (walk σ τ φ S n is t).out)
 unfolding walk glue step no_phi
-walk_no_phi σ τ φ S n [] t h = finish_no_phi τ S n t
+walk_no_phi σ τ φ S n [] t h = finish_no_phi σ τ S n t
 walk_no_phi σ τ φ S n (i ∷ is) t h =
     let p = step σ τ φ S n i in
     append_no_phi p.out (walk σ τ φ p.states (n + length p.fresh) is t).out (kind_no_phi σ τ φ S n i i.kind (both_l (not (is_phi i.kind)) (no_phi is) h))

@@ -18,7 +18,9 @@ use Rattle.bytes_struct.proofs.Laws.{index_type}
 use Rattle.mir.specs.declared.NameId.{NameId}
 use Rattle.rewrite.specs.State.{AggStates, state_of, cons_some}
 use Rattle.rewrite.specs.State as St
-use Rattle.rewrite.specs.Step.{one_insert, step_insert, step_kind}
+use Rattle.rewrite.specs.Piece.{one_insert}
+use Rattle.rewrite.specs.Stays.{stays}
+use Rattle.rewrite.specs.Step.{step_insert, step_kind}
 use Rattle.machine.specs.Values.{Val, Vals, aggregate, then, cons_val, put, as_aggregate, with_part}
 use Rattle.machine.specs.Records.{Env, goes, stops, unwritten}
 use Rattle.mir.specs.Parts.{part_type}
@@ -33,9 +35,10 @@ use Rattle.machine_simulation.proofs.Tools.{both_l, both_r, none_some}
 use Rattle.machine_simulation.proofs.Frame.{changes, changed_base, test_head, test_rest, test_cons}
 use Rattle.machine_simulation.proofs.Invariant.{Ctx, Parts, Tracked}
 use Rattle.machine_simulation.proofs.Generic.{Good, does, Sim, SimP, reads_low}
-use Rattle.machine_simulation.proofs.Cases.{sim_kept, reads_calm, parts_free, is_typed, Makes, made, stuck, left_out, seen, see, same_type→eq, fits_type, same_row}
-use Rattle.machine_simulation.proofs.Builds.{at, through, on_some_inv}
+use Rattle.machine_simulation.proofs.Cases.{reads_calm, parts_free, is_typed, Makes, made, stuck, left_out, seen, see, same_type→eq, fits_type, same_row, at}
+use Rattle.machine_simulation.proofs.Builds.{through, on_some_inv}
 use Rattle.machine_simulation.proofs.Takes.{is_val, cons_val_inv, sim_guarded}
+use Rattle.machine_simulation.proofs.Stays.{sim_stays}
 
 -- ---- a part replaced in a list
 
@@ -167,9 +170,9 @@ inserted_go : {A : Type 0} (κ : Ctx A) (φ : ValueId → Bool) (i : Instruction
     → ((ys : List Value) → o ≡ some ys → (xs : List Value) × (k : ℕ) × (state_of S x ≡ some xs) × (St.replaced xs k y ≡ some ys)
     × ((v : ValueId) → x ≡ Value.Operand v → recorded_type κ.types d ≡ some u → PutsIn κ i d v k (part_row κ.types (value_row κ.types d) k) y)
     × (Good κ (i ∷ is) t → T (fits κ.types y (part_type (row_of κ.types (some u)) k))))
-    → SimP κ φ i is t S n (step_insert S i d o)
+    → SimP κ φ i is t S n (step_insert S (stays κ.set κ.types S n i) d o)
 unfolding step_insert
-inserted_go κ φ i is t S n d x y u sim nb de np td tx none h = sim_kept κ φ i is t S n sim
+inserted_go κ φ i is t S n d x y u sim nb de np td tx none h = sim_stays κ φ i is t S n sim
 inserted_go κ φ i is t S n d x y u sim nb de np td tx (some ys) h =
     let q = h ys refl in
     let τ : Types = κ.types in

@@ -1,7 +1,7 @@
 -- Rebuilds: directly before what needs it, a tracked value is built anew under a fresh number.
-use mathlib.Core.Path.{◌≡◌, refl, sym, ap, ◌∙◌, ap₂}
-use Prim.Native.Nat.{ℕ, zero, suc, ◌≤◌}
-use mathlib.Core.Bool.{Bool, true, false, not}
+use mathlib.Core.Path.{◌≡◌, refl, sym, ap, ◌∙◌}
+use Prim.Native.Nat.{ℕ, suc, ◌≤◌}
+use mathlib.Core.Bool.{Bool, true, false, not, cond}
 use mathlib.Core.Option.{Option, none, some}
 use mathlib.Core.List.{List, [], ◌∷◌, ◌++◌, append_assoc}
 use native.Mathlib.Omega.{arith}
@@ -13,27 +13,29 @@ use Rattle.mir.specs.declared.Value.{Value}
 use Rattle.mir.specs.MirType.{MirType, StructField}
 use Rattle.mir.specs.Syntax.{Instruction, Terminator, MakeTuple, MakeStruct, MakeFixedArray, FieldInit, plain}
 use Rattle.mir.specs.Reads.{operand, operands, init_values}
-use Rattle.mir.specs.Lookup.{Types, row_of, recorded_type, value_row, struct_fields_of, is_struct, shape}
+use Rattle.mir.specs.Lookup.{Types, row_of, recorded_type, value_row, struct_fields_of, is_struct, shape, is_aggregate}
 use Rattle.mir.specs.MirType as Y
 use Rattle.mir.specs.Parts.{given, or_else, struct_row, part_count, cons_part, from_struct_fields, struct_parts}
+use Rattle.rewrite.specs.declared.Fault.{Fault}
 use Rattle.rewrite.specs.State.{AggStates, state_of}
-use Rattle.rewrite.specs.Rebuild.{fitted, named, rebuild_at, Rebuilt, keep_value, rebuild_value, one_value, Wanted, rebuild_all}
-use Rattle.machine.specs.Values.{Val, Vals, aggregate, cons_val}
+use Rattle.rewrite.specs.Rebuild.{fitted, named, rebuild_at, Rebuilt, keep_value, rebuild_value, one_value, Wanted, rebuild_all, aggregate_type, return_type}
+use Rattle.machine.specs.Values.{Val, Vals, aggregate}
 use Rattle.machine.specs.Records.{Env, write, write_all, Event, log}
 use Rattle.machine.specs.Places.{part_row}
-use Rattle.machine.specs.Evaluate.{eval, eval_all}
+use Rattle.machine.specs.Evaluate.{eval_all}
 use Rattle.machine.specs.Exec.{need, choose, built, exec}
 use Rattle.machine.specs.Run.{onward, exec_all}
 use Rattle.shelf.specs.Lists.{every}
-use Rattle.shelf.specs.Fits.{fits}
+use Rattle.shelf.specs.Fits.{fits, same_type}
 use Rattle.shelf.specs.Reads.{clean}
 use Rattle.machine_simulation.specs.Static.{unlike, fields_once}
 use Rattle.machine_simulation.proofs.Tools.{both_l, both_r, none_some, split, passes, fails, cond_yes, cond_no, change_other, change_same}
-use Rattle.machine_simulation.proofs.Frame.{eval_all_same, eval_same, test_head, test_rest}
+use Rattle.machine_simulation.proofs.Frame.{eval_same, test_head, test_rest}
 use Rattle.machine_simulation.proofs.Retype.{retyped, eval_all_rows, row_of_later, part_row_later}
 use Rattle.machine_simulation.proofs.Invariant.{numbered, Ctx, Tracks, Agree}
 use Rattle.machine_simulation.proofs.Generic.{Recorded, reruns, clean_l, clean_r, same_reads}
 use Rattle.machine_simulation.proofs.Cases.{seen, see, fits_type, same_row}
+use Rattle.machine_simulation.proofs.Twins.{Twins, anew, unmoved, twins_eval}
 
 -- ---- numbers
 
@@ -57,7 +59,7 @@ fitted_same xs k e = rw e (whole xs)
     whole (x ∷ xs) = ap (λ (l : List Value). x ∷ l) (whole xs)
 
 -- one less on both sides
-suc_inj : (a b : ℕ) → suc a ≡ suc b → a ≡ b
+pub suc_inj : (a b : ℕ) → suc a ≡ suc b → a ≡ b
 suc_inj a b e = omega (arith, e)
 
 -- a struct's rebuild reads its parts
@@ -87,7 +89,7 @@ named_fields (f ∷ fs) (x ∷ xs) e t =
     (rw (front_other f x (named fs xs) fs (both_l (unlike f.name fs) (fields_once fs) t)) (rw (named_fields fs xs (suc_inj (length fs) (length xs) e) (both_r (unlike f.name fs) (fields_once fs) t))))
 
 -- equal counts
-some_inj : (a b : ℕ) → some a ≡ some b → a ≡ b
+pub some_inj : (a b : ℕ) → some a ≡ some b → a ≡ b
 some_inj a b e = cc
 
 -- what a rebuild reads
@@ -203,9 +205,26 @@ abbrev pub AtOwn : Types → AggStates → List Wanted → Type 0
 AtOwn τ S [] = Unit {0}
 AtOwn τ S (x ∷ ws) = ((xs : List Value) (t : TypeId) → state_of S x.value ≡ some xs → x.at ≡ some t → T (fits τ x.value (some t))) × AtOwn τ S ws
 
--- behind the rebuilds the values are what the original's are, at any rows
+-- the type asked for is an aggregate's own
+pub aggregate_own : (τ : Types) (p t : TypeId) → aggregate_type τ p ≡ some t → p ≡ t
+unfolding aggregate_type
+aggregate_own τ p t e = own (is_aggregate (row_of τ (some p))) e
+  where
+    own : (b : Bool) → cond b (some p) none ≡ some t → p ≡ t
+    own true z = cc
+    own false z = absurd (none_some z)
+
+-- a value fits its recorded type
+pub type_own : (τ : Types) (x : Value) (t : TypeId) → return_type τ x ≡ some t → T (fits τ x (some t))
+unfolding return_type fits same_type
+type_own τ (Value.Literal l) t e = absurd (none_some e)
+type_own τ (Value.Operand v) t e = rw e (eqb_refl t.0)
+type_own τ Value.Error t e = absurd (none_some e)
+
+-- behind the rebuilds the values, where none is dropped, are what the original's are
 pub data Ran {A : Type 0} (κ : Ctx A) (n : ℕ) (xs : List Value) (r : Rebuilt) (E F : Env A) : Type 0 where
-  ran : (G : Env A) → ((x : ℕ) → T (ltb x n) → G x ≡ F x) → ((rows : ℕ → Option MirType) → eval_all κ.mean G rows r.values ≡ eval_all κ.mean E rows xs)
+  ran : (G : Env A) → ((x : ℕ) → T (ltb x n) → G x ≡ F x)
+      → (T (every (λ v. not (κ.dr v.0)) (operands r.values)) → Twins κ.mean (retyped κ.types κ.later) E G xs r.values)
       → ((rest : List Instruction) (t : Terminator) (w : List (Val A)) (rec : List (Event A)) → reruns κ (r.before ++ rest) t F w rec ≡ reruns κ rest t G w rec)
       → Ran κ n xs r E F
 
@@ -220,25 +239,69 @@ agree_same κ n E F G le ag sm x lo nd = ag x lo nd ∙ sym (sm x (low_low κ.m 
 -- values in a list, at any fresh number
 abbrev pub RanAll : {A : Type 0} → Ctx A → AggStates → Env A → List Wanted → Type 0
 RanAll {A} κ S E ws = (n : ℕ) (F : Env A) → κ.m ≤ n → Agree κ E F → T (every (λ v. ltb v.0 κ.m) (operands (wanted_values ws)))
-    → T (clean κ.mean.debug κ.dr (rebuild_all κ.types S n ws).before) → T (every (λ v. not (κ.dr v.0)) (operands (rebuild_all κ.types S n ws).values))
+    → T (clean κ.mean.debug κ.dr (rebuild_all κ.types S n ws).before)
     → Recorded (retyped κ.types κ.later) n (rebuild_all κ.types S n ws).fresh → Ran κ n (wanted_values ws) (rebuild_all κ.types S n ws) E F
 
--- a value that stays
-stays : {A : Type 0} (κ : Ctx A) (S : AggStates) (E : Env A) (x : Value) (ws : List Wanted) → RanAll κ S E ws
-    → (n : ℕ) (F : Env A) → κ.m ≤ n → Agree κ E F → T (every (λ v. ltb v.0 κ.m) (operands (x ∷ wanted_values ws)))
-    → T (clean κ.mean.debug κ.dr (rebuild_all κ.types S n ws).before)
-    → T (every (λ v. not (κ.dr v.0)) (operands (x ∷ (rebuild_all κ.types S n ws).values)))
-    → Recorded (retyped κ.types κ.later) n (rebuild_all κ.types S n ws).fresh
-    → Ran κ n (x ∷ wanted_values ws) (keep_value x (rebuild_all κ.types S n ws)) E F
-unfolding eval_all keep_value
-stays κ S E x ws ih n F le ag lo cl cv rc =
+-- a value that stays, in front of others
+pub stays_then : {A : Type 0} (κ : Ctx A) (E : Env A) (x : Value) (xs : List Value) (r : Rebuilt) (n : ℕ) (F : Env A) → κ.m ≤ n → Agree κ E F
+    → T (every (λ v. ltb v.0 κ.m) (operands (x ∷ xs))) → Ran κ n xs r E F → Ran κ n (x ∷ xs) (keep_value x r) E F
+unfolding keep_value
+stays_then κ E x xs r n F le ag lo (ran G sm tw rn) =
     let p : ValueId → Bool = λ v. ltb v.0 κ.m in
     let q : ValueId → Bool = λ v. not (κ.dr v.0) in
-    let r = rebuild_all κ.types S n ws in
-    elim (ih n F le ag (test_rest p x (operands (wanted_values ws)) lo) cl (test_rest q x (operands r.values) cv) rc) [
-      | ran G sm vl rn ↦ ran G sm
-          (λ rows. ap₂ cons_val (sym (eval_same κ.mean E G (rows zero) x [] (same_reads κ E G (agree_same κ n E F G le ag sm) (operand x []) (test_head p x (operands (wanted_values ws)) lo) (test_head q x (operands r.values) cv)))) (vl (λ k. rows (suc k)))) rn
+    ran G sm
+    (λ cv. (unmoved x (λ row. sym (eval_same κ.mean E G row x [] (same_reads κ E G (agree_same κ n E F G le ag sm) (operand x []) (test_head p x (operands xs) lo) (test_head q x (operands r.values) cv)))), tw (test_rest q x (operands r.values) cv))) rn
+
+-- the type of a value below next, in the rewritten routine
+low_type : {A : Type 0} (κ : Ctx A) (v : ValueId) (vs : List ValueId) (t : TypeId) → T (every (λ v. ltb v.0 κ.m) (v ∷ vs)) → recorded_type κ.types v ≡ some t
+    → recorded_type (retyped κ.types κ.later) v ≡ some t
+low_type κ v vs t lo e = sym (κ.alike v (both_l (ltb v.0 κ.m) (every (λ v. ltb v.0 κ.m) vs) lo)) ∙ e
+
+-- a build of the whole from values that are its parts', behind what was run before, in front of what comes behind
+pub whole_ran : {A : Type 0} (κ : Ctx A) (S : AggStates) (E : Env A) (is : List Instruction) (x : Value) (xs : List Value) (t : TypeId) (n m : ℕ) (ps : List Value)
+    (before : List Instruction) (vs : List Value) (r : Rebuilt) (F G : Env A) → Tracks κ S E is → state_of S x ≡ some xs → T (fits κ.types x (some t))
+    → n ≤ m → κ.m ≤ n → Agree κ E F → T (every (λ v. ltb v.0 κ.m) (operands (x ∷ vs)))
+    → length ps ≡ length xs
+    → T (clean κ.mean.debug κ.dr (rebuild_at (numbered m) ps t (row_of κ.types (some t))))
+    → recorded_type (retyped κ.types κ.later) (numbered m) ≡ some t
+    → ((a : ℕ) → T (ltb a n) → G a ≡ F a)
+    → (T (every (λ v. not (κ.dr v.0)) (operands ps)) → Twins κ.mean (retyped κ.types κ.later) E G xs ps)
+    → ((rest : List Instruction) (u : Terminator) (w : List (Val A)) (rec : List (Event A)) → reruns κ (before ++ rest) u F w rec ≡ reruns κ rest u G w rec)
+    → ((F' : Env A) → Agree κ E F' → Ran κ (suc m) vs r E F')
+    → (fresh : List TypeId) (fault : ℕ → Option Fault)
+    → Ran κ n (x ∷ vs) (record { before = before ++ (rebuild_at (numbered m) ps t (row_of κ.types (some t)) ++ r.before); values = Value.Operand (numbered m) ∷ r.values; fresh = fresh; fault = fault }) E F
+whole_ran κ S E is x xs t n m ps before vs r F G tk e fx nm le ag lo lp cl rc sm_g tw_g rn_g next fresh fault =
+    let τ : Types = κ.types in
+    let mk : List Instruction = rebuild_at (numbered m) ps t (row_of τ (some t)) in
+    let q : ValueId → Bool = λ v. not (κ.dr v.0) in
+    elim (see κ S E is tk x xs e) [
+      | seen v xe z ↦
+          let te : recorded_type τ v ≡ some t = fits_type τ v (some t) (rw xe at fx) in
+          let sz : part_count (row_of τ (some t)) ≡ some (length ps) = rw lp (rw te at z.shape.sized) in
+          let cw = rebuild_reads κ.mean.debug κ.dr m ps t (row_of τ (some t)) sz cl in
+          let ev : eval_all κ.mean E (part_row τ (row_of τ (some t))) xs ≡ some z.vals = rw (same_row τ v (some t) te) at z.each in
+          let fv : eval_all κ.mean G (part_row τ (row_of τ (some t))) ps ≡ some z.vals = twins_eval κ.mean (retyped τ κ.later) E G xs ps (tw_g cw) (part_row τ (row_of τ (some t))) ∙ ev in
+          let F2 = write G (numbered m) (aggregate z.vals) in
+          elim (next F2 (agree_fresh κ m E G (aggregate z.vals) (omega arith) (agree_same κ n E F G le ag sm_g))) [
+            | ran H sm tw rn ↦
+                ran H
+                (λ a la. sm a (low_low n (suc m) a (omega arith) la) ∙ change_other G m (aggregate z.vals) a (low_other m a (low_low n m a nm la)) ∙ sm_g a la)
+                (λ cv. (rw xe (anew v (numbered m) (sm m (lt→ltb m (suc m) (omega arith)) ∙ change_same G m (aggregate z.vals) ∙ sym z.whole) (rc ∙ sym (low_type κ v (operands vs) t (rw xe at lo) te))), tw (both_r (q (numbered m)) (every q (operands r.values)) cv)))
+                (λ rest u w rec. rw (append_assoc before (mk ++ r.before) rest) (rn_g ((mk ++ r.before) ++ rest) u w rec ∙ rw (append_assoc mk r.before rest)
+                (rebuild_runs κ m ps t (row_of τ (some t)) z.vals G (r.before ++ rest) u w rec refl sz (κ.names t) rc fv (rw te at z.small) ∙ rn rest u w rec)))
+          ]
     ]
+
+-- values that are not built anew are their own twins
+own_twins : {A : Type 0} (κ : Ctx A) (E F : Env A) (xs : List Value) → Agree κ E F → T (every (λ v. ltb v.0 κ.m) (operands xs))
+    → T (every (λ v. not (κ.dr v.0)) (operands xs)) → Twins κ.mean (retyped κ.types κ.later) E F xs xs
+own_twins κ E F [] ag lo cl = tt
+own_twins κ E F (x ∷ xs) ag lo cl =
+    let p : ValueId → Bool = λ v. ltb v.0 κ.m in
+    let q : ValueId → Bool = λ v. not (κ.dr v.0) in (
+      unmoved x (λ row. sym (eval_same κ.mean E F row x [] (same_reads κ E F ag (operand x []) (test_head p x (operands xs) lo) (test_head q x (operands xs) cl)))),
+      own_twins κ E F xs ag (test_rest p x (operands xs) lo) (test_rest q x (operands xs) cl),
+    )
 
 -- one value, kept or rebuilt, and the rest
 pub rebuilt_go : {A : Type 0} (κ : Ctx A) (S : AggStates) (E : Env A) (is : List Instruction) (x : Value) (ws : List Wanted) → Tracks κ S E is → RanAll κ S E ws
@@ -246,41 +309,23 @@ pub rebuilt_go : {A : Type 0} (κ : Ctx A) (S : AggStates) (E : Env A) (is : Lis
     → (o : Option TypeId) (s : Option (List Value)) → state_of S x ≡ s
     → ((xs : List Value) (t : TypeId) → state_of S x ≡ some xs → o ≡ some t → T (fits κ.types x (some t)))
     → T (clean κ.mean.debug κ.dr (one_value κ.types n x (λ k. rebuild_all κ.types S k ws) o s).before)
-    → T (every (λ v. not (κ.dr v.0)) (operands (one_value κ.types n x (λ k. rebuild_all κ.types S k ws) o s).values))
     → Recorded (retyped κ.types κ.later) n (one_value κ.types n x (λ k. rebuild_all κ.types S k ws) o s).fresh
     → Ran κ n (x ∷ wanted_values ws) (one_value κ.types n x (λ k. rebuild_all κ.types S k ws) o s) E F
-unfolding one_value rebuild_value keep_value eval_all eval
-rebuilt_go κ S E is x ws tk ih n F le ag lo none s e hc cl cv rc = stays κ S E x ws ih n F le ag lo cl cv rc
-rebuilt_go κ S E is x ws tk ih n F le ag lo (some t) none e hc cl cv rc = stays κ S E x ws ih n F le ag lo cl cv rc
-rebuilt_go κ S E is x ws tk ih n F le ag lo (some t) (some xs) e hc cl cv rc =
-    let τ : Types = κ.types in
-    let r = rebuild_all τ S (suc n) ws in
-    let mk : List Instruction = rebuild_at (numbered n) xs t (row_of τ (some t)) in
-    let q : ValueId → Bool = λ v. not (κ.dr v.0) in
-    let cl1 = clean_l κ.mean.debug κ.dr mk r.before cl in
-    let cl2 = clean_r κ.mean.debug κ.dr mk r.before cl in
-    let cv2 = both_r (q (numbered n)) (every q (operands r.values)) cv in
-    let lo2 = test_rest (λ v. ltb v.0 κ.m) x (operands (wanted_values ws)) lo in
-    elim (see κ S E is tk x xs e) [
-      | seen v xe z ↦
-          let te : recorded_type τ v ≡ some t = fits_type τ v (some t) (rw xe at (hc xs t e refl)) in
-          let sz : part_count (row_of τ (some t)) ≡ some (length xs) = rw te at z.shape.sized in
-          let cw = rebuild_reads κ.mean.debug κ.dr n xs t (row_of τ (some t)) sz cl1 in
-          let ev : eval_all κ.mean E (part_row τ (row_of τ (some t))) xs ≡ some z.vals = rw (same_row τ v (some t) te) at z.each in
-          let fv : eval_all κ.mean F (part_row τ (row_of τ (some t))) xs ≡ some z.vals =
-          sym (eval_all_same κ.mean E F (part_row τ (row_of τ (some t))) xs (same_reads κ E F ag (operands xs) z.parts.low cw)) ∙ ev in
-          elim (ih (suc n) (write F (numbered n) (aggregate z.vals)) (omega arith) (agree_fresh κ n E F (aggregate z.vals) le ag) lo2 cl2 cv2 rc.1) [
-            | ran G sm vl rn ↦
-                ran G
-                (λ a la. sm a (low_low n (suc n) a (omega arith) la) ∙ change_other F n (aggregate z.vals) a (low_other n a la))
-                (λ rows. ap₂ cons_val (sm n (lt→ltb n (suc n) (omega arith)) ∙ change_same F n (aggregate z.vals) ∙ sym (rw xe z.whole)) (vl (λ k. rows (suc k))))
-                (λ rest u w rec. rw (append_assoc mk r.before rest) (rebuild_runs κ n xs t (row_of τ (some t)) z.vals F (r.before ++ rest) u w rec refl sz (κ.names t) rc.0 fv (rw te at z.small) ∙ rn rest u w rec))
-          ]
-    ]
+unfolding one_value rebuild_value keep_value
+rebuilt_go κ S E is x ws tk ih n F le ag lo none s e hc cl rc =
+    stays_then κ E x (wanted_values ws) (rebuild_all κ.types S n ws) n F le ag lo (ih n F le ag (test_rest (λ v. ltb v.0 κ.m) x (operands (wanted_values ws)) lo) cl rc)
+rebuilt_go κ S E is x ws tk ih n F le ag lo (some t) none e hc cl rc =
+    stays_then κ E x (wanted_values ws) (rebuild_all κ.types S n ws) n F le ag lo (ih n F le ag (test_rest (λ v. ltb v.0 κ.m) x (operands (wanted_values ws)) lo) cl rc)
+rebuilt_go κ S E is x ws tk ih n F le ag lo (some t) (some xs) e hc cl rc =
+    let r = rebuild_all κ.types S (suc n) ws in
+    let mk : List Instruction = rebuild_at (numbered n) xs t (row_of κ.types (some t)) in
+    whole_ran κ S E is x xs t n n xs [] (wanted_values ws) r F F tk e (hc xs t e refl) (omega arith) le ag lo refl (clean_l κ.mean.debug κ.dr mk r.before cl) rc.0
+    (λ a la. refl) (λ cv. elim (see κ S E is tk x xs e) [ seen v xe z ↦ own_twins κ E F xs ag z.parts.low cv ]) (λ rest u w rec. refl)
+    (λ F' ag'. ih (suc n) F' (omega arith) ag' (test_rest (λ v. ltb v.0 κ.m) x (operands (wanted_values ws)) lo) (clean_r κ.mean.debug κ.dr mk r.before cl) rc.1) _ _
 
 -- the rebuild lemma
 pub rebuilt : {A : Type 0} (κ : Ctx A) (S : AggStates) (E : Env A) (is : List Instruction) → Tracks κ S E is → (ws : List Wanted)
     → AtOwn κ.types S ws → RanAll κ S E ws
-unfolding rebuild_all eval_all
-rebuilt κ S E is tk [] cs n F le ag lo cl cv rc = ran F (λ x lx. refl) (λ rows. refl) (λ rest t w rec. refl)
-rebuilt κ S E is tk (x ∷ ws) cs n F le ag lo cl cv rc = rebuilt_go κ S E is x.value ws tk (rebuilt κ S E is tk ws cs.1) n F le ag lo x.at (state_of S x.value) refl cs.0 cl cv rc
+unfolding rebuild_all
+rebuilt κ S E is tk [] cs n F le ag lo cl rc = ran F (λ x lx. refl) (λ cv. tt) (λ rest t w rec. refl)
+rebuilt κ S E is tk (x ∷ ws) cs n F le ag lo cl rc = rebuilt_go κ S E is x.value ws tk (rebuilt κ S E is tk ws cs.1) n F le ag lo x.at (state_of S x.value) refl cs.0 cl rc

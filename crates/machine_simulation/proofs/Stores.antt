@@ -1,11 +1,11 @@
--- Stores: one that stays, its value rebuilt where it is tracked, and one that changes the parts of a tracked value.
-use mathlib.Core.Path.{◌≡◌, refl, sym, ◌∙◌}
+-- Stores: one that stays, and one that changes the parts of a tracked value.
+use mathlib.Core.Path.{◌≡◌, refl, ◌∙◌}
 use Prim.Native.Nat.{ℕ, zero, suc, ◌+◌}
-use mathlib.Core.Bool.{Bool, true, false, not, ◌&&◌, ◌||◌}
+use mathlib.Core.Bool.{Bool, false, not, ◌&&◌, ◌||◌}
 use mathlib.Core.Option.{Option, none, some}
 use mathlib.Core.List.{List, [], ◌∷◌, ◌++◌}
 use lib.Dec.{T, T_not, ltb}
-use lib.ListN.{length, get_elem?}
+use lib.ListN.{get_elem?}
 use Rattle.mir.specs.declared.ValueId.{ValueId}
 use Rattle.mir.specs.declared.TypeId.{TypeId}
 use Rattle.mir.specs.declared.Value.{Value}
@@ -18,123 +18,28 @@ use Rattle.mir.specs.Lookup.{Types, row_of, recorded_type, value_row, is_array, 
 use Rattle.mir.specs.declared.Literal.{Literal}
 use Rattle.rewrite.specs.State.{AggStates, insert_state, state_of, first_integer, store_part, store_from, forward_store, store_deeper}
 use Rattle.rewrite.specs.State as St
-use Rattle.rewrite.specs.Rebuild.{Rebuilt, untouched, rebuild_all, rebuild_value, one_value, aggregate_type}
-use Rattle.rewrite.specs.Step.{Piece, one_insert, no_counts, left, store_rebuilt, store_kept, step_store, step_kind}
-use Rattle.rewrite.specs.Run.{glue}
-use Rattle.machine.specs.Values.{Val, Vals, ends, then, cons_val, nth, put, part_of, as_aggregate, with_part}
-use Rattle.machine.specs.Records.{Env}
+use Rattle.rewrite.specs.Piece.{one_insert, left}
+use Rattle.rewrite.specs.Stays.{stays}
+use Rattle.rewrite.specs.Step.{step_store, step_kind, walkable}
+use Rattle.machine.specs.Values.{Val, Vals, ends, then, nth, put, part_of, as_aggregate, with_part}
 use Rattle.mir.specs.Parts.{part_type, is_pointer}
 use Rattle.machine.specs.Places.{part_row, step_position, changed}
-use Rattle.machine.specs.Evaluate.{eval, eval_all, indexed, eval_step, cons_step, eval_steps}
+use Rattle.machine.specs.Evaluate.{eval, indexed, eval_step, cons_step, eval_steps}
 use Rattle.machine.specs.Exec.{need, choose, exec}
 use Rattle.shelf.specs.Lists.{every, among}
 use Rattle.shelf.specs.Fits.{same_type, fits, step_type, place_type}
 use Rattle.machine_simulation.specs.Typing.{typed}
-use Rattle.shelf.specs.Reads.{counted_reads, defined_in, is_deep, shallow}
-use Rattle.machine_simulation.proofs.Tools.{both_l, both_r, both, none_some, every_l, every_r, differ'}
-use Rattle.machine_simulation.proofs.Frame.{eval_steps_same, cond_some}
-use Rattle.machine_simulation.proofs.Retype.{retyped, exec_later}
-use Rattle.machine_simulation.proofs.Invariant.{numbered, Ctx, once_later}
-use Rattle.machine_simulation.proofs.Generic.{Good, ok_later, recorded_l, walks, Sim, SimP, clean_l, clean_r, clean_one, reads_low, same_reads, low_alike}
-use Rattle.machine_simulation.proofs.Cases.{more, base_other, sim_kept, reads_calm, parts_free, is_typed, left_go, same_type→eq}
-use Rattle.machine_simulation.proofs.Builds.{at, through, on_some_inv}
+use Rattle.shelf.specs.Reads.{defined_in, is_deep, shallow}
+use Rattle.machine_simulation.proofs.Tools.{both_l, both_r, none_some, every_r}
+use Rattle.machine_simulation.proofs.Frame.{cond_some}
+use Rattle.machine_simulation.proofs.Invariant.{Ctx, once_later}
+use Rattle.machine_simulation.proofs.Generic.{Good, ok_later, walks, Sim, SimP, reads_low}
+use Rattle.machine_simulation.proofs.Cases.{more, base_other, reads_calm, parts_free, is_typed, left_go, same_type→eq, at}
+use Rattle.machine_simulation.proofs.Builds.{through, on_some_inv}
 use Rattle.machine_simulation.proofs.Takes.{is_val, cons_val_inv, sim_guarded}
 use Rattle.machine_simulation.proofs.Loads.{tracked_no_pointer, array_part, cond_true}
 use Rattle.machine_simulation.proofs.Puts.{NewPart, parts_replaced, whole_replaced, PutsIn, put_makes}
-use Rattle.machine_simulation.proofs.Rebuilds.{rebuilt}
-use Rattle.machine_simulation.proofs.Calls.{after_builds}
-
--- ---- a Store that stays, with its value rebuilt
-
--- a list of one value
-one_val : {A : Type 0} (a b : Option (Val A)) → cons_val a (some ends) ≡ cons_val b (some ends) → a ≡ b
-unfolding cons_val
-one_val none none e = refl
-one_val none (some b) e = absurd (none_some e)
-one_val (some a) none e = absurd (none_some (sym e))
-one_val (some a) (some b) e = cc
-
--- what holds of a list of one holds of it
-one_value_lem : {A : Type 0} (κ : Ctx A) (G E : Env A) (row : Option MirType) (y x : Value)
-    → ((rows : ℕ → Option MirType) → eval_all κ.mean G rows (y ∷ []) ≡ eval_all κ.mean E rows (x ∷ []))
-    → eval κ.mean G row y ≡ eval κ.mean E row x
-unfolding eval_all
-one_value_lem κ G E row y x h = one_val (eval κ.mean G row y) (eval κ.mean E row x) (h (λ k. row))
-
--- a Store does the same with equal reads
-store_same : {A : Type 0} (κ : Ctx A) (p : Place) (x y : Value) (u : TypeId) (E G : Env A) (w : List (Val A)) → G p.base.0 ≡ E p.base.0
-    → eval_steps κ.mean G p.projections ≡ eval_steps κ.mean E p.projections
-    → eval κ.mean G (row_of κ.types (some u)) y ≡ eval κ.mean E (row_of κ.types (some u)) x
-    → exec κ.mean κ.types (Store p y u) G w ≡ exec κ.mean κ.types (Store p x u) E w
-unfolding exec
-store_same κ p x y u E G w a b c = rw (a, b, c)
-
--- what the rebuilt Store reads
-store_reads : (debug : Bool) (q : ValueId → Bool) (p : Place) (y : Value) (u : TypeId) → T (every q (counted_reads debug (Store p y u)))
-    → T (every q (p.base ∷ (operands (indices p.projections) ++ operand y [])))
-store_reads true q p y u t = t
-store_reads false q p y u t = t
-
--- a Store behind the rebuild of its value
-rebuilt_store : {A : Type 0} (κ : Ctx A) (φ : ValueId → Bool) (m : Meta) (p : Place) (x : Value) (u : TypeId) (is : List Instruction) (t : Terminator)
-    (S : AggStates) (n : ℕ) (xs : List Value) → Sim κ φ is t → state_of S x ≡ some xs
-    → (r : Rebuilt) → rebuild_all κ.types S n (record { value = x; at = some u } ∷ []) ≡ r → (y : Value) → r.values ≡ y ∷ []
-    → SimP κ φ (at m (Store p x u)) is t S n (record { out = r.before ++ (at m (Store p y u) ∷ []); dropped = []; states = S; fresh = r.fresh; counts = no_counts; changed = true; clash = r.clash })
-unfolding glue typed
-rebuilt_store κ φ m p x u is t S n xs sim lk r er y ey E F w rec le tk ag g ok fn =
-    let τ : Types = κ.types in
-    let i : Instruction = at m (Store p x u) in
-    let j : Instruction = at m (Store p y u) in
-    let pc : Piece = record { out = r.before ++ (j ∷ []); dropped = []; states = S; fresh = r.fresh; counts = no_counts; changed = true; clash = r.clash } in
-    let q = walks κ φ S (n + length r.fresh) is t in
-    let dq : ValueId → Bool = λ v. not (κ.dr v.0) in
-    let lq : ValueId → Bool = λ v. ltb v.0 κ.m in
-    let is' = operands (indices p.projections) in
-    let c1 = clean_l κ.mean.debug κ.dr (r.before ++ (j ∷ [])) q.out ok.reads in
-    let c2 = store_reads κ.mean.debug dq p y u (clean_one κ.mean.debug κ.dr j [] (clean_r κ.mean.debug κ.dr r.before (j ∷ []) c1)) in
-    let cb : T (dq p.base) = both_l (dq p.base) (every dq (is' ++ operand y [])) c2 in
-    let ci = every_l dq is' (operand y []) (both_r (dq p.base) (every dq (is' ++ operand y [])) c2) in
-    let cy = every_r dq is' (operand y []) (both_r (dq p.base) (every dq (is' ++ operand y [])) c2) in
-    let l2 = reads_low κ i is t g in
-    let lb : T (lq p.base) = both_l (lq p.base) (every lq (is' ++ operand x [])) l2 in
-    let li = every_l lq is' (operand x []) (both_r (lq p.base) (every lq (is' ++ operand x [])) l2) in
-    let lx = every_r lq is' (operand x []) (both_r (lq p.base) (every lq (is' ++ operand x [])) l2) in
-    let ty : T (fits τ x (some u)) = both_l (fits τ x (some u)) (is_pointer (value_row τ p.base) || (is_aggregate (value_row τ p.base) && same_type (place_type τ (recorded_type τ p.base) p.projections) (some u))) (is_typed κ i is t g) in
-    after_builds κ φ i j is t S n (length r.fresh) (x ∷ []) r E F w rec sim le tk ag g (ok_later κ n pc q ok)
-    (λ v ys h. base_other τ v p.base (differ' κ.dr v p.base.0 cb (tk v ys h).gone))
-    (rw er at (rebuilt κ S E (i ∷ is) tk (record { value = x; at = some u } ∷ []) (λ ys t' a b. fits_own ys t' b ty, tt) n F le ag lx
-    (rw er (clean_l κ.mean.debug κ.dr r.before (j ∷ []) c1)) (rw er (rw ey cy)) (rw er (recorded_l (retyped τ κ.later) n r.fresh q.fresh ok.fresh))))
-    (λ G ag' vl. sym (exec_later κ.mean τ κ.later (Store p y u) G w (low_alike κ (p.base ∷ []) (both (lq p.base) true lb tt)))
-    ∙ store_same κ p x y u E G w (sym (ag' p.base.0 lb cb)) (sym (eval_steps_same κ.mean E G p.projections (same_reads κ E G ag' is' li ci))) (one_value_lem κ G E (row_of τ (some u)) y x (λ rows. rw ey at (vl rows)))) fn
-  where
-    fits_own : (ys : List Value) (t' : TypeId) → some u ≡ some t' → T (fits κ.types x (some u)) → T (fits κ.types x (some t'))
-    fits_own ys t' b f = let z : u ≡ t' = cc in rw (← z) f
-
--- so the pass's
-stays_rebuilt : {A : Type 0} (κ : Ctx A) (φ : ValueId → Bool) (m : Meta) (p : Place) (x : Value) (u : TypeId) (is : List Instruction) (t : Terminator)
-    (S : AggStates) (n : ℕ) (xs : List Value) → Sim κ φ is t → state_of S x ≡ some xs
-    → SimP κ φ (at m (Store p x u)) is t S n (store_kept κ.types S n (at m (Store p x u)) p x u (some xs))
-unfolding store_kept store_rebuilt rebuild_all one_value rebuild_value
-stays_rebuilt κ φ m p x u is t S n xs sim lk =
-    let τ : Types = κ.types in
-    rw lk (rebuilt_store κ φ m p x u is t S n xs sim lk
-    (rebuild_value τ n u xs (untouched [])) (rw lk) (Value.Operand (numbered n)) refl)
-
--- a Store whose value is not tracked
-stays_whole : {A : Type 0} (κ : Ctx A) (φ : ValueId → Bool) (m : Meta) (p : Place) (x : Value) (u : TypeId) (is : List Instruction) (t : Terminator)
-    (S : AggStates) (n : ℕ) → Sim κ φ is t
-    → SimP κ φ (at m (Store p x u)) is t S n (store_kept κ.types S n (at m (Store p x u)) p x u none)
-unfolding store_kept
-stays_whole κ φ m p x u is t S n sim = sim_kept κ φ (at m (Store p x u)) is t S n sim
-
--- a Store that stays
-kept_store : {A : Type 0} (κ : Ctx A) (φ : ValueId → Bool) (m : Meta) (p : Place) (x : Value) (u : TypeId) (is : List Instruction) (t : Terminator)
-    (S : AggStates) (n : ℕ) → Sim κ φ is t
-    → (o : Option (List Value)) → on_some (aggregate_type κ.types u) (λ a. state_of S x) ≡ o
-    → SimP κ φ (at m (Store p x u)) is t S n (store_kept κ.types S n (at m (Store p x u)) p x u o)
-kept_store κ φ m p x u is t S n sim none e = stays_whole κ φ m p x u is t S n sim
-kept_store κ φ m p x u is t S n sim (some xs) e =
-    elim (on_some_inv (aggregate_type κ.types u) (λ a. state_of S x) xs e) [ through a e1 e2 ↦ stays_rebuilt κ φ m p x u is t S n xs sim e2 ]
+use Rattle.machine_simulation.proofs.Stays.{sim_stays}
 
 -- ---- a Store of one projection into a tracked value
 
@@ -273,9 +178,9 @@ forward_go κ φ m b (q ∷ r ∷ ps) y u is t S S' n sim e = λ E F w rec le tk
 store_go : {A : Type 0} (κ : Ctx A) (φ : ValueId → Bool) (m : Meta) (p : Place) (x : Value) (u : TypeId) (is : List Instruction) (t : Terminator)
     (S : AggStates) (n : ℕ) → Sim κ φ is t
     → (o : Option AggStates) → forward_store κ.types S p x ≡ o
-    → SimP κ φ (at m (Store p x u)) is t S n (step_store κ.types S n (at m (Store p x u)) p x u o)
+    → SimP κ φ (at m (Store p x u)) is t S n (step_store S (stays κ.set κ.types S n (at m (Store p x u))) o)
 unfolding step_store
-store_go κ φ m p x u is t S n sim none e = kept_store κ φ m p x u is t S n sim (on_some (aggregate_type κ.types u) (λ a. state_of S x)) refl
+store_go κ φ m p x u is t S n sim none e = sim_stays κ φ (at m (Store p x u)) is t S n sim
 store_go κ φ m p x u is t S n sim (some S') e = forward_go κ φ m p.base p.projections x u is t S S' n sim e
 
 -- a Store
@@ -284,4 +189,4 @@ pub sim_store : {A : Type 0} (κ : Ctx A) (φ : ValueId → Bool) (m : Meta) (p 
     → SimP κ φ (at m (Store p x u)) is t S n (step_kind κ.set κ.types φ S n (at m (Store p x u)) (Store p x u))
 unfolding step_kind
 sim_store κ φ m p x u is t S n sim =
-    sim_guarded κ φ (at m (Store p x u)) is t S n κ.set.tuples _ sim (store_go κ φ m p x u is t S n sim (forward_store κ.types S p x) refl)
+    sim_guarded κ φ (at m (Store p x u)) is t S n (κ.set.tuples && walkable κ.set.edition p) _ sim (store_go κ φ m p x u is t S n sim (forward_store κ.types S p x) refl)

@@ -17,7 +17,9 @@ use Rattle.bytes_struct.specs.FindField.{field_index, field_type_of}
 use Rattle.bytes_struct.proofs.Laws.{index_type}
 use Rattle.mir.specs.declared.NameId.{NameId}
 use Rattle.rewrite.specs.State.{AggStates, state_of}
-use Rattle.rewrite.specs.Step.{Piece, one_extract, assigned, hand_on, step_extract, extract_index, guarded, step_kind}
+use Rattle.rewrite.specs.Piece.{Piece, one_extract, assigned}
+use Rattle.rewrite.specs.Stays.{guarded, stays}
+use Rattle.rewrite.specs.Step.{hand_on, step_extract, extract_index, step_kind}
 use Rattle.machine.specs.Values.{Val, Vals, aggregate, then, cons_val, nth, part_of}
 use Rattle.machine.specs.Records.{Env, goes}
 use Rattle.mir.specs.Parts.{part_type, operand_row}
@@ -31,8 +33,9 @@ use Rattle.machine_simulation.proofs.Tools.{both_l, both_r, none_some}
 use Rattle.machine_simulation.proofs.Frame.{changes, changed_base, test_head, test_rest}
 use Rattle.machine_simulation.proofs.Invariant.{Ctx, Tracked, Tracks}
 use Rattle.machine_simulation.proofs.Generic.{Good, does, Sim, SimP}
-use Rattle.machine_simulation.proofs.Cases.{replaced, sim_kept, is_typed, seen, see, same_type→eq, handed_on}
-use Rattle.machine_simulation.proofs.Builds.{at, through, on_some_inv, assign_does}
+use Rattle.machine_simulation.proofs.Cases.{replaced, is_typed, seen, see, same_type→eq, handed_on, at}
+use Rattle.machine_simulation.proofs.Builds.{through, on_some_inv, assign_does}
+use Rattle.machine_simulation.proofs.Stays.{sim_stays}
 
 -- ---- parts of a list of values, and of the aggregate that they are
 
@@ -75,10 +78,10 @@ pub data Took {A : Type 0} (κ : Ctx A) (E : Env A) (i : Instruction) (d : Value
 
 -- an arm that a setting turns off
 pub sim_guarded : {A : Type 0} (κ : Ctx A) (φ : ValueId → Bool) (i : Instruction) (is : List Instruction) (t : Terminator) (S : AggStates) (n : ℕ)
-    (b : Bool) (p : Piece) → Sim κ φ is t → SimP κ φ i is t S n p → SimP κ φ i is t S n (guarded b S i p)
+    (b : Bool) (p : Piece) → Sim κ φ is t → SimP κ φ i is t S n p → SimP κ φ i is t S n (guarded b (stays κ.set κ.types S n i) p)
 unfolding guarded
 sim_guarded κ φ i is t S n true p sim h = h
-sim_guarded κ φ i is t S n false p sim h = sim_kept κ φ i is t S n sim
+sim_guarded κ φ i is t S n false p sim h = sim_stays κ φ i is t S n sim
 
 -- a part that is taken: assigned, or its parts are handed on
 pub taken : {A : Type 0} (κ : Ctx A) (φ : ValueId → Bool) (i : Instruction) (is : List Instruction) (t : Terminator) (S : AggStates) (n : ℕ)
@@ -150,9 +153,9 @@ extract_go : {A : Type 0} (κ : Ctx A) (φ : ValueId → Bool) (i : Instruction)
     → ((v : ℕ) → T (not (among v (changes κ.types i.kind)))) → dests i.kind ≡ d ∷ []
     → (Good κ (i ∷ is) t → T (same_type (recorded_type κ.types d) (some u)))
     → (o : Option Value) → ((x : Value) → o ≡ some x → (E : Env A) → Tracks κ S E (i ∷ is) → Good κ (i ∷ is) t → Took κ E i d u x)
-    → SimP κ φ i is t S n (step_extract S i d u o)
+    → SimP κ φ i is t S n (step_extract S (stays κ.set κ.types S n i) d u o)
 unfolding step_extract
-extract_go κ φ i is t S n d u sim nb de td none tk = sim_kept κ φ i is t S n sim
+extract_go κ φ i is t S n d u sim nb de td none tk = sim_stays κ φ i is t S n sim
 extract_go κ φ i is t S n d u sim nb de td (some x) tk = taken κ φ i is t S n d u x sim nb de td (tk x refl) (state_of S x) (λ xs h. h)
 
 -- an ExtractTupleElement

@@ -21,8 +21,10 @@ use Rattle.bytes_struct.proofs.Laws.{index_type}
 use Rattle.mir.specs.Parts.{struct_parts, part_type, operand_row, is_pointer}
 use Rattle.rewrite.specs.State.{AggStates, no_states, insert_state, state_of, step_index, step_part, chain, first_integer, store_part, store_last, store_deeper, store_from, forward_store}
 use Rattle.rewrite.specs.State as St
-use Rattle.rewrite.specs.Rebuild.{Rebuilt, rebuild_all, aggregate_type, wanted_arguments}
-use Rattle.rewrite.specs.Step.{Piece, kept, left, tracked, assigned, step_build, folded_parts, step_insert, hand_on, step_extract, extract_index, step_loaded, step_load, store_rebuilt, store_kept, step_store, step_assign, step_call, guarded, step_kind, step}
+use Rattle.rewrite.specs.Rebuild.{aggregate_type}
+use Rattle.rewrite.specs.Piece.{Piece, kept, left, tracked, assigned}
+use Rattle.rewrite.specs.Stays.{guarded}
+use Rattle.rewrite.specs.Step.{step_build, folded_parts, step_insert, hand_on, step_extract, extract_index, step_loaded, step_load, step_store, step_assign, step_kind, step, walkable}
 use Rattle.shelf.specs.Lists.{every}
 use Rattle.shelf.specs.Agrees.{index_fits}
 use Rattle.shelf.specs.Fits.{same_type, fits, step_type, place_type, fields_fit}
@@ -35,6 +37,7 @@ use Rattle.machine_simulation.proofs.Takes.{tuple_type, field_type_lem, index_of
 use Rattle.machine_simulation.proofs.Loads.{array_part, cond_true, stepped, step_inv, no_place, no_pointer, own_fits, has_type_lem, load_type}
 use Rattle.machine_simulation.proofs.Puts.{whole_replaced, field_fits}
 use Rattle.machine_simulation.proofs.Stores.{store_type, array_step, first_number}
+use Rattle.rewrite.proofs.StaysStates.{stays_states}
 
 -- ---- one entry more
 
@@ -154,22 +157,22 @@ piece_typed τ S ts d none f en es h = rw en ts
 piece_typed τ S ts d (some xs) f en es h = rw (es xs) (insert_typed τ S d xs ts (h xs refl))
 
 -- a build
-build_typed : (τ : Types) (S : AggStates) → TypedStates τ S → (i : Instruction) (d : ValueId) (o : Option (List Value))
-    → ((xs : List Value) → o ≡ some xs → Whole τ (recorded_type τ d) xs) → TypedStates τ (step_build S i d o).states
+build_typed : (τ : Types) (S : AggStates) → TypedStates τ S → (stay : Piece) → stay.states ≡ S → (d : ValueId) (o : Option (List Value))
+    → ((xs : List Value) → o ≡ some xs → Whole τ (recorded_type τ d) xs) → TypedStates τ (step_build S stay d o).states
 unfolding step_build kept tracked left
-build_typed τ S ts i d o h = piece_typed τ S ts d o (λ q. step_build S i d q) refl (λ xs. refl) h
+build_typed τ S ts stay es d o h = piece_typed τ S ts d o (λ q. step_build S stay d q) es (λ xs. refl) h
 
 -- an insert
-insert_piece : (τ : Types) (S : AggStates) → TypedStates τ S → (i : Instruction) (d : ValueId) (o : Option (List Value))
-    → ((xs : List Value) → o ≡ some xs → Whole τ (recorded_type τ d) xs) → TypedStates τ (step_insert S i d o).states
+insert_piece : (τ : Types) (S : AggStates) → TypedStates τ S → (stay : Piece) → stay.states ≡ S → (d : ValueId) (o : Option (List Value))
+    → ((xs : List Value) → o ≡ some xs → Whole τ (recorded_type τ d) xs) → TypedStates τ (step_insert S stay d o).states
 unfolding step_insert kept tracked left
-insert_piece τ S ts i d o h = piece_typed τ S ts d o (λ q. step_insert S i d q) refl (λ xs. refl) h
+insert_piece τ S ts stay es d o h = piece_typed τ S ts d o (λ q. step_insert S stay d q) es (λ xs. refl) h
 
 -- an Assign
-assign_typed : (τ : Types) (S : AggStates) → TypedStates τ S → (i : Instruction) (d : ValueId) (o : Option (List Value))
-    → ((xs : List Value) → o ≡ some xs → Whole τ (recorded_type τ d) xs) → TypedStates τ (step_assign S i d o).states
+assign_typed : (τ : Types) (S : AggStates) → TypedStates τ S → (stay : Piece) → stay.states ≡ S → (d : ValueId) (o : Option (List Value))
+    → ((xs : List Value) → o ≡ some xs → Whole τ (recorded_type τ d) xs) → TypedStates τ (step_assign S stay d o).states
 unfolding step_assign kept tracked left
-assign_typed τ S ts i d o h = piece_typed τ S ts d o (λ q. step_assign S i d q) refl (λ xs. refl) h
+assign_typed τ S ts stay es d o h = piece_typed τ S ts d o (λ q. step_assign S stay d q) es (λ xs. refl) h
 
 -- a part handed on or assigned
 hand_typed : (τ : Types) (S : AggStates) → TypedStates τ S → (d : ValueId) (u : TypeId) (x : Value) (o : Option (List Value))
@@ -183,19 +186,19 @@ handed : (τ : Types) (S : AggStates) → TypedStates τ S → (d : ValueId) (u 
 handed τ S ts d u x xs td fx lk = elim (see τ S ts x xs lk) [ seen v q w ↦ rw (same_type→eq _ _ td) (rw (fits_type τ v (some u) (rw q at fx)) at w) ]
 
 -- an extract
-extract_typed : (τ : Types) (S : AggStates) → TypedStates τ S → (i : Instruction) (d : ValueId) (u : TypeId) (o : Option Value)
-    → T (same_type (recorded_type τ d) (some u)) → ((x : Value) → o ≡ some x → T (fits τ x (some u))) → TypedStates τ (step_extract S i d u o).states
+extract_typed : (τ : Types) (S : AggStates) → TypedStates τ S → (stay : Piece) → stay.states ≡ S → (d : ValueId) (u : TypeId) (o : Option Value)
+    → T (same_type (recorded_type τ d) (some u)) → ((x : Value) → o ≡ some x → T (fits τ x (some u))) → TypedStates τ (step_extract S stay d u o).states
 unfolding step_extract kept
-extract_typed τ S ts i d u none td h = ts
-extract_typed τ S ts i d u (some x) td h = hand_typed τ S ts d u x (state_of S x) (λ xs e. handed τ S ts d u x xs td (h x refl) e)
+extract_typed τ S ts stay es d u none td h = rw es ts
+extract_typed τ S ts stay es d u (some x) td h = hand_typed τ S ts d u x (state_of S x) (λ xs e. handed τ S ts d u x xs td (h x refl) e)
 
 -- a Load with its chain
-loaded_typed : (τ : Types) (S : AggStates) → TypedStates τ S → (i : Instruction) (d : ValueId) (p : Place) (u : TypeId) (o : Option Value)
+loaded_typed : (τ : Types) (S : AggStates) → TypedStates τ S → (stay : Piece) → stay.states ≡ S → (d : ValueId) (p : Place) (u : TypeId) (o : Option Value)
     → on_some (S p.base.0) (λ xs. chain τ S (Value.Operand p.base) p.projections) ≡ o → T (typed τ (Load d p u))
-    → TypedStates τ (step_loaded τ S i d u o).states
+    → TypedStates τ (step_loaded τ S stay d u o).states
 unfolding step_loaded kept typed
-loaded_typed τ S ts i d p u none e ty = ts
-loaded_typed τ S ts i d p u (some x) e ty =
+loaded_typed τ S ts stay es d p u none e ty = rw es ts
+loaded_typed τ S ts stay es d p u (some x) e ty =
     elim (on_some_inv (S p.base.0) (λ xs. chain τ S (Value.Operand p.base) p.projections) x e) [
       | through xs lk ch ↦
           let w = ts p.base xs lk in
@@ -210,11 +213,11 @@ loaded_typed τ S ts i d p u (some x) e ty =
     ]
 
 -- a Load
-load_typed : (τ : Types) (S : AggStates) → TypedStates τ S → (i : Instruction) (d : ValueId) (p : Place) (u : TypeId) (o : Option ℕ)
-    → T (typed τ (Load d p u)) → TypedStates τ (step_load τ S i d p u o).states
+load_typed : (τ : Types) (S : AggStates) → TypedStates τ S → (stay : Piece) → stay.states ≡ S → (d : ValueId) (p : Place) (u : TypeId) (o : Option ℕ)
+    → T (typed τ (Load d p u)) → TypedStates τ (step_load τ S stay d p u o).states
 unfolding step_load kept
-load_typed τ S ts i d p u none ty = ts
-load_typed τ S ts i d p u (some k) ty = loaded_typed τ S ts i d p u (on_some (S p.base.0) (λ xs. chain τ S (Value.Operand p.base) p.projections)) refl ty
+load_typed τ S ts stay es d p u none ty = rw es ts
+load_typed τ S ts stay es d p u (some k) ty = loaded_typed τ S ts stay es d p u (on_some (S p.base.0) (λ xs. chain τ S (Value.Operand p.base) p.projections)) refl ty
 
 -- a Store that is forwarded, by one projection or more
 part_of : (τ : Types) (S S' : AggStates) (b : ValueId) (k : ℕ) (y : Value) → on_some (S b.0)
@@ -259,41 +262,19 @@ forward_typed τ S S' ts p y u ty e =
           (λ xs lk. same_type→eq _ _ (store_type a c d g (rw (same_row τ p.base (recorded_type τ p.base) refl) (no_pointer (row_of τ (recorded_type τ p.base)) (length xs) (ts p.base xs lk).sized)) ty)) e1
     ]
 
--- a Store behind its rebuild tracks nothing new
-rebuilt_states : (τ : Types) (S : AggStates) → TypedStates τ S → (m : Meta) (p : Place) (u : TypeId) (r : Rebuilt) (xs : List Value)
-    → TypedStates τ (store_rebuilt S m p u r xs).states
-unfolding store_rebuilt kept
-rebuilt_states τ S ts m p u r [] = ts
-rebuilt_states τ S ts m p u r (x ∷ xs) = ts
-
--- nor does one that stays
-kept_states : (τ : Types) (S : AggStates) → TypedStates τ S → (n : ℕ) (m : Meta) (p : Place) (x : Value) (u : TypeId) (o : Option (List Value))
-    → TypedStates τ (store_kept τ S n (record { meta = m; kind = Store p x u }) p x u o).states
-unfolding store_kept kept
-kept_states τ S ts n m p x u none = ts
-kept_states τ S ts n m p x u (some xs) = rebuilt_states τ S ts m p u _ _
-
 -- a Store
-store_typed : (τ : Types) (S : AggStates) → TypedStates τ S → (n : ℕ) (m : Meta) (p : Place) (x : Value) (u : TypeId) (o : Option AggStates)
-    → forward_store τ S p x ≡ o → T (typed τ (Store p x u))
-    → TypedStates τ (step_store τ S n (record { meta = m; kind = Store p x u }) p x u o).states
+store_typed : (τ : Types) (S : AggStates) → TypedStates τ S → (stay : Piece) → stay.states ≡ S → (p : Place) (x : Value) (u : TypeId) (o : Option AggStates)
+    → forward_store τ S p x ≡ o → T (typed τ (Store p x u)) → TypedStates τ (step_store S stay o).states
 unfolding step_store left
-store_typed τ S ts n m p x u none e ty = kept_states τ S ts n m p x u (on_some (aggregate_type τ u) (λ a. state_of S x))
-store_typed τ S ts n m p x u (some S') e ty = forward_typed τ S S' ts p x u ty e
-
--- a Call tracks nothing new
-call_states : (τ : Types) (S : AggStates) → TypedStates τ S → (i : Instruction) (ds : List ValueId) (f : ℕ) (ps rs : List TypeId) (r : Rebuilt)
-    (us : List TypeId) → TypedStates τ (step_call S i ds f ps rs r us).states
-unfolding step_call kept
-call_states τ S ts i ds f ps rs r [] = ts
-call_states τ S ts i ds f ps rs r (u ∷ us) = ts
+store_typed τ S ts stay es p x u none e ty = rw es ts
+store_typed τ S ts stay es p x u (some S') e ty = forward_typed τ S S' ts p x u ty e
 
 -- an arm that a setting turns off
-guard_typed : (τ : Types) (S : AggStates) → TypedStates τ S → (b : Bool) (i : Instruction) (p : Piece) → TypedStates τ p.states
-    → TypedStates τ (guarded b S i p).states
-unfolding guarded kept
-guard_typed τ S ts true i p h = h
-guard_typed τ S ts false i p h = ts
+guard_typed : (τ : Types) (S : AggStates) → TypedStates τ S → (b : Bool) (stay : Piece) → stay.states ≡ S → (p : Piece) → TypedStates τ p.states
+    → TypedStates τ (guarded b stay p).states
+unfolding guarded
+guard_typed τ S ts true stay es p h = h
+guard_typed τ S ts false stay es p h = rw es ts
 
 -- an insert's parts fit the dest's type
 inserted_typed : (τ : Types) (S : AggStates) → TypedStates τ S → (d : ValueId) (x : Value) (k : ℕ) (y : Value) (u : TypeId) (xs ys : List Value)
@@ -305,39 +286,39 @@ inserted_typed τ S ts d x k y u xs ys td fx fy lk h =
 -- every kind
 kind_typed : (σ : Settings) (τ : Types) (φ : ValueId → Bool) (S : AggStates) → TypedStates τ S → (n : ℕ) (m : Meta) (k : InstructionKind)
     → T (typed τ k) → TypedStates τ (step_kind σ τ φ S n (record { meta = m; kind = k }) k).states
-unfolding step_kind typed kept
+unfolding step_kind typed
 kind_typed σ τ φ S ts n m (Assign d x u) ty =
-    assign_typed τ S ts _ d (on_some (aggregate_type τ u) (λ a. state_of S x))
+    assign_typed τ S ts _ (stays_states σ τ S n _) d (on_some (aggregate_type τ u) (λ a. state_of S x))
     (λ xs h. elim (on_some_inv (aggregate_type τ u) (λ a. state_of S x) xs h) [ through a e1 e2 ↦ handed τ S ts d u x xs (search (both_l)) (search (both_l, both_r)) e2 ])
-kind_typed σ τ φ S ts n m (UnaryOp op d x) ty = ts
-kind_typed σ τ φ S ts n m (BinaryOp op d x y) ty = ts
-kind_typed σ τ φ S ts n m (Call ds f xs ps rs) ty = call_states τ S ts _ ds f ps rs (rebuild_all τ S n (wanted_arguments τ xs ps)) (rebuild_all τ S n (wanted_arguments τ xs ps)).fresh
-kind_typed σ τ φ S ts n m (Cast d x u v) ty = ts
-kind_typed σ τ φ S ts n m (Load d p u) ty = guard_typed τ S ts σ.tuples _ _ (load_typed τ S ts _ d p u (first_integer p.projections) ty)
-kind_typed σ τ φ S ts n m (Store p x u) ty = guard_typed τ S ts σ.tuples _ _ (store_typed τ S ts n m p x u (forward_store τ S p x) refl ty)
-kind_typed σ τ φ S ts n m (Debug a xs) ty = ts
-kind_typed σ τ φ S ts n m Nop ty = ts
-kind_typed σ τ φ S ts n m (Phi d u ss) ty = ts
+kind_typed σ τ φ S ts n m (UnaryOp op d x) ty = rw (stays_states σ τ S n _) ts
+kind_typed σ τ φ S ts n m (BinaryOp op d x y) ty = rw (stays_states σ τ S n _) ts
+kind_typed σ τ φ S ts n m (Call ds f xs ps rs) ty = rw (stays_states σ τ S n _) ts
+kind_typed σ τ φ S ts n m (Cast d x u v) ty = rw (stays_states σ τ S n _) ts
+kind_typed σ τ φ S ts n m (Load d p u) ty = guard_typed τ S ts (σ.tuples && walkable σ.edition p) _ (stays_states σ τ S n _) _ (load_typed τ S ts _ (stays_states σ τ S n _) d p u (first_integer p.projections) ty)
+kind_typed σ τ φ S ts n m (Store p x u) ty = guard_typed τ S ts (σ.tuples && walkable σ.edition p) _ (stays_states σ τ S n _) _ (store_typed τ S ts _ (stays_states σ τ S n _) p x u (forward_store τ S p x) refl ty)
+kind_typed σ τ φ S ts n m (Debug a xs) ty = rw (stays_states σ τ S n _) ts
+kind_typed σ τ φ S ts n m Nop ty = rw (stays_states σ τ S n _) ts
+kind_typed σ τ φ S ts n m (Phi d u ss) ty = rw (stays_states σ τ S n _) ts
 kind_typed σ τ φ S ts n m (MakeTuple d xs) ty =
-    build_typed τ S ts _ d (folded_parts (φ d) (some xs)) (λ ys h. let q : xs ≡ ys = same ys (folded_inv (φ d) (some xs) ys h) in rw (← q) (whole_fit τ (recorded_type τ d) xs (search (both_l, both_r))))
+    build_typed τ S ts _ (stays_states σ τ S n _) d (folded_parts (φ d) (some xs)) (λ ys h. let q : xs ≡ ys = same ys (folded_inv (φ d) (some xs) ys h) in rw (← q) (whole_fit τ (recorded_type τ d) xs (search (both_l, both_r))))
   where
     same : (ys : List Value) → some xs ≡ some ys → xs ≡ ys
     same ys z = cc
 kind_typed σ τ φ S ts n m (ExtractTupleElement d x k u) ty =
-    guard_typed τ S ts σ.tuples _ _ (extract_typed τ S ts _ d u (on_some (state_of S x) (λ xs. get_elem? xs k)) (search (both_l))
+    guard_typed τ S ts σ.tuples _ (stays_states σ τ S n _) _ (extract_typed τ S ts _ (stays_states σ τ S n _) d u (on_some (state_of S x) (λ xs. get_elem? xs k)) (search (both_l))
     (λ z h. elim (on_some_inv (state_of S x) (λ xs. get_elem? xs k) z h) [
       | through xs a b ↦ elim (see τ S ts x xs a) [
         | seen v q w ↦ let tz : T (same_type (part_type (operand_row τ x) k) (some u)) = search (both_l, both_r) in part_fits τ v xs k z u w b (tuple_type τ v k u (rw q at tz))
       ]
     ]))
 kind_typed σ τ φ S ts n m (MakeStruct d fs u) ty =
-    build_typed τ S ts _ d (folded_parts (φ d) (struct_parts τ d fs u)) (λ xs h.
+    build_typed τ S ts _ (stays_states σ τ S n _) d (folded_parts (φ d) (struct_parts τ d fs u)) (λ xs h.
     let t1 : T (same_type (recorded_type τ d) (some u)) = search (both_l) in
     let t2 : T (is_struct (row_of τ (some u))) = search (both_l, both_r) in
     let t3 : T (fields_fit τ fs (struct_fields_of (row_of τ (some u)))) = search (both_l, both_r) in
     struct_whole τ d fs u xs (same_type→eq _ _ t1) t2 t3 (folded_inv (φ d) (struct_parts τ d fs u) xs h))
 kind_typed σ τ φ S ts n m (ExtractStructField d x f u) ty =
-    guard_typed τ S ts σ.structs _ _ (extract_typed τ S ts _ d u (on_some (extract_index τ x f) (λ k. on_some (state_of S x) (λ xs. get_elem? xs k))) (search (both_l))
+    guard_typed τ S ts σ.structs _ (stays_states σ τ S n _) _ (extract_typed τ S ts _ (stays_states σ τ S n _) d u (on_some (extract_index τ x f) (λ k. on_some (state_of S x) (λ xs. get_elem? xs k))) (search (both_l))
     (λ z h. elim (on_some_inv (extract_index τ x f) (λ k. on_some (state_of S x) (λ xs. get_elem? xs k)) z h) [
       | through k c h' ↦ elim (on_some_inv (state_of S x) (λ xs. get_elem? xs k) z h') [
         | through xs a b ↦ elim (see τ S ts x xs a) [
@@ -346,7 +327,7 @@ kind_typed σ τ φ S ts n m (ExtractStructField d x f u) ty =
       ]
     ]))
 kind_typed σ τ φ S ts n m (InsertField d x f y u) ty =
-    guard_typed τ S ts σ.structs _ _ (insert_piece τ S ts _ d (on_some (field_index (row_of τ (some u)) f) (λ k. on_some (state_of S x) (λ xs. St.replaced xs k y)))
+    guard_typed τ S ts σ.structs _ (stays_states σ τ S n _) _ (insert_piece τ S ts _ (stays_states σ τ S n _) d (on_some (field_index (row_of τ (some u)) f) (λ k. on_some (state_of S x) (λ xs. St.replaced xs k y)))
     (λ ys h. elim (on_some_inv (field_index (row_of τ (some u)) f) (λ k. on_some (state_of S x) (λ xs. St.replaced xs k y)) ys h) [
       | through k c h' ↦ elim (on_some_inv (state_of S x) (λ xs. St.replaced xs k y) ys h') [
         | through xs a b ↦ let tf : T (fits τ y (field_type_of (row_of τ (some u)) f)) = search (both_l, both_r) in
@@ -354,15 +335,15 @@ kind_typed σ τ φ S ts n m (InsertField d x f y u) ty =
       ]
     ]))
 kind_typed σ τ φ S ts n m (InsertTuple d x k y u) ty =
-    guard_typed τ S ts σ.tuples _ _ (insert_piece τ S ts _ d (on_some (state_of S x) (λ xs. St.replaced xs k y))
+    guard_typed τ S ts σ.tuples _ (stays_states σ τ S n _) _ (insert_piece τ S ts _ (stays_states σ τ S n _) d (on_some (state_of S x) (λ xs. St.replaced xs k y))
     (λ ys h. elim (on_some_inv (state_of S x) (λ xs. St.replaced xs k y) ys h) [ through xs a b ↦ inserted_typed τ S ts d x k y u xs ys (search (both_l)) (search (both_l, both_r)) (search (both_l, both_r)) a b ]))
 kind_typed σ τ φ S ts n m (MakeFixedArray d xs u c) ty =
-    build_typed τ S ts _ d (folded_parts (φ d) (some xs)) (λ ys h. let q : xs ≡ ys = same ys (folded_inv (φ d) (some xs) ys h) in rw (← q) (whole_fit τ (recorded_type τ d) xs (search (both_l, both_r))))
+    build_typed τ S ts _ (stays_states σ τ S n _) d (folded_parts (φ d) (some xs)) (λ ys h. let q : xs ≡ ys = same ys (folded_inv (φ d) (some xs) ys h) in rw (← q) (whole_fit τ (recorded_type τ d) xs (search (both_l, both_r))))
   where
     same : (ys : List Value) → some xs ≡ some ys → xs ≡ ys
     same ys z = cc
-kind_typed σ τ φ S ts n m (AssertEq x y) ty = ts
-kind_typed σ τ φ S ts n m (HeapAllocCells d x) ty = ts
+kind_typed σ τ φ S ts n m (AssertEq x y) ty = rw (stays_states σ τ S n _) ts
+kind_typed σ τ φ S ts n m (HeapAllocCells d x) ty = rw (stays_states σ τ S n _) ts
 
 -- a typed instruction leaves (T) as it was
 pub step_typed : (σ : Settings) (τ : Types) (φ : ValueId → Bool) (S : AggStates) (n : ℕ) (i : Instruction) → TypedStates τ S → T (typed τ i.kind)

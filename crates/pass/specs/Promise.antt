@@ -3,9 +3,10 @@ use Rattle.std.specs.Prelude.{ℕ, ◌≡◌, List, Bool, length, take}
 use Rattle.std.proofs.lemmas.List.Edits.{sets}
 use Rattle.fold.specs.declared.Settings.{Settings}
 use Rattle.rewrite.specs.declared.Counts.{Counts}
+use Rattle.rewrite_laws.specs.Lifted.{lifted}
 use Rattle.shelf.specs.Answer.{lowered, answer}
 use Rattle.pass_numbers.specs.declared.Totals.{Totals}
-use Rattle.pass_numbers.specs.Ten.{ten_numbers}
+use Rattle.pass_numbers.specs.Ten.{ten_numbers, eleven_numbers}
 use Rattle.std.specs.Prelude.{Result}
 use Rattle.pass_answers.specs.declared.Lowered.{Lowered}
 use Rattle.pass_answers.specs.declared.Refused.{Refused}
@@ -22,13 +23,20 @@ Unseen σ input out out' =
     (w : Bool) (c : Counts) (bytes : List ℕ)
     → answer σ (length out) input ≡ lowered w c 0 bytes
     → (M : Meaning ℕ)
-    → Indistinguishable M input (take (length bytes) out')
+    → Indistinguishable (lifted σ) M input (take (length bytes) out')
 
 -- a call for any caller: of the input, of the output before and after it, and of the caller's numbers before and after it
 pub record Lowers (σ : Settings) (input out out' numbers numbers' : List ℕ) : Type 0 where
   -- demands 1 and 2: numbers and output are those that the definition answers
   pub says : numbers' ≡ sets numbers 0 (ten_numbers (numbers_of (answer σ (length out) input)))
   pub left : out' ≡ leaves (answer σ (length out) input) out
+  pub unseen : Unseen σ input out out'
+
+-- a call with choices: the same under either edition, with eleven numbers; no page is made yet, and the lent one stays as it is
+pub record LowersWith (σ : Settings) (input out out' page page' numbers numbers' : List ℕ) : Type 0 where
+  pub says : numbers' ≡ sets numbers 0 (eleven_numbers (numbers_of (answer σ (length out) input)))
+  pub left : out' ≡ leaves (answer σ (length out) input) out
+  pub untouched : page' ≡ page
   pub unseen : Unseen σ input out out'
 
 -- a call that updates the totals of its caller: "the five counts are one record that the run updates for its caller"

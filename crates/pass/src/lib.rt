@@ -2,7 +2,8 @@
 #![tactic(auto)]
 
 ghost use Rattle.rewrite.specs.Outcome.{settings_of};
-ghost use Rattle.pass.specs.Promise.{Lowers, Counted};
+ghost use Rattle.pass_numbers.specs.Choices.{settings_by};
+ghost use Rattle.pass.specs.Promise.{Lowers, LowersWith, Counted};
 
 use fold::Settings;
 use pass_answers::{Lowered, Refused};
@@ -25,6 +26,23 @@ pub fn lower(
     let settings = pass_numbers::settings_of(tuples, structs, most);
     let a = pass_lower::lower_into(input, output, settings);
     pass_numbers::put_numbers(answer, pass_answers::numbers_of(a));
+}
+
+// The same with choices by place, the edition among them, and eleven numbers: behind the length of the rewritten routine
+// stands that of the page, 0. Nothing is written to `page` yet.
+pub fn lower_with(
+    input: &[u8],
+    output: &mut [u8],
+    page: &mut [u8],
+    choices: &[u64],
+    answer: &mut [u64],
+)
+    ensures { LowersWith (settings_by choices.now)
+        input.now output.old output.new page.old page.new answer.old answer.new }
+{
+    let settings = pass_numbers::settings_by(choices);
+    let a = pass_lower::lower_into(input, output, settings);
+    pass_numbers::put_answer(answer, pass_answers::numbers_of(a));
 }
 
 // An answer, and the totals with its counts.

@@ -28,7 +28,7 @@ counts_in n = let c = n.counts in record { builds = c.builds; extracts = c.extra
 
 by_answer : (t : Totals) → Fit t → (r : Result Lowered Refused) → after_answer t r ≡ with_counts t (counts_in (as_answer r))
 by_answer t f (Err (Refused.Malformed r)) = sym (with_none t f)
-by_answer t f (Err Refused.Clash) = sym (with_none t f)
+by_answer t f (Err (Refused.Faulty x)) = sym (with_none t f)
 by_answer t f (Err Refused.NoRoom) = sym (with_none t f)
 by_answer t f (Err Refused.TooLarge) = sym (with_none t f)
 by_answer t f (Ok l) = refl

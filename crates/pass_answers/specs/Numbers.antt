@@ -4,6 +4,7 @@ use Rattle.std.proofs.lemmas.List.Edits.{sets}
 use Rattle.bytes_wire.specs.Parse.{number_of_cause}
 use Rattle.bytes_wire.specs.Value.{bool_byte}
 use Rattle.rewrite.specs.declared.Counts.{Counts}
+use Rattle.rewrite.specs.Fault.{number_of_fault}
 use Rattle.shelf.specs.Answer.{Answer as Given, refused, lowered}
 use Rattle.shelf_test.specs.Number.{number_of_reason}
 use Rattle.pass_numbers.specs.declared.Numbers.{Numbers}
@@ -28,10 +29,10 @@ abbrev pub leaves : Given → List ℕ → List ℕ
 leaves (refused n o) out = out
 leaves (lowered w c k bytes) out = sets out 0 bytes
 
--- document 01's number and values of each answer of the code
+-- the documents' number and values of each answer of the code
 abbrev pub as_refusal : Refused → Numbers
 as_refusal (Refused.Malformed r) = refusal (number_of_cause r.cause) r.offset
-as_refusal Refused.Clash = refusal 10 0
+as_refusal (Refused.Faulty f) = refusal (number_of_fault f) 0
 as_refusal Refused.NoRoom = refusal 11 0
 as_refusal Refused.TooLarge = refusal 12 0
 

@@ -2,6 +2,7 @@
 #![tactic(auto)]
 
 ghost use Rattle.std.specs.Prelude.{◌≡◌, not, eqb, Ok};
+ghost use Rattle.rewrite.specs.Fault.{number_of_fault};
 ghost use Rattle.shelf_test.specs.Number.{number_of_reason};
 ghost use Rattle.pass_answers.specs.declared.Refused.{Refused};
 ghost use Rattle.pass_answers.specs.Numbers.{acceptance, as_refusal, as_answer};
@@ -9,7 +10,7 @@ ghost use Rattle.pass_answers.specs.Totals.{after_answer};
 
 use bytes_wire::Refusal;
 use pass_numbers::{Numbers, Totals};
-use rewrite::{Clash, Counts};
+use rewrite::{Counts, Fault};
 use shelf_test::ShelfReason;
 
 // Why a call is refused.
@@ -17,8 +18,8 @@ use shelf_test::ShelfReason;
 pub enum Refused {
     // Rows 1 to 9 of document 01's table: the input is no routine.
     Malformed(Refusal),
-    // Row 10: an array rebuild meets another count.
-    Clash,
+    // Row 10, and 14 and 15 of document 02, wish 5: of these the first that the rewriting meets.
+    Faulty(Fault),
     // Row 11: the output is longer than the lent buffer.
     NoRoom,
     // Row 12: max_aggregate_size is above 16.
@@ -33,11 +34,11 @@ impl From<Refusal> for Refused {
     }
 }
 
-impl From<Clash> for Refused {
-    ghost from_gives = { λ _ r. r ≡ Refused.Clash };
+impl From<Fault> for Refused {
+    ghost from_gives = { λ x r. r ≡ Refused.Faulty x };
 
-    fn from(_clash: Clash) -> Refused {
-        Refused::Clash
+    fn from(fault: Fault) -> Refused {
+        Refused::Faulty(fault)
     }
 }
 
@@ -68,13 +69,24 @@ impl Lowered {
     }
 }
 
-// The number and offset that document 01 gives a refusal.
+// The number of a fault.
+pub fn fault_number(f: Fault) -> u8
+    ensures { result ≡ number_of_fault f }
+{
+    match f {
+        Fault::Clash => 10,
+        Fault::Looped => 14,
+        Fault::Overfull => 15,
+    }
+}
+
+// The number and offset that the documents give a refusal.
 fn refusal_of(r: Refused) -> Numbers
     ensures { result ≡ as_refusal r }
 {
     let (number, offset) = match r {
         Refused::Malformed(refusal) => (bytes_wire::cause_number(refusal.cause), refusal.offset),
-        Refused::Clash => (10, 0),
+        Refused::Faulty(fault) => (fault_number(fault), 0),
         Refused::NoRoom => (11, 0),
         Refused::TooLarge => (12, 0),
     };

@@ -13,18 +13,18 @@ use Rattle.fold.specs.Family.{Marks}
 use Rattle.rewrite.specs.Run.{Rewritten, choice, all_blocks, rewritten_blocks}
 use Rattle.rewrite_progress.specs.Effect.{output_of, Output, further, behind, rewritten_effect, Puts}
 use Rattle.std.specs.Prelude.{Result}
-use Rattle.rewrite.specs.declared.Clash.{Clash}
+use Rattle.rewrite.specs.declared.Fault.{Fault}
 use Rattle.rewrite_progress.specs.declared.Progress.{Progress}
 use Rattle.pass_input.specs.Accepted.{Accepted}
-use Rattle.pass_input.proofs.Accepted.{next_is, next_few, few_fresh}
+use Rattle.pass_input.proofs.Accepted.{next_is, next_few}
 use Rattle.pass_input.proofs.Copied.{take_sets}
 use Rattle.pass_blocks.specs.Runs.{body_of, start_at, Runs, Begun}
 
-runs_from_lem : (w : Rewritten) (to : ℕ) (out fresh out' fresh' : List ℕ) (dropped dropped' : Marks) (r : Result Progress Clash) → Puts (output_of out fresh dropped (start_at to)) (rewritten_effect w) w.clash out' fresh' dropped' r → Runs w to out fresh dropped out' fresh' dropped' r
+runs_from_lem : (w : Rewritten) (to : ℕ) (out fresh out' fresh' : List ℕ) (dropped dropped' : Marks) (r : Result Progress Fault) → Puts (output_of out fresh dropped (start_at to)) (rewritten_effect w) (λ lines. w.fault) out' fresh' dropped' r → Runs w to out fresh dropped out' fresh' dropped' r
 unfolding behind further rewritten_effect
 runs_from_lem w to out fresh out' fresh' dropped dropped' r h =
     record {
-      clashed = h.clashed;
+      refused = h.refused;
       went = λ p e.
           let q = h.went p e in
           record {
@@ -49,15 +49,15 @@ module _ {s facts : List ℕ} {b : Bounds} (a : Accepted s facts b) (σ : Settin
       let e : b.next + 0 ≡ a.routine.next = omega (arith, next_is a) in
       ap (λ n. all_blocks σ (types_in a.routine) (choice σ a.routine) n a.routine.blocks) e
 
-  pub run_bound : b.next + 0 + length run.fresh < 65536
-  run_bound = rw same_run (omega (arith, next_few a, few_fresh a σ))
+  pub run_bound : b.next + 0 < 65536
+  run_bound = omega (arith, next_few a)
 
-  pub runs_chosen : (to : ℕ) (out fresh out' fresh' : List ℕ) (dropped dropped' : Marks) (r : Result Progress Clash) → Puts (output_of out fresh dropped (start_at to)) (rewritten_effect run) run.clash out' fresh' dropped' r → Runs (rewritten_blocks σ a.routine) to out fresh dropped out' fresh' dropped' r
+  pub runs_chosen : (to : ℕ) (out fresh out' fresh' : List ℕ) (dropped dropped' : Marks) (r : Result Progress Fault) → Puts (output_of out fresh dropped (start_at to)) (rewritten_effect run) (λ lines. run.fault) out' fresh' dropped' r → Runs (rewritten_blocks σ a.routine) to out fresh dropped out' fresh' dropped' r
   runs_chosen to out fresh out' fresh' dropped dropped' r h = rw (← same_run) (runs_from_lem run to out fresh out' fresh' dropped dropped' r h)
 
   -- from a progress that begins
-  pub runs_begun : (to : ℕ) (p : Progress) → p ≡ start_at to → (out fresh out' fresh' : List ℕ) (dropped dropped' : Marks) (r : Result Progress Clash)
-      → (p.lines ≡ 0 → b.next + p.fresh + length (all_blocks σ (types_in a.routine) (choice σ a.routine) (b.next + p.fresh) a.routine.blocks).fresh < 65536 → Puts (output_of out fresh dropped p) (rewritten_effect (all_blocks σ (types_in a.routine) (choice σ a.routine) (b.next + p.fresh) a.routine.blocks)) (all_blocks σ (types_in a.routine) (choice σ a.routine) (b.next + p.fresh) a.routine.blocks).clash out' fresh' dropped' r)
+  pub runs_begun : (to : ℕ) (p : Progress) → p ≡ start_at to → (out fresh out' fresh' : List ℕ) (dropped dropped' : Marks) (r : Result Progress Fault)
+      → (p.lines ≡ 0 → b.next + p.fresh < 65536 → Puts (output_of out fresh dropped p) (rewritten_effect (all_blocks σ (types_in a.routine) (choice σ a.routine) (b.next + p.fresh) a.routine.blocks)) (λ lines. (all_blocks σ (types_in a.routine) (choice σ a.routine) (b.next + p.fresh) a.routine.blocks).fault) out' fresh' dropped' r)
       → Runs (rewritten_blocks σ a.routine) to out fresh dropped out' fresh' dropped' r
   runs_begun to p e out fresh out' fresh' dropped dropped' r put = let f = rw e at put in runs_chosen to out fresh out' fresh' dropped dropped' r (f refl run_bound)
 

@@ -14,7 +14,7 @@ ghost use Rattle.pass_blocks.specs.Runs.{body_of, Runs, Begun, highest_start, ro
 ghost use Rattle.mir.specs.Most.{most_blocks};
 
 use mir::most;
-use rewrite::Clash;
+use rewrite::Fault;
 use rewrite_progress::{Progress, Run};
 
 // In the working table the rows of parts come first; from here on it has the types of the fresh numbers.
@@ -34,7 +34,7 @@ pub fn run_blocks(
     dropped: &mut [bool],
     work: &mut [u16],
     out: &mut [u8],
-) -> Result<Progress, Clash>
+) -> Result<Progress, Fault>
     requires near { to ≤ highest_start }
     requires few { run.code.bounds.blocks ≤ most_blocks }
     requires rows { row_places ≤ length work.old }

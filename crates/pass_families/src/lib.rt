@@ -13,7 +13,7 @@ ghost use Rattle.pass_families.specs.Lines.{marked_from, families_of};
 ghost use Rattle.pass_families.specs.Shown.{found_numbers, PutsBuild, PutsOne, PutsAll, PutsBlock, PutsBlocks, PutsRoutine};
 
 use bytes_index::{Code, Slots};
-use fold::Settings;
+use fold::{Edition, Settings};
 use fold_looked::{BuildFamily, Tables};
 use mir::{BlockId, most};
 
@@ -26,11 +26,12 @@ const LINE: usize = NUMBERS + most::VALUES;
 // No text is longer: a line for each slot, with 21 characters for each number.
 pub const LONGEST: usize = 1584576;
 
-// Any settings: which types are eligible does not matter here.
+// Any settings: which types are eligible does not matter here, and a family is the same in both editions.
 const ANY: Settings = Settings {
     tuples: true,
     structs: true,
     most: 16,
+    edition: Edition::First,
 };
 
 // Where an instruction stands: its block, its number there, and its slot.

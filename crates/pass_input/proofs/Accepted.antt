@@ -1,7 +1,8 @@
 -- What an accepted routine gives: what is known of its code, its bytes, and bounds of its numbers.
-use Prim.Native.Nat.{ℕ, ◌≤◌, ◌<◌}
+use Prim.Native.Nat.{ℕ, ◌+◌, ◌≤◌, ◌<◌}
 use mathlib.Core.Path.{◌≡◌, ap, ◌∙◌, sym, subst}
 use mathlib.Core.List.{List}
+use mathlib.Core.Bool.{false}
 use mathlib.Core.Option.{none, some}
 use native.Mathlib.Omega.{arith}
 use lib.ListN.{length, get_or, length-drop}
@@ -9,6 +10,7 @@ use Rattle.bytes_wire.specs.Parse.{Parse, ok, bad, map_parse}
 use Rattle.bytes_wire.specs.WellFormed.{Bytes}
 use Rattle.bytes_wire.specs.declared.Cause.{Cause}
 use Rattle.mir.specs.declared.TypeId.{TypeId}
+use Rattle.mir.specs.Lists.{Each}
 use Rattle.bytes_wire.proofs.Inv.{no_ok, image, map_inv}
 use Rattle.bytes_field.specs.Walk.{unit}
 use Rattle.bytes_field.specs.declared.Bounds.{Bounds}
@@ -28,16 +30,19 @@ use Rattle.std.specs.Prelude.{Result, Ok, Err}
 use Rattle.bytes_wire.specs.declared.Refusal.{Refusal}
 use Rattle.bytes_laws_whole.specs.WellFormed.{FitBlocks, WellFormed, bounds, unmarked}
 use Rattle.bytes_laws_whole.proofs.Whole.{whole_canon, whole_fit}
+use Rattle.fold.specs.declared.Edition.{Edition}
 use Rattle.fold.specs.declared.Settings.{Settings}
 use Rattle.rewrite.specs.Sum.{instruction_count}
 use Rattle.rewrite.specs.Within.{ListsWithin}
 use Rattle.mir.specs.Lookup.{types_in}
 use Rattle.rewrite.specs.Run.{choice, rewritten_blocks}
 use Rattle.rewrite.proofs.Bound.{bound_blocks}
+use Rattle.rewrite.proofs.Calm.{calm}
+use Rattle.rewrite.proofs.Limits.{Short, limited}
 use Rattle.rewrite_progress.specs.Ground.{Ground, Coded}
 use Rattle.fold_choose.specs.Chosen.{Fits}
 use Rattle.fold_choose.proofs.Fitted.{routine_fits}
-use Rattle.rewrite_laws.proofs.Counts.{lists_within, all_most}
+use Rattle.rewrite_laws.proofs.Counts.{lists_within, each_short, all_most}
 use Rattle.pass_input.specs.Accepted.{Accepted}
 use Rattle.pass_input.proofs.Fit.{each_some, fit_short}
 use Rattle.pass_input.proofs.TypesEnd.{types_behind}
@@ -47,9 +52,9 @@ wide : WideMosts mosts
 wide = record { types = omega arith; next = omega arith; blocks = omega arith; block = omega arith; list = omega arith; projections = omega arith }
 
 -- by a choice that keeps to the mosts
-fresh_few : (σ : Settings) (r : Routine) → instruction_count r.blocks ≤ 256 → length r.blocks ≤ 32 → ListsWithin 16 r.blocks → length (rewritten_blocks σ r).fresh ≤ 4608
+fresh_few : (σ : Settings) → σ.edition ≡ Edition.First → (r : Routine) → instruction_count r.blocks ≤ 256 → length r.blocks ≤ 32 → ListsWithin 16 r.blocks → length (rewritten_blocks σ r).fresh ≤ 4608
 unfolding rewritten_blocks
-fresh_few σ r i k l = omega (arith, bound_blocks σ (types_in r) (choice σ r) r.next r.blocks l)
+fresh_few σ e r i k l = omega (arith, bound_blocks σ e (types_in r) (choice σ r) r.next r.blocks l)
 
 module _ {s facts : List ℕ} {b : Bounds} (a : Accepted s facts b) where
   abbrev r : Routine
@@ -128,9 +133,20 @@ module _ {s facts : List ℕ} {b : Bounds} (a : Accepted s facts b) where
   coded =
       record { ground = ground; code = a.facts_of.code; blocks = a.facts_of.blocks; many = sym many_blocks; few = blocks_few; small = short; short = a.facts_of.short }
 
-  -- "its next value is at most 4,864"
-  pub few_fresh : (σ : Settings) → length (rewritten_blocks σ r).fresh ≤ 4608
-  few_fresh σ = fresh_few σ r few_instructions fit.many_blocks (lists_within mosts r fit)
+  -- "its next value is at most 4,864", in edition 1
+  pub few_fresh : (σ : Settings) → σ.edition ≡ Edition.First → length (rewritten_blocks σ r).fresh ≤ 4608
+  few_fresh σ e = fresh_few σ e r few_instructions fit.many_blocks (lists_within mosts r fit)
+
+  short_blocks : Each Short r.blocks
+  short_blocks = each_short mosts r (omega arith) fit
+
+  -- in any edition what is not refused has no more values than two bytes count
+  pub few_values : (σ : Settings) → (rewritten_blocks σ r).fault ≡ none → b.next + length (rewritten_blocks σ r).fresh ≤ 65535
+  few_values σ e = omega (arith, next_is, (limited σ r short_blocks (omega (arith, fit.next)) e).next)
+
+  -- and nothing is refused of which nothing changes
+  pub none_faulty : (σ : Settings) → (rewritten_blocks σ r).changed ≡ false → (rewritten_blocks σ r).fault ≡ none
+  none_faulty σ = calm σ r short_blocks
 
 -- ## From the reader's answer
 

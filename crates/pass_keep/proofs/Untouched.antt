@@ -3,6 +3,7 @@ use Prim.Native.Nat.{ℕ, zero, suc, ◌+◌, ◌-◌, ◌≤◌, ◌<◌}
 use mathlib.Core.Path.{◌≡◌, refl, ap, ◌∙◌, sym}
 use mathlib.Core.List.{List}
 use mathlib.Core.Bool.{Bool, false, not}
+use mathlib.Core.Option.{none}
 use native.Mathlib.Nat.{le_refl}
 use native.Mathlib.Omega.{arith}
 use lib.ListN.{length, get_or, take}
@@ -13,9 +14,10 @@ use Rattle.bytes_index.specs.Table.{starts_in}
 use Rattle.bytes_index.specs.Code.{no_block, CodeIn}
 use Rattle.mir.specs.Routine.{Routine}
 use Rattle.bytes_sections.specs.Encode.{encode}
+use Rattle.fold.specs.declared.Edition.{Edition}
 use Rattle.fold.specs.declared.Settings.{Settings}
 use Rattle.fold_choose.specs.Chosen.{Buildless}
-use Rattle.rewrite.specs.Step.{no_counts}
+use Rattle.rewrite.specs.Piece.{no_counts}
 use Rattle.rewrite.specs.Run.{Rewritten, choice, rewritten_blocks, rewrite}
 use Rattle.rewrite.proofs.Unchanged.{untouched_blocks, unchanged}
 use Rattle.rewrite.proofs.Outcomes.{unchanged_result, too_long, accepted_unchanged}
@@ -34,7 +36,7 @@ use lib.Dec.{eqb}
 use Rattle.pass_answers.specs.Numbers.{acceptance, as_answer, Answers}
 use Rattle.pass_answers.proofs.Laws.{answers}
 use Rattle.pass_input.specs.Accepted.{Accepted, Chosen, Unchanged}
-use Rattle.pass_input.proofs.Accepted.{canon}
+use Rattle.pass_input.proofs.Accepted.{canon, none_faulty}
 use Rattle.pass_answers.proofs.Given.{given_lowered}
 use Rattle.pass_keep.proofs.Still.{still}
 
@@ -64,14 +66,17 @@ module _ {σ : Settings} {s facts : List ℕ} {b : Bounds} (u : Unchanged σ s f
   abbrev x : Routine
   x = u.accepted.routine
 
-  untouched : rewritten_blocks σ x ≡ untouched_blocks x.blocks
+  calm : (rewritten_blocks σ x).fault ≡ none
+  calm = none_faulty u.accepted σ u.still
+
+  untouched : rewritten_blocks σ x ≡ untouched_blocks x.blocks (rewritten_blocks σ x).fault
   untouched = unchanged_result σ x u.still
 
   -- where the input is longer than the output
   pub same_long : length out < length s → Answers (given σ (length out) s) (Err Refused.NoRoom) out out
   same_long l =
       let e : encode (rewrite σ x) ≡ s = ap encode (unchanged σ x u.still) ∙ canon u.accepted in
-      answers _ (refused 11 0) _ out out (given_refused σ (length out) s 11 0 (too_long σ (length out) s u.small x u.accepted.used u.accepted.reads (ap (λ (w : Rewritten). w.clash) untouched) (rw e l))) refl refl
+      answers _ (refused 11 0) _ out out (given_refused σ (length out) s 11 0 (too_long σ (length out) s u.small x u.accepted.used u.accepted.reads calm (rw e l))) refl refl
 
   none_dropped : (v : ℕ) → among v (rewritten_blocks σ x).dropped ≡ false
   none_dropped v = ap (λ (w : Rewritten). among v w.dropped) untouched
@@ -81,7 +86,7 @@ module _ {σ : Settings} {s facts : List ℕ} {b : Bounds} (u : Unchanged σ s f
   same_written l k ek r er out' eo =
       let e : encode x ≡ s = canon u.accepted in
       answers _ (lowered false no_counts (number_of_reason k) (encode x)) r out out'
-      (given_lowered σ (length out) s x u.accepted.used (number_of_reason k) false no_counts (encode x) u.accepted.reads (reason_undropped x (rewritten_blocks σ x) (number_of_reason k) ek none_dropped) (accepted_unchanged σ (length out) s u.small x u.accepted.used u.accepted.reads u.still (rw e l)))
+      (given_lowered σ (length out) s x u.accepted.used (number_of_reason k) false no_counts (encode x) u.accepted.reads (reason_undropped x (rewritten_blocks σ x) (number_of_reason k) ek none_dropped) (accepted_unchanged σ (length out) s u.small x u.accepted.used u.accepted.reads calm u.still (rw e l)))
       (rw e er) (rw e eo)
 
 -- default counts are no counts

@@ -6,15 +6,17 @@ use mathlib.Core.List.{List, [], ◌∷◌, ◌++◌}
 use mathlib.Core.Bool.{Bool, true, false}
 use native.Mathlib.Omega.{arith}
 use borrow.Author.Tests.{lt-ltb, le-ltb, ltb-true, ltb-false}
-use lib.ListN.{length, set, take, drop}
+use lib.ListN.{length, set, take, drop, get_or}
 use lib.Seq.{sets}
 use lib.Dec.{ltb}
+use Rattle.fold.specs.declared.Edition.{Edition}
 use Rattle.fold.specs.declared.Settings.{Settings}
 use Rattle.rewrite.specs.Outcome as O
 use Rattle.rewrite.specs.Outcome.{outcome}
 use Rattle.rewrite.specs.declared.Counts.{Counts}
 use Rattle.rewrite.proofs.Outcomes.{too_large}
 use Rattle.shelf.specs.Answer.{refused, with_reason, answer as given}
+use Rattle.pass_numbers.specs.Choices.{flag_of, edition_of, settings_by}
 use Rattle.pass_numbers.specs.declared.Totals.{Totals}
 use Rattle.pass_numbers.specs.Totals.{numbers64, highest64, added, with_counts}
 
@@ -24,15 +26,21 @@ unfolding given with_reason
 given_refused σ room s n o e = rw e
 
 -- which settings are refused with 12 does not matter
-pub same_settings : (t u : Bool) (most r room : ℕ) (s : List ℕ) → (most ≤ 16 → r ≡ most) → (16 < most → 16 < r) → given (record { tuples = t; structs = u; most = r }) room s ≡ given (record { tuples = t; structs = u; most = most }) room s
-same_settings t u most r room s f g = split (ltb 16 most) refl
+pub same_settings : (t u : Bool) (v : Edition) (most r room : ℕ) (s : List ℕ) → (most ≤ 16 → r ≡ most) → (16 < most → 16 < r) → given (record { tuples = t; structs = u; most = r; edition = v }) room s ≡ given (record { tuples = t; structs = u; most = most; edition = v }) room s
+same_settings t u v most r room s f g = split (ltb 16 most) refl
   where
-    large : (n : ℕ) → 16 < n → given (record { tuples = t; structs = u; most = n }) room s ≡ refused 12 0
-    large n h = given_refused (record { tuples = t; structs = u; most = n }) room s 12 0 (too_large (record { tuples = t; structs = u; most = n }) room s h)
+    large : (n : ℕ) → 16 < n → given (record { tuples = t; structs = u; most = n; edition = v }) room s ≡ refused 12 0
+    large n h = given_refused (record { tuples = t; structs = u; most = n; edition = v }) room s 12 0 (too_large (record { tuples = t; structs = u; most = n; edition = v }) room s h)
 
-    split : (x : Bool) → ltb 16 most ≡ x → given (record { tuples = t; structs = u; most = r }) room s ≡ given (record { tuples = t; structs = u; most = most }) room s
+    split : (x : Bool) → ltb 16 most ≡ x → given (record { tuples = t; structs = u; most = r; edition = v }) room s ≡ given (record { tuples = t; structs = u; most = most; edition = v }) room s
     split true e = large r (g (ltb-true 16 most e)) ∙ sym (large most (ltb-true 16 most e))
-    split false e = ap (λ n. given (record { tuples = t; structs = u; most = n }) room s) (f (ltb-false 16 most e))
+    split false e = ap (λ n. given (record { tuples = t; structs = u; most = n; edition = v }) room s) (f (ltb-false 16 most e))
+
+-- so is it of settings that are given by place
+pub by_place : (l : List ℕ) (t u most r v : ℕ) (e : Edition) → t ≡ get_or l 0 1 → u ≡ get_or l 1 1 → most ≡ get_or l 2 8 → v ≡ get_or l 3 1 → edition_of v ≡ e → (most ≤ 16 → r ≡ most) → (16 < most → 16 < r) → (room : ℕ) (s : List ℕ) → given (record { tuples = flag_of t; structs = flag_of u; most = r; edition = e }) room s ≡ given (settings_by l) room s
+by_place l t u most r v e p q m w x f g room s =
+    same_settings (flag_of t) (flag_of u) e most r room s f g
+    ∙ rw (p, q, m, sym x, w)
 
 -- numbers that are stored from the first place on, as far as there is room
 sets_behind : (y : ℕ) (l xs : List ℕ) (i : ℕ) → sets (y ∷ l) (suc i) xs ≡ y ∷ sets l i xs

@@ -122,11 +122,13 @@ left_low n i es (Leaves.array d xs t c) h = h
 walk_low : (b : ℕ) {n m : ℕ} {is os : List Instruction} {t u : Terminator} {ds : List ValueId} → Lowers n is t os u ds m → DestsLow b is → Low b ds
 walk_low b Lowers.ended h = tt
 walk_low b (Lowers.returned r) h = tt
+walk_low b (Lowers.returned_behind r x) h = tt
 walk_low b (Lowers.kept r) h = walk_low b r h.1
 walk_low b (Lowers.left {i} {ds} {es} v r) h = low_append b es ds (left_low b i.kind es v h.0) (walk_low b r h.1)
 walk_low b (Lowers.assigned s r) h = walk_low b r h.1
 walk_low b (Lowers.called x r) h = walk_low b r h.1
 walk_low b (Lowers.stored x r) h = walk_low b r h.1
+walk_low b (Lowers.kept_behind x y r) h = walk_low b r h.1
 
 pub dropped_low : (m : Mosts) (b : Bounds) (total : ℕ) (seen : List Bool) {n z : ℕ} {ks js : List Block} {ds : List ValueId} → LowersAll n ks js ds z → FitBlocks m b total seen ks → Low b.next ds
 dropped_low m b total seen LowersAll.none h = tt

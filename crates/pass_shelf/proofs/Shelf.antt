@@ -3,6 +3,7 @@ use Prim.Native.Nat.{ℕ, suc, ◌+◌, ◌≤◌}
 use mathlib.Core.Path.{◌≡◌, ap, ◌∙◌, sym, subst}
 use mathlib.Core.List.{List, [], ◌∷◌, ◌++◌, append_assoc}
 use mathlib.Core.Bool.{false}
+use mathlib.Core.Option.{none}
 use native.Mathlib.Omega.{arith}
 use lib.ListN.{length, drop, replicate}
 use lib.Seq.{sets, sets-eq, drop-append_seam}
@@ -15,23 +16,25 @@ use Rattle.bytes_laws.specs.WellFormed.{Wide}
 use Rattle.bytes_index.specs.declared.code.Code.{Code}
 use Rattle.bytes_laws.proofs.BackFields as B
 use Rattle.bytes_block.specs.Decode.{marks}
+use Rattle.bytes_block.specs.declared.Mosts.{Mosts}
 use Rattle.bytes_block.specs.Encode.{block_bytes}
 use Rattle.bytes_types.specs.Encode.{types_bytes}
 use Rattle.mir.specs.Routine.{Routine}
 use Rattle.bytes_sections.specs.Decode.{mosts, bounds_of}
 use Rattle.bytes_sections.specs.Encode.{recorded_bytes, encode}
 use Rattle.bytes_laws_whole.specs.WellFormed.{FitBlocks, bounds, unmarked}
+use Rattle.fold.specs.declared.Settings.{Settings}
 use Rattle.fold.specs.Family.{Marks}
 use Rattle.rewrite.specs.Run.{Rewritten, choice, rewritten_by, rewritten_blocks, rewrite_with}
 use Rattle.rewrite.proofs.Lowering.{lowers}
 use Rattle.rewrite_laws.specs.Lifted.{lifted}
-use Rattle.rewrite_laws.proofs.Whole.{well_formed}
+use Rattle.rewrite_laws.proofs.Whole.{most_below, well_formed}
 use Rattle.rewrite_progress.specs.Effect.{mark_all}
 use Rattle.rewrite_progress.specs.declared.Run.{Run}
 use Rattle.shelf_test.specs.Shelved.{output_bounds, Input, Shelved}
 use Rattle.rewrite_head.specs.Head.{head_bytes, widened}
 use Rattle.pass_input.specs.Accepted.{AcceptedCode, ChosenRun}
-use Rattle.pass_input.proofs.Accepted.{many_types, next_is, many_blocks, list_is, projections_is, next_few, canon, fit, types_end, code, coded, few_fresh}
+use Rattle.pass_input.proofs.Accepted.{many_types, next_is, many_blocks, list_is, projections_is, next_few, canon, fit, types_end, code, coded, few_values}
 use Rattle.pass_shelf.proofs.Dropped.{marks_told, dropped_low}
 
 drop_past : (xs ys : List ℕ) (k : ℕ) → drop (length xs + k) (xs ++ ys) ≡ drop k ys
@@ -54,8 +57,8 @@ behind_first out a b l =
 defined_at : (l l' n n' : ℕ) (t t' : List ℕ) (ds : List ValueId) (k : ℕ) → l ≡ l' → n ≡ n' → t ≡ t' → defineds_of l' n' (replicate n' false) t' ≡ ok ds k → defineds_of l n (replicate n false) t ≡ ok ds k
 defined_at l l' n n' t t' ds k e f g q = rw (e, f, g) q
 
-bounds_at : (b : Bounds) (T N K K' k : ℕ) → b ≡ bounds_of mosts T N K' → K ≡ K' → bounds_of lifted T (N + k) K ≡ output_bounds b (b.next + k)
-bounds_at b T N K K' k e f = rw (e, f)
+bounds_at : (σ : Settings) (b : Bounds) (T N K K' k : ℕ) → b ≡ bounds_of mosts T N K' → K ≡ K' → bounds_of (lifted σ) T (N + k) K ≡ output_bounds b (b.next + k)
+bounds_at σ b T N K K' k e f = rw (e, f)
 
 module _ (input : Code) (a : AcceptedCode input) where
   abbrev r : Routine
@@ -85,6 +88,9 @@ module _ (run : Run) (h : ChosenRun run) where
   abbrev w : Rewritten
   w = rewritten_blocks run.settings x
 
+  abbrev mosts_of : Mosts
+  mosts_of = lifted run.settings
+
   wide_output : (next : ℕ) → next ≤ 65535 → Wide (output_bounds run.code.bounds next)
   wide_output next l =
       record { types = omega (arith, many_types a, (fit a).many_types); next = omega (arith, l); blocks = omega (arith, many_blocks a, (fit a).many_blocks); list = omega (arith, list_is a); projections = omega (arith, projections_is a) }
@@ -92,29 +98,30 @@ module _ (run : Run) (h : ChosenRun run) where
   as_many : length w.blocks ≡ length x.blocks → length w.blocks ≡ run.code.bounds.blocks
   as_many e = e ∙ sym (many_blocks a)
 
-  output_bounds_lem : length w.blocks ≡ length x.blocks → bounds lifted (rewrite_with w x) ≡ output_bounds run.code.bounds (run.code.bounds.next + length w.fresh)
+  output_bounds_lem : length w.blocks ≡ length x.blocks → bounds mosts_of (rewrite_with w x) ≡ output_bounds run.code.bounds (run.code.bounds.next + length w.fresh)
   unfolding rewrite_with
-  output_bounds_lem e = bounds_at run.code.bounds (length x.types) x.next (length w.blocks) (length x.blocks) (length w.fresh) a.facts_of.bounded e
+  output_bounds_lem e = bounds_at run.settings run.code.bounds (length x.types) x.next (length w.blocks) (length x.blocks) (length w.fresh) a.facts_of.bounded e
 
-  fits : length w.blocks ≡ length x.blocks → FitBlocks lifted (output_bounds run.code.bounds (run.code.bounds.next + length w.fresh)) 0 (marks (unmarked (rewrite_with w x)) x.parameters) w.blocks
+  fits : w.fault ≡ none → length w.blocks ≡ length x.blocks → FitBlocks mosts_of (output_bounds run.code.bounds (run.code.bounds.next + length w.fresh)) 0 (marks (unmarked (rewrite_with w x)) x.parameters) w.blocks
   unfolding rewrite_with rewritten_blocks rewritten_by
-  fits e = subst (λ (c : Bounds). FitBlocks lifted c 0 (marks (unmarked (rewrite_with w x)) x.parameters) w.blocks) (output_bounds_lem e) (well_formed run.settings (choice run.settings x) x (fit a)).blocks
+  fits n e = subst (λ (c : Bounds). FitBlocks mosts_of c 0 (marks (unmarked (rewrite_with w x)) x.parameters) w.blocks) (output_bounds_lem e) (well_formed run.settings (choice run.settings x) x (fit a) n).blocks
 
   -- all of it
   pub shelved : (to next : ℕ) (out out' : List ℕ) (dropped dropped' : Marks) → to ≡ length (head_bytes (widened x w.fresh)) → next ≡ run.code.bounds.next + length w.fresh → length w.blocks ≡ length x.blocks
       → length (head_bytes (widened x w.fresh) ++ each_bytes block_bytes w.blocks) ≤ length out → out' ≡ sets out 0 (head_bytes (widened x w.fresh) ++ each_bytes block_bytes w.blocks) → dropped ≡ replicate 256 false → dropped' ≡ mark_all dropped w.dropped
+      → w.fault ≡ none
       → Shelved run.code out' to next dropped' x w
-  shelved to next out out' dropped dropped' et en em l eo ed em' =
+  shelved to next out out' dropped dropped' et en em l eo ed em' n =
       record {
         input = inputs run.code a;
         rest = drop (length (head_bytes (widened x w.fresh) ++ each_bytes block_bytes w.blocks)) out;
         written = rw (et, eo) (behind_first out (head_bytes (widened x w.fresh)) (each_bytes block_bytes w.blocks) l);
         as_many = as_many em;
-        mosts = lifted;
+        mosts = mosts_of;
         total = 0;
         seen = marks (unmarked (rewrite_with w x)) x.parameters;
-        fits = rw en (fits em);
-        counted = omega arith;
-        wide = wide_output next (omega (arith, en, next_few a, few_fresh a run.settings));
+        fits = rw en (fits n em);
+        counted = most_below run.settings.edition;
+        wide = wide_output next (omega (arith, en, few_values a run.settings n));
         marked = λ v. rw (em', ed) (marks_told run.code.bounds.next w.dropped (next_few a) (dropped_low mosts run.code.bounds 0 (marks (unmarked x) x.parameters) (lowers run.settings x) (code a)) v);
       }

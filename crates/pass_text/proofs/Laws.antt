@@ -3,6 +3,7 @@ use Prim.Native.Nat.{ℕ}
 use mathlib.Core.Path.{◌≡◌, refl, ap, sym, ◌∙◌}
 use mathlib.Core.List.{List}
 use mathlib.Core.Bool.{Bool, true, false, cond}
+use mathlib.Core.Option.{Option, none, some}
 use native.Mathlib.Omega.{arith}
 use lib.ListN.{length, take, drop, replicate}
 use lib.Seq.{sets}
@@ -12,8 +13,9 @@ use Rattle.bytes_sections.specs.Decode.{mosts, whole_of}
 use Rattle.bytes_sections.specs.Encode.{encode}
 use Rattle.mir.specs.Routine.{Routine}
 use Rattle.fold.specs.declared.Settings.{Settings}
+use Rattle.rewrite.specs.declared.Fault.{Fault}
 use Rattle.rewrite.specs.Run.{Rewritten, rewritten_blocks, rewrite_with}
-use Rattle.rewrite.specs.Outcome.{Outcome, outcome, of_input, rewritten, fitted_in}
+use Rattle.rewrite.specs.Outcome.{Outcome, outcome, of_input, unless, rewritten, fitted_in}
 use Rattle.shelf.specs.Answer.{Answer, refused, lowered, with_reason, reason_of, answer}
 use Rattle.pass_numbers.specs.Ten.{ten_numbers}
 use Rattle.pass_answers.specs.Numbers.{numbers_of, leaves}
@@ -44,12 +46,14 @@ told_fitted room w bytes = go (ltb room (length bytes))
     go false e = omega arith
 
 told_rewritten : (room : ℕ) (w : Rewritten) (r : Routine) → told (rewritten room w r) ≡ 0 → ⊥
-unfolding rewritten told
-told_rewritten room w r = go w.clash
+unfolding rewritten unless told
+told_rewritten room w r = go w.fault
   where
-    go : (b : Bool) → told (cond b (Outcome.refused 10 0) (fitted_in room w (encode (rewrite_with w r)))) ≡ 0 → ⊥
-    go true e = omega arith
-    go false e = told_fitted room w (encode (rewrite_with w r)) e
+    go : (o : Option Fault) → told (unless o (fitted_in room w (encode (rewrite_with w r)))) ≡ 0 → ⊥
+    go (some Fault.Clash) e = omega arith
+    go (some Fault.Looped) e = omega arith
+    go (some Fault.Overfull) e = omega arith
+    go none e = told_fitted room w (encode (rewrite_with w r)) e
 
 told_input : (σ : Settings) (room : ℕ) (d : Parse Routine) → told (of_input σ room d) ≡ 0 → ⊥
 unfolding of_input told

@@ -1,8 +1,9 @@
 -- What the code answers is the outcome of the call.
-use Prim.Native.Nat.{ℕ, ◌+◌, ◌≤◌, ◌<◌}
+use Prim.Native.Nat.{ℕ, ◌+◌, ◌-◌, ◌≤◌, ◌<◌}
 use mathlib.Core.Path.{◌≡◌, refl, ap, ◌∙◌, sym}
 use mathlib.Core.List.{List, ◌++◌, append_assoc}
-use mathlib.Core.Bool.{Bool, true, false, not}
+use mathlib.Core.Bool.{Bool, false, not}
+use mathlib.Core.Option.{some}
 use native.Mathlib.Nat.{zero-add}
 use native.Mathlib.Omega.{arith}
 use lib.ListN.{length, take, drop, replicate, length-append, length-drop}
@@ -22,7 +23,7 @@ use Rattle.mir.specs.Lookup.{types_in}
 use Rattle.rewrite.specs.Outcome.{outcome}
 use Rattle.rewrite.specs.Outcome as O
 use Rattle.rewrite.proofs.Bound.{block_count}
-use Rattle.rewrite.proofs.Outcomes.{clashing, too_long, accepted}
+use Rattle.rewrite.proofs.Outcomes.{faulty, too_long, accepted}
 use Rattle.rewrite.proofs.Result.{result_count}
 use Rattle.bytes_emit.specs.Written.{Writes}
 use Rattle.rewrite_progress.specs.Effect.{type_numbers as fresh_numbers, Low, PutLow}
@@ -39,23 +40,24 @@ use Rattle.shelf_test.specs.Number.{number_of_reason}
 use Rattle.shelf_test.specs.Shelved.{Shelved}
 use Rattle.pass_numbers.proofs.Laws.{given_refused}
 use Rattle.std.specs.Prelude.{Result, Ok, Err, ⊤}
-use Rattle.rewrite.specs.declared.Clash.{Clash}
+use Rattle.rewrite.specs.declared.Fault.{Fault}
+use Rattle.rewrite.specs.Fault.{number_of_fault}
 use Rattle.pass_answers.specs.declared.Lowered.{Lowered}
 use Rattle.pass_answers.specs.declared.Refused.{Refused}
 use Rattle.pass_answers.specs.Numbers.{acceptance, as_answer, Answers}
 use Rattle.pass_answers.proofs.Laws.{answers}
 use Rattle.pass_input.specs.Accepted.{AcceptedCode, Chosen, ChosenRun}
-use Rattle.pass_input.proofs.Accepted.{next_is, next_few, recorded_many, canon, types_end, few_fresh}
+use Rattle.pass_input.proofs.Accepted.{next_is, next_few, recorded_many, canon, types_end, few_values}
 use Rattle.pass_answers.proofs.Given.{given_lowered}
 use Rattle.pass_shelf.proofs.Shelf.{shelved}
 use Rattle.pass_blocks.specs.Runs.{body_of, Runs, Begun, row_places}
 use Rattle.pass_input.proofs.Copied.{take_sets}
 use Rattle.pass_write.specs.declared.Trial.{Trial}
-use Rattle.pass_write.specs.Written.{fresh_places, longest_head, head_of, Measured, Headed}
+use Rattle.pass_write.specs.Written.{longest_head, head_of, Roomy, Measured, Headed}
 
 -- the types of the fresh numbers are all that stands behind the rows
-pub fresh_part : (work : List ℕ) → length work ≤ row_places + fresh_places → take fresh_places (drop row_places work) ≡ drop row_places work
-fresh_part work l = take_all fresh_places (drop row_places work) (omega (arith, length-drop row_places work))
+pub fresh_part : (work : List ℕ) → take (length work - row_places) (drop row_places work) ≡ drop row_places work
+fresh_part work = take_all (length work - row_places) (drop row_places work) (omega (arith, length-drop row_places work))
 
 -- ## The bytes
 
@@ -73,30 +75,31 @@ rewritten_bytes : (σ : Settings) (r : Routine) → encode (rewrite σ r) ≡ he
 unfolding rewrite
 rewritten_bytes σ r = encode_split (rewritten_blocks σ r) r (as_many σ r)
 
--- a run that went through takes few fresh numbers
-pub fresh_within : (run : Run) (h : ChosenRun run) {to : ℕ} {out fresh out' fresh' : List ℕ} {dropped dropped' : Marks} {r : Result Progress Clash} {p : Progress}
-    → Runs (rewritten_blocks run.settings h.accepted.routine) to out fresh dropped out' fresh' dropped' r
+-- a run that went through takes fresh numbers that have their places
+pub fresh_within : (run : Run) (work : List ℕ) (h : Roomy run work) {to : ℕ} {out fresh out' fresh' : List ℕ} {dropped dropped' : Marks} {r : Result Progress Fault} {p : Progress}
+    → Runs (rewritten_blocks run.settings h.chosen.accepted.routine) to out fresh dropped out' fresh' dropped' r
     → r ≡ Ok p
-    → p.fresh ≤ fresh_places
-fresh_within run h {p = p} q e = omega (arith, (q.went p e).many, few_fresh h.accepted run.settings)
+    → row_places + p.fresh ≤ length work
+fresh_within run work h {p = p} q e = omega (arith, (q.went p e).many, h.room (q.went p e).calm)
 
 -- a run into a buffer measures
-pub measured : (run : Run) (trial : Trial) (h : ChosenRun run) (buffer zeros table : List ℕ) (r : Result Progress Clash)
-    → fresh_places ≤ length zeros
+pub measured : (run : Run) (trial : Trial) (work : List ℕ) (h : Roomy run work) (buffer table : List ℕ) (r : Result Progress Fault)
     → PutLow 4300 r
-    → Runs (rewritten_blocks run.settings h.accepted.routine) 0 buffer zeros (replicate 256 false) trial.body.now table trial.dropped.now r
+    → Runs (rewritten_blocks run.settings h.chosen.accepted.routine) 0 buffer (drop row_places work) (replicate 256 false) trial.body.now table trial.dropped.now r
     → r ≡ Ok trial.progress
     → trial.fresh.now ≡ take trial.progress.fresh table
     → Measured run trial
-measured run trial h buffer zeros table r l low q e f =
+measured run trial work h buffer table r low q e f =
     let k : Low 4300 trial.progress = rw e at low in
-    record { chosen = h; buffer = buffer; zeros = zeros; table = table; room = l; ran = q.went trial.progress e; fresh = f; low = omega (arith, k.to) }
+    let n = q.went trial.progress e in
+    let l : length (rewritten_blocks run.settings h.chosen.accepted.routine).fresh ≤ length (drop row_places work) = omega (arith, h.room n.calm, length-drop row_places work) in
+    record { chosen = h.chosen; buffer = buffer; zeros = drop row_places work; table = table; room = l; ran = n; fresh = f; low = omega (arith, k.to, k.fresh) }
 
 -- ## The answer
 
 module _ {σ : Settings} {s facts : List ℕ} {b : Bounds} {flags : List Bool} (h : Chosen σ s facts b flags) (out : List ℕ) where
-  pub answers_clash : (rewritten_blocks σ h.accepted.routine).clash ≡ true → Answers (given σ (length out) s) (Err Refused.Clash) out out
-  answers_clash e = answers _ (refused 10 0) _ out out (given_refused σ (length out) s 10 0 (clashing σ (length out) s h.small h.accepted.routine h.accepted.used h.accepted.reads e)) refl refl
+  pub answers_fault : (f : Fault) → (rewritten_blocks σ h.accepted.routine).fault ≡ some f → Answers (given σ (length out) s) (Err (Refused.Faulty f)) out out
+  answers_fault f e = answers _ (refused (number_of_fault f) 0) _ out out (given_refused σ (length out) s (number_of_fault f) 0 (faulty σ (length out) s h.small h.accepted.routine h.accepted.used h.accepted.reads f e)) refl refl
 
 -- the numbers of a run that went through
 numbers_of : (r : Result Lowered Refused) (w : Bool) (c d : Counts) (k n m : ℕ) → as_answer r ≡ acceptance (not (eqb c.builds 0)) c k n → c ≡ d → w ≡ not (eqb d.builds 0) → n ≡ m → as_answer r ≡ acceptance w d k m
@@ -131,7 +134,7 @@ module _ {run : Run} {trial : Trial} (m : Measured run trial) where
   head = head_of x w
 
   pub many_few : b.next + p.fresh < 65536
-  many_few = omega (arith, next_few a, few_fresh a σ, m.ran.many)
+  many_few = omega (arith, few_values a σ m.ran.calm, m.ran.many)
 
   pub begun : Begun w trial.body.now p.to
   begun = record { calm = m.ran.calm; buffer = m.buffer; written = m.ran.written; place = m.ran.place ∙ zero-add (length (body_of w)) }
@@ -140,7 +143,7 @@ module _ {run : Run} {trial : Trial} (m : Measured run trial) where
   pub types_taken : trial.fresh.now ≡ fresh_numbers w.fresh
   types_taken =
       let n = fresh_numbers w.fresh in
-      let l : length n ≤ length m.zeros = omega (arith, numbers_length w.fresh, few_fresh a σ, m.room) in
+      let l : length n ≤ length m.zeros = omega (arith, numbers_length w.fresh, m.room) in
       m.fresh ∙ ap (λ k. take k m.table) (m.ran.many ∙ sym (numbers_length w.fresh)) ∙ ap (take (length n)) m.ran.taken ∙ take_sets n m.zeros l
 
   pub recorded_long : b.next ≤ length (recorded_in facts)
@@ -170,7 +173,7 @@ module _ {run : Run} {trial : Trial} (m : Measured run trial) where
         next = sym (next_is a);
         long = recorded_long;
         tabled = tabled;
-        few = omega (arith, next_few a, few_fresh a σ, ap length types_taken, numbers_length w.fresh);
+        few = omega (arith, few_values a σ m.ran.calm, ap length types_taken, numbers_length w.fresh);
         short = a.facts_of.short;
         low = m.low;
       }
@@ -205,7 +208,7 @@ module _ {run : Run} {trial : Trial} (m : Measured run trial) where
       pub shelved_written : (next : ℕ) → next ≡ b.next + p.fresh → Shelved run.code out₂ to next trial.dropped.now x w
       shelved_written next en =
           let i : length (head ++ body_of w) ≤ length out = omega (arith, length-append head (body_of w), begun.place) in
-          shelved run m.chosen to next out out₂ (replicate 256 false) trial.dropped.now (h.0 ∙ zero-add (length head)) (en ∙ ap (λ k. b.next + k) m.ran.many) (as_many σ x) i written_all refl m.ran.marks
+          shelved run m.chosen to next out out₂ (replicate 256 false) trial.dropped.now (h.0 ∙ zero-add (length head)) (en ∙ ap (λ k. b.next + k) m.ran.many) (as_many σ x) i written_all refl m.ran.marks m.ran.calm
 
 -- behind the head there is room for the blocks
 pub room_behind : {run : Run} {trial : Trial} {out : List ℕ} {to : ℕ} → Headed run trial out to → to + trial.progress.to ≤ length out

@@ -1,25 +1,29 @@
 -- What has been done of the output at each stage.
 use Rattle.std.specs.Prelude.{ℕ, ◌+◌, ◌≤◌, ◌≡◌, List, false, length, replicate, take}
+use Rattle.std.proofs.Math.Option.{none}
 use Rattle.rewrite.specs.Run.{Rewritten, rewritten_blocks}
 use Rattle.bytes_emit.specs.Written.{Writes}
 use Rattle.rewrite_head.specs.Head.{head_bytes, widened}
 use Rattle.rewrite_progress.specs.declared.Run.{Run}
 use Rattle.mir.specs.Routine.{Routine}
 use Rattle.pass_input.specs.Accepted.{ChosenRun}
-use Rattle.pass_blocks.specs.Runs.{Ran}
+use Rattle.pass_blocks.specs.Runs.{Ran, row_places}
 use Rattle.pass_write.specs.declared.Trial.{Trial}
-
--- the fresh numbers whose types the working table has places for
-abbrev pub fresh_places : ℕ
-fresh_places = 4608
 
 -- no run over the blocks of an accepted routine ends behind this place
 abbrev pub longest_body : ℕ
-longest_body = 4508876800
+longest_body = 4643092480
 
 -- no head ends behind this place
 abbrev pub longest_head : ℕ
 longest_head = 204800
+
+-- the working table has its rows, and behind them a place for the type of each fresh number that a run takes
+pub record Roomy (run : Run) (work : List ℕ) : Type 0 where
+  pub chosen : ChosenRun run
+  pub rows : row_places ≤ length work
+  pub room : (rewritten_blocks run.settings chosen.accepted.routine).fault ≡ none
+      → row_places + length (rewritten_blocks run.settings chosen.accepted.routine).fresh ≤ length work
 
 -- what is chosen, and what a run into a buffer gave: the types of the fresh numbers, the marks, and how far it went
 pub record Measured (run : Run) (trial : Trial) : Type 0 where
@@ -27,7 +31,7 @@ pub record Measured (run : Run) (trial : Trial) : Type 0 where
   pub buffer : List ℕ
   pub zeros : List ℕ
   pub table : List ℕ
-  pub room : fresh_places ≤ length zeros
+  pub room : length (rewritten_blocks run.settings chosen.accepted.routine).fresh ≤ length zeros
   pub ran :
       Ran (rewritten_blocks run.settings chosen.accepted.routine) 0 buffer zeros (replicate 256 false) trial.body.now table trial.dropped.now
       trial.progress

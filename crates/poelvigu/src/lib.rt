@@ -6,7 +6,8 @@ ghost use Rattle.std.specs.Prelude.{◌≡◌};
 ghost use Rattle.bytes_sections.specs.Decode.{mosts, whole_of};
 ghost use Rattle.bytes_sections.specs.Index.{answered, verdict};
 ghost use Rattle.rewrite.specs.Outcome.{settings_of};
-ghost use Rattle.pass.specs.Promise.{Lowers};
+ghost use Rattle.pass_numbers.specs.Choices.{settings_by};
+ghost use Rattle.pass.specs.Promise.{Lowers, LowersWith};
 
 // Whether a byte string is a routine.
 #[unsafe(no_mangle)]
@@ -30,4 +31,19 @@ pub extern "C" fn poelvigu_lower(
         input.now output.old output.new answer.old answer.new }
 {
     pass::lower(input, output, tuples, structs, most, answer);
+}
+
+// Rewrites a routine under choices by place: tuples, structs, most, edition.
+#[unsafe(no_mangle)]
+pub extern "C" fn poelvigu_lower_with(
+    input: &[u8],
+    output: &mut [u8],
+    page: &mut [u8],
+    choices: &[u64],
+    answer: &mut [u64],
+)
+    ensures { LowersWith (settings_by choices.now)
+        input.now output.old output.new page.old page.new answer.old answer.new }
+{
+    pass::lower_with(input, output, page, choices, answer);
 }

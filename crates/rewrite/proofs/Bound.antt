@@ -12,46 +12,49 @@ use Rattle.mir.specs.declared.TypeId.{TypeId}
 use Rattle.mir.specs.Syntax.{Instruction, Terminator, Jump, If, BranchCmp, Return, Unreachable, Block}
 use Rattle.mir.specs.Reads.{is_phi}
 use Rattle.mir.specs.Routine.{Routine}
+use Rattle.fold.specs.declared.Edition.{Edition}
 use Rattle.fold.specs.declared.Settings.{Settings}
 use Rattle.mir.specs.Lookup.{Types, types_in}
 use Rattle.mir.specs.Phis.{behind_phis, phis_of}
 use Rattle.rewrite.specs.State.{AggStates, no_states}
-use Rattle.rewrite.specs.Step.{Piece, kept, left, assigned, step}
-use Rattle.rewrite.specs.Run.{ends, returned, finish, glue, walk, Rewritten, Choice, block_then, skip_then, one_block, all_blocks, choice, rewritten_by, rewritten_blocks, rewrite_with, rewrite}
+use Rattle.rewrite.specs.Piece.{Piece, kept, left, assigned}
+use Rattle.rewrite.specs.Step.{step}
+use Rattle.rewrite.specs.Run.{ends, returned, rebuilt_return, finish, glue, walk, Rewritten, Choice, block_then, skip_then, one_block, all_blocks, choice, rewritten_by, rewritten_blocks, rewrite_with, rewrite}
 use Rattle.rewrite.specs.Sum.{instruction_count}
 use Rattle.rewrite.specs.Within.{argument_count, return_count, CallsWithin, ListsWithin}
-use Rattle.rewrite.proofs.Steps.{Made, made, rebuilds_returns, taken_most}
+use Rattle.rewrite.proofs.Steps.{rebuilds_returns, taken_most}
+use Rattle.rewrite.proofs.Made.{MadeFirst, made_in_first}
 use Rattle.rewrite.proofs.Unchanged.{phis_behind}
 
 -- ## The next value
 
 -- an instruction takes at most 16 numbers
-bound_piece : (S : AggStates) (n : ℕ) (i : Instruction) (p : Piece) (k : ℕ) → Made S n i p k → argument_count i.kind ≤ 16 → length p.fresh ≤ 16
+pub bound_piece : (S : AggStates) (n : ℕ) (i : Instruction) (p : Piece) (k : ℕ) → MadeFirst S n i p k → argument_count i.kind ≤ 16 → length p.fresh ≤ 16
 unfolding kept left assigned argument_count
-bound_piece S n i p k Made.as_kept h = omega arith
-bound_piece S n i p k (Made.as_left c S' v) h = omega arith
-bound_piece S n i p k (Made.as_assigned c s) h = omega arith
-bound_piece S n i p k (Made.as_called a rs f ps qs ts b r) h = omega (arith, taken_most r)
-bound_piece S n i p k (Made.as_stored a q u ts b r) h = omega (arith, taken_most r)
+bound_piece S n i p k MadeFirst.as_kept h = omega arith
+bound_piece S n i p k (MadeFirst.as_left c S' v) h = omega arith
+bound_piece S n i p k (MadeFirst.as_assigned c s) h = omega arith
+bound_piece S n i p k (MadeFirst.as_called a rs f ps qs ts b r) h = omega (arith, taken_most r)
+bound_piece S n i p k (MadeFirst.as_stored a q u ts b r) h = omega (arith, taken_most r)
 
 -- and so does a terminator
-bound_end : (τ : Types) (S : AggStates) (n : ℕ) (t : Terminator) → return_count t ≤ 16 → length (finish τ S n t).fresh ≤ 16
-unfolding finish ends returned return_count
-bound_end τ S n (Jump b) h = omega arith
-bound_end τ S n (If x a b) h = omega arith
-bound_end τ S n (BranchCmp op x y a b) h = omega arith
-bound_end τ S n (Return xs) h = omega (arith, taken_most (rebuilds_returns τ S n xs))
-bound_end τ S n Unreachable h = omega arith
+bound_end : (σ : Settings) → σ.edition ≡ Edition.First → (τ : Types) (S : AggStates) (n : ℕ) (t : Terminator) → return_count t ≤ 16 → length (finish σ τ S n t).fresh ≤ 16
+unfolding finish ends returned rebuilt_return return_count
+bound_end σ e τ S n (Jump b) h = omega arith
+bound_end σ e τ S n (If x a b) h = omega arith
+bound_end σ e τ S n (BranchCmp op x y a b) h = omega arith
+bound_end σ e τ S n (Return xs) h = rw e (omega (arith, taken_most (rebuilds_returns τ S n xs)))
+bound_end σ e τ S n Unreachable h = omega arith
 
 bound_both : (ts us : List TypeId) (x : ℕ) → length ts ≤ 16 → length us ≤ 16 * x + 16 → length (ts ++ us) ≤ 16 * suc x + 16
 bound_both ts us x h g = rw length-append (omega arith)
 
-bound_walk : (σ : Settings) (τ : Types) (folds : ValueId → Bool) (S : AggStates) (n : ℕ) (is : List Instruction) (t : Terminator) → CallsWithin 16 is → return_count t ≤ 16 → length (walk σ τ folds S n is t).fresh ≤ 16 * length is + 16
+pub bound_walk : (σ : Settings) → σ.edition ≡ Edition.First → (τ : Types) (folds : ValueId → Bool) (S : AggStates) (n : ℕ) (is : List Instruction) (t : Terminator) → CallsWithin 16 is → return_count t ≤ 16 → length (walk σ τ folds S n is t).fresh ≤ 16 * length is + 16
 unfolding walk glue
-bound_walk σ τ folds S n [] t h g = omega (arith, bound_end τ S n t g)
-bound_walk σ τ folds S n (i ∷ is) t h g = let p = step σ τ folds S n i in bound_both p.fresh (walk σ τ folds p.states (n + length p.fresh) is t).fresh (length is) (bound_piece S n i _ _ (made σ τ folds S n i) h.0) (bound_walk σ τ folds p.states (n + length p.fresh) is t h.1 g)
+bound_walk σ e τ folds S n [] t h g = omega (arith, bound_end σ e τ S n t g)
+bound_walk σ e τ folds S n (i ∷ is) t h g = let p = step σ τ folds S n i in bound_both p.fresh (walk σ τ folds p.states (n + length p.fresh) is t).fresh (length is) (bound_piece S n i _ _ (made_in_first σ τ folds S n i e) h.0) (bound_walk σ e τ folds p.states (n + length p.fresh) is t h.1 g)
 
-behind_within : (is : List Instruction) → CallsWithin 16 is → CallsWithin 16 (behind_phis is)
+pub behind_within : (is : List Instruction) → CallsWithin 16 is → CallsWithin 16 (behind_phis is)
 unfolding behind_phis
 behind_within [] h = tt
 behind_within (i ∷ is) h = split (is_phi i.kind) h (behind_within is h.1)
@@ -63,13 +66,14 @@ behind_within (i ∷ is) h = split (is_phi i.kind) h (behind_within is h.1)
 bound_parts : (ps is all : List Instruction) (ts us : List TypeId) (x y : ℕ) → ps ++ is ≡ all → length ts ≤ 16 * length is + 16 → length us ≤ 16 * x + 16 * y → length (ts ++ us) ≤ 16 * (length all + x) + 16 * suc y
 bound_parts ps is all ts us x y e h g = rw length-append (omega (arith, length-append ps is, ap length e))
 
-module _ (σ : Settings) (τ : Types) (c : Choice) where
+-- "the bound of 4,864 on the next value belongs to edition 1"
+module _ (σ : Settings) (ed : σ.edition ≡ Edition.First) (τ : Types) (c : Choice) where
   bound_block : (n : ℕ) (k : Block) (ks : List Block) (rest : ℕ → Rewritten) (b : Bool) → CallsWithin 16 k.instructions → return_count k.terminator ≤ 16 → ((m : ℕ) → length (rest m).fresh ≤ 16 * instruction_count ks + 16 * length ks) → length (one_block σ τ c n k rest b).fresh ≤ 16 * instruction_count (k ∷ ks) + 16 * length (k ∷ ks)
   unfolding one_block skip_then block_then instruction_count
   bound_block n k ks rest true h g f = omega (arith, f n)
   bound_block n k ks rest false h g f =
       let w = walk σ τ (c.folds k) no_states n (behind_phis k.instructions) k.terminator in
-      bound_parts (phis_of k.instructions) (behind_phis k.instructions) k.instructions w.fresh (rest (n + length w.fresh)).fresh (instruction_count ks) (length ks) (phis_behind k.instructions) (bound_walk σ τ (c.folds k) no_states n (behind_phis k.instructions) k.terminator (behind_within k.instructions h) g) (f _)
+      bound_parts (phis_of k.instructions) (behind_phis k.instructions) k.instructions w.fresh (rest (n + length w.fresh)).fresh (instruction_count ks) (length ks) (phis_behind k.instructions) (bound_walk σ ed τ (c.folds k) no_states n (behind_phis k.instructions) k.terminator (behind_within k.instructions h) g) (f _)
 
   -- 16 numbers for each instruction and each block
   pub bound_blocks : (n : ℕ) (ks : List Block) → ListsWithin 16 ks → length (all_blocks σ τ c n ks).fresh ≤ 16 * instruction_count ks + 16 * length ks
@@ -82,14 +86,14 @@ unfolding rewrite_with
 bound_with w r h a b d = omega arith
 
 -- within the mosts, by any choice
-pub next_bound_by : (σ : Settings) (c : Choice) (r : Routine) → instruction_count r.blocks ≤ 256 → length r.blocks ≤ 32 → ListsWithin 16 r.blocks → r.next ≤ 256 → (rewrite_with (rewritten_by σ c r) r).next ≤ 4864
+pub next_bound_by : (σ : Settings) → σ.edition ≡ Edition.First → (c : Choice) (r : Routine) → instruction_count r.blocks ≤ 256 → length r.blocks ≤ 32 → ListsWithin 16 r.blocks → r.next ≤ 256 → (rewrite_with (rewritten_by σ c r) r).next ≤ 4864
 unfolding rewritten_by
-next_bound_by σ c r a b h d = bound_with _ r (bound_blocks σ (types_in r) c r.next r.blocks h) a b d
+next_bound_by σ ed c r a b h d = bound_with _ r (bound_blocks σ ed (types_in r) c r.next r.blocks h) a b d
 
 -- "the output may pass these; its next value is at most 4,864"
-pub next_bound : (σ : Settings) (r : Routine) → instruction_count r.blocks ≤ 256 → length r.blocks ≤ 32 → ListsWithin 16 r.blocks → r.next ≤ 256 → (rewrite σ r).next ≤ 4864
+pub next_bound : (σ : Settings) → σ.edition ≡ Edition.First → (r : Routine) → instruction_count r.blocks ≤ 256 → length r.blocks ≤ 32 → ListsWithin 16 r.blocks → r.next ≤ 256 → (rewrite σ r).next ≤ 4864
 unfolding rewrite rewritten_blocks
-next_bound σ r = next_bound_by σ (choice σ r) r
+next_bound σ ed r = next_bound_by σ ed (choice σ r) r
 
 -- ## What stays
 

@@ -18,7 +18,8 @@ use Rattle.fold.specs.Family.{Marks}
 use Rattle.fold.specs.Fold.{folds_tuple, folds_struct, folds_array}
 use Rattle.mir.specs.Phis.{behind_phis}
 use Rattle.rewrite.specs.State.{AggStates}
-use Rattle.rewrite.specs.Step.{kept, guarded, step_kind}
+use Rattle.rewrite.specs.Stays.{guarded, stays}
+use Rattle.rewrite.specs.Step.{step_kind}
 use Rattle.rewrite.specs.Run.{folds_build, folds_in, choice, rewritten_blocks, rewrite}
 use Rattle.rewrite.specs.Outcome.{settings_of}
 use Rattle.rewrite.proofs.Unchanged.{unchanged}
@@ -44,25 +45,26 @@ tuples_off b most = refl
 pub structs_off : (a most : ℕ) → (settings_of a 0 most).structs ≡ false
 structs_off a most = refl
 
--- "with enable_tuples off, arrays, Loads and Stores are left too": none of them is forwarded, whatever is tracked
+-- "with enable_tuples off, arrays, Loads and Stores are left too": none of them is forwarded, whatever is tracked: it
+-- stays
 module _ (σ : Settings) (off : σ.tuples ≡ false) where
   -- a Load
-  pub off_load : (τ : Types) (folds : ValueId → Bool) (S : AggStates) (n : ℕ) (i : Instruction) (d : ValueId) (p : Place) (t : TypeId) → step_kind σ τ folds S n i (Load d p t) ≡ kept S i
+  pub off_load : (τ : Types) (folds : ValueId → Bool) (S : AggStates) (n : ℕ) (i : Instruction) (d : ValueId) (p : Place) (t : TypeId) → step_kind σ τ folds S n i (Load d p t) ≡ stays σ τ S n i
   unfolding step_kind guarded
   off_load τ folds S n i d p t = rw off
 
   -- a Store
-  pub off_store : (τ : Types) (folds : ValueId → Bool) (S : AggStates) (n : ℕ) (i : Instruction) (p : Place) (x : Value) (t : TypeId) → step_kind σ τ folds S n i (Store p x t) ≡ kept S i
+  pub off_store : (τ : Types) (folds : ValueId → Bool) (S : AggStates) (n : ℕ) (i : Instruction) (p : Place) (x : Value) (t : TypeId) → step_kind σ τ folds S n i (Store p x t) ≡ stays σ τ S n i
   unfolding step_kind guarded
   off_store τ folds S n i p x t = rw off
 
   -- a tuple's extract
-  pub off_extract : (τ : Types) (folds : ValueId → Bool) (S : AggStates) (n : ℕ) (i : Instruction) (d : ValueId) (x : Value) (k : ℕ) (t : TypeId) → step_kind σ τ folds S n i (ExtractTupleElement d x k t) ≡ kept S i
+  pub off_extract : (τ : Types) (folds : ValueId → Bool) (S : AggStates) (n : ℕ) (i : Instruction) (d : ValueId) (x : Value) (k : ℕ) (t : TypeId) → step_kind σ τ folds S n i (ExtractTupleElement d x k t) ≡ stays σ τ S n i
   unfolding step_kind guarded
   off_extract τ folds S n i d x k t = rw off
 
   -- a tuple's insert
-  pub off_insert : (τ : Types) (folds : ValueId → Bool) (S : AggStates) (n : ℕ) (i : Instruction) (d : ValueId) (x : Value) (k : ℕ) (y : Value) (t : TypeId) → step_kind σ τ folds S n i (InsertTuple d x k y t) ≡ kept S i
+  pub off_insert : (τ : Types) (folds : ValueId → Bool) (S : AggStates) (n : ℕ) (i : Instruction) (d : ValueId) (x : Value) (k : ℕ) (y : Value) (t : TypeId) → step_kind σ τ folds S n i (InsertTuple d x k y t) ≡ stays σ τ S n i
   unfolding step_kind guarded
   off_insert τ folds S n i d x k y t = rw off
 

@@ -1,6 +1,6 @@
 -- Laws of the outcome of a call: which refusal comes first, and what an accepted input gives.
 use Prim.Native.Nat.{ℕ, ◌≤◌, ◌<◌}
-use mathlib.Core.Path.{◌≡◌, ap, ◌∙◌}
+use mathlib.Core.Path.{◌≡◌, ◌∙◌}
 use mathlib.Core.List.{List}
 use mathlib.Core.Bool.{Bool, true, false, cond}
 use lib.ListN.{length}
@@ -11,10 +11,13 @@ use Rattle.mir.specs.Routine.{Routine}
 use Rattle.bytes_sections.specs.Decode.{mosts, whole_of}
 use Rattle.bytes_sections.specs.Encode.{encode}
 use Rattle.fold.specs.declared.Settings.{Settings}
-use Rattle.rewrite.specs.Step.{no_counts}
+use Rattle.rewrite.specs.Piece.{no_counts}
 use Rattle.rewrite.specs.Run.{Rewritten, choice, rewritten_blocks, rewrite_with, rewrite}
 use Rattle.mir.specs.Lookup.{types_in}
-use Rattle.rewrite.specs.Outcome.{refused, lowered, fitted_in, rewritten, of_input, outcome}
+use Rattle.rewrite.specs.Outcome.{refused, lowered, fitted_in, unless, rewritten, of_input, outcome}
+use Rattle.rewrite.specs.declared.Fault.{Fault}
+use Rattle.rewrite.specs.Fault.{number_of_fault}
+use mathlib.Core.Option.{none, some}
 use Rattle.rewrite.proofs.Unchanged.{untouched_blocks, unchanged, unchanged_blocks}
 
 cond_true : {A : Type 0} (b : Bool) (x y : A) → b ≡ true → cond b x y ≡ x
@@ -23,8 +26,8 @@ cond_true b x y e = rw e
 cond_false : {A : Type 0} (b : Bool) (x y : A) → b ≡ false → cond b x y ≡ y
 cond_false b x y e = rw e
 
--- a rewriting that changed nothing counted, dropped and took nothing, and met no clash
-pub unchanged_result : (σ : Settings) (r : Routine) → (rewritten_blocks σ r).changed ≡ false → rewritten_blocks σ r ≡ untouched_blocks r.blocks
+-- a rewriting that changed nothing counted, dropped and took nothing
+pub unchanged_result : (σ : Settings) (r : Routine) → (rewritten_blocks σ r).changed ≡ false → rewritten_blocks σ r ≡ untouched_blocks r.blocks (rewritten_blocks σ r).fault
 unfolding rewritten_blocks
 unchanged_result σ r e = unchanged_blocks σ (types_in r) (choice σ r) r.next r.blocks e
 
@@ -38,13 +41,13 @@ unfolding outcome
 of_input_lem σ room s h = rw (le-ltb 16 σ.most h)
 
 -- what is made of a rewriting
-with_clash : (room : ℕ) (w : Rewritten) (r : Routine) → w.clash ≡ true → rewritten room w r ≡ refused 10 0
-unfolding rewritten
-with_clash room w r e = cond_true _ _ _ e
+with_fault : (room : ℕ) (w : Rewritten) (r : Routine) (f : Fault) → w.fault ≡ some f → rewritten room w r ≡ refused (number_of_fault f) 0
+unfolding rewritten unless
+with_fault room w r f e = rw e
 
-without_clash : (room : ℕ) (w : Rewritten) (r : Routine) → w.clash ≡ false → rewritten room w r ≡ fitted_in room w (encode (rewrite_with w r))
-unfolding rewritten
-without_clash room w r e = cond_false _ _ _ e
+without_fault : (room : ℕ) (w : Rewritten) (r : Routine) → w.fault ≡ none → rewritten room w r ≡ fitted_in room w (encode (rewrite_with w r))
+unfolding rewritten unless
+without_fault room w r e = rw e
 
 no_room : (room : ℕ) (w : Rewritten) (bytes : List ℕ) → room < length bytes → fitted_in room w bytes ≡ refused 11 0
 unfolding fitted_in
@@ -65,23 +68,23 @@ module _ (σ : Settings) (room : ℕ) (s : List ℕ) (small : σ.most ≤ 16) wh
     unfolding of_input
     accepts = rw (of_input_lem σ room s small, reads)
 
-    -- 10 comes before 11: whatever the room
-    pub clashing : (rewritten_blocks σ r).clash ≡ true → outcome σ room s ≡ refused 10 0
-    clashing e = accepts ∙ with_clash room _ r e
+    -- 10, 14 and 15 come before 11: whatever the room
+    pub faulty : (f : Fault) → (rewritten_blocks σ r).fault ≡ some f → outcome σ room s ≡ refused (number_of_fault f) 0
+    faulty f e = accepts ∙ with_fault room _ r f e
 
     -- 11 only of the length that the output has
-    pub too_long : (rewritten_blocks σ r).clash ≡ false → room < length (encode (rewrite σ r)) → outcome σ room s ≡ refused 11 0
+    pub too_long : (rewritten_blocks σ r).fault ≡ none → room < length (encode (rewrite σ r)) → outcome σ room s ≡ refused 11 0
     unfolding rewrite
-    too_long e h = accepts ∙ without_clash room _ r e ∙ no_room room _ _ h
+    too_long e h = accepts ∙ without_fault room _ r e ∙ no_room room _ _ h
 
     -- else the result, the counts and the bytes of the rewritten routine
-    pub accepted : (rewritten_blocks σ r).clash ≡ false → length (encode (rewrite σ r)) ≤ room → outcome σ room s ≡ lowered (rewritten_blocks σ r).changed (rewritten_blocks σ r).counts (encode (rewrite σ r))
+    pub accepted : (rewritten_blocks σ r).fault ≡ none → length (encode (rewrite σ r)) ≤ room → outcome σ room s ≡ lowered (rewritten_blocks σ r).changed (rewritten_blocks σ r).counts (encode (rewrite σ r))
     unfolding rewrite
-    accepted e h = accepts ∙ without_clash room _ r e ∙ with_room room _ _ h
+    accepted e h = accepts ∙ without_fault room _ r e ∙ with_room room _ _ h
 
-    -- a result of false comes with no counts and the bytes of the routine itself, and is never refused with 10
-    pub accepted_unchanged : (rewritten_blocks σ r).changed ≡ false → length (encode r) ≤ room → outcome σ room s ≡ lowered false no_counts (encode r)
-    accepted_unchanged e h =
-        let w : rewritten_blocks σ r ≡ untouched_blocks r.blocks = unchanged_result σ r e in
+    -- a result of false comes with no counts and the bytes of the routine itself
+    pub accepted_unchanged : (rewritten_blocks σ r).fault ≡ none → (rewritten_blocks σ r).changed ≡ false → length (encode r) ≤ room → outcome σ room s ≡ lowered false no_counts (encode r)
+    accepted_unchanged g e h =
+        let w : rewritten_blocks σ r ≡ untouched_blocks r.blocks (rewritten_blocks σ r).fault = unchanged_result σ r e in
         let q : rewrite σ r ≡ r = unchanged σ r e in
-        accepted (ap (λ (x : Rewritten). x.clash) w) (rw q h) ∙ rw (w, q)
+        accepted g (rw q h) ∙ rw (w, q)

@@ -1,5 +1,10 @@
 pub mod State
+pub mod Fault
 pub mod Rebuild
+pub mod Deep
+pub mod Readings
+pub mod Piece
+pub mod Stays
 pub mod Step
 pub mod Run
 pub mod Outcome

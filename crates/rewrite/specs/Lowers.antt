@@ -1,6 +1,6 @@
 -- How the output stands to the input: "every output instruction is an input instruction kept or rewritten, in order,
 -- or a rebuild directly before what needs it".
-use Rattle.std.specs.Prelude.{ℕ, suc, List, [], ◌∷◌, ◌++◌, Bool, true, false}
+use Rattle.std.specs.Prelude.{ℕ, suc, ◌≤◌, ◌<◌, List, [], ◌∷◌, ◌++◌, Bool, true, false}
 use Rattle.mir.specs.declared.ValueId.{ValueId}
 use Rattle.mir.specs.declared.TypeId.{TypeId}
 use Rattle.mir.specs.declared.NameId.{NameId}
@@ -9,6 +9,7 @@ use Rattle.mir.specs.Syntax.{Place, FieldInit, Meta, Instruction, InstructionKin
 use Rattle.mir.specs.Syntax.{Assign, Call, Load, Store, MakeTuple}
 use Rattle.mir.specs.Syntax.{ExtractTupleElement, MakeStruct, ExtractStructField, InsertField, InsertTuple, MakeFixedArray}
 use Rattle.mir.specs.Phis.{behind_phis, phis_of}
+use Rattle.rewrite.specs.Readings.{readings, with_readings}
 
 -- a rebuild of a value: a build without span, expression id and comment; "a rebuilt array has is_const false"
 pub data Rebuild : ValueId → Instruction → Type 0 where
@@ -28,6 +29,18 @@ pub data Rebuilds : Bool → ℕ → List Value → List Value → List Instruct
   bare : {n m : ℕ} {x : Value} {xs ys : List Value} {is : List Instruction}
       → Rebuilds true (suc n) xs ys is m
       → Rebuilds true n (x ∷ xs) (Value.Operand (record { 0 = n }) ∷ ys) is m
+
+-- edition 2: rebuilds one behind another, each under the next value number
+pub data Builds : ℕ → List Instruction → ℕ → Type 0 where
+  none : {n : ℕ} → Builds n [] n
+  build : {n m : ℕ} {i : Instruction} {is : List Instruction} → Rebuild (record { 0 = n }) i → Builds (suc n) is m → Builds n (i ∷ is) m
+
+-- values in order, each kept, or one of those numbers from n on and below m in its place
+pub data Renamed (n m : ℕ) : List Value → List Value → Type 0 where
+  none : Renamed n m [] []
+  same : {x : Value} {xs ys : List Value} → Renamed n m xs ys → Renamed n m (x ∷ xs) (x ∷ ys)
+  anew : {x : Value} {xs ys : List Value} (k : ℕ) → n ≤ k → k < m → Renamed n m xs ys
+      → Renamed n m (x ∷ xs) (Value.Operand (record { 0 = k }) ∷ ys)
 
 -- an Assign of the same dest at the same type stands for an extract or a Load
 pub data Stands : InstructionKind → InstructionKind → Type 0 where
@@ -54,6 +67,10 @@ pub data Leaves : InstructionKind → List ValueId → Type 0 where
 pub data Lowers : ℕ → List Instruction → Terminator → List Instruction → Terminator → List ValueId → ℕ → Type 0 where
   ended : {n : ℕ} {t : Terminator} → Lowers n [] t [] t [] n
   returned : {n m : ℕ} {xs ys : List Value} {bs : List Instruction} → Rebuilds true n xs ys bs m → Lowers n [] (Return xs) bs (Return ys) [] m
+  returned_behind : {n m : ℕ} {xs ys : List Value} {bs : List Instruction}
+      → Builds n bs m
+      → Renamed n m xs ys
+      → Lowers n [] (Return xs) bs (Return ys) [] m
   kept : {n m : ℕ} {i : Instruction} {is os : List Instruction} {t u : Terminator} {ds : List ValueId}
       → Lowers n is t os u ds m
       → Lowers n (i ∷ is) t (i ∷ os) u ds m
@@ -74,6 +91,11 @@ pub data Lowers : ℕ → List Instruction → Terminator → List Instruction �
       → Rebuilds false n (x ∷ []) (y ∷ []) bs k
       → Lowers k is t os u ds m
       → Lowers n (record { meta = a; kind = Store p x e } ∷ is) t (bs ++ (record { meta = a; kind = Store p y e } ∷ os)) u ds m
+  kept_behind : {n k m : ℕ} {i : Instruction} {ys : List Value} {bs is os : List Instruction} {t u : Terminator} {ds : List ValueId}
+      → Builds n bs k
+      → Renamed n k (readings i.kind) ys
+      → Lowers k is t os u ds m
+      → Lowers n (i ∷ is) t (bs ++ (record { meta = i.meta; kind = with_readings i.kind ys } ∷ os)) u ds m
 
 -- the same of blocks: one is skipped, or its phis stay and the rest is lowered
 pub data LowersAll : ℕ → List Block → List Block → List ValueId → ℕ → Type 0 where

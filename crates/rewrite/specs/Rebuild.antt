@@ -1,5 +1,5 @@
 -- sroa.rs 1420, `materialize`: an aggregate is rebuilt, directly before what needs it, under the next value number.
-use Rattle.std.specs.Prelude.{ℕ, zero, suc, List, [], ◌∷◌, ◌++◌, false, cond, not, ◌||◌, length, eqb}
+use Rattle.std.specs.Prelude.{ℕ, zero, suc, ◌+◌, List, [], ◌∷◌, ◌++◌, false, cond, not, length, eqb}
 use Rattle.std.proofs.Math.Bool as B
 use Rattle.std.proofs.Math.Option.{Option, none, some}
 use Rattle.bytes_wire.specs.Value.{unit}
@@ -9,7 +9,9 @@ use Rattle.mir.specs.declared.Value.{Value}
 use Rattle.mir.specs.MirType.{StructField, MirType, Felt, Bool, U32, Tuple, Struct, FixedArray, Pointer, Function, Unit, Error, Unknown}
 use Rattle.mir.specs.Syntax.{FieldInit, Instruction, InstructionKind, plain}
 use Rattle.mir.specs.Lookup.{Types, row_of, recorded_type, is_aggregate}
+use Rattle.rewrite.specs.declared.Fault.{Fault}
 use Rattle.rewrite.specs.State.{AggStates, state_of}
+use Rattle.rewrite.specs.Fault.{first_met, full_fault, lines_fault}
 
 -- "a tuple rebuilt at a longer type gets Unit parts, at a shorter one loses its last"
 unfoldable pub fitted : ℕ → List Value → List Value
@@ -53,29 +55,37 @@ clashes xs (some Unit) = false
 clashes xs (some Error) = false
 clashes xs (some Unknown) = false
 
+unfoldable pub clash_fault : List Value → Option MirType → Option Fault
+clash_fault xs row = cond (clashes xs row) (some Fault.Clash) none
+
 -- values in a list that may need rebuilds: the builds before, the values with fresh numbers put in, the types of the
--- fresh numbers in order, and whether an array met another count
+-- fresh numbers in order, and the first fault, by how many instructions the block has before
 pub record Rebuilt : Type 0 where
   pub before : List Instruction
   pub values : List Value
   pub fresh : List TypeId
-  pub clash : B.Bool
+  pub fault : ℕ → Option Fault
 
 abbrev pub untouched : List Value → Rebuilt
-untouched xs = record { before = []; values = xs; fresh = []; clash = false }
+untouched xs = record { before = []; values = xs; fresh = []; fault = λ l. none }
 
 -- one value in front of others: kept, or rebuilt at a type from its parts
 unfoldable pub keep_value : Value → Rebuilt → Rebuilt
-keep_value x r = record { before = r.before; values = x ∷ r.values; fresh = r.fresh; clash = r.clash }
+keep_value x r = record { before = r.before; values = x ∷ r.values; fresh = r.fresh; fault = r.fault }
+
+-- "15 as a number or instruction is added": number n, then the instructions behind l others, then what comes behind them
+unfoldable pub added_fault : ℕ → ℕ → List Instruction → (ℕ → Option Fault) → Option Fault
+added_fault n l is rest = first_met (full_fault n) (first_met (lines_fault l is) (rest (l + length is)))
 
 -- "a rebuilt value takes the next value number, which rises by one, and its type is recorded"
 unfoldable pub rebuild_value : Types → ℕ → TypeId → List Value → Rebuilt → Rebuilt
 rebuild_value τ n t xs r =
+    let is = rebuild_at (record { 0 = n }) xs t (row_of τ (some t)) in
     record {
-      before = rebuild_at (record { 0 = n }) xs t (row_of τ (some t)) ++ r.before;
+      before = is ++ r.before;
       values = Value.Operand (record { 0 = n }) ∷ r.values;
       fresh = t ∷ r.fresh;
-      clash = clashes xs (row_of τ (some t)) || r.clash;
+      fault = λ l. first_met (clash_fault xs (row_of τ (some t))) (added_fault n l is r.fault);
     }
 
 -- where a type is asked for and the value is tracked, it is rebuilt

@@ -3,10 +3,12 @@ use Rattle.std.specs.Prelude.{ℕ, ◌+◌, List, [], ◌∷◌, ◌++◌, map, 
 use Rattle.std.proofs.Math.Option.{Option, none, some}
 use Rattle.mir.specs.declared.ValueId.{ValueId}
 use Rattle.mir.specs.declared.TypeId.{TypeId}
+use Rattle.mir.specs.declared.Value.{Value}
 use Rattle.mir.specs.Syntax.{Instruction, InstructionKind, Terminator, Jump, If, BranchCmp, Return, Unreachable, Block}
 use Rattle.mir.specs.Syntax.{Assign, UnaryOp, BinaryOp, Call, Cast, Load, Store, Debug, Nop, Phi}
 use Rattle.mir.specs.Syntax.{MakeTuple, ExtractTupleElement, MakeStruct, ExtractStructField, InsertField, InsertTuple, MakeFixedArray, AssertEq, HeapAllocCells}
 use Rattle.mir.specs.Routine.{Routine}
+use Rattle.fold.specs.declared.Edition.{Edition}
 use Rattle.fold.specs.declared.Settings.{Settings}
 use Rattle.mir.specs.Lookup.{Types, types_in}
 use Rattle.fold.specs.Family.{Marks, cross_block_aggregates}
@@ -14,9 +16,13 @@ use Rattle.fold.specs.Climb.{build_of}
 use Rattle.fold.specs.Fold.{folds_tuple, folds_struct, folds_array, skipped}
 use Rattle.mir.specs.Phis.{behind_phis, phis_of}
 use Rattle.rewrite.specs.State.{AggStates, no_states}
+use Rattle.rewrite.specs.Fault.{first_met}
 use Rattle.rewrite.specs.Rebuild.{Rebuilt, rebuild_all, wanted_returns}
+use Rattle.rewrite.specs.Deep.{rebuild_deep, wanted_own}
 use Rattle.rewrite.specs.declared.Counts.{Counts}
-use Rattle.rewrite.specs.Step.{no_counts, materialized, Piece, step}
+use Rattle.rewrite.specs.declared.Fault.{Fault}
+use Rattle.rewrite.specs.Piece.{no_counts, materialized, Piece}
+use Rattle.rewrite.specs.Step.{step}
 
 abbrev pub add_counts : Counts → Counts → Counts
 add_counts a b =
@@ -36,11 +42,11 @@ pub record Walked : Type 0 where
   pub fresh : List TypeId
   pub counts : Counts
   pub changed : Bool
-  pub clash : Bool
+  pub fault : ℕ → Option Fault  -- by how many instructions the block has before
 
 -- nothing changed by the terminator
 unfoldable pub ends : Terminator → Walked
-ends t = record { out = []; terminator = t; dropped = []; fresh = []; counts = no_counts; changed = false; clash = false }
+ends t = record { out = []; terminator = t; dropped = []; fresh = []; counts = no_counts; changed = false; fault = λ l. none }
 
 -- "only Return is ever rewritten"
 unfoldable pub returned : Rebuilt → Walked
@@ -52,16 +58,21 @@ returned r =
       fresh = r.fresh;
       counts = materialized (length r.fresh);
       changed = not (eqb (length r.fresh) 0);
-      clash = r.clash;
+      fault = r.fault;
     }
 
+-- sroa.rs 1324 to 1332 of a Return's values; in edition 2 each at its recorded aggregate type, its parts before it
+unfoldable pub rebuilt_return : Edition → Types → AggStates → ℕ → List Value → Rebuilt
+rebuilt_return Edition.First τ S n xs = rebuild_all τ S n (wanted_returns τ xs)
+rebuilt_return Edition.Second τ S n xs = rebuild_deep τ S n (wanted_own τ xs)
+
 -- sroa.rs 1307 to 1346: the terminator, behind the last instruction
-unfoldable pub finish : Types → AggStates → ℕ → Terminator → Walked
-finish τ S n (Jump b) = ends (Jump b)
-finish τ S n (If x a b) = ends (If x a b)
-finish τ S n (BranchCmp op x y a b) = ends (BranchCmp op x y a b)
-finish τ S n (Return xs) = returned (rebuild_all τ S n (wanted_returns τ xs))
-finish τ S n Unreachable = ends Unreachable
+unfoldable pub finish : Settings → Types → AggStates → ℕ → Terminator → Walked
+finish σ τ S n (Jump b) = ends (Jump b)
+finish σ τ S n (If x a b) = ends (If x a b)
+finish σ τ S n (BranchCmp op x y a b) = ends (BranchCmp op x y a b)
+finish σ τ S n (Return xs) = returned (rebuilt_return σ.edition τ S n xs)
+finish σ τ S n Unreachable = ends Unreachable
 
 -- a piece in front of what comes behind it
 unfoldable pub glue : Piece → Walked → Walked
@@ -73,13 +84,13 @@ glue p w =
       fresh = p.fresh ++ w.fresh;
       counts = add_counts p.counts w.counts;
       changed = p.changed || w.changed;
-      clash = p.clash || w.clash;
+      fault = λ l. first_met (p.fault l) (w.fault (l + length p.out));
     }
 
 module _ (σ : Settings) (τ : Types) (folds : ValueId → Bool) where
   -- sroa.rs 805 to 1346: the instructions behind the phis in order, then the terminator
   unfoldable pub walk : AggStates → ℕ → List Instruction → Terminator → Walked
-  walk S n [] t = finish τ S n t
+  walk S n [] t = finish σ τ S n t
   walk S n (i ∷ is) t = let p = step σ τ folds S n i in glue p (walk p.states (n + length p.fresh) is t)
 
 -- what is decided of the build of a value
@@ -116,7 +127,7 @@ pub record Rewritten : Type 0 where
   pub fresh : List TypeId
   pub counts : Counts
   pub changed : Bool
-  pub clash : Bool
+  pub fault : Option Fault
 
 -- the walked block, its phis untouched, in front of the blocks behind it
 unfoldable pub block_then : List Instruction → Walked → Rewritten → Rewritten
@@ -127,11 +138,11 @@ block_then phis w r =
       fresh = w.fresh ++ r.fresh;
       counts = add_counts w.counts r.counts;
       changed = w.changed || r.changed;
-      clash = w.clash || r.clash;
+      fault = first_met (w.fault (length phis)) r.fault;
     }
 
 unfoldable pub skip_then : Block → Rewritten → Rewritten
-skip_then k r = record { blocks = k ∷ r.blocks; dropped = r.dropped; fresh = r.fresh; counts = r.counts; changed = r.changed; clash = r.clash }
+skip_then k r = record { blocks = k ∷ r.blocks; dropped = r.dropped; fresh = r.fresh; counts = r.counts; changed = r.changed; fault = r.fault }
 
 -- which builds are folded in a block, and which blocks are skipped
 pub record Choice : Type 0 where
@@ -148,7 +159,7 @@ module _ (σ : Settings) (τ : Types) (c : Choice) where
 
   -- "Process blocks one by one", each from the value number that the last one left
   unfoldable pub all_blocks : ℕ → List Block → Rewritten
-  all_blocks n [] = record { blocks = []; dropped = []; fresh = []; counts = no_counts; changed = false; clash = false }
+  all_blocks n [] = record { blocks = []; dropped = []; fresh = []; counts = no_counts; changed = false; fault = none }
   all_blocks n (k ∷ ks) = one_block n k (λ m. all_blocks m ks) (c.skips k)
 
 -- the choice that the Rust makes

@@ -7,13 +7,14 @@ use Rattle.mir.specs.declared.Value.{Value}
 use Rattle.mir.specs.Syntax.{Instruction, InstructionKind, Terminator, Jump, If, BranchCmp, Return, Unreachable, Block}
 use Rattle.mir.specs.Syntax.{Assign, UnaryOp, BinaryOp, Call, Cast, Load, Store, Debug, Nop, Phi}
 use Rattle.mir.specs.Syntax.{MakeTuple, ExtractTupleElement, MakeStruct, ExtractStructField, InsertField, InsertTuple, MakeFixedArray, AssertEq, HeapAllocCells}
+use Rattle.fold.specs.declared.Edition.{Edition}
 use Rattle.fold.specs.declared.Settings.{Settings}
 use Rattle.mir.specs.Lookup.{Types}
 use Rattle.mir.specs.Phis.{behind_phis}
 use Rattle.rewrite.specs.State.{AggStates, no_states, forward_store}
 use Rattle.rewrite.specs.Rebuild.{rebuild_all, wanted_arguments, wanted_returns, aggregate_type}
 use Rattle.rewrite.specs.Step.{step}
-use Rattle.rewrite.specs.Run.{Choice, walk}
+use Rattle.rewrite.specs.Run.{Choice, finish, walk}
 
 -- how many instructions blocks have in all
 unfoldable pub instruction_count : List Block → ℕ
@@ -30,7 +31,7 @@ unfoldable pub before_store : Types → AggStates → ℕ → Value → TypeId �
 before_store τ S n x t none = length (rebuild_all τ S n (record { value = x; at = aggregate_type τ t } ∷ [])).before
 before_store τ S n x t (some S') = 0
 
--- the rebuild instructions before an instruction: only a Call and a Store have any
+-- the rebuild instructions before an instruction in edition 1: only a Call and a Store have any
 unfoldable pub before : Settings → Types → AggStates → ℕ → InstructionKind → ℕ
 before σ τ S n (Assign d x t) = 0
 before σ τ S n (UnaryOp op d x) = 0
@@ -52,13 +53,18 @@ before σ τ S n (MakeFixedArray d xs t c) = 0
 before σ τ S n (AssertEq x y) = 0
 before σ τ S n (HeapAllocCells d x) = 0
 
--- the rebuild instructions before a terminator: only a Return has any
+-- and before a terminator: only a Return has any
 unfoldable pub before_end : Types → AggStates → ℕ → Terminator → ℕ
 before_end τ S n (Jump b) = 0
 before_end τ S n (If x a b) = 0
 before_end τ S n (BranchCmp op x y a b) = 0
 before_end τ S n (Return xs) = length (rebuild_all τ S n (wanted_returns τ xs)).before
 before_end τ S n Unreachable = 0
+
+-- by the edition; in edition 2 each fresh number is a rebuild
+unfoldable pub built_before : Edition → ℕ → List TypeId → ℕ
+built_before Edition.First n fresh = n
+built_before Edition.Second n fresh = length fresh
 
 module _ (σ : Settings) (τ : Types) (folds : ValueId → Bool) where
   -- how many instructions the walk leaves out
@@ -68,8 +74,10 @@ module _ (σ : Settings) (τ : Types) (folds : ValueId → Bool) where
 
   -- how many rebuild instructions it puts in
   unfoldable pub rebuilt : AggStates → ℕ → List Instruction → Terminator → ℕ
-  rebuilt S n [] t = before_end τ S n t
-  rebuilt S n (i ∷ is) t = let p = step σ τ folds S n i in before σ τ S n i.kind + rebuilt p.states (n + length p.fresh) is t
+  rebuilt S n [] t = built_before σ.edition (before_end τ S n t) (finish σ τ S n t).fresh
+  rebuilt S n (i ∷ is) t =
+      let p = step σ τ folds S n i in
+      built_before σ.edition (before σ τ S n i.kind) p.fresh + rebuilt p.states (n + length p.fresh) is t
 
 -- both counts over blocks: a skipped block has neither
 module _ (σ : Settings) (τ : Types) (c : Choice) where

@@ -12,6 +12,13 @@ pub struct Counts {
     pub materializations: u32,
 }
 
-// An array rebuild met another count of parts than its type has.
+// Why a rewriting is refused.
+// Clash: an array rebuild met another count of parts than its type has.
+// Looped: a rebuild met its own value among its parts.
+// Overfull: the next value or a block's count of instructions would pass 65,535.
 #[derive(Clone, Copy, Debug, PartialEq, Eq)]
-pub struct Clash;
+pub enum Fault {
+    Clash,
+    Looped,
+    Overfull,
+}

@@ -14,13 +14,14 @@ use Rattle.mir.specs.declared.Value.{Value}
 use Rattle.mir.specs.declared.ValueId.{ValueId}
 use Rattle.mir.specs.declared.TypeId.{TypeId}
 use Rattle.bytes_wire.proofs.Canon.{bytes_drop, value_fit}
-use Rattle.mir.specs.Syntax.{Place, Instruction}
+use Rattle.mir.specs.Syntax.{Place}
 use Rattle.bytes_field.specs.declared.Bounds.{Bounds}
 use Rattle.bytes_operands.specs.Fields.{value_size, value_end}
 use Rattle.bytes_operands.proofs.EachKind.{At, at}
 use Rattle.mir.specs.Lookup.{Types, row_of, is_aggregate, on_some}
 use Rattle.rewrite.specs.State.{AggStates, state_of, chain, first_integer}
 use Rattle.rewrite.specs.Rebuild.{aggregate_type}
+use Rattle.rewrite.specs.Piece.{Piece}
 use Rattle.rewrite.specs.Step.{step_extract, hand_on, step_loaded, step_load}
 use Rattle.rewrite_chains.specs.Chained.{loaded_part}
 use Rattle.rewrite_arms.specs.Decided.{Below, step_taken}
@@ -46,10 +47,10 @@ pub value_below : (b : Bounds) (s : List ℕ) (off q : ℕ) (x : Value) → ((j 
 value_below b s off q x h l (at n e) = operand_below b.next x (value_fit b.next (drop q (drop off s)) (bytes_drop (drop off s) q (bytes_drop s off h)) e (omega arith))
 
 -- the same by the two ways of writing a step
-pub taken_extract : (S : AggStates) (i : Instruction) (d : ValueId) (t : TypeId) (o : Option Value) → step_extract S i d t o ≡ step_taken true S i d t o
+pub taken_extract : (S : AggStates) (stay : Piece) (d : ValueId) (t : TypeId) (o : Option Value) → step_extract S stay d t o ≡ step_taken true S stay d t o
 unfolding step_extract step_taken
-taken_extract S i d t none = refl
-taken_extract S i d t (some x) = refl
+taken_extract S stay d t none = refl
+taken_extract S stay d t (some x) = refl
 
 some_when : {A : Type 0} (c : Bool) (t : TypeId) (o : Option A) → on_some (cond c (some t) none) (λ u. o) ≡ cond c o none
 unfolding on_some
@@ -60,16 +61,16 @@ pub whole_aggregate : {A : Type 0} (τ : Types) (t : TypeId) (whole : Bool) (o :
 unfolding aggregate_type
 whole_aggregate τ t whole o e = rw e (some_when (is_aggregate (row_of τ (some t))) t o)
 
-loaded_taken : (τ : Types) (S : AggStates) (i : Instruction) (d : ValueId) (t : TypeId) (whole : Bool) (o : Option Value) → whole ≡ is_aggregate (row_of τ (some t)) → step_loaded τ S i d t o ≡ step_taken whole S i d t o
+loaded_taken : (τ : Types) (S : AggStates) (stay : Piece) (d : ValueId) (t : TypeId) (whole : Bool) (o : Option Value) → whole ≡ is_aggregate (row_of τ (some t)) → step_loaded τ S stay d t o ≡ step_taken whole S stay d t o
 unfolding step_loaded step_taken
-loaded_taken τ S i d t whole none e = refl
-loaded_taken τ S i d t whole (some x) e = ap (hand_on S d t x) (whole_aggregate τ t whole (state_of S x) e)
+loaded_taken τ S stay d t whole none e = refl
+loaded_taken τ S stay d t whole (some x) e = ap (hand_on S d t x) (whole_aggregate τ t whole (state_of S x) e)
 
-load_first : (τ : Types) (S : AggStates) (i : Instruction) (d : ValueId) (p : Place) (t : TypeId) (whole : Bool) (k : Option ℕ) → whole ≡ is_aggregate (row_of τ (some t)) → step_load τ S i d p t k ≡ step_taken whole S i d t (on_some k (λ k. on_some (S p.base.0) (λ xs. chain τ S (Value.Operand p.base) p.projections)))
+load_first : (τ : Types) (S : AggStates) (stay : Piece) (d : ValueId) (p : Place) (t : TypeId) (whole : Bool) (k : Option ℕ) → whole ≡ is_aggregate (row_of τ (some t)) → step_load τ S stay d p t k ≡ step_taken whole S stay d t (on_some k (λ k. on_some (S p.base.0) (λ xs. chain τ S (Value.Operand p.base) p.projections)))
 unfolding step_load on_some step_taken
-load_first τ S i d p t whole none e = refl
-load_first τ S i d p t whole (some k) e = loaded_taken τ S i d t whole (on_some (S p.base.0) (λ xs. chain τ S (Value.Operand p.base) p.projections)) e
+load_first τ S stay d p t whole none e = refl
+load_first τ S stay d p t whole (some k) e = loaded_taken τ S stay d t whole (on_some (S p.base.0) (λ xs. chain τ S (Value.Operand p.base) p.projections)) e
 
-pub load_taken : (τ : Types) (S : AggStates) (i : Instruction) (d : ValueId) (p : Place) (t : TypeId) (whole : Bool) → whole ≡ is_aggregate (row_of τ (some t)) → step_load τ S i d p t (first_integer p.projections) ≡ step_taken whole S i d t (loaded_part τ S p)
+pub load_taken : (τ : Types) (S : AggStates) (stay : Piece) (d : ValueId) (p : Place) (t : TypeId) (whole : Bool) → whole ≡ is_aggregate (row_of τ (some t)) → step_load τ S stay d p t (first_integer p.projections) ≡ step_taken whole S stay d t (loaded_part τ S p)
 unfolding loaded_part
-load_taken τ S i d p t whole e = load_first τ S i d p t whole (first_integer p.projections) e
+load_taken τ S stay d p t whole e = load_first τ S stay d p t whole (first_integer p.projections) e

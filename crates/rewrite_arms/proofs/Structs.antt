@@ -17,13 +17,14 @@ use Rattle.bytes_wire.proofs.Canon.{bytes_drop}
 use Rattle.mir.specs.MirType.{StructField, MirType, Felt, Bool, U32, Tuple, Struct, FixedArray, Pointer, Function, Unit, Error, Unknown}
 use Rattle.bytes_types.specs.Decode.{type_of}
 use Rattle.bytes_types.proofs.Canon.{type_fit}
-use Rattle.mir.specs.Syntax.{FieldInit, Instruction}
+use Rattle.mir.specs.Syntax.{FieldInit}
 use Rattle.bytes_field.specs.declared.Bounds.{Bounds}
 use Rattle.mir.specs.Lookup.{Types, row_of, value_row, shape, is_struct, struct_fields_of, on_some}
 use Rattle.bytes_struct.specs.FindField.{find_field, field_index}
 use Rattle.bytes_struct.specs.declared.FoundField.{FoundField}
 use Rattle.mir.specs.Parts.{from_struct_fields, struct_parts, struct_row}
 use Rattle.rewrite.specs.State.{AggStates}
+use Rattle.rewrite.specs.Piece.{Piece}
 use Rattle.rewrite.specs.Step.{step_build, extract_index}
 use Rattle.bytes_index.specs.Table.{recorded_in}
 use Rattle.rewrite_parts.specs.Rows.{Inits}
@@ -107,13 +108,13 @@ unfolding struct_parts row_of is_struct
 parts_other τ d fs named t n e f h = rw (e, ← f, ne_eqb n 2 h) refl
 
 -- the plan of a struct's build, by the type that its parts go by
-pub struct_planned : {b : Bounds} {s facts : List ℕ} {τ : Types} {S : AggStates} {i : Instruction} {p : Spot} (named t : TypeId) (fs : List FieldInit) (n : ℕ) → Ground b s facts (recorded_in facts) τ → p.dest.0 < b.next → Inits b.next s (p.off + 3) fs → length fs ≡ get_or s (p.off + 2) 0 → struct_row τ p.dest named ≡ row_of τ (some t) → n ≡ shape (get_elem? τ.rows t.0) → n ≡ 2
-    → Planned b.next s facts S i p (step_build S i p.dest (struct_parts τ p.dest fs named)) (Plan.Fields t)
-struct_planned {b} {s} {facts} {τ} {S} {i} {p} named t fs n g d v l e f two =
+pub struct_planned : {b : Bounds} {s facts : List ℕ} {τ : Types} {S : AggStates} {stay : Piece} {p : Spot} (named t : TypeId) (fs : List FieldInit) (n : ℕ) → Ground b s facts (recorded_in facts) τ → p.dest.0 < b.next → Inits b.next s (p.off + 3) fs → length fs ≡ get_or s (p.off + 2) 0 → struct_row τ p.dest named ≡ row_of τ (some t) → n ≡ shape (get_elem? τ.rows t.0) → n ≡ 2
+    → Planned b.next s facts S stay p (step_build S stay p.dest (struct_parts τ p.dest fs named)) (Plan.Fields t)
+struct_planned {b} {s} {facts} {τ} {S} {stay} {p} named t fs n g d v l e f two =
     elim (struct_fields t (drop (get_or facts t.0 0) s) (get_or facts t.0 0) n g f two refl refl) [
       | fields_in name ts q names count few ↦
           record {
-            goes = record { inits = fs; stand = v; many = l; fields = ts; named = names; count = count; few = few; piece = ap (step_build S i p.dest) (parts_struct τ p.dest fs named t e q) };
+            goes = record { inits = fs; stand = v; many = l; fields = ts; named = names; count = count; few = few; piece = ap (step_build S stay p.dest) (parts_struct τ p.dest fs named t e q) };
             dest = λ z. d;
           }
     ]

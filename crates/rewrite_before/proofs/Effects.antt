@@ -15,16 +15,19 @@ use Rattle.mir.specs.Syntax.{Place, Instruction, Call, Store, Return, plain}
 use Rattle.bytes_field.specs.Encode.{each_bytes, instruction_bytes, terminator_bytes}
 use Rattle.mir.specs.Lookup.{Types, is_aggregate, row_of, on_some}
 use Rattle.fold.specs.Family.{Marks}
+use Rattle.rewrite.specs.Fault.{first_met, full_fault}
 use Rattle.rewrite.specs.State.{AggStates, state_of}
 use Rattle.rewrite.specs.Rebuild.{Rebuilt, Wanted, untouched, keep_value, rebuild_value, one_value, rebuild_all, aggregate_type}
-use Rattle.rewrite.specs.Step.{Piece, no_counts, materialized, kept, step_call, store_rebuilt, store_kept}
+use Rattle.rewrite.specs.Piece.{Piece, no_counts, materialized, kept}
+use Rattle.rewrite.specs.Stays.{step_call, store_rebuilt, store_kept}
 use Rattle.rewrite.specs.Run.{returned}
 use Rattle.bytes_emit.specs.Written.{Writes}
 use Rattle.rewrite_progress.specs.declared.Progress.{Progress}
 use Rattle.std.specs.Prelude.{Result, Ok, Err}
-use Rattle.rewrite.specs.declared.Clash.{Clash}
+use Rattle.rewrite.specs.declared.Fault.{Fault}
 use Rattle.rewrite_progress.specs.Effect.{Effect, output_of, type_numbers, mark_all, further, behind, then_effect, rebuilt_effect, piece_effect, walked_effect, Puts}
 use Rattle.rewrite_progress.proofs.Laws.{each_append, behind_then}
+use Rattle.rewrite_progress.proofs.Faults.{met_first, met_next, puts_fault, puts_effect}
 use Rattle.rewrite_wanted.specs.declared.Asks.{Asks}
 use Rattle.rewrite_wanted.specs.Asked.{asked_list}
 use Rattle.rewrite_before.specs.Materialized.{onward}
@@ -37,27 +40,33 @@ one_further : (out fresh : List ℕ) (dropped : Marks) (q : Progress) (w out' : 
 unfolding behind further mark_all type_numbers
 one_further out fresh dropped q w out' to lines made v = rw (v.0, v.1, add-zero q.fresh) refl
 
-module _ (out fresh : List ℕ) (dropped : Marks) (p : Progress) (R : Rebuilt) (r : Result Progress Clash) (out₁ fresh₁ : List ℕ) (u : Puts (output_of out fresh dropped p) (rebuilt_effect R) R.clash out₁ fresh₁ dropped r) where
-  -- a clash among the builds is one of the whole
-  pub clash_put : (E : Effect) (c : Bool) → (x y : Clash) → r ≡ Err x → c ≡ R.clash → Puts (output_of out fresh dropped p) E c out₁ fresh₁ dropped (Err y)
-  clash_put E c x y e f = record { clashed = λ _ _. f ∙ u.clashed x e; went = λ q z. absurd (let u : ◌≡◌ {A = ℕ} 0 1 = cc in omega arith) }
+module _ (out fresh : List ℕ) (dropped : Marks) (p : Progress) (R : Rebuilt) (r : Result Progress Fault) (out₁ fresh₁ : List ℕ) (u : Puts (output_of out fresh dropped p) (rebuilt_effect R) R.fault out₁ fresh₁ dropped r) where
+  -- the builds, then something that has a fault of its own
+  module _ (E : Effect) (F : ℕ → Option Fault) (k : Option Fault) (h : F p.lines ≡ first_met (R.fault p.lines) k) where
+    -- a fault among the builds is one of the whole
+    pub refused_put : (f : Fault) → r ≡ Err f → Puts (output_of out fresh dropped p) E F out₁ fresh₁ dropped (Err f)
+    refused_put f e = puts_fault (output_of out fresh dropped p) E F out₁ fresh₁ dropped f (h ∙ met_first k f (u.refused f e))
 
-  -- else the rest is written behind them
-  pub went_put : (q : Progress) (w out₂ : List ℕ) (to lines made : ℕ) (E : Effect) (c : Bool) (s : Progress) → r ≡ Ok q → Writes w out₁ out₂ q.to to → s ≡ onward q to lines made → then_effect (rebuilt_effect R) (line w lines made) ≡ E → c ≡ R.clash
-      → Puts (output_of out fresh dropped p) E c out₂ fresh₁ dropped (Ok s)
-  went_put q w out₂ to lines made E c s e v t f g =
-      let h = u.went q e in
-      record {
-        clashed = λ x z. absurd (let y : ◌≡◌ {A = ℕ} 0 1 = cc in omega arith);
-        went = λ q' z.
-            let y : q' ≡ onward q to lines made = (let y' : q' ≡ s = cc in y') ∙ t in
-            (g ∙ h.0, ap (output_of out₂ fresh₁ dropped) y ∙ one_further out₁ fresh₁ dropped q w out₂ to lines made v ∙ ap (λ o. behind o (line w lines made)) h.1 ∙ behind_then (output_of out fresh dropped p) (rebuilt_effect R) (line w lines made) ∙ ap (behind (output_of out fresh dropped p)) f);
-      }
+    module _ (q : Progress) (e : r ≡ Ok q) where
+      -- one behind them too
+      pub full_put : (f : Fault) → k ≡ some f → Puts (output_of out fresh dropped p) E F out₁ fresh₁ dropped (Err f)
+      full_put f z = puts_fault (output_of out fresh dropped p) E F out₁ fresh₁ dropped f (h ∙ met_next k (u.went q e).0 ∙ z)
 
-  -- as many fresh numbers as the builds took
+      -- else the rest is written behind them
+      pub went_put : (w out₂ : List ℕ) (to lines made : ℕ) (s : Progress) → k ≡ none → Writes w out₁ out₂ q.to to → s ≡ onward q to lines made → then_effect (rebuilt_effect R) (line w lines made) ≡ E
+          → Puts (output_of out fresh dropped p) E F out₂ fresh₁ dropped (Ok s)
+      went_put w out₂ to lines made s z v t f =
+          puts_effect (output_of out fresh dropped p) E F out₂ fresh₁ dropped s (h ∙ met_next k (u.went q e).0 ∙ z)
+          (ap (output_of out₂ fresh₁ dropped) t ∙ one_further out₁ fresh₁ dropped q w out₂ to lines made v ∙ ap (λ o. behind o (line w lines made)) (u.went q e).1 ∙ behind_then (output_of out fresh dropped p) (rebuilt_effect R) (line w lines made) ∙ ap (behind (output_of out fresh dropped p)) f)
+
+  -- as many fresh numbers as the builds took, and as many lines
   pub spent : (q : Progress) → r ≡ Ok q → q.fresh ≡ p.fresh + length R.fresh
   unfolding behind further rebuilt_effect
   spent q e = ap (λ o. o.progress.fresh) (u.went q e).1
+
+  pub lined : (q : Progress) → r ≡ Ok q → q.lines ≡ p.lines + length R.before
+  unfolding behind further rebuilt_effect
+  lined q e = ap (λ o. o.progress.lines) (u.went q e).1
 
 -- as many values as before
 length_one : (τ : Types) (n : ℕ) (x : Value) (rest : ℕ → Rebuilt) (o : Option TypeId) (s : Option (List Value)) (k : ℕ) → ((m : ℕ) → length (rest m).values ≡ k) → length (one_value τ n x rest o s).values ≡ suc k
@@ -82,17 +91,17 @@ as_many τ S n t a xs = length_values τ S (asked_list τ t a 0 xs) n ∙ length
 -- where no fresh number is taken, nothing is put out before
 pub record Idle (R : Rebuilt) : Type 0 where
   pub before : R.before ≡ []
-  pub clash : R.clash ≡ false
+  pub fault : (l : ℕ) → R.fault l ≡ none
 
 idle_one : (τ : Types) (n : ℕ) (x : Value) (rest : ℕ → Rebuilt) (o : Option TypeId) (s : Option (List Value)) → (one_value τ n x rest o s).fresh ≡ [] → ((rest n).fresh ≡ [] → Idle (rest n)) → Idle (one_value τ n x rest o s)
 unfolding one_value keep_value rebuild_value
-idle_one τ n x rest none s e h = record { before = (h e).before; clash = (h e).clash }
-idle_one τ n x rest (some t) none e h = record { before = (h e).before; clash = (h e).clash }
+idle_one τ n x rest none s e h = record { before = (h e).before; fault = (h e).fault }
+idle_one τ n x rest (some t) none e h = record { before = (h e).before; fault = (h e).fault }
 idle_one τ n x rest (some t) (some xs) e h = absurd (let z : suc (length (rest (suc n)).fresh) ≡ 0 = ap length e in omega arith)
 
 pub idle : (τ : Types) (S : AggStates) (ws : List Wanted) (n : ℕ) → (rebuild_all τ S n ws).fresh ≡ [] → Idle (rebuild_all τ S n ws)
 unfolding rebuild_all
-idle τ S [] n e = record { before = refl; clash = refl }
+idle τ S [] n e = record { before = refl; fault = λ l. refl }
 idle τ S (w ∷ ws) n e = idle_one τ n w.value (λ m. rebuild_all τ S m ws) w.at (state_of S w.value) e (λ f. idle τ S ws n f)
 
 same_effect : {w w' : List ℕ} {a a' : ℕ} {ts ts' : List TypeId} {m m' : ℕ} → w ≡ w' → a ≡ a' → ts ≡ ts' → m ≡ m' → ◌≡◌ {A = Effect} (record { bytes = w; lines = a; dropped = []; fresh = ts; counts = materialized m }) (record { bytes = w'; lines = a'; dropped = []; fresh = ts'; counts = materialized m' })
@@ -104,21 +113,14 @@ Built R ts = record { bytes = each_bytes instruction_bytes R.before; lines = len
 
 -- a Call
 module _ (S : AggStates) (i : Instruction) (ds : List ValueId) (g : ℕ) (ps rs : List TypeId) (R : Rebuilt) where
-  pub call_clash : (R.fresh ≡ [] → Idle R) → (step_call S i ds g ps rs R R.fresh).clash ≡ R.clash
+  -- the builds', then the Call's own line
+  pub call_fault : (l : ℕ) → (R.fresh ≡ [] → Idle R) → (step_call S i ds g ps rs R R.fresh).fault l ≡ first_met (R.fault l) (full_fault (l + length R.before))
   unfolding step_call kept
-  call_clash h = go R.fresh h
+  call_fault l h = go R.fresh h
     where
-      go : (ts : List TypeId) → (ts ≡ [] → Idle R) → (step_call S i ds g ps rs R ts).clash ≡ R.clash
-      go [] f = sym (f refl).clash
+      go : (ts : List TypeId) → (ts ≡ [] → Idle R) → (step_call S i ds g ps rs R ts).fault l ≡ first_met (R.fault l) (full_fault (l + length R.before))
+      go [] f = sym (met_next (full_fault (l + length R.before)) ((f refl).fault l) ∙ ap (λ z. full_fault (l + length z)) (f refl).before ∙ ap full_fault (add-zero l))
       go (t ∷ ts) f = refl
-
-  pub call_fresh : (step_call S i ds g ps rs R R.fresh).fresh ≡ R.fresh
-  unfolding step_call kept
-  call_fresh = go R.fresh
-    where
-      go : (ts : List TypeId) → (step_call S i ds g ps rs R ts).fresh ≡ ts
-      go [] = refl
-      go (t ∷ ts) = refl
 
   pub call_kept : length R.fresh ≡ 0 → (R.fresh ≡ [] → Idle R) → then_effect (rebuilt_effect R) (line (instruction_bytes i) 1 0) ≡ piece_effect (step_call S i ds g ps rs R R.fresh)
   unfolding step_call kept then_effect rebuilt_effect piece_effect
@@ -145,7 +147,7 @@ module _ (S : AggStates) (i : Instruction) (ds : List ValueId) (g : ℕ) (ps rs 
 -- a Store
 pub data StoreCase (S : AggStates) (i : Instruction) (l : Place) (x : Value) (u : TypeId) (R : Rebuilt) (q : Piece) : Type 0 where
   store_stays : R ≡ untouched (x ∷ []) → q ≡ kept S i → StoreCase S i l x u R q
-  store_anew : (y : Value) → R.values ≡ y ∷ [] → (length R.fresh ≡ 0 → ⊥) → q ≡ record { out = R.before ++ (record { meta = i.meta; kind = Store l y u } ∷ []); dropped = []; states = S; fresh = R.fresh; counts = no_counts; changed = true; clash = R.clash } → StoreCase S i l x u R q
+  store_anew : (y : Value) → R.values ≡ y ∷ [] → (length R.fresh ≡ 0 → ⊥) → q ≡ record { out = R.before ++ (record { meta = i.meta; kind = Store l y u } ∷ []); dropped = []; states = S; fresh = R.fresh; counts = no_counts; changed = true; fault = λ l. first_met (R.fault l) (full_fault (l + length R.before)) } → StoreCase S i l x u R q
 
 store_some : (τ : Types) (S : AggStates) (n : ℕ) (i : Instruction) (l : Place) (x : Value) (u : TypeId) (xs : List Value) → state_of S x ≡ some xs → store_kept τ S n i l x u (some xs) ≡ store_rebuilt S i.meta l u (rebuild_value τ n u xs (untouched [])) (rebuild_value τ n u xs (untouched [])).values
 unfolding store_kept rebuild_all one_value
@@ -163,13 +165,14 @@ store_case τ S n i l x u = go (is_aggregate (row_of τ (some u))) refl (state_o
     go true e (some xs) f = store_anew (Value.Operand (record { 0 = n })) (rw (e, f) refl) (λ z. let y : ◌≡◌ {A = ℕ} 1 0 = rw (e, f) at z in omega arith) (rw (e, f) (store_some τ S n i l x u xs f))
 
 module _ (S : AggStates) (i : Instruction) (l : Place) (x : Value) (u : TypeId) (R : Rebuilt) (q : Piece) (c : StoreCase S i l x u R q) where
-  pub store_clash : q.clash ≡ R.clash
-  unfolding kept
-  store_clash = elim c [ store_stays a b ↦ ap (λ z. z.clash) b ∙ sym (ap (λ z. z.clash) a) | store_anew y a b d ↦ ap (λ z. z.clash) d ]
-
-  pub store_fresh : q.fresh ≡ R.fresh
-  unfolding kept
-  store_fresh = elim c [ store_stays a b ↦ ap (λ z. z.fresh) b ∙ sym (ap (λ z. z.fresh) a) | store_anew y a b d ↦ ap (λ z. z.fresh) d ]
+  -- the builds', then the Store's own line
+  pub store_fault : (l : ℕ) → q.fault l ≡ first_met (R.fault l) (full_fault (l + length R.before))
+  unfolding kept first_met
+  store_fault l =
+      elim c [
+        | store_stays a b ↦ ap (λ z. z.fault l) b ∙ sym (ap (λ z. first_met (z.fault l) (full_fault (l + length z.before))) a ∙ ap full_fault (add-zero l))
+        | store_anew y a b d ↦ ap (λ z. z.fault l) d
+      ]
 
   pub store_kept_lem : length R.fresh ≡ 0 → then_effect (rebuilt_effect R) (line (instruction_bytes i) 1 0) ≡ piece_effect q
   unfolding kept then_effect rebuilt_effect piece_effect

@@ -56,7 +56,7 @@ pub anew_written_lem : (vs : ListedValues) (w₀ : Written) (end behind : ℕ) (
     → u ≡ take (end - behind) (drop behind vs.fields.now)
     → (length u ≤ 1024 → Writes u out₂ out₃ q r)
     → AnewWritten vs w₀ end out out₃ r
-anew_written_lem vs w₀ end behind t u out out₁ out₂ out₃ p q r d v w e f y = λ rows a τ S xs g lie m small.
+anew_written_lem vs w₀ end behind t u out out₁ out₂ out₃ p q r d v w e f y = λ rows a τ S xs g lie m b small.
     let C = take (end - list_end vs.fields.now vs.list) (drop (list_end vs.fields.now vs.list) vs.fields.now) in
     let z : behind ≡ list_end vs.fields.now vs.list = e ∙ plain_values vs.fields.now vs.list.many vs.list.first in
     let f' : u ≡ C = f ∙ ap (λ k. take (end - k) (drop k vs.fields.now)) z in
@@ -64,13 +64,13 @@ anew_written_lem vs w₀ end behind t u out out₁ out₂ out₃ p q r d v w e f
     let B = each_bytes value_bytes (rebuild_all τ S (vs.code.bounds.next + w₀.fresh) (asked_list τ vs.fields.now vs.list.asks 0 xs)).values in
     let d' : t ≡ take vs.list.first vs.fields.now = d ∙ front_bytes vs.list.first vs.fields.now in
     let v' : Writes (take vs.list.first vs.fields.now) out out₁ w₀.to p = rw (← d') (v (omega (arith, ap length d', part_most vs.list.first vs.fields.now, a.before))) in
-    writes_and (take vs.list.first vs.fields.now) (B ++ C) out out₁ out₃ w₀.to p r v' (writes_and B C out₁ out₂ out₃ p q r (w rows τ S xs g lie m small) y')
+    writes_and (take vs.list.first vs.fields.now) (B ++ C) out out₁ out₃ w₀.to p r v' (writes_and B C out₁ out₂ out₃ p q r (w rows τ S xs g lie m b small) y')
 
 -- the kind, then the fields
 pub call_written_lem : (vs : ListedValues) (w₀ : Written) (end : ℕ) (out out₁ out₂ : List ℕ) (r : ℕ)
     → out₁ ≡ sets out w₀.to (0 ∷ 3 ∷ [])
     → AnewWritten vs (record { to = w₀.to + 2; fresh = w₀.fresh }) end out₁ out₂ r
     → CallWritten vs w₀ end out out₂ r
-call_written_lem vs w₀ end out out₁ out₂ r e v = λ rows a τ S xs g lie m small.
+call_written_lem vs w₀ end out out₁ out₂ r e v = λ rows a τ S xs g lie m b small.
     let W = with_values vs.fields.now vs.list end (rebuild_all τ S (vs.code.bounds.next + w₀.fresh) (asked_list τ vs.fields.now vs.list.asks 0 xs)).values in
-    writes_and (0 ∷ 3 ∷ []) W out out₁ out₂ w₀.to (w₀.to + 2) r (refl, e) (v rows a τ S xs g lie m small)
+    writes_and (0 ∷ 3 ∷ []) W out out₁ out₂ w₀.to (w₀.to + 2) r (refl, e) (v rows a τ S xs g lie m b small)

@@ -10,23 +10,26 @@ use Rattle.bytes_index.specs.declared.code.Code.{Code}
 use Rattle.bytes_index.specs.Code.{InstructionIn, TerminatorIn}
 use Rattle.bytes_operands.specs.Fields.{fields_place, value_end, projection_end, after}
 use Rattle.mir.specs.Lookup.{Types, on_some}
+use Rattle.fold.specs.declared.Edition.{Edition}
+use Rattle.fold.specs.declared.Settings.{Settings}
 use Rattle.fold.specs.Family.{Marks}
 use Rattle.rewrite.specs.State.{AggStates, state_of}
 use Rattle.rewrite.specs.Rebuild.{Rebuilt, rebuild_all, wanted_arguments, aggregate_type}
-use Rattle.rewrite.specs.Step.{Piece, materialized, step_call, store_kept}
+use Rattle.rewrite.specs.Piece.{Piece, materialized}
+use Rattle.rewrite.specs.Stays.{step_call, store_kept}
 use Rattle.rewrite.specs.Run.{Walked, add_counts, finish}
 use Rattle.rewrite_parts.specs.Rows.{Rep, rows_in, fresh_in}
 use Rattle.rewrite_parts.specs.Here.{Here}
 use Rattle.bytes_emit.specs.Written.{Writes}
 use Rattle.rewrite_progress.specs.declared.Progress.{Progress}
-use Rattle.rewrite.specs.declared.Clash.{Clash}
+use Rattle.rewrite.specs.declared.Fault.{Fault}
 use Rattle.fold.specs.Tables.{CodeGround}
-use Rattle.rewrite_progress.specs.Effect.{output_of, piece_effect, walked_effect, Puts, fresh_from, Enough}
+use Rattle.rewrite_progress.specs.Effect.{output_of, piece_effect, walked_effect, Puts, fresh_from, Numbered}
 use Rattle.rewrite_wanted.specs.declared.Asks.{Asks}
 use Rattle.rewrite_list.specs.declared.values.ValueList.{ValueList}
 use Rattle.rewrite_list.specs.declared.values.ListedValues.{ListedValues}
 use Rattle.rewrite_list.specs.declared.Written.{Written}
-use Rattle.rewrite_list.specs.Lists.{most_copied, OfList}
+use Rattle.rewrite_list.specs.Lists.{most_copied, EnoughFor, OfList}
 
 -- the kind of a Call
 abbrev pub call_kind : ℕ
@@ -80,18 +83,20 @@ pub record Around (t : List ℕ) (l : ValueList) (end : ℕ) : Type 0 where
   pub before : l.first ≤ most_copied
   pub behind : end - list_end t l ≤ most_copied
 
--- with the fresh numbers put in, the fields are written, and behind two bytes those of a Call
+-- with the fresh numbers put in, where there are enough, the fields are written, and behind two bytes those of a Call
 abbrev pub AnewWritten : ListedValues → Written → ℕ → List ℕ → List ℕ → ℕ → Type 0
 AnewWritten vs w end out out' r =
     (rows : List ℕ)
     → Around vs.fields.now vs.list end
-    → OfList vs rows w.fresh (λ τ S R. Writes (with_values vs.fields.now vs.list end R.values) out out' w.to r)
+    → OfList vs rows w.fresh (λ τ S R.
+    EnoughFor (vs.code.bounds.next + w.fresh) R → Writes (with_values vs.fields.now vs.list end R.values) out out' w.to r)
 
 abbrev pub CallWritten : ListedValues → Written → ℕ → List ℕ → List ℕ → ℕ → Type 0
 CallWritten vs w end out out' r =
     (rows : List ℕ)
     → Around vs.fields.now vs.list end
-    → OfList vs rows w.fresh (λ τ S R. Writes (0 ∷ call_kind ∷ with_values vs.fields.now vs.list end R.values) out out' w.to r)
+    → OfList vs rows w.fresh (λ τ S R.
+    EnoughFor (vs.code.bounds.next + w.fresh) R → Writes (0 ∷ call_kind ∷ with_values vs.fields.now vs.list end R.values) out out' w.to r)
 
 -- a slot's instruction is written as it stands
 abbrev pub InstructionWritten : Code → ℕ → List ℕ → List ℕ → ℕ → ℕ → Type 0
@@ -106,33 +111,34 @@ abbrev pub rebuilt_arguments : Types → AggStates → ℕ → List Value → Li
 rebuilt_arguments τ S n xs ps = rebuild_all τ S n (wanted_arguments τ xs ps)
 
 -- a Call is put out
-abbrev pub CallPut : Code → ℕ → Marks → List ℕ → List ℕ → Progress → List ℕ → List ℕ → Result Progress Clash → Type 0
+abbrev pub CallPut : Code → ℕ → Marks → List ℕ → List ℕ → Progress → List ℕ → List ℕ → Result Progress Fault → Type 0
 CallPut code slot tracked out work p out' work' r =
     (τ : Types) (S : AggStates) (used : ℕ) (i : Instruction)
     (ds : List ValueId) (g : ℕ) (xs : List Value) (ps rs : List TypeId) (dropped : Marks) (q : Piece)
     → Here code.bounds code.bytes.now code.facts.now slot tracked (rows_in work) used τ S i
     → i.kind ≡ Call ds g xs ps rs
     → q ≡ step_call S i ds g ps rs (rebuilt_arguments τ S (fresh_from code.bounds p) xs ps) (rebuilt_arguments τ S (fresh_from code.bounds p) xs ps).fresh
-    → Enough code.bounds p q.fresh
-    → Puts (output_of out (fresh_in work) dropped p) (piece_effect q) q.clash out' (fresh_in work') dropped r
+    → Numbered code.bounds p
+    → Puts (output_of out (fresh_in work) dropped p) (piece_effect q) q.fault out' (fresh_in work') dropped r
 
 -- a Store that is not forwarded
-abbrev pub StorePut : Code → ℕ → Marks → List ℕ → List ℕ → Progress → List ℕ → List ℕ → Result Progress Clash → Type 0
+abbrev pub StorePut : Code → ℕ → Marks → List ℕ → List ℕ → Progress → List ℕ → List ℕ → Result Progress Fault → Type 0
 StorePut code slot tracked out work p out' work' r =
     (τ : Types) (S : AggStates) (used : ℕ) (i : Instruction) (l : Place) (x : Value) (t : TypeId) (dropped : Marks) (q : Piece)
     → Here code.bounds code.bytes.now code.facts.now slot tracked (rows_in work) used τ S i
     → i.kind ≡ Store l x t
     → q ≡ store_kept τ S (fresh_from code.bounds p) i l x t (on_some (aggregate_type τ t) (λ u. state_of S x))
-    → Enough code.bounds p q.fresh
-    → Puts (output_of out (fresh_in work) dropped p) (piece_effect q) q.clash out' (fresh_in work') dropped r
+    → Numbered code.bounds p
+    → Puts (output_of out (fresh_in work) dropped p) (piece_effect q) q.fault out' (fresh_in work') dropped r
 
--- a Return
-abbrev pub ReturnPut : Code → ℕ → Marks → List ℕ → List ℕ → Progress → List ℕ → List ℕ → Result Progress Clash → Type 0
+-- a Return, in edition 1
+abbrev pub ReturnPut : Code → ℕ → Marks → List ℕ → List ℕ → Progress → List ℕ → List ℕ → Result Progress Fault → Type 0
 ReturnPut code slot tracked out work p out' work' r =
-    (τ : Types) (S : AggStates) (used : ℕ) (xs : List Value) (dropped : Marks) (w : Walked)
+    (σ : Settings) (τ : Types) (S : AggStates) (used : ℕ) (xs : List Value) (dropped : Marks) (w : Walked)
+    → σ.edition ≡ Edition.First
     → CodeGround code τ
     → Rep code.bounds.next code.bytes.now tracked (rows_in work) used S
     → TerminatorIn code.bounds code.bytes.now code.facts.now slot (Return xs)
-    → w ≡ finish τ S (fresh_from code.bounds p) (Return xs)
-    → Enough code.bounds p w.fresh
-    → Puts (output_of out (fresh_in work) dropped p) (walked_effect w) w.clash out' (fresh_in work') dropped r
+    → w ≡ finish σ τ S (fresh_from code.bounds p) (Return xs)
+    → Numbered code.bounds p
+    → Puts (output_of out (fresh_in work) dropped p) (walked_effect w) w.fault out' (fresh_in work') dropped r

@@ -3,6 +3,7 @@
 #![tactic(auto)]
 
 ghost use Rattle.std.specs.Prelude.{◌≡◌, ℕ, ◌+◌, ◌≤◌, ◌<◌};
+ghost use Rattle.rewrite.specs.Fault.{last_number};
 ghost use Rattle.rewrite_parts.specs.Rows.{rows_in};
 ghost use Rattle.rewrite_list.specs.Lists.{most_copied};
 ghost use Rattle.rewrite_progress.specs.Effect.{low_enough, Low, PutLow, counts_below, most_lines};
@@ -12,7 +13,7 @@ ghost use Rattle.bytes_emit.specs.Written.{value_room, rebuilt_room, call_room};
 
 use bytes_index::Code;
 use mir::kind::Kind;
-use rewrite::{Clash, Counts};
+use rewrite::{Counts, Fault};
 use rewrite_list::{ListedValues, ValueList, Written};
 use rewrite_progress::Progress;
 use rewrite_wanted::Asks;
@@ -37,8 +38,8 @@ const RETURN_COUNT: usize = 1;
 const RETURN_VALUES: usize = 2;
 
 // The output is written up to `to`: so many instructions further, and so many more materializations.
-fn put_further(p: Progress, to: usize, lines: u32, made: u32) -> Progress
-    requires { (p.lines < counts_below) × ((p.counts.materializations < counts_below) × ((lines < most_lines) × (made < most_lines))) }
+pub fn put_further(p: Progress, to: usize, lines: u32, made: u32) -> Progress
+    requires { (p.lines < counts_below) × ((p.counts.materializations < counts_below) × ((lines < most_lines) × (made ≤ last_number))) }
     ensures { result ≡ onward p to lines made }
 {
     Progress {
@@ -115,7 +116,7 @@ pub fn put_call(
     p: Progress,
     site: Site,
     work: &mut [u16],
-) -> Result<Progress, Clash>
+) -> Result<Progress, Fault>
     requires { Low low_enough p }
     ensures by_index { (k : ℕ) → Low k p → PutLow (k + 1) result }
     ensures work_unchanged { rows_in work.new ≡ rows_in work.old }
@@ -137,6 +138,7 @@ pub fn put_call(
         tracked,
     };
     let q = rewrite_list::put_builds(out, p, values, work)?;
+    rewrite_progress::one_more(q.lines)?;
     if q.fresh == p.fresh {
         return Ok(put_kept(out, q, code, slot));
     }
@@ -173,7 +175,7 @@ pub fn put_store(
     p: Progress,
     site: Site,
     work: &mut [u16],
-) -> Result<Progress, Clash>
+) -> Result<Progress, Fault>
     requires { Low low_enough p }
     ensures by_index { (k : ℕ) → Low k p → PutLow (k + 1) result }
     ensures work_unchanged { rows_in work.new ≡ rows_in work.old }
@@ -194,6 +196,7 @@ pub fn put_store(
         tracked,
     };
     let q = rewrite_list::put_builds(out, p, values, work)?;
+    rewrite_progress::one_more(q.lines)?;
     if q.fresh == p.fresh {
         return Ok(put_kept(out, q, code, slot));
     }
@@ -211,7 +214,7 @@ pub fn put_return(
     p: Progress,
     site: Site,
     work: &mut [u16],
-) -> Result<Progress, Clash>
+) -> Result<Progress, Fault>
     requires { Low low_enough p }
     ensures by_index { (k : ℕ) → Low k p → PutLow (k + 1) result }
     ensures work_unchanged { rows_in work.new ≡ rows_in work.old }

@@ -16,6 +16,7 @@ use Rattle.bytes_laws.proofs.EachKind.{terminator}
 use Rattle.bytes_laws.proofs.Instruction.{terminator_canon}
 use Rattle.bytes_index.specs.Table.{place_in, end_in}
 use Rattle.bytes_index.specs.Code.{TerminatorIn}
+use Rattle.fold.specs.declared.Settings.{Settings}
 use Rattle.mir.specs.Lookup.{Types}
 use Rattle.fold.specs.Family.{Marks}
 use Rattle.rewrite.specs.State.{AggStates}
@@ -24,7 +25,7 @@ use Rattle.rewrite_progress.specs.declared.Progress.{Progress}
 use Rattle.std.specs.Prelude.{Ok}
 use Rattle.rewrite_progress.specs.Effect.{output_of, behind, further, walked_effect, mark_all, type_numbers, Puts}
 use Rattle.rewrite_perform.specs.Performed.{moved_to}
-use Rattle.rewrite_perform.proofs.Counting.{puts_went}
+use Rattle.rewrite_progress.proofs.Faults.{puts_effect}
 
 data ReturnEnd (t : Terminator) : Type 0 where
   is_return : (xs : List Value) → t ≡ Return xs → ReturnEnd t
@@ -37,13 +38,13 @@ three (BranchCmp op x y p q) h = absurd (omega arith)
 three (Return xs) h = is_return xs refl
 three Unreachable h = absurd (omega arith)
 
-not_three : (τ : Types) (S : AggStates) (m : ℕ) (t : Terminator) → (get_or (terminator_bytes t) 0 0 ≡ 3 → ⊥) → finish τ S m t ≡ ends t
+not_three : (σ : Settings) (τ : Types) (S : AggStates) (m : ℕ) (t : Terminator) → (get_or (terminator_bytes t) 0 0 ≡ 3 → ⊥) → finish σ τ S m t ≡ ends t
 unfolding terminator_bytes finish
-not_three τ S m (Jump p) h = refl
-not_three τ S m (If x p q) h = refl
-not_three τ S m (BranchCmp op x y p q) h = refl
-not_three τ S m (Return xs) h = absurd (h refl)
-not_three τ S m Unreachable h = refl
+not_three σ τ S m (Jump p) h = refl
+not_three σ τ S m (If x p q) h = refl
+not_three σ τ S m (BranchCmp op x y p q) h = refl
+not_three σ τ S m (Return xs) h = absurd (h refl)
+not_three σ τ S m Unreachable h = refl
 
 -- the terminator t of a slot, whose first byte is k
 module _ (code : Code) (slot : ℕ) (t : Terminator) (h : Bytes code.bytes.now) (line : TerminatorIn code.bounds code.bytes.now code.facts.now slot t) (part : List ℕ) (k : ℕ) (ep : part ≡ take (end_in code.facts.now slot - place_in code.facts.now slot) (drop (place_in code.facts.now slot) code.bytes.now)) (ek : k ≡ get_or part 0 0) where
@@ -70,12 +71,12 @@ module _ (code : Code) (slot : ℕ) (t : Terminator) (h : Bytes code.bytes.now) 
       ]
 
   -- any other stays as it stands
-  pub other_end : (τ : Types) (S : AggStates) (m : ℕ) (out out' types : List ℕ) (dropped : Marks) (p r : Progress) → (k ≡ 3 → ⊥)
+  pub other_end : (σ : Settings) (τ : Types) (S : AggStates) (m : ℕ) (out out' types : List ℕ) (dropped : Marks) (p r : Progress) → (k ≡ 3 → ⊥)
       → code.bounds.list ≤ 16
       → (length part ≤ 65536 → (r ≡ moved_to p (p.to + length part) (p.lines + 0)) × (out' ≡ sets out p.to part))
-      → Puts (output_of out types dropped p) (walked_effect (finish τ S m t)) (finish τ S m t).clash out' types dropped (Ok r)
+      → Puts (output_of out types dropped p) (walked_effect (finish σ τ S m t)) (finish σ τ S m t).fault out' types dropped (Ok r)
   unfolding behind further walked_effect ends mark_all type_numbers
-  other_end τ S m out out' types dropped p r n listed w =
-      let z : finish τ S m t ≡ ends t = not_three τ S m t (λ x. n (sym tag_is ∙ x)) in
+  other_end σ τ S m out out' types dropped p r n listed w =
+      let z : finish σ τ S m t ≡ ends t = not_three σ τ S m t (λ x. n (sym tag_is ∙ x)) in
       let d = w (omega (arith, ap length own, canon_size, small, listed)) in
-      rw z (puts_went _ _ _ out' types dropped r refl (rw (d.0, d.1, own) (simp (add-zero))))
+      rw z (puts_effect _ _ _ out' types dropped r refl (rw (d.0, d.1, own) (simp (add-zero))))

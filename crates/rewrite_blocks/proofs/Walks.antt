@@ -2,26 +2,31 @@
 use Prim.Native.Nat.{ℕ, suc, ◌+◌, ◌*◌, ◌≤◌, ◌<◌}
 use mathlib.Core.Path.{◌≡◌, refl, ap, ◌∙◌, sym}
 use mathlib.Core.List.{List, [], ◌∷◌}
-use mathlib.Core.Bool.{Bool, true, false, ◌||◌}
+use mathlib.Core.Bool.{Bool, false}
+use mathlib.Core.Option.{some}
 use native.Mathlib.Omega.{arith}
 use native.Mathlib.Numerals.{add-one}
-use lib.ListN.{length, length-append, get_or, drop}
+use lib.ListN.{length, get_or, drop}
 use lib.Seq.{drop-cons, drop-length, length-take-le}
 use Rattle.mir.specs.declared.ValueId.{ValueId}
 use Rattle.mir.specs.Syntax.{Instruction, Terminator, Block}
 use Rattle.bytes_index.specs.Code.{no_instruction}
 use Rattle.mir.specs.Lookup.{Types}
-use Rattle.rewrite.specs.Step.{Piece, step}
+use Rattle.rewrite.proofs.Within.{Within}
+use Rattle.rewrite.proofs.Limits.{safe_step}
+use Rattle.rewrite.specs.Piece.{Piece}
+use Rattle.rewrite.specs.Step.{step}
 use Rattle.rewrite.specs.Run.{Walked, glue, walk}
 use Rattle.rewrite_parts.specs.Rows.{Room, row_most, rows_size, rows_in}
 use Rattle.rewrite_progress.specs.declared.Run.{Run}
 use Rattle.rewrite_progress.specs.Effect.{Output, behind, further, piece_effect, walked_effect, Low}
 use Rattle.rewrite_progress.proofs.Laws.{behind_then, glue_effect}
+use Rattle.rewrite_progress.proofs.Faults.{met_first, met_next}
 use Rattle.rewrite_arms.specs.declared.Used.{Used}
 use Rattle.rewrite_progress.specs.declared.Progress.{Progress}
 use Rattle.std.specs.Prelude.{Result, Ok, Err}
-use Rattle.rewrite.specs.declared.Clash.{Clash}
-use Rattle.rewrite_step.specs.Stepping.{Lent, output_in, fresh_from, Enough, SteppedLow, Gone, Steps, StepsOn}
+use Rattle.rewrite.specs.declared.Fault.{Fault}
+use Rattle.rewrite_step.specs.Stepping.{Lent, output_in, fresh_from, SteppedLow, Gone, Steps, StepsOn}
 use Rattle.rewrite_perform.proofs.Lows.{low_mono}
 use Rattle.bytes_index.specs.declared.slots.Slots.{Slots}
 use Rattle.rewrite_blocks.specs.Blocks.{walk_from, walk_of, Left, Begun, Ready, InstructionsPut}
@@ -41,13 +46,10 @@ module _ (run : Run) (τ : Types) (folds : ValueId → Bool) (t : Terminator) (o
   unfolding walk
   glued = refl
 
-  pub left_bound : Enough run.code.bounds w.value piece.fresh
+  -- where the piece has a fault, the whole walk has
+  pub left_fault : (f : Fault) → piece.fault w.value.lines ≡ some f → whole.fault o.progress.lines ≡ some f
   unfolding glue
-  left_bound = omega (arith, left.bound, ap (λ x. length x.fresh) glued, length-append piece.fresh behind_it.fresh)
-
-  pub left_clash : piece.clash ≡ true → whole.clash ≡ true
-  unfolding glue
-  left_clash h = sym left.clash ∙ ap (λ x. x.clash) glued ∙ ap (λ x. x || behind_it.clash) h
+  left_fault f h = sym left.fault ∙ ap (λ x. x.fault w.value.lines) glued ∙ met_first (behind_it.fault (w.value.lines + length piece.out)) f h
 
   module _ (l' : Lent) (v : Used Progress) (g : Gone run.code.bounds.next run.code.bytes.now (output_in l w.value) piece l' v) where
     -- as many fresh numbers as the piece took are taken
@@ -56,6 +58,14 @@ module _ (run : Run) (τ : Types) (folds : ValueId → Bool) (t : Terminator) (o
     further_on =
         let z : v.value.fresh ≡ w.value.fresh + length piece.fresh = ap (λ x. x.progress.fresh) g.out in
         omega (arith, z)
+
+    lines_on : v.value.lines ≡ w.value.lines + length piece.out
+    unfolding behind further piece_effect
+    lines_on = ap (λ x. x.progress.lines) g.out
+
+    -- and what comes next is a number, and a line
+    within : Within at w.value.lines piece.fresh piece.out
+    within = safe_step run.settings τ left.states at folds i w.value.lines (omega (arith, left.bound)) left.lines g.safe
 
     moved : walk_from run τ folds piece.states v.value rest t ≡ behind_it
     moved = ap (λ n. walk run.settings τ folds piece.states n rest t) further_on
@@ -67,8 +77,9 @@ module _ (run : Run) (τ : Types) (folds : ValueId → Bool) (t : Terminator) (o
           states = piece.states;
           rep = g.rep;
           same = ap (λ x. behind (output_in l' v.value) (walked_effect x)) moved ∙ ap (λ x. behind x (walked_effect behind_it)) g.out ∙ behind_then (output_in l w.value) (piece_effect piece) (walked_effect behind_it) ∙ ap (λ e. behind (output_in l w.value) e) (sym (glue_effect piece behind_it)) ∙ sym (ap (λ x. behind (output_in l w.value) (walked_effect x)) glued) ∙ left.same;
-          clash = ap (λ x. x.clash) moved ∙ sym (ap (λ x. x || behind_it.clash) g.safe) ∙ sym (ap (λ x. x.clash) glued) ∙ left.clash;
-          bound = omega (arith, left.bound, ap (λ x. length x.fresh) glued, length-append piece.fresh behind_it.fresh, ap (λ x. length x.fresh) moved, further_on);
+          fault = ap (λ x. x.fault v.value.lines) moved ∙ ap behind_it.fault lines_on ∙ sym (met_next (behind_it.fault (w.value.lines + length piece.out)) g.safe) ∙ sym (ap (λ x. x.fault w.value.lines) glued) ∙ left.fault;
+          bound = omega (arith, within.numbers, further_on);
+          lines = omega (arith, within.lines, lines_on);
         }
 
 -- the loop, from the tables l₀ and the progress w₀ on
@@ -91,14 +102,14 @@ module _ (run : Run) (at : Slots) (l₀ : Lent) (w₀ : Used Progress) where
         let z : j ≡ length x.instructions = omega (arith, inv.few, a.many) in
         let q : drop j x.instructions ≡ [] = ap (λ n. drop n x.instructions) z ∙ drop-length x.instructions in
         let own = rw q at (inv.left τ folds x a) in
-        record { clashed = λ y e. absurd (let u : ◌≡◌ {A = ℕ} 0 1 = cc in omega arith); went = λ v e. let y : v ≡ w = cc in rw y own }
+        record { refused = λ y e. absurd (let u : ◌≡◌ {A = ℕ} 0 1 = cc in omega arith); went = λ v e. let y : v ≡ w = cc in rw y own }
 
     module _ (ready : Ready at w₀ l₀.work) where
       -- the tables are long enough for a step
       pub walking_long : rows_size ≤ length l.work
       walking_long = omega (arith, ready.long, inv.work_size)
 
-      module _ (h : j < at.count) (fold : Bool) (ef : fold ≡ get_or run.choice.now (at.first + j) false) (l' : Lent) (r : Result (Used Progress) Clash) (st : StepsOn run.code run.settings (at.first + j) fold l w l' r) where
+      module _ (h : j < at.count) (fold : Bool) (ef : fold ≡ get_or run.choice.now (at.first + j) false) (l' : Lent) (r : Result (Used Progress) Fault) (st : StepsOn run.code run.settings (at.first + j) fold l w l' r) where
         -- there is room for one more row
         room : Room (rows_in l.work) w.used
         room = omega (arith, length-take-le rows_size l.work walking_long, inv.used, ready.used, ready.most)
@@ -125,16 +136,16 @@ module _ (run : Run) (at : Slots) (l₀ : Lent) (w₀ : Used Progress) where
               (record { ground = a.ground; rep = next_left.rep; line = a.block.instructions j below })
               room
               (λ d e. ef ∙ a.flags j d below e)
-              (left_bound run τ folds x.terminator (output_in l₀ w₀.value) whole this rest l w next_left)
+              next_left.bound
 
           went_turn : (v : Used Progress) → r ≡ Ok v → Left run τ folds x.terminator (output_in l₀ w₀.value) whole rest l' v
           went_turn v e = left_again run τ folds x.terminator (output_in l₀ w₀.value) whole this rest l w next_left l' v (turned.went v e)
 
-        -- an array rebuild met another count
-        pub walking_clash : (y z : Clash) → r ≡ Err y → InstructionsPut run at l₀ w₀ l' (Err z)
-        walking_clash y z e τ folds x a =
+        -- a fault was met
+        pub walking_fault : (f : Fault) → r ≡ Err f → InstructionsPut run at l₀ w₀ l' (Err f)
+        walking_fault f e τ folds x a =
             record {
-              clashed = λ _ _. left_clash run τ folds x.terminator (output_in l₀ w₀.value) (whole τ folds x a) (this τ folds x a) (rest τ folds x a) l w (next_left τ folds x a) ((turned τ folds x a).clashed y e);
+              refused = λ g z. let y : f ≡ g = cc in left_fault run τ folds x.terminator (output_in l₀ w₀.value) (whole τ folds x a) (this τ folds x a) (rest τ folds x a) l w (next_left τ folds x a) f ((turned τ folds x a).refused f e) ∙ ap some y;
               went = λ v z. absurd (let u : ◌≡◌ {A = ℕ} 0 1 = cc in omega arith);
             }
 

@@ -14,9 +14,10 @@ ghost use Rattle.mir.specs.TerminatorKind.{number_of_terminator_kind};
 ghost use Rattle.mir.specs.declared.terminator.TerminatorKind.{TerminatorKind};
 
 use bytes_index::Slots;
+use fold::Edition;
 use mir::terminator::TerminatorKind;
 use mir::{BlockId, most};
-use rewrite::Clash;
+use rewrite::Fault;
 use rewrite_arms::Used;
 use rewrite_before::Site;
 use rewrite_decide::Turn;
@@ -47,17 +48,26 @@ fn is_return(kind: u8) -> bool
     matches!(TerminatorKind::try_from(kind), Ok(TerminatorKind::Return))
 }
 
-// The terminator of a slot: only a Return is written anew.
-fn put_end(out: &mut [u8], p: Progress, site: Site, work: &mut [u16]) -> Result<Progress, Clash>
+// The terminator of a slot: only a Return is written anew, in each edition behind its own rebuilds.
+fn put_end(
+    out: &mut [u8],
+    p: Progress,
+    site: Site,
+    edition: Edition,
+    work: &mut [u16],
+) -> Result<Progress, Fault>
     requires { Low low_enough p }
     ensures by_index { (k : ℕ) → Low k p → PutLow (k + 1) result }
-    ensures end_put { EndPut site.entry.code site.entry.slot
+    ensures end_put { EndPut edition site.entry.code site.entry.slot
         site.entry.tracked.now work.old out.old p work.new out.new result }
 {
     let Site { code, slot, .. } = site;
     let part = code.slot_bytes(slot);
     if is_return(bytes_wire::byte_at(part, 0)) {
-        return rewrite_before::put_return(out, p, site, work);
+        return match edition {
+            Edition::First => rewrite_before::put_return(out, p, site, work),
+            Edition::Second => rewrite_keep::put_return_behind(out, p, site, work),
+        };
     }
     Ok(rewrite_perform::put_part(out, p, part, 0))
 }
@@ -71,7 +81,7 @@ fn put_instructions(
     work: &mut [u16],
     out: &mut [u8],
     w: Used<Progress>,
-) -> Result<Used<Progress>, Clash>
+) -> Result<Used<Progress>, Fault>
     requires { Ready at w work.old }
     ensures by_index { (n : ℕ) → Low n w.value → SteppedLow (n + at.count) (w.used + row_most * at.count) result }
     ensures instructions_put { InstructionsPut run.entry at
@@ -101,7 +111,7 @@ fn put_rewritten(
     work: &mut [u16],
     out: &mut [u8],
     p: Progress,
-) -> Result<Progress, Clash>
+) -> Result<Progress, Fault>
     requires { Low block_low p × Lendable tracked.old work.old }
     ensures by_index { (n : ℕ) → Low n p → PutLow (n + block_rise) result }
     ensures one_put { get_or run.entry.choice.now (skips_from + k.0) false ≡ false
@@ -122,7 +132,7 @@ fn put_rewritten(
         slot: at.end(),
         tracked,
     };
-    let done = put_end(out, q.value, site, work);
+    let done = put_end(out, q.value, site, run.settings.edition, work);
     rewrite_perform::put_count(out, p, done)
 }
 
@@ -135,7 +145,7 @@ fn put_block(
     work: &mut [u16],
     out: &mut [u8],
     p: Progress,
-) -> Result<Progress, Clash>
+) -> Result<Progress, Fault>
     requires { Low block_low p × Lendable tracked.old work.old }
     ensures by_index { (n : ℕ) → Low n p → PutLow (n + block_rise) result }
     ensures one_put { OnePut run.entry k.0
@@ -162,7 +172,7 @@ pub fn put_blocks(
     dropped: &mut [bool],
     work: &mut [u16],
     out: &mut [u8],
-) -> Result<Progress, Clash>
+) -> Result<Progress, Fault>
     requires { Low start_low p × ((run.code.bounds.blocks ≤ most_blocks) × Lendable tracked.old work.old) }
     ensures put_low { PutLow routine_low result }
     ensures all_put { AllPut run.entry

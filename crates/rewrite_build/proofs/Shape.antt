@@ -22,6 +22,7 @@ use Rattle.bytes_types.specs.Encode.{type_bytes}
 use Rattle.bytes_types.specs.Decode.{type_kinds, type_of}
 use Rattle.bytes_types.proofs.Canon.{type_canon}
 use Rattle.rewrite.specs.Rebuild.{rebuild_at, clashes}
+use Rattle.rewrite.specs.Deep.{kept_parts}
 use Rattle.bytes_struct.specs.Fields.{first_name, Names}
 use Rattle.bytes_struct.proofs.Placed.{type_fields}
 
@@ -75,22 +76,22 @@ pub data Shape (row : List ℕ) (T : MirType) : Type 0 where
   tuple : get_or row 0 0 ≡ 3 → (ts : List TypeId) → T ≡ Tuple ts → length ts ≡ get_or row 1 0 → Shape row T
   struct : get_or row 0 0 ≡ 4 → (n : NameId) (fs : List StructField) → T ≡ Struct n fs → length fs ≡ get_or row 3 0 → Names row first_name fs → Shape row T
   array : get_or row 0 0 ≡ 5 → (e : TypeId) (z : ℕ) → T ≡ FixedArray e z → e ≡ record { 0 = at16 row 1 } → z ≡ at32 row 3 → Shape row T
-  other : (get_or row 0 0 ≡ 3 → ⊥) → (get_or row 0 0 ≡ 4 → ⊥) → (get_or row 0 0 ≡ 5 → ⊥) → ((d : ValueId) (xs : List Value) (t : TypeId) → rebuild_at d xs t (some T) ≡ []) → ((xs : List Value) → clashes xs (some T) ≡ false) → Shape row T
+  other : (get_or row 0 0 ≡ 3 → ⊥) → (get_or row 0 0 ≡ 4 → ⊥) → (get_or row 0 0 ≡ 5 → ⊥) → ((d : ValueId) (xs : List Value) (t : TypeId) → rebuild_at d xs t (some T) ≡ []) → ((xs : List Value) → clashes xs (some T) ≡ false) → ((xs : List Value) → kept_parts (some T) xs ≡ xs) → Shape row T
 
 -- which it has
 shape_in : (row : List ℕ) (T : MirType) → InRow row T → Shape row T
-unfolding type_bytes rebuild_at clashes
-shape_in row Felt r = let k : get_or row 0 0 ≡ 0 = r.byte 0 (omega arith) in other (λ e. omega arith) (λ e. omega arith) (λ e. omega arith) (λ d xs t. refl) (λ xs. refl)
-shape_in row Bool r = let k : get_or row 0 0 ≡ 1 = r.byte 0 (omega arith) in other (λ e. omega arith) (λ e. omega arith) (λ e. omega arith) (λ d xs t. refl) (λ xs. refl)
-shape_in row U32 r = let k : get_or row 0 0 ≡ 2 = r.byte 0 (omega arith) in other (λ e. omega arith) (λ e. omega arith) (λ e. omega arith) (λ d xs t. refl) (λ xs. refl)
+unfolding type_bytes rebuild_at clashes kept_parts
+shape_in row Felt r = let k : get_or row 0 0 ≡ 0 = r.byte 0 (omega arith) in other (λ e. omega arith) (λ e. omega arith) (λ e. omega arith) (λ d xs t. refl) (λ xs. refl) (λ xs. refl)
+shape_in row Bool r = let k : get_or row 0 0 ≡ 1 = r.byte 0 (omega arith) in other (λ e. omega arith) (λ e. omega arith) (λ e. omega arith) (λ d xs t. refl) (λ xs. refl) (λ xs. refl)
+shape_in row U32 r = let k : get_or row 0 0 ≡ 2 = r.byte 0 (omega arith) in other (λ e. omega arith) (λ e. omega arith) (λ e. omega arith) (λ d xs t. refl) (λ xs. refl) (λ xs. refl)
 shape_in row (Tuple ts) r = tuple (r.byte 0 (omega arith)) ts refl (sym (r.byte 1 (omega arith)))
 shape_in row (Struct n fs) r = struct (r.byte 0 (omega arith)) n fs refl (sym (r.byte 3 (omega arith))) (r.names n fs refl)
 shape_in row (FixedArray e z) r = array (r.byte 0 (omega arith)) e z refl (r.array e z refl).0 (r.array e z refl).1
-shape_in row (Pointer e) r = let k : get_or row 0 0 ≡ 6 = r.byte 0 (omega arith) in other (λ e. omega arith) (λ e. omega arith) (λ e. omega arith) (λ d xs t. refl) (λ xs. refl)
-shape_in row (Function ps e) r = let k : get_or row 0 0 ≡ 7 = r.byte 0 (omega arith) in other (λ e. omega arith) (λ e. omega arith) (λ e. omega arith) (λ d xs t. refl) (λ xs. refl)
-shape_in row Unit r = let k : get_or row 0 0 ≡ 8 = r.byte 0 (omega arith) in other (λ e. omega arith) (λ e. omega arith) (λ e. omega arith) (λ d xs t. refl) (λ xs. refl)
-shape_in row Error r = let k : get_or row 0 0 ≡ 9 = r.byte 0 (omega arith) in other (λ e. omega arith) (λ e. omega arith) (λ e. omega arith) (λ d xs t. refl) (λ xs. refl)
-shape_in row Unknown r = let k : get_or row 0 0 ≡ 10 = r.byte 0 (omega arith) in other (λ e. omega arith) (λ e. omega arith) (λ e. omega arith) (λ d xs t. refl) (λ xs. refl)
+shape_in row (Pointer e) r = let k : get_or row 0 0 ≡ 6 = r.byte 0 (omega arith) in other (λ e. omega arith) (λ e. omega arith) (λ e. omega arith) (λ d xs t. refl) (λ xs. refl) (λ xs. refl)
+shape_in row (Function ps e) r = let k : get_or row 0 0 ≡ 7 = r.byte 0 (omega arith) in other (λ e. omega arith) (λ e. omega arith) (λ e. omega arith) (λ d xs t. refl) (λ xs. refl) (λ xs. refl)
+shape_in row Unit r = let k : get_or row 0 0 ≡ 8 = r.byte 0 (omega arith) in other (λ e. omega arith) (λ e. omega arith) (λ e. omega arith) (λ d xs t. refl) (λ xs. refl) (λ xs. refl)
+shape_in row Error r = let k : get_or row 0 0 ≡ 9 = r.byte 0 (omega arith) in other (λ e. omega arith) (λ e. omega arith) (λ e. omega arith) (λ d xs t. refl) (λ xs. refl) (λ xs. refl)
+shape_in row Unknown r = let k : get_or row 0 0 ≡ 10 = r.byte 0 (omega arith) in other (λ e. omega arith) (λ e. omega arith) (λ e. omega arith) (λ d xs t. refl) (λ xs. refl) (λ xs. refl)
 
 -- the type that was read from a row
 pub shape_of : (most own : ℕ) (row : List ℕ) (T : MirType) (n : ℕ) → Bytes row → type_of most own row ≡ ok T n → Shape row T

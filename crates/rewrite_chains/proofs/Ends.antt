@@ -19,6 +19,7 @@ use Rattle.bytes_field.specs.Decode.{instruction_of}
 use Rattle.bytes_field.specs.declared.Bounds.{Bounds}
 use Rattle.bytes_laws.specs.WellFormed.{Wide, FitKind}
 use Rattle.bytes_laws.proofs.Instruction.{instruction}
+use Rattle.bytes_index.specs.Code.{InstructionIn}
 use Rattle.bytes_index.specs.Table.{place_in, end_in, read_in}
 use Rattle.bytes_operands.specs.Fields.{place_steps, fields_place, step_count}
 use Rattle.bytes_operands.proofs.Instruction.{instruction_fields, instruction_stands}
@@ -111,6 +112,25 @@ unfolding forward_store first_integer on_some
 store_nothing τ S y v [] e = refl
 store_nothing τ S y v (p ∷ ps) e = absurd (omega arith)
 
+-- the steps of a Load's or Store's place
+pub record StepsRead (b : Bounds) (t : List ℕ) (p : Place) (many : ℕ) : Type 0 where
+  pub steps : StepsAt b t p.projections
+  pub long : length p.projections ≡ many
+
+module _ {b : Bounds} {s facts : List ℕ} {slot : ℕ} {i : Instruction} (o : InstructionIn b s facts slot i) {t u : List ℕ} (et : t ≡ drop (place_in facts slot) s) (eu : u ≡ drop (fields_place t) t) where
+  abbrev size : ℕ
+  size = end_in facts slot - place_in facts slot
+
+  e : instruction_of b [] false t ≡ ok i size
+  e = ap (instruction_of b [] false) et ∙ o.read
+
+  counted : (j : ℕ) → kind_number i.kind ≡ j → length (place_steps i.kind) ≡ step_count u j
+  counted j k = (instruction_stands b [] false t i size e).stepped ∙ ap (λ a. step_count a (get_or t 1 0)) (sym eu) ∙ ap (step_count u) (sym (instruction_fields b [] false t i size e).numbered ∙ k)
+
+  pub steps_read : {j : InstructionKind} {kind : ℕ} {p : Place} {many : ℕ} → OfPlace j kind p → i.kind ≡ j → many ≡ step_count u kind → StepsRead b t p many
+  steps_read (of_load d p y) k em = record { steps = steps_at i size e (ap place_steps k); long = sym (ap (λ j. length (place_steps j)) k) ∙ counted 5 (ap kind_number k) ∙ sym em }
+  steps_read (of_store p x y) k em = record { steps = steps_at i size e (ap place_steps k); long = sym (ap (λ j. length (place_steps j)) k) ∙ counted 6 (ap kind_number k) ∙ sym em }
+
 -- what is read of a Load's or Store's place
 pub record PlaceRead (b : Bounds) (t : List ℕ) (p : Place) (at many : ℕ) : Type 0 where
   pub steps : StepsAt b t p.projections
@@ -119,31 +139,21 @@ pub record PlaceRead (b : Bounds) (t : List ℕ) (p : Place) (at many : ℕ) : T
   pub long : length p.projections ≡ many
 
 module _ {b : Bounds} {s facts : List ℕ} {slot : ℕ} {tracked : Marks} {rows : List ℕ} {used : ℕ} {τ : Types} {S : AggStates} {i : Instruction} (o : Here b s facts slot tracked rows used τ S i) (few_types : b.types < 65536) (few_blocks : b.blocks < 65536) {t u : List ℕ} (et : t ≡ drop (place_in facts slot) s) (eu : u ≡ drop (fields_place t) t) where
-  abbrev size : ℕ
-  size = end_in facts slot - place_in facts slot
-
-  e : instruction_of b [] false t ≡ ok i size
-  e = ap (instruction_of b [] false) et ∙ o.line.read
-
   fits : FitKind b [] i.kind
-  fits = (((instruction b [] false).each (drop (place_in facts slot) s) i size (bytes_drop s (place_in facts slot) o.ground.bytes) o.line.read).good wide).1
+  fits = (((instruction b [] false).each (drop (place_in facts slot) s) i (end_in facts slot - place_in facts slot) (bytes_drop s (place_in facts slot) o.ground.bytes) o.line.read).good wide).1
     where
       wide : Wide b
       wide = record { types = omega arith; next = omega (arith, o.ground.few); blocks = omega arith; list = omega (arith, o.ground.listed); projections = omega (arith, o.ground.projected) }
 
-  counted : (j : ℕ) → kind_number i.kind ≡ j → length (place_steps i.kind) ≡ step_count u j
-  counted j k = (instruction_stands b [] false t i size e).stepped ∙ ap (λ a. step_count a (get_or t 1 0)) (sym eu) ∙ ap (step_count u) (sym (instruction_fields b [] false t i size e).numbered ∙ k)
-
   first : {at : ℕ} (v : ValueId) (vs : List ValueId) → reads i.kind ≡ v ∷ vs → at ≡ read_in facts slot 0 → at ≡ v.0
   first v vs k ea = ea ∙ o.line.reads_in.each 0 (rw k (omega arith)) ∙ ap (λ (xs : List ValueId). (get_or xs 0 (record { 0 = 0 })).0) k
 
+  placed : {p : Place} {at many : ℕ} → StepsRead b t p many → at ≡ p.base.0 → p.base.0 < b.next → PlaceRead b t p at many
+  placed r z h = record { steps = r.steps; based = z; below = rw z h; long = r.long }
+
   pub place_read : {j : InstructionKind} {kind : ℕ} {p : Place} {at many : ℕ} → OfPlace j kind p → i.kind ≡ j → at ≡ read_in facts slot 0 → many ≡ step_count u kind → PlaceRead b t p at many
-  place_read {at} {many} (of_load d p y) k ea em =
-      let z : at ≡ p.base.0 = first p.base _ (ap reads k) ea in
-      record { steps = steps_at i size e (ap place_steps k); based = z; below = rw z (rw k at fits).1.0; long = sym (ap (λ j. length (place_steps j)) k) ∙ counted 5 (ap kind_number k) ∙ sym em }
-  place_read {at} {many} (of_store p x y) k ea em =
-      let z : at ≡ p.base.0 = first p.base _ (ap reads k) ea in
-      record { steps = steps_at i size e (ap place_steps k); based = z; below = rw z (rw k at fits).0.0; long = sym (ap (λ j. length (place_steps j)) k) ∙ counted 6 (ap kind_number k) ∙ sym em }
+  place_read (of_load d p y) k ea em = placed (steps_read o.line et eu (of_load d p y) k em) (first p.base _ (ap reads k) ea) (rw k at fits).1.0
+  place_read (of_store p x y) k ea em = placed (steps_read o.line et eu (of_store p x y) k em) (first p.base _ (ap reads k) ea) (rw k at fits).0.0
 
 -- the last projection
 data LastOf (ps : List Projection) (last : ℕ) : Type 0 where

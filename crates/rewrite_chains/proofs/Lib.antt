@@ -3,3 +3,4 @@ pub mod Steps
 pub mod Walks
 pub mod Ends
 pub mod Stored
+pub mod Booleans

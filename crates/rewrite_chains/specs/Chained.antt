@@ -19,9 +19,11 @@ use Rattle.mir.specs.Lookup.{is_some, is_integer, Types, on_some, value_row}
 use Rattle.mir.specs.Option.{as_option}
 use Rattle.bytes_struct.specs.FindField.{find_field}
 use Rattle.bytes_struct.specs.declared.FoundField.{FoundField}
+use Rattle.fold.specs.declared.Edition.{Edition}
 use Rattle.fold.specs.Family.{Marks}
 use Rattle.fold.specs.Tables.{Known, CodeGround}
 use Rattle.rewrite.specs.State.{AggStates, chain, first_integer, step_part, store_part, store_last, forward_store}
+use Rattle.rewrite.specs.Step.{is_boolean, walkable}
 use Rattle.mir.specs.Most.{most_values}
 use Rattle.rewrite_parts.specs.Rows.{ValueAt, Rep, Room, InitAt}
 use Rattle.rewrite_parts.specs.declared.Parts.{Parts}
@@ -87,6 +89,11 @@ integer_step (some (Index x)) = is_integer x
 integer_step (some (Field n)) = false
 integer_step (some (Tuple k)) = false
 
+-- an Index by a Boolean literal
+abbrev pub boolean_step : Option Projection → Bool
+boolean_step none = false
+boolean_step (some p) = is_boolean p
+
 -- what all but the last projection lead to, where the first is an Integer literal
 unfoldable pub held : Types → AggStates → ValueId → List Projection → ℕ → Option Value
 held τ S v ps last = on_some (first_integer ps) (λ k. chain τ S (Value.Operand v) (take last ps))
@@ -124,6 +131,14 @@ LastFound code slot parts kind r =
     → Here code.bounds code.bytes.now code.facts.now slot parts.tracked.now parts.rows.now used τ S i
     → OfPlace i.kind kind p
     → Ends code.bounds.next τ S p r
+
+-- the Load or the Store in a slot: whether its place can be walked in an edition
+abbrev pub PlaceWalks : Code → ℕ → ℕ → Edition → Bool → Type 0
+PlaceWalks code slot kind edition r =
+    (i : Instruction) (p : Place)
+    → InstructionIn code.bounds code.bytes.now code.facts.now slot i
+    → OfPlace i.kind kind p
+    → r ≡ walkable edition p
 
 -- the states behind a Store: those it is forwarded into, else as they were
 unfoldable pub states_after : AggStates → Option AggStates → AggStates

@@ -7,10 +7,11 @@ ghost use Rattle.std.specs.Prelude.{◌+◌, ◌≤◌, ◌<◌, IfSome};
 ghost use Rattle.mir.specs.Kind.{number_of_kind};
 ghost use Rattle.rewrite_parts.specs.Rows.{row_most, used_below};
 ghost use Rattle.rewrite_chains.specs.Chained.{FoundInType, LastFound};
-ghost use Rattle.rewrite_chains.specs.Chained.{PartLoaded, StoredAt, PartStored, LastStored, StoreForwarded};
+ghost use Rattle.rewrite_chains.specs.Chained.{PlaceWalks, PartLoaded, StoredAt, PartStored, LastStored, StoreForwarded};
 
 use bytes_index::{Code, Typing};
 use bytes_struct::FoundField;
+use fold::Edition;
 use mir::kind::Kind;
 use mir::{NameId, Projection, ValueId};
 use rewrite_parts::Parts;
@@ -121,4 +122,29 @@ pub fn forward_store(
     let last = last_step(code, slot, parts, Kind::Store)?;
     let place = stored_place(code, slot);
     store_last(code, tracked, rows, used, last.holder, last.step, place)
+}
+
+// No projection of the place of the Load or the Store in a slot, by its kind, is an Index by a Boolean literal.
+fn no_boolean(code: Code, slot: u16, kind: Kind) -> bool
+    ensures { PlaceWalks code.entry slot (number_of_kind kind) Edition.Second result }
+{
+    let t = code.instruction(slot);
+    let n = bytes_operands::step_count(bytes_operands::own_fields(t), kind);
+    for k in 0..n {
+        if path::is_boolean(bytes_operands::projection(t, code.bounds, k)) {
+            return false;
+        }
+    }
+    true
+}
+
+// Whether the place of the Load or the Store in a slot, by its kind, can be walked in an edition. (In the first any can: no projection is
+// looked at.)
+pub fn walkable(code: Code, slot: u16, kind: Kind, edition: Edition) -> bool
+    ensures { PlaceWalks code.entry slot (number_of_kind kind) edition result }
+{
+    match edition {
+        Edition::First => true,
+        Edition::Second => no_boolean(code, slot, kind),
+    }
 }

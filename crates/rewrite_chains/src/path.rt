@@ -7,7 +7,7 @@ ghost use Rattle.mir.specs.Lookup.{Types, as_const_integer};
 ghost use Rattle.fold.specs.Tables.{CodeGround};
 ghost use Rattle.rewrite.specs.State.{step_index, chain};
 ghost use Rattle.rewrite_parts.specs.Rows.{ValueAt, InitAt};
-ghost use Rattle.rewrite_chains.specs.Chained.{LeadsTo, OfStep, OfSteps, integer_step, held};
+ghost use Rattle.rewrite_chains.specs.Chained.{LeadsTo, OfStep, OfSteps, integer_step, boolean_step, held};
 ghost use Rattle.bytes_wire.specs.WellFormed.{Bytes};
 ghost use Rattle.table.specs.Number.{numbers_below};
 
@@ -99,4 +99,21 @@ pub fn holder(code: Code, t: &[u8], parts: Parts, base: ValueId, last: u8) -> Op
         return None;
     }
     walk(code, t, parts, base, last)
+}
+
+// The projection is an Index by a Boolean literal.
+#[tactic(auto, unfolding(rewrite::specs::Step::is_boolean))]
+pub fn is_boolean(p: Option<Projection>) -> bool
+    ensures { result ≡ boolean_step (as_option p) }
+{
+    match p {
+        Some(Projection::Index(Value::Literal(Literal::Boolean(_)))) => true,
+        Some(Projection::Index(Value::Literal(Literal::Integer(_)))) => false,
+        Some(Projection::Index(Value::Literal(Literal::Unit))) => false,
+        Some(Projection::Index(Value::Operand(_))) => false,
+        Some(Projection::Index(Value::Error)) => false,
+        Some(Projection::Field(_)) => false,
+        Some(Projection::Tuple(_)) => false,
+        None => false,
+    }
 }

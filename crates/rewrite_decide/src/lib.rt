@@ -8,11 +8,11 @@ ghost use Rattle.mir.specs.Kind.{number_of_kind};
 ghost use Rattle.rewrite_parts.specs.Rows.{row_most, used_below};
 ghost use Rattle.rewrite_arms.specs.Decided.{acts, SpotAt};
 ghost use Rattle.rewrite_arms.specs.Decided.{assign_kind, load_kind, extract_element_kind, extract_field_kind, insert_field_kind, insert_element_kind};
-ghost use Rattle.rewrite_decide.specs.Stepped.{always, of_tuples, of_structs, SourceAt, KindPlanned, StepPlanned};
+ghost use Rattle.rewrite_decide.specs.Stepped.{always, of_tuples, walked_in, of_structs, SourceAt, KindPlanned, StepPlanned};
 ghost use Rattle.rewrite_decide.specs.Stepped.{ValuesBuilt, CarriedOut, StepDecided};
 
 use bytes_index::Code;
-use fold::Settings;
+use fold::{Edition, Settings};
 use mir::kind::Kind;
 use mir::{NameId, TypeId, Value, ValueId};
 use rewrite_arms::{Action, Counted, DEST_BYTES, Plan, Spot, Used};
@@ -86,10 +86,13 @@ fn assign(code: Code, p: Spot, parts: Parts) -> Plan
     rewrite_arms::plan_assign(x, whole, parts.tracked)
 }
 
-// A Load takes the part that its place leads to.
-fn load(code: Code, slot: u16, p: Spot, parts: Parts) -> Plan
-    ensures { KindPlanned load_kind of_tuples code.entry slot p parts.entry result }
+// A Load takes the part that its place leads to, where the edition walks it.
+fn load(code: Code, edition: Edition, slot: u16, p: Spot, parts: Parts) -> Plan
+    ensures { KindPlanned load_kind (walked_in edition) code.entry slot p parts.entry result }
 {
+    if !rewrite_chains::walkable(code, slot, Kind::Load, edition) {
+        return Plan::Keep;
+    }
     let t = bytes_operands::last_type(code.bytes, p.end);
     let found = rewrite_chains::load_part(code, slot, parts);
     let whole = rewrite_arms::is_aggregate(code, t);
@@ -155,7 +158,7 @@ fn plan(turn: Turn, p: Spot, parts: Parts) -> Plan
     }
     match kind {
         Kind::Assign => assign(code, p, parts),
-        Kind::Load => load(code, slot, p, parts),
+        Kind::Load => load(code, turn.settings.edition, slot, p, parts),
         Kind::MakeTuple | Kind::MakeFixedArray => Plan::Values,
         Kind::ExtractTupleElement => extract_element(code, p, parts),
         Kind::MakeStruct => {

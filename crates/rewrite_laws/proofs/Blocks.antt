@@ -1,5 +1,5 @@
 -- The blocks of the output fit, their values defined once.
-use Prim.Native.Nat.{ℕ, suc, ◌≤◌}
+use Prim.Native.Nat.{ℕ, suc, ◌≤◌, ◌<◌}
 use mathlib.Core.Path.{◌≡◌, refl, ◌∙◌, sym}
 use mathlib.Core.List.{List, [], ◌∷◌, ◌++◌, append-nil}
 use mathlib.Core.Bool.{Bool, true, not, ◌||◌, true≢false}
@@ -14,7 +14,10 @@ use Rattle.mir.specs.Lists.{Each}
 use Rattle.bytes_laws.specs.WellFormed.{FitNews}
 use Rattle.bytes_block.specs.Decode.{marks, block_marks}
 use Rattle.bytes_block.specs.WellFormed.{FitInstructions}
-use Rattle.rewrite.specs.Lowers.{Rebuild, Rebuilds, Stands, Lowers}
+use Rattle.rewrite.specs.Readings.{with_readings}
+use Rattle.rewrite.specs.Lowers.{Rebuild, Rebuilds, Builds, Stands, Lowers}
+use Rattle.rewrite.proofs.Deep.{builds_count}
+use Rattle.rewrite_laws.proofs.Readings.{same_dests}
 use Rattle.rewrite_laws.proofs.Rebuilt.{Loose}
 use Rattle.rewrite_laws.proofs.Marks.{dests_new, Both, news_both, both_kept, both_left, both_fresh, both_later}
 
@@ -34,14 +37,19 @@ up (Rebuilds.same r) = up r
 up (Rebuilds.anew i r) = omega (arith, up r)
 up (Rebuilds.bare r) = omega (arith, up r)
 
+up_builds : {n m : ℕ} {bs : List Instruction} → Builds n bs m → n ≤ m
+up_builds x = omega (arith, builds_count x)
+
 rise : {n m : ℕ} {is os : List Instruction} {t u : Terminator} {ds : List ValueId} → Lowers n is t os u ds m → n ≤ m
 rise Lowers.ended = omega arith
 rise (Lowers.returned r) = up r
+rise (Lowers.returned_behind x v) = up_builds x
 rise (Lowers.kept r) = rise r
 rise (Lowers.left v r) = rise r
 rise (Lowers.assigned s r) = rise r
 rise (Lowers.called x r) = omega (arith, up x, rise r)
 rise (Lowers.stored x r) = omega (arith, up x, rise r)
+rise (Lowers.kept_behind x v r) = omega (arith, up_builds x, rise r)
 
 module _ (b c : Bounds) (wide : b.next ≤ c.next) where
   -- instructions that fit behind any others, and the marks behind them
@@ -57,18 +65,26 @@ module _ (b c : Bounds) (wide : b.next ≤ c.next) where
   fits_one n seen marked i os l d f =
       record { fit = λ late. ((l.beside, l.fits marked d, λ e. absurd (true≢false (sym e ∙ l.other))), f.fit (late || not (is_phi i.kind))); both = f.both }
 
+  -- one rebuild in front: it defines the next number
+  fits_build : {n : ℕ} {i : Instruction} → Rebuild (record { 0 = n }) i → (seen marked : List Bool) (os : List Instruction) (z : ℕ) (end : List Bool) → n < c.next → Loose c i → Both b.next n seen marked
+      → ((marked : List Bool) → Both b.next (suc n) seen marked → Fits z end marked os) → Fits z end marked (i ∷ os)
+  fits_build {n} (Rebuild.tuple ps) seen marked os z end l e h f = fits_one z end marked _ os e ((l, h.above n (omega arith)), tt) (f (mark marked (record { 0 = n })) (both_fresh b c wide n seen marked h))
+  fits_build {n} (Rebuild.struct ps t) seen marked os z end l e h f = fits_one z end marked _ os e ((l, h.above n (omega arith)), tt) (f (mark marked (record { 0 = n })) (both_fresh b c wide n seen marked h))
+  fits_build {n} (Rebuild.array ps t) seen marked os z end l e h f = fits_one z end marked _ os e ((l, h.above n (omega arith)), tt) (f (mark marked (record { 0 = n })) (both_fresh b c wide n seen marked h))
+
   -- rebuilds in front of what needs them
   fits_rebuilds : {x : Bool} {n m : ℕ} {xs ys : List Value} {bs : List Instruction} → Rebuilds x n xs ys bs m → (seen marked : List Bool) (os : List Instruction) (z : ℕ) (end : List Bool) → m ≤ c.next → Each (Loose c) bs → Both b.next n seen marked
       → ((marked : List Bool) → Both b.next m seen marked → Fits z end marked os) → Fits z end marked (bs ++ os)
   fits_rebuilds Rebuilds.none seen marked os z end l e h f = f marked h
   fits_rebuilds (Rebuilds.same r) seen marked os z end l e h f = fits_rebuilds r seen marked os z end l e h f
-  fits_rebuilds {n} (Rebuilds.anew (Rebuild.tuple ps) r) seen marked os z end l e h f =
-      fits_one z end marked _ _ e.0 ((omega (arith, up r, l), h.above n (omega arith)), tt) (fits_rebuilds r seen (mark marked (record { 0 = n })) os z end l e.1 (both_fresh b c wide n seen marked h) f)
-  fits_rebuilds {n} (Rebuilds.anew (Rebuild.struct ps t) r) seen marked os z end l e h f =
-      fits_one z end marked _ _ e.0 ((omega (arith, up r, l), h.above n (omega arith)), tt) (fits_rebuilds r seen (mark marked (record { 0 = n })) os z end l e.1 (both_fresh b c wide n seen marked h) f)
-  fits_rebuilds {n} (Rebuilds.anew (Rebuild.array ps t) r) seen marked os z end l e h f =
-      fits_one z end marked _ _ e.0 ((omega (arith, up r, l), h.above n (omega arith)), tt) (fits_rebuilds r seen (mark marked (record { 0 = n })) os z end l e.1 (both_fresh b c wide n seen marked h) f)
+  fits_rebuilds {n} (Rebuilds.anew a r) seen marked os z end l e h f = fits_build a seen marked _ z end (omega (arith, up r, l)) e.0 h (λ marked h. fits_rebuilds r seen marked os z end l e.1 h f)
   fits_rebuilds {n} (Rebuilds.bare r) seen marked os z end l e h f = fits_rebuilds r seen marked os z end l e (both_later b c wide n (suc n) seen marked (omega arith) h) f
+
+  -- and edition 2's
+  fits_builds : {n m : ℕ} {bs : List Instruction} → Builds n bs m → (seen marked : List Bool) (os : List Instruction) (z : ℕ) (end : List Bool) → m ≤ c.next → Each (Loose c) bs → Both b.next n seen marked
+      → ((marked : List Bool) → Both b.next m seen marked → Fits z end marked os) → Fits z end marked (bs ++ os)
+  fits_builds Builds.none seen marked os z end l e h f = f marked h
+  fits_builds (Builds.build a r) seen marked os z end l e h f = fits_build a seen marked _ z end (omega (arith, up_builds r, l)) e.0 h (λ marked h. fits_builds r seen marked os z end l e.1 h f)
 
   -- an Assign defines what it stands for
   stands_dests : (i k : InstructionKind) → Stands i k → dests k ≡ dests i
@@ -81,6 +97,7 @@ module _ (b c : Bounds) (wide : b.next ≤ c.next) where
       → Fits m (block_marks seen is) marked os
   fits_lowers {n} Lowers.ended seen marked late l lo g h = fits_none n seen marked h
   fits_lowers {n} {m} {is} {os} (Lowers.returned r) seen marked late l lo g h = rw (append-nil os) at (fits_rebuilds r seen marked [] m seen l lo h (λ marked h. fits_none m seen marked h))
+  fits_lowers {n} {m} {is} {os} (Lowers.returned_behind x v) seen marked late l lo g h = rw (append-nil os) at (fits_builds x seen marked [] m seen l lo h (λ marked h. fits_none m seen marked h))
   fits_lowers {n} {m} (Lowers.kept {i} {is} {os} r) seen marked late l lo g h =
       let d = dests_new b seen i.kind g.0.1 in
       fits_one m (block_marks (marks seen (dests i.kind)) is) marked i os lo.0 (news_both b c wide n seen marked (dests i.kind) h d)
@@ -103,3 +120,11 @@ module _ (b c : Bounds) (wide : b.next ≤ c.next) where
       let tail = each_second (Loose c) bs (new ∷ os) lo in
       fits_rebuilds z seen marked (new ∷ os) m (block_marks seen is) (omega (arith, rise r, l)) (each_first (Loose c) bs (new ∷ os) lo) h
       (λ marked h. fits_one m (block_marks seen is) marked new os tail.0 tt (fits_lowers r seen marked (late || true) l tail.1 g.1 h))
+  fits_lowers {n} {m} (Lowers.kept_behind {i} {ys} {bs} {is} {os} x v r) seen marked late l lo g h =
+      let new : Instruction = record { meta = i.meta; kind = with_readings i.kind ys } in
+      let d = dests_new b seen i.kind g.0.1 in
+      let e : dests new.kind ≡ dests i.kind = (same_dests i.kind ys).0 in
+      let tail = each_second (Loose c) bs (new ∷ os) lo in
+      fits_builds x seen marked (new ∷ os) m (block_marks (marks seen (dests i.kind)) is) (omega (arith, rise r, l)) (each_first (Loose c) bs (new ∷ os) lo) h
+      (λ marked h. fits_one m (block_marks (marks seen (dests i.kind)) is) marked new os tail.0 (rw e (news_both b c wide _ seen marked (dests i.kind) h d))
+      (rw e (fits_lowers r (marks seen (dests i.kind)) (marks marked (dests i.kind)) (late || not (is_phi i.kind)) l tail.1 g.1 (both_kept b c wide _ seen marked (dests i.kind) d h))))

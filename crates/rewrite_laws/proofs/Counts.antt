@@ -19,7 +19,11 @@ use Rattle.mir.specs.Routine.{Routine}
 use Rattle.bytes_laws_whole.specs.WellFormed.{FitBlocks, bounds, unmarked, WellFormed}
 use Rattle.rewrite.specs.Sum.{instruction_count}
 use Rattle.rewrite.specs.Within.{argument_count, return_count, CallsWithin, ListsWithin}
+use Rattle.mir.specs.Lists.{Each}
+use Rattle.rewrite.specs.Fault.{last_number}
 use Rattle.rewrite.specs.Lowers.{Rebuilds, Lowers}
+use Rattle.rewrite.proofs.Deep.{builds_count}
+use Rattle.rewrite.proofs.Limits.{Short}
 
 call_most_lem : (b : Bounds) (seen : List Bool) (i : InstructionKind) → FitKind b seen i → argument_count i ≤ b.list
 unfolding argument_count
@@ -64,6 +68,14 @@ blocks_within m b total seen (k ∷ ks) h =
 pub lists_within : (m : Mosts) (r : Routine) → WellFormed m r → ListsWithin m.list r.blocks
 lists_within m r w = blocks_within m (bounds m r) 0 (marks (unmarked r) r.parameters) r.blocks w.blocks
 
+blocks_short : (m : Mosts) (b : Bounds) (total : ℕ) (seen : List Bool) (ks : List Block) → m.block ≤ last_number → FitBlocks m b total seen ks → Each Short ks
+blocks_short m b total seen [] l h = tt
+blocks_short m b total seen (k ∷ ks) l h = (omega (arith, h.0.own, l), blocks_short m b (total + length k.instructions) (block_marks seen k.instructions) ks l h.1)
+
+-- "128 in a block" is less than two bytes count
+pub each_short : (m : Mosts) (r : Routine) → m.block ≤ last_number → WellFormed m r → Each Short r.blocks
+each_short m r l w = blocks_short m (bounds m r) 0 (marks (unmarked r) r.parameters) r.blocks l w.blocks
+
 count_most : (m : Mosts) (b : Bounds) (total : ℕ) (seen : List Bool) (ks : List Block) → total ≤ m.all → FitBlocks m b total seen ks → total + instruction_count ks ≤ m.all
 unfolding instruction_count
 count_most m b total seen [] l h = omega (arith, l)
@@ -83,8 +95,10 @@ rebuilds_count (Rebuilds.bare r) = omega (arith, rebuilds_count r)
 pub lowers_count : {n m : ℕ} {is os : List Instruction} {t u : Terminator} {ds : List ValueId} → Lowers n is t os u ds m → n + length os ≤ length is + m
 lowers_count Lowers.ended = omega arith
 lowers_count (Lowers.returned r) = omega (arith, rebuilds_count r)
+lowers_count (Lowers.returned_behind x v) = omega (arith, builds_count x)
 lowers_count (Lowers.kept r) = omega (arith, lowers_count r)
 lowers_count (Lowers.left v r) = omega (arith, lowers_count r)
 lowers_count (Lowers.assigned s r) = omega (arith, lowers_count r)
 lowers_count (Lowers.called {bs} x r) = rw (length-append bs) (omega (arith, rebuilds_count x, lowers_count r))
 lowers_count (Lowers.stored {bs} x r) = rw (length-append bs) (omega (arith, rebuilds_count x, lowers_count r))
+lowers_count (Lowers.kept_behind {bs} x v r) = rw (length-append bs) (omega (arith, builds_count x, lowers_count r))

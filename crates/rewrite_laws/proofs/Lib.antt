@@ -1,6 +1,7 @@
 pub mod Wider
 pub mod Parts
 pub mod Rebuilt
+pub mod Readings
 pub mod Pieces
 pub mod Steps
 pub mod Marks

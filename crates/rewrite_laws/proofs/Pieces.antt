@@ -1,6 +1,6 @@
 -- What a step puts out fits, and so do the parts it tracks.
 use Prim.Native.Nat.{ℕ, ◌+◌, ◌≤◌, ◌<◌, zero-le}
-use mathlib.Core.Path.{◌≡◌, refl}
+use mathlib.Core.Path.{◌≡◌, refl, ◌∙◌}
 use mathlib.Core.List.{List, [], ◌∷◌}
 use mathlib.Core.Bool.{true, false, cond}
 use mathlib.Core.Bool as B
@@ -22,11 +22,16 @@ use Rattle.mir.specs.Lookup.{Types, row_of, recorded_type, value_row, is_struct,
 use Rattle.mir.specs.Parts.{from_struct_fields, struct_parts, or_else, struct_row}
 use Rattle.rewrite.specs.declared.Counts.{Counts}
 use Rattle.rewrite.specs.State.{AggStates, state_of, replaced, chain}
-use Rattle.rewrite.specs.Rebuild.{Rebuilt, Wanted, one_value, keep_value, rebuild_value, rebuild_all, aggregate_type}
-use Rattle.rewrite.specs.Step.{Piece, kept, left, tracked, assigned, step_build, folded_parts, step_insert, hand_on, step_extract, step_loaded, step_load, store_rebuilt, store_kept, step_store, step_assign, step_call, guarded}
+use Rattle.rewrite.specs.Rebuild.{Rebuilt, Wanted, one_value, keep_value, rebuild_value, rebuild_all, aggregate_type, wanted_arguments}
+use Rattle.rewrite.specs.Deep.{wanted_own, rebuild_deep}
+use Rattle.rewrite.specs.Readings.{readings, with_readings}
+use Rattle.rewrite.specs.Piece.{Piece, kept, left, tracked, assigned}
+use Rattle.rewrite.specs.Stays.{store_rebuilt, store_kept, step_call, guarded, kept_behind, stays_second}
+use Rattle.rewrite.specs.Step.{step_build, folded_parts, step_insert, hand_on, step_extract, step_loaded, step_load, step_store, step_assign}
 use Rattle.rewrite_laws.proofs.Wider.{Wider, kind_wider}
 use Rattle.rewrite_laws.proofs.Parts.{Parts, FitStates, Holds, insert_fit, state_fit, on_some_lem, Any, holds_any, element_fit, replaced_fit, chain_fit, fields_fit}
-use Rattle.rewrite_laws.proofs.Rebuilt.{Loose, Typed, all_fit}
+use Rattle.rewrite_laws.proofs.Rebuilt.{Loose, Typed, all_fit, arguments_fit_lem, deep_fit}
+use Rattle.rewrite_laws.proofs.Readings.{same_dests, with_fit}
 use Rattle.bytes_laws_whole.proofs.Whole.{both_lists}
 
 pub record PieceFit (c : Bounds) (p : Piece) : Type 0 where
@@ -67,32 +72,12 @@ module _ (b c : Bounds) (w : Wider b c) (τ : Types) (g : Typed c τ) where
   unfolding assigned
   piece_assigned k S d x t h p q = record { out = (record { beside = (tt, tt, tt); other = refl; fits = λ m n. (n.0, p, q) }, tt); states = h; fresh = tt }
 
-  module _ (S : AggStates) (h : States S) (n : ℕ) (i : Instruction) (l : OneFits i) where
-    pub build_fit : (d : ValueId) (o : Option (List Value)) → Holds PartsFit o → PieceFit c (step_build S i d o)
-    unfolding step_build
-    build_fit d none p = piece_kept S i h l
-    build_fit d (some xs) p = piece_tracked _ S d xs h p
+  pub folded_fit : (f : B.Bool) (o : Option (List Value)) → Holds PartsFit o → Holds PartsFit (folded_parts f o)
+  unfolding folded_parts
+  folded_fit true o p = p
+  folded_fit false o p = tt
 
-    pub folded_fit : (f : B.Bool) (o : Option (List Value)) → Holds PartsFit o → Holds PartsFit (folded_parts f o)
-    unfolding folded_parts
-    folded_fit true o p = p
-    folded_fit false o p = tt
-
-    pub insert_piece : (d : ValueId) (o : Option (List Value)) → Holds PartsFit o → PieceFit c (step_insert S i d o)
-    unfolding step_insert
-    insert_piece d none p = piece_kept S i h l
-    insert_piece d (some xs) p = piece_tracked _ S d xs h p
-
-    hand_fit : (d : ValueId) (t : TypeId) (x : Value) (o : Option (List Value)) → FitType c t → fit x → Holds PartsFit o → PieceFit c (hand_on S d t x o)
-    unfolding hand_on
-    hand_fit d t x none q p r = piece_assigned _ S d x t h p q
-    hand_fit d t x (some xs) q p r = piece_tracked _ S d xs h r
-
-    pub extract_fit : (d : ValueId) (t : TypeId) (o : Option Value) → FitType c t → Holds fit o → PieceFit c (step_extract S i d t o)
-    unfolding step_extract
-    extract_fit d t none q p = piece_kept S i h l
-    extract_fit d t (some x) q p = hand_fit d t x (state_of S x) q p (state_fit c.list c.next S x h)
-
+  module _ (S : AggStates) (h : States S) where
     -- a part of a tracked value
     pub part_of : (x : Value) (k : ℕ) → Holds fit (on_some (state_of S x) (λ xs. get_elem? xs k))
     part_of x k = on_some_lem c.list c.next PartsFit fit (state_of S x) (λ xs. get_elem? xs k) (state_fit c.list c.next S x h) (λ xs p. element_fit c.list c.next xs k p.1)
@@ -105,29 +90,62 @@ module _ (b c : Bounds) (w : Wider b c) (τ : Types) (g : Typed c τ) where
     pub state_at : (t : TypeId) (x : Value) → Holds PartsFit (on_some (aggregate_type τ t) (λ u. state_of S x))
     state_at t x = on_some_lem c.list c.next (Any c.list c.next) PartsFit (aggregate_type τ t) (λ u. state_of S x) (holds_any c.list c.next (aggregate_type τ t)) (λ u a. state_fit c.list c.next S x h)
 
-    loaded_fit : (d : ValueId) (t : TypeId) (o : Option Value) → FitType c t → Holds fit o → PieceFit c (step_loaded τ S i d t o)
-    unfolding step_loaded
-    loaded_fit d t none q p = piece_kept S i h l
-    loaded_fit d t (some x) q p = hand_fit d t x (on_some (aggregate_type τ t) (λ u. state_of S x)) q p (state_at t x)
+  -- a piece from number n on fits, where the numbers it takes are below the next value
+  abbrev pub Low : ℕ → Piece → Type 0
+  Low n p = n + length p.fresh ≤ c.next → PieceFit c p
 
-    pub load_fit : (d : ValueId) (pl : Place) (t : TypeId) (o : Option ℕ) → pl.base.0 < c.next → FitType c t → PieceFit c (step_load τ S i d pl t o)
+  -- arms, whatever stands where the instruction stays
+  module _ (S : AggStates) (h : States S) (n : ℕ) (stay : Piece) (l : Low n stay) where
+    pub build_fit : (d : ValueId) (o : Option (List Value)) → Holds PartsFit o → Low n (step_build S stay d o)
+    unfolding step_build
+    build_fit d none p z = l z
+    build_fit d (some xs) p z = piece_tracked _ S d xs h p
+
+    pub insert_piece : (d : ValueId) (o : Option (List Value)) → Holds PartsFit o → Low n (step_insert S stay d o)
+    unfolding step_insert
+    insert_piece d none p z = l z
+    insert_piece d (some xs) p z = piece_tracked _ S d xs h p
+
+    hand_fit : (d : ValueId) (t : TypeId) (x : Value) (o : Option (List Value)) → FitType c t → fit x → Holds PartsFit o → PieceFit c (hand_on S d t x o)
+    unfolding hand_on
+    hand_fit d t x none q p r = piece_assigned _ S d x t h p q
+    hand_fit d t x (some xs) q p r = piece_tracked _ S d xs h r
+
+    pub extract_fit : (d : ValueId) (t : TypeId) (o : Option Value) → FitType c t → Holds fit o → Low n (step_extract S stay d t o)
+    unfolding step_extract
+    extract_fit d t none q p z = l z
+    extract_fit d t (some x) q p z = hand_fit d t x (state_of S x) q p (state_fit c.list c.next S x h)
+
+    loaded_fit : (d : ValueId) (t : TypeId) (o : Option Value) → FitType c t → Holds fit o → Low n (step_loaded τ S stay d t o)
+    unfolding step_loaded
+    loaded_fit d t none q p z = l z
+    loaded_fit d t (some x) q p z = hand_fit d t x (on_some (aggregate_type τ t) (λ u. state_of S x)) q p (state_at S h t x)
+
+    pub load_fit : (d : ValueId) (pl : Place) (t : TypeId) (o : Option ℕ) → pl.base.0 < c.next → FitType c t → Low n (step_load τ S stay d pl t o)
     unfolding step_load
-    load_fit d pl t none k q = piece_kept S i h l
-    load_fit d pl t (some j) k q =
+    load_fit d pl t none k q z = l z
+    load_fit d pl t (some j) k q z =
         loaded_fit d t (on_some (S pl.base.0) (λ xs. chain τ S (Value.Operand pl.base) pl.projections)) q
         (on_some_lem c.list c.next (Any c.list c.next) fit (S pl.base.0) (λ xs. chain τ S (Value.Operand pl.base) pl.projections) (holds_any c.list c.next (S pl.base.0))
-        (λ xs a. chain_fit c.list c.next τ S h (Value.Operand pl.base) pl.projections (k, w.top)))
+        (λ xs a. chain_fit c.list c.next τ S h (Value.Operand pl.base) pl.projections (k, w.top))) z
 
-    pub assign_fit : (d : ValueId) (o : Option (List Value)) → Holds PartsFit o → PieceFit c (step_assign S i d o)
+    pub store_fit : (o : Option AggStates) → Holds States o → Low n (step_store S stay o)
+    unfolding step_store
+    store_fit none s z = l z
+    store_fit (some S') s z = piece_left _ [] S' s
+
+    pub assign_fit : (d : ValueId) (o : Option (List Value)) → Holds PartsFit o → Low n (step_assign S stay d o)
     unfolding step_assign
-    assign_fit d none p = piece_kept S i h l
-    assign_fit d (some xs) p = piece_tracked _ S d xs h p
+    assign_fit d none p z = l z
+    assign_fit d (some xs) p z = piece_tracked _ S d xs h p
 
-    pub guarded_fit : (x : B.Bool) (p : Piece) → PieceFit c p → PieceFit c (guarded x S i p)
+    pub guarded_fit : (x : B.Bool) (p : Piece) → Low n p → Low n (guarded x stay p)
     unfolding guarded
-    guarded_fit true p f = f
-    guarded_fit false p f = piece_kept S i h l
+    guarded_fit true p f z = f z
+    guarded_fit false p f z = l z
 
+  -- what stays of an instruction that fits
+  module _ (S : AggStates) (h : States S) (n : ℕ) (i : Instruction) (l : OneFits i) where
     -- a Store behind its rebuild
     rebuilt_store : (m : Meta) (pl : Place) (t : TypeId) (r : Rebuilt) (xs : List Value) → FitMeta m → FitPlace c pl → FitType c t → fit Value.Error → Each (Loose c) r.before → Each fit xs → Each (FitType c) r.fresh → PieceFit c (store_rebuilt S m pl t r xs)
     unfolding store_rebuilt kept
@@ -141,27 +159,22 @@ module _ (b c : Bounds) (w : Wider b c) (τ : Types) (g : Typed c τ) where
     store_fresh m pl x t rest none = refl
     store_fresh m pl x t rest (some xs) = refl
 
-    store_kept_lem : (pl : Place) (x : Value) (t : TypeId) (o : Option (List Value)) → FitMeta i.meta → FitPlace c pl → FitType c t → fit x → n + length (store_kept τ S n i pl x t o).fresh ≤ c.next → PieceFit c (store_kept τ S n i pl x t o)
+    pub store_kept_fit : (pl : Place) (x : Value) (t : TypeId) (o : Option (List Value)) → FitPlace c pl → FitType c t → fit x → Low n (store_kept τ S n i pl x t o)
     unfolding store_kept rebuild_all
-    store_kept_lem pl x t none a k q p z = piece_kept S i h l
-    store_kept_lem pl x t (some xs) a k q p z =
+    store_kept_fit pl x t none k q p z = piece_kept S i h l
+    store_kept_fit pl x t (some xs) k q p z =
         let ws : List Wanted = record { value = x; at = some t } ∷ [] in
         let r = rebuild_all τ S n ws in
         let e : (store_rebuilt S i.meta pl t r r.values).fresh ≡ r.fresh = store_fresh i.meta pl x t (λ m. rebuild_all τ S m []) (state_of S x) in
         let f = all_fit c w.top τ g S h n ws ((p, q), tt) (rw e at z) in
-        rebuilt_store i.meta pl t r r.values a k q tt f.before f.values f.fresh
-
-    pub store_fit : (pl : Place) (x : Value) (t : TypeId) (o : Option AggStates) → FitMeta i.meta → FitPlace c pl → FitType c t → fit x → Holds States o → n + length (step_store τ S n i pl x t o).fresh ≤ c.next → PieceFit c (step_store τ S n i pl x t o)
-    unfolding step_store
-    store_fit pl x t none a k q p s z = store_kept_lem pl x t (on_some (aggregate_type τ t) (λ u. state_of S x)) a k q p z
-    store_fit pl x t (some S') a k q p s z = piece_left _ [] S' s
+        rebuilt_store i.meta pl t r r.values l.beside k q tt f.before f.values f.fresh
 
     -- a Call behind the rebuilds of its arguments
-    pub call_fit : (ds : List ValueId) (f : ℕ) (xs : List Value) (ps rs : List TypeId) (r : Rebuilt) (ts : List TypeId) → r.fresh ≡ ts → FitMeta i.meta → ((marks : List B.Bool) → FitNews c marks ds → FitKind c marks (Call ds f xs ps rs)) → length r.values ≡ length xs
+    call_behind : (ds : List ValueId) (f : ℕ) (xs : List Value) (ps rs : List TypeId) (r : Rebuilt) (ts : List TypeId) → r.fresh ≡ ts → ((marks : List B.Bool) → FitNews c marks ds → FitKind c marks (Call ds f xs ps rs)) → length r.values ≡ length xs
         → Each (Loose c) r.before → Each fit r.values → Each (FitType c) ts → PieceFit c (step_call S i ds f ps rs r ts)
     unfolding step_call
-    call_fit ds f xs ps rs r [] e a k s u v x = piece_kept S i h l
-    call_fit ds f xs ps rs r (t ∷ ts) e a k s u v x =
+    call_behind ds f xs ps rs r [] e k s u v x = piece_kept S i h l
+    call_behind ds f xs ps rs r (t ∷ ts) e k s u v x =
         record {
           out = both_lists (Loose c) r.before _ u (
             record {
@@ -174,6 +187,31 @@ module _ (b c : Bounds) (w : Wider b c) (τ : Types) (g : Typed c τ) where
           states = h;
           fresh = x;
         }
+
+    call_fresh : (ds : List ValueId) (q : ℕ) (ps rs : List TypeId) (r : Rebuilt) (ts : List TypeId) → (step_call S i ds q ps rs r ts).fresh ≡ ts
+    unfolding step_call kept
+    call_fresh ds q ps rs r [] = refl
+    call_fresh ds q ps rs r (t ∷ ts) = refl
+
+    pub call_fit : (ds : List ValueId) (f : ℕ) (xs : List Value) (ps rs : List TypeId) → ((marks : List B.Bool) → FitNews c marks ds → FitKind c marks (Call ds f xs ps rs)) → Each fit xs → Each (FitType c) ps
+        → let r = rebuild_all τ S n (wanted_arguments τ xs ps) in Low n (step_call S i ds f ps rs r r.fresh)
+    call_fit ds f xs ps rs k u v z =
+        let ws = wanted_arguments τ xs ps in
+        let r = rebuild_all τ S n ws in
+        let a = arguments_fit_lem c w.top τ g xs ps u v in
+        let y = all_fit c w.top τ g S h n ws a.0 (rw (call_fresh ds f ps rs r r.fresh) at z) in
+        call_behind ds f xs ps rs r r.fresh refl k (y.same ∙ a.1) y.before y.values y.fresh
+
+    -- edition 2: an instruction behind the rebuilds of what it reads
+    pub behind_fit : Each fit (readings i.kind) → Low n (stays_second τ S n i)
+    unfolding stays_second kept_behind
+    behind_fit q z =
+        let r = rebuild_deep τ S n (wanted_own τ (readings i.kind)) in
+        let y = deep_fit c w.top τ g S h n (readings i.kind) q z in
+        let e = same_dests i.kind r.values in
+        let new : Loose c (record { meta = i.meta; kind = with_readings i.kind r.values }) =
+        record { beside = l.beside; other = e.1 ∙ l.other; fits = λ m u. with_fit c w.top m i.kind r.values (l.fits m (rw e.0 at u)) y.same y.values } in
+        record { out = both_lists (Loose c) r.before _ y.before (new, tt); states = h; fresh = y.fresh }
 
   -- the fields of a row
   fields_few : (row : Option MirType) (t : ℕ) → ((T : MirType) → row ≡ some T → FitMirType c.list t T) → length (struct_fields_of row) ≤ c.list

@@ -1,5 +1,5 @@
--- THE OUTPUT HAS A BYTE FORM: the rewritten routine is well formed under the lifted mosts, by any choice, and so it is what
--- its bytes decode to.
+-- THE OUTPUT HAS A BYTE FORM, in both editions: a rewritten routine without a fault is well formed under the lifted mosts, by
+-- any choice, and so it is what its bytes decode to.
 use Prim.Native.Nat.{ℕ, zero, suc, ◌+◌, ◌*◌, ◌≤◌}
 use mathlib.Core.Path.{◌≡◌, refl, ap, ◌∙◌, sym}
 use mathlib.Core.List.{List, [], ◌∷◌, ◌++◌, map}
@@ -25,6 +25,7 @@ use Rattle.bytes_sections.specs.Decode.{mosts, whole_of}
 use Rattle.bytes_sections.specs.Encode.{encode}
 use Rattle.bytes_laws_whole.specs.WellFormed.{FitBlocks, bounds, unmarked, WellFormed}
 use Rattle.bytes_laws_whole.proofs.BackWhole.{whole_back}
+use Rattle.fold.specs.declared.Edition.{Edition}
 use Rattle.fold.specs.declared.Settings.{Settings}
 use Rattle.mir.specs.Lists.{Each}
 use Rattle.mir.specs.Lookup.{Types, recorded_type, types_in}
@@ -33,18 +34,23 @@ use Rattle.rewrite.specs.State.{no_states}
 use Rattle.rewrite.specs.Run.{Walked, walk, block_then, skip_then, Choice, Rewritten, one_block, all_blocks, rewritten_by, rewrite_with}
 use Rattle.rewrite.specs.Sum.{instruction_count}
 use Rattle.rewrite.proofs.Lowering.{lowers_walk}
-use Rattle.rewrite.proofs.Bound.{bound_blocks}
-use Rattle.rewrite_laws.specs.Lifted.{lifted}
+use Rattle.rewrite.proofs.Bound.{bound_blocks, block_count}
+use Rattle.rewrite.proofs.Limits.{Short, limited_by}
+use Rattle.rewrite_laws.specs.Lifted.{most_numbers, most_instructions, lifted}
 use Rattle.rewrite_laws.proofs.Wider.{Wider, kind_wider, end_wider}
 use Rattle.rewrite_laws.proofs.Parts.{no_states_lem}
 use Rattle.rewrite_laws.proofs.Rebuilt.{Typed}
 use Rattle.rewrite_laws.proofs.Steps.{walk_fit}
 use Rattle.rewrite_laws.proofs.Marks.{dests_new, Both, news_both, both_kept}
 use Rattle.rewrite_laws.proofs.Blocks.{fits_lowers}
-use Rattle.rewrite_laws.proofs.Counts.{lists_within, all_most, lowers_count}
+use Rattle.rewrite_laws.proofs.Counts.{lists_within, all_most, each_short, lowers_count}
 use Rattle.bytes_laws_whole.proofs.Whole.{both_lists}
 
 -- ---- blocks
+
+-- no block has more instructions than one may have, where all blocks together have no more than they may have
+abbrev Owned : Mosts → List Block → Type 0
+Owned o ks = Each (λ k. length k.instructions ≤ o.all → length k.instructions ≤ o.block) ks
 
 turns : (a x : Bool) → x ≡ false → a || not x ≡ true
 turns true x e = refl
@@ -124,43 +130,37 @@ module _ (b c : Bounds) (w : Wider b c) (τ : Types) (g : Typed c τ) (σ : Sett
     pub both : Both b.next n seen marked
     pub sum : put + base ≤ total + n
 
-  record AllFit (put : ℕ) (marked : List Bool) (v : Rewritten) : Type 0 where
-    pub blocks : FitBlocks lifted c put marked v.blocks
+  record AllFit (o : Mosts) (put : ℕ) (marked : List Bool) (v : Rewritten) : Type 0 where
+    pub blocks : FitBlocks o c put marked v.blocks
     pub fresh : Each (FitType c) v.fresh
 
-  blocks_fit : (m : Mosts) (base n total put : ℕ) (seen marked : List Bool) (ks : List Block) → m.all ≤ 256 → c.next ≤ base + 4608 → base ≤ b.next → Upto base n total put seen marked → FitBlocks m b total seen ks
-      → n + length (all_blocks σ τ q n ks).fresh ≤ c.next → AllFit put marked (all_blocks σ τ q n ks)
+  blocks_fit : (m o : Mosts) (base n total put : ℕ) (seen marked : List Bool) (ks : List Block) → m.all ≤ 256 → c.next + 256 ≤ base + o.all → Upto base n total put seen marked → FitBlocks m b total seen ks
+      → Owned o (all_blocks σ τ q n ks).blocks → n + length (all_blocks σ τ q n ks).fresh ≤ c.next → AllFit o put marked (all_blocks σ τ q n ks)
   unfolding all_blocks one_block skip_then block_then
-  blocks_fit m base n total put seen marked [] a d base_low u f z = record { blocks = tt; fresh = tt }
-  blocks_fit m base n total put seen marked (k ∷ ks) a d base_low u f z =
-      by (q.skips k) z (λ n put marked u z. blocks_fit m base n (total + length k.instructions) put (block_marks seen k.instructions) marked ks a d base_low u f.1 z)
+  blocks_fit m o base n total put seen marked [] a d u f own z = record { blocks = tt; fresh = tt }
+  blocks_fit m o base n total put seen marked (k ∷ ks) a d u f own z =
+      by (q.skips k) own z (λ n put marked u own z. blocks_fit m o base n (total + length k.instructions) put (block_marks seen k.instructions) marked ks a d u f.1 own z)
     where
-      by : (x : Bool) → n + length (one_block σ τ q n k (λ m. all_blocks σ τ q m ks) x).fresh ≤ c.next
-          → ((n put : ℕ) (marked : List Bool) → Upto base n (total + length k.instructions) put (block_marks seen k.instructions) marked → n + length (all_blocks σ τ q n ks).fresh ≤ c.next → AllFit put marked (all_blocks σ τ q n ks))
-          → AllFit put marked (one_block σ τ q n k (λ m. all_blocks σ τ q m ks) x)
-      by true z r =
+      by : (x : Bool) → Owned o (one_block σ τ q n k (λ m. all_blocks σ τ q m ks) x).blocks → n + length (one_block σ τ q n k (λ m. all_blocks σ τ q m ks) x).fresh ≤ c.next
+          → ((n put : ℕ) (marked : List Bool) → Upto base n (total + length k.instructions) put (block_marks seen k.instructions) marked → Owned o (all_blocks σ τ q n ks).blocks → n + length (all_blocks σ τ q n ks).fresh ≤ c.next → AllFit o put marked (all_blocks σ τ q n ks))
+          → AllFit o put marked (one_block σ τ q n k (λ m. all_blocks σ τ q m ks) x)
+      by true own z r =
           let y = keep_all b c w τ g σ n seen marked false k.instructions f.0.instructions u.both in
-          let x = r n (put + length k.instructions) (block_marks marked k.instructions) (record { both = y.both; sum = omega (arith, u.sum) }) z in
+          let x = r n (put + length k.instructions) (block_marks marked k.instructions) (record { both = y.both; sum = omega (arith, u.sum) }) own.1 z in
+          let all : put + length k.instructions ≤ o.all = omega (arith, u.sum, f.0.all, a, d, z) in
           record {
-            blocks = (record { own = omega (arith, f.0.all, a); all = omega (arith, u.sum, f.0.all, a, d, z); instructions = y.fit; terminator = end_wider b c w k.terminator f.0.terminator }, x.blocks);
+            blocks = (record { own = own.0 (omega (arith, all)); all = all; instructions = y.fit; terminator = end_wider b c w k.terminator f.0.terminator }, x.blocks);
             fresh = x.fresh;
           }
-      by false z r =
+      by false own z r =
           let v = walk σ τ (q.folds k) no_states n (behind_phis k.instructions) k.terminator in
           let rest = all_blocks σ τ q (n + length v.fresh) ks in
           let e : length (v.fresh ++ rest.fresh) ≡ length v.fresh + length rest.fresh = length-append v.fresh rest.fresh in
           let y = block_fit b c w τ g σ (q.folds k) n seen marked false k.instructions k.terminator f.0.instructions f.0.terminator u.both (omega (arith, e, z)) in
-          let x = r (n + length v.fresh) (put + length (phis_of k.instructions ++ v.out)) (block_marks marked (phis_of k.instructions ++ v.out)) (record { both = y.fits.both; sum = omega (arith, u.sum, y.count) }) (omega (arith, e, z)) in
+          let x = r (n + length v.fresh) (put + length (phis_of k.instructions ++ v.out)) (block_marks marked (phis_of k.instructions ++ v.out)) (record { both = y.fits.both; sum = omega (arith, u.sum, y.count) }) own.1 (omega (arith, e, z)) in
+          let all : put + length (phis_of k.instructions ++ v.out) ≤ o.all = omega (arith, u.sum, y.count, f.0.all, a, d, e, z) in
           record {
-            blocks = (
-              record {
-                own = omega (arith, y.count, f.0.all, a, d, e, z, u.both.start, base_low);
-                all = omega (arith, u.sum, y.count, f.0.all, a, d, e, z);
-                instructions = y.fits.fit;
-                terminator = y.terminator;
-              },
-              x.blocks,
-            );
+            blocks = (record { own = own.0 (omega (arith, all)); all = all; instructions = y.fits.fit; terminator = y.terminator }, x.blocks);
             fresh = both_lists (FitType c) v.fresh rest.fresh y.fresh x.fresh;
           }
 
@@ -184,15 +184,6 @@ recorded_fit c [] v h = tt
 recorded_fit c (t ∷ rs) zero h = h.0
 recorded_fit c (t ∷ rs) (suc v) h = recorded_fit c rs v h.1
 
-blocks_many : (σ : Settings) (τ : Types) (q : Choice) (n : ℕ) (ks : List Block) → length (all_blocks σ τ q n ks).blocks ≡ length ks
-unfolding all_blocks one_block skip_then block_then
-blocks_many σ τ q n [] = refl
-blocks_many σ τ q n (k ∷ ks) = by (q.skips k) (λ m. blocks_many σ τ q m ks)
-  where
-    by : (x : Bool) → ((m : ℕ) → length (all_blocks σ τ q m ks).blocks ≡ length ks) → length (one_block σ τ q n k (λ m. all_blocks σ τ q m ks) x).blocks ≡ suc (length ks)
-    by true f = ap (λ z. suc z) (f n)
-    by false f = ap (λ z. suc z) (f _)
-
 recorded_more : (c : Bounds) (rs : List (Option TypeId)) (ts : List TypeId) → Each (FitOption (FitType c)) rs → Each (FitType c) ts → Each (FitOption (FitType c)) (rs ++ map some ts)
 recorded_more c [] [] h k = tt
 recorded_more c [] (t ∷ ts) h k = (k.0, recorded_more c [] ts tt k.1)
@@ -203,31 +194,70 @@ map_length [] = refl
 map_length (t ∷ ts) = ap (λ z. suc z) (map_length ts)
 
 -- the lifted mosts do not pass their fields
-lifted_wide : WideMosts lifted
-lifted_wide = record { types = omega arith; next = omega arith; blocks = omega arith; block = omega arith; list = omega arith; projections = omega arith }
+pub most_below : (e : Edition) → most_numbers e ≤ 65535
+most_below Edition.First = omega arith
+most_below Edition.Second = omega arith
 
-pub well_formed : (σ : Settings) (q : Choice) (r : Routine) → WellFormed mosts r → WellFormed lifted (rewrite_with (rewritten_by σ q r) r)
-unfolding rewrite_with rewritten_by types_in recorded_type
-well_formed σ q r h =
+lifted_wide : (σ : Settings) → WideMosts (lifted σ)
+lifted_wide σ = record { types = omega arith; next = most_below σ.edition; blocks = omega arith; block = most_below σ.edition; list = omega arith; projections = omega arith }
+
+-- the room that the lifted mosts leave to what is made of a routine's blocks
+record Room (e : Edition) (r : Routine) (v : Rewritten) : Type 0 where
+  pub next : r.next + length v.fresh ≤ most_numbers e
+  pub all : (r.next + length v.fresh) + 256 ≤ r.next + most_instructions e
+  pub own : Each (λ k. length k.instructions ≤ most_instructions e → length k.instructions ≤ most_numbers e) v.blocks
+
+-- a block has no more instructions than all blocks together
+any_block : (ks : List Block) → Each (λ k. length k.instructions ≤ most_instructions Edition.First → length k.instructions ≤ most_numbers Edition.First) ks
+any_block [] = tt
+any_block (k ∷ ks) = (λ h. h, any_block ks)
+
+-- in edition 1 an accepted routine has it: "its next value is at most 4,864"
+room_first : (σ : Settings) (q : Choice) (r : Routine) → σ.edition ≡ Edition.First → WellFormed mosts r → Room Edition.First r (rewritten_by σ q r)
+unfolding rewritten_by
+room_first σ q r e h =
     let v = rewritten_by σ q r in
+    let few : length v.fresh ≤ 16 * instruction_count r.blocks + 16 * length r.blocks = bound_blocks σ e (types_in r) q r.next r.blocks (lists_within mosts r h) in
+    let all : instruction_count r.blocks ≤ 256 = all_most mosts r h in
+    record { next = omega (arith, few, all, h.many_blocks, h.next); all = omega (arith, few, all, h.many_blocks); own = any_block v.blocks }
+
+own_blocks : (ks : List Block) → Each Short ks → Each (λ k. length k.instructions ≤ most_instructions Edition.Second → length k.instructions ≤ most_numbers Edition.Second) ks
+own_blocks [] h = tt
+own_blocks (k ∷ ks) h = (λ z. h.0, own_blocks ks h.1)
+
+-- in edition 2 what is not refused has it
+room_second : (σ : Settings) (q : Choice) (r : Routine) → WellFormed mosts r → (rewritten_by σ q r).fault ≡ none → Room Edition.Second r (rewritten_by σ q r)
+room_second σ q r h n =
+    let l = limited_by σ q r (each_short mosts r (omega arith) h) (omega (arith, h.next)) n in
+    record { next = l.next; all = omega (arith, l.next); own = own_blocks (rewritten_by σ q r).blocks l.blocks }
+
+room : (σ : Settings) (q : Choice) (r : Routine) → WellFormed mosts r → (rewritten_by σ q r).fault ≡ none → Room σ.edition r (rewritten_by σ q r)
+room σ q r h n = by σ.edition refl
+  where
+    by : (e : Edition) → σ.edition ≡ e → Room e r (rewritten_by σ q r)
+    by Edition.First e = room_first σ q r e h
+    by Edition.Second e = room_second σ q r h n
+
+pub well_formed : (σ : Settings) (q : Choice) (r : Routine) → WellFormed mosts r → (rewritten_by σ q r).fault ≡ none → WellFormed (lifted σ) (rewrite_with (rewritten_by σ q r) r)
+unfolding rewrite_with rewritten_by types_in recorded_type
+well_formed σ q r h n =
+    let v = rewritten_by σ q r in
+    let s = room σ q r h n in
     let o = rewrite_with v r in
     let b = bounds mosts r in
-    let c = bounds lifted o in
+    let c = bounds (lifted σ) o in
     let τ = types_in r in
-    let few : length v.fresh ≤ 16 * instruction_count r.blocks + 16 * length r.blocks = bound_blocks σ τ q r.next r.blocks (lists_within mosts r h) in
-    let all : instruction_count r.blocks ≤ 256 = all_most mosts r h in
-    let many : length v.blocks ≡ length r.blocks = blocks_many σ τ q r.next r.blocks in
-    let top : r.next + length v.fresh ≤ 4864 = omega (arith, few, all, h.many_blocks, h.next) in
-    let w : Wider b c = record { types = omega arith; next = omega arith; blocks = omega (arith, many); list = omega arith; projections = omega arith; top = omega (arith, top) } in
+    let many : length v.blocks ≡ length r.blocks = block_count σ τ q r.next r.blocks in
+    let w : Wider b c = record { types = omega arith; next = omega arith; blocks = omega (arith, many); list = omega arith; projections = omega arith; top = omega (arith, s.next, most_below σ.edition) } in
     let g : Typed c τ = record { rows = λ t T e. first_fit r.types t T h.types e; count = omega arith; recorded = λ x. recorded_fit b r.recorded x.0 h.recorded } in
     let u : Both b.next r.next (unmarked r) (unmarked o) =
     record { long = rw (length-replicate {A = Bool} r.next false) (omega arith); start = omega arith; fewer = λ x l e. clear_at o.next x; above = λ x l. clear_at o.next x } in
-    let y = blocks_fit b c w τ g σ q mosts r.next r.next 0 0 (marks (unmarked r) r.parameters) (marks (unmarked o) r.parameters) r.blocks (omega arith) (omega (arith, few, all, h.many_blocks)) (omega arith)
-    (record { both = both_kept b c w.next r.next (unmarked r) (unmarked o) r.parameters h.parameters u; sum = omega arith }) h.blocks (omega arith) in
+    let y = blocks_fit b c w τ g σ q mosts (lifted σ) r.next r.next 0 0 (marks (unmarked r) r.parameters) (marks (unmarked o) r.parameters) r.blocks (omega arith) s.all
+    (record { both = both_kept b c w.next r.next (unmarked r) (unmarked o) r.parameters h.parameters u; sum = omega arith }) h.blocks s.own (omega arith) in
     record {
       many_types = h.many_types;
       types = h.types;
-      next = top;
+      next = s.next;
       many_blocks = omega (arith, many, h.many_blocks);
       entry = omega (arith, many, h.entry);
       many_parameters = h.many_parameters;
@@ -238,6 +268,6 @@ well_formed σ q r h =
     }
 
 -- and so the output's bytes are read as the rewritten routine
-pub output_decodes : (σ : Settings) (q : Choice) (r : Routine) → WellFormed mosts r
-    → whole_of lifted (encode (rewrite_with (rewritten_by σ q r) r)) ≡ ok (rewrite_with (rewritten_by σ q r) r) (length (encode (rewrite_with (rewritten_by σ q r) r)))
-output_decodes σ q r h = whole_back lifted (rewrite_with (rewritten_by σ q r) r) lifted_wide (well_formed σ q r h)
+pub output_decodes : (σ : Settings) (q : Choice) (r : Routine) → WellFormed mosts r → (rewritten_by σ q r).fault ≡ none
+    → whole_of (lifted σ) (encode (rewrite_with (rewritten_by σ q r) r)) ≡ ok (rewrite_with (rewritten_by σ q r) r) (length (encode (rewrite_with (rewritten_by σ q r) r)))
+output_decodes σ q r h n = whole_back (lifted σ) (rewrite_with (rewritten_by σ q r) r) (lifted_wide σ) (well_formed σ q r h n)

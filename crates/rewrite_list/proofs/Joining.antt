@@ -1,8 +1,7 @@
 -- What is rebuilt of a list: of its first value, then of the others.
-use Prim.Native.Nat.{ℕ, ◌+◌, ◌<◌}
-use mathlib.Core.Path.{◌≡◌, refl, ap}
+use Prim.Native.Nat.{ℕ, suc, ◌+◌, ◌<◌}
+use mathlib.Core.Path.{◌≡◌, refl, ap, sym, fun_ext}
 use mathlib.Core.List.{List, [], ◌∷◌, ◌++◌, append-nil}
-use mathlib.Core.Bool.{Bool, true, false, ◌||◌}
 use mathlib.Core.Option.{Option, none, some}
 use native.Mathlib.Nat.{add-zero}
 use native.Mathlib.Numerals.{add-one}
@@ -12,29 +11,42 @@ use Rattle.mir.specs.declared.ValueId.{ValueId}
 use Rattle.mir.specs.declared.TypeId.{TypeId}
 use Rattle.mir.specs.declared.Value.{Value}
 use Rattle.bytes_field.specs.Encode.{instruction_bytes}
-use Rattle.mir.specs.Lookup.{Types}
+use Rattle.mir.specs.Lookup.{Types, row_of}
+use Rattle.rewrite.specs.declared.Fault.{Fault}
+use Rattle.rewrite.specs.Fault.{first_met, full_fault, lines_fault}
 use Rattle.rewrite.specs.State.{AggStates, state_of}
-use Rattle.rewrite.specs.Rebuild.{Rebuilt, Wanted, untouched, keep_value, rebuild_value, one_value, rebuild_all}
+use Rattle.rewrite.specs.Rebuild.{Rebuilt, Wanted, untouched, rebuild_at, clash_fault, added_fault, keep_value, rebuild_value, one_value, rebuild_all}
 use Rattle.rewrite_progress.specs.Effect.{rebuilt_effect, then_effect}
 use Rattle.rewrite_progress.proofs.Laws.{each_append}
+use Rattle.rewrite_progress.proofs.Faults.{first_none}
 use Rattle.rewrite_wanted.specs.declared.Build.{Build}
 use Rattle.std.specs.Prelude.{Some, None, Option as Answered}
 use Rattle.rewrite_wanted.specs.Asked.{Told, stays, build}
 
 -- two lists, one behind the other
 abbrev pub joined : Rebuilt → Rebuilt → Rebuilt
-joined a b = record { before = a.before ++ b.before; values = a.values ++ b.values; fresh = a.fresh ++ b.fresh; clash = a.clash || b.clash }
+joined a b = record { before = a.before ++ b.before; values = a.values ++ b.values; fresh = a.fresh ++ b.fresh; fault = λ l. first_met (a.fault l) (b.fault (l + length a.before)) }
 
-or_none : (b c : Bool) → (b || false) || c ≡ b || c
-or_none true c = refl
-or_none false c = refl
+-- a rebuild's fault, before others' and alone
+join_fault : (k a b c : Option Fault) → first_met k (first_met a (first_met b c)) ≡ first_met (first_met k (first_met a (first_met b none))) c
+unfolding first_met
+join_fault none none b c = ap (λ z. first_met z c) (sym (first_none b))
+join_fault none (some f) b c = refl
+join_fault (some f) a b c = refl
+
+-- under another name of its fault
+with_fault : (r : Rebuilt) (f : ℕ → Option Fault) → ((l : ℕ) → r.fault l ≡ f l) → r ≡ record { before = r.before; values = r.values; fresh = r.fresh; fault = f }
+with_fault r f h = ap (λ (z : ℕ → Option Fault). record { before = r.before; values = r.values; fresh = r.fresh; fault = z }) (fun_ext h)
 
 -- the first value, then the others
 join_one : (τ : Types) (n : ℕ) (x : Value) (rest : ℕ → Rebuilt) (o : Option TypeId) (s : Option (List Value)) → one_value τ n x rest o s ≡ joined (one_value τ n x (λ m. untouched []) o s) (rest (n + length (one_value τ n x (λ m. untouched []) o s).fresh))
-unfolding one_value keep_value rebuild_value
-join_one τ n x rest none s = rw (add-zero n) refl
-join_one τ n x rest (some t) none = rw (add-zero n) refl
-join_one τ n x rest (some t) (some xs) = rw (add-one n, append-nil, or_none) refl
+unfolding one_value keep_value rebuild_value added_fault first_met
+join_one τ n x rest none s = rw (add-zero n) (with_fault (keep_value x (rest n)) _ (λ l. ap (rest n).fault (sym (add-zero l))))
+join_one τ n x rest (some t) none = rw (add-zero n) (with_fault (keep_value x (rest n)) _ (λ l. ap (rest n).fault (sym (add-zero l))))
+join_one τ n x rest (some t) (some xs) =
+    let is = rebuild_at (record { 0 = n }) xs t (row_of τ (some t)) in
+    let f = λ (l : ℕ). join_fault (clash_fault xs (row_of τ (some t))) (full_fault n) (lines_fault l is) ((rest (suc n)).fault (l + length is)) in
+    rw (add-one n, append-nil) (with_fault (rebuild_value τ n t xs (rest (suc n))) _ f)
 
 pub join_first : (τ : Types) (S : AggStates) (n : ℕ) (w : Wanted) (ws : List Wanted) → rebuild_all τ S n (w ∷ ws) ≡ joined (rebuild_all τ S n (w ∷ [])) (rebuild_all τ S (n + length (rebuild_all τ S n (w ∷ [])).fresh) ws)
 unfolding rebuild_all

@@ -27,7 +27,7 @@ use Rattle.std.specs.Prelude.{Some, Option as Answered}
 use Rattle.rewrite_wanted.specs.Asked.{Setting, asked_at, asked_list, Told}
 use Rattle.rewrite_list.specs.declared.values.ListedValues.{ListedValues}
 use Rattle.rewrite_list.specs.declared.Written.{Written}
-use Rattle.rewrite_list.specs.Lists.{Lies, ◌&◌, one_wanted, OfList, WantedWritten, AllWritten}
+use Rattle.rewrite_list.specs.Lists.{Lies, ◌&◌, one_wanted, EnoughFor, OfList, WantedWritten, AllWritten}
 use Rattle.rewrite_list.proofs.Joining.{joined, join_first, built, one_built}
 
 -- what is left to write: values from number i on, which stand from `here` on
@@ -43,7 +43,7 @@ module _ (next : ℕ) (t : List ℕ) (asks : Asks) (τ : Types) (S : AggStates) 
   module _ (out : List ℕ) (to taken here i : ℕ) (c : Unwritten next t asks τ S many out₀ to₀ taken₀ R₀ out to taken here i) where
     -- one more is written
     pub unwritten_again : (out' : List ℕ) (to' taken' there : ℕ) → i < many → there ≡ value_end t here → next + taken₀ + length R₀.fresh < 65536
-        → ((x : Value) → ValueAt next t here x → next + taken + length (one_wanted τ S (next + taken) x (asked_at τ t asks i x)).fresh < 65536 → Writes (each_bytes value_bytes (one_wanted τ S (next + taken) x (asked_at τ t asks i x)).values) out out' to to' × (taken' ≡ taken + length (one_wanted τ S (next + taken) x (asked_at τ t asks i x)).fresh))
+        → ((x : Value) → ValueAt next t here x → next + taken < 65536 → Writes (each_bytes value_bytes (one_wanted τ S (next + taken) x (asked_at τ t asks i x)).values) out out' to to' × (taken' ≡ taken + length (one_wanted τ S (next + taken) x (asked_at τ t asks i x)).fresh))
         → Unwritten next t asks τ S many out₀ to₀ taken₀ R₀ out' to' taken' there (i + 1)
     unfolding asked_list
     unwritten_again out' to' taken' there h e small f = go c.rest c.lies c.left c.place c.same c.number
@@ -60,7 +60,7 @@ module _ (next : ℕ) (t : List ℕ) (asks : Asks) (τ : Types) (S : AggStates) 
             let B = rebuild_all τ S (n + length A.fresh) (asked_list τ t asks (suc i) ys) in
             let j : rebuild_all τ S n (asked_list τ t asks i (x ∷ ys)) ≡ joined A B = join_first τ S n (record { value = x; at = asked_at τ t asks i x }) (asked_list τ t asks (suc i) ys) in
             let u' : taken + length (A.fresh ++ B.fresh) ≡ taken₀ + length R₀.fresh = rw j at u in
-            let g = f x v (omega (arith, u', length-append A.fresh B.fresh)) in
+            let g = f x v (omega (arith, u')) in
             let a = each_bytes value_bytes A.values in
             let z = each_bytes value_bytes B.values in
             let w : each_bytes value_bytes (rebuild_all τ S n (asked_list τ t asks i (x ∷ ys))).values ≡ a ++ z = ap (λ R. each_bytes value_bytes R.values) j ∙ each_append value_bytes A.values B.values in
@@ -93,7 +93,7 @@ pub record Valuing (vs : ListedValues) (out₀ : List ℕ) (w₀ : Written) (out
   pub spent : w.fresh ≤ w₀.fresh + i
   pub near : here ≤ vs.list.first + 5 * i
   pub len : length out ≡ length out₀
-  pub left : (rows : List ℕ) → OfList vs rows w₀.fresh (λ τ S R. Unwritten vs.code.bounds.next vs.fields.now vs.list.asks τ S vs.list.many out₀ w₀.to w₀.fresh R out w.to w.fresh here i)
+  pub left : (rows : List ℕ) → OfList vs rows w₀.fresh (λ τ S R. EnoughFor (vs.code.bounds.next + w₀.fresh) R → Unwritten vs.code.bounds.next vs.fields.now vs.list.asks τ S vs.list.many out₀ w₀.to w₀.fresh R out w.to w.fresh here i)
 
 module _ (vs : ListedValues) (out₀ : List ℕ) (w₀ : Written) where
   module _ (out : List ℕ) (w : Written) (here i : ℕ) (c : Valuing vs out₀ w₀ out w here i) where
@@ -106,11 +106,11 @@ module _ (vs : ListedValues) (out₀ : List ℕ) (w₀ : Written) where
       spent = omega (arith, c.spent, p.1);
       near = omega (arith, c.near);
       len = k ∙ c.len;
-      left = λ rows τ S xs g y m small. unwritten_again vs.code.bounds.next vs.fields.now vs.list.asks τ S vs.list.many out₀ w₀.to w₀.fresh _ out w.to w.fresh here i (c.left rows τ S xs g y m small) out' w'.to w'.fresh there h e small (λ x v n. f τ S x (asked_at τ vs.fields.now vs.list.asks i x) (d τ S rows x g v) n v);
+      left = λ rows τ S xs g y m b small. unwritten_again vs.code.bounds.next vs.fields.now vs.list.asks τ S vs.list.many out₀ w₀.to w₀.fresh _ out w.to w.fresh here i (c.left rows τ S xs g y m b small) out' w'.to w'.fresh there h e small (λ x v n. f τ S x (asked_at τ vs.fields.now vs.list.asks i x) (d τ S rows x g v) n v);
     }
 
     pub valuing_done : vs.list.many ≤ i → AllWritten vs w₀ out₀ out w.to
-    valuing_done h rows τ S xs g y m small = unwritten_done vs.code.bounds.next vs.fields.now vs.list.asks τ S vs.list.many out₀ w₀.to w₀.fresh _ out w.to w.fresh here i (c.left rows τ S xs g y m small) h
+    valuing_done h rows τ S xs g y m b small = unwritten_done vs.code.bounds.next vs.fields.now vs.list.asks τ S vs.list.many out₀ w₀.to w₀.fresh _ out w.to w.fresh here i (c.left rows τ S xs g y m b small) h
 
 -- one value as it stands, and one under a fresh number
 pub value_stays : (R : Rebuilt) (x : Value) (out out' : List ℕ) (to to' taken : ℕ) → R ≡ untouched (x ∷ []) → Writes (value_bytes x) out out' to to' → Writes (each_bytes value_bytes R.values) out out' to to' × (taken ≡ taken + length R.fresh)
@@ -120,7 +120,7 @@ pub value_built : (R : Rebuilt) (τ : Types) (n d : ℕ) (t : TypeId) (xs : List
 unfolding rebuild_value
 value_built R τ n d t xs out out' to to' taken e f w = rw (e, ← f) (w, refl)
 
-pub one_valued : (τ : Types) (S : AggStates) (n : ℕ) (x : Value) (o : Option TypeId) (b : Build) (out out' : List ℕ) (to to' taken : ℕ) (d : ValueId) (w : Answered Build) → Told τ S x o w → w ≡ Some b → n + length (rebuild_all τ S n (record { value = x; at = o } ∷ [])).fresh < 65536 → (n < 65536 → d.0 ≡ n) → Writes (value_bytes (Value.Operand d)) out out' to to'
+pub one_valued : (τ : Types) (S : AggStates) (n : ℕ) (x : Value) (o : Option TypeId) (b : Build) (out out' : List ℕ) (to to' taken : ℕ) (d : ValueId) (w : Answered Build) → Told τ S x o w → w ≡ Some b → n < 65536 → (n < 65536 → d.0 ≡ n) → Writes (value_bytes (Value.Operand d)) out out' to to'
     → Writes (each_bytes value_bytes (rebuild_all τ S n (record { value = x; at = o } ∷ [])).values) out out' to to' × (taken + 1 ≡ taken + length (rebuild_all τ S n (record { value = x; at = o } ∷ [])).fresh)
 one_valued τ S n x o b out out' to to' taken d w a e h f q =
-    elim (one_built τ S n x o b a e) [ built xs y l z ↦ value_built _ τ n d.0 b.named xs out out' to to' taken z (f (omega arith)) q ]
+    elim (one_built τ S n x o b a e) [ built xs y l z ↦ value_built _ τ n d.0 b.named xs out out' to to' taken z (f h) q ]

@@ -8,13 +8,13 @@ ghost use Rattle.rewrite_parts.specs.Rows.{rows_in};
 ghost use Rattle.bytes_emit.specs.Written.{Writes, value_room, instruction_room, build_room, rebuilt_room};
 ghost use Rattle.rewrite_build.specs.Written.{rebuild_most, value_most};
 ghost use Rattle.table.specs.Number.{numbers_below};
-ghost use Rattle.rewrite_progress.specs.Effect.{low_enough, Low, counts_below};
-ghost use Rattle.rewrite_list.specs.Lists.{most_copied, most_listed, PutFew, Roomy, fresh_below, values_most};
+ghost use Rattle.rewrite_progress.specs.Effect.{low_enough, Low, counts_below, met};
+ghost use Rattle.rewrite_list.specs.Lists.{most_copied, most_listed, PutFew, Roomy, fresh_below, values_most, line_fault};
 ghost use Rattle.rewrite_list.specs.Lists.{TrackedPut, WantedPut, AllPut, WantedWritten, AllWritten};
 
 use bytes_index::Code;
 use mir::{Value, ValueId};
-use rewrite::Clash;
+use rewrite::Fault;
 use rewrite_parts::ROWS;
 use rewrite_progress::{NUMBERS, Progress};
 use rewrite_wanted::Build;
@@ -66,13 +66,23 @@ fn put_tracked(
     work: &[u16],
     build: Build,
     d: ValueId,
-) -> Result<usize, Clash>
+) -> Result<usize, Fault>
     requires { to < rebuilt_room }
     ensures to_bound { IfOk result (λ end. end ≤ to + rebuild_most) }
     ensures tracked_put { TrackedPut code.entry work.now build d out.old out.new to result }
 {
     let parts = rewrite_parts::row(rows(work), build.value);
     rewrite_build::put_rebuild(out, to, code, build.named, d, parts)
+}
+
+// One more instruction of a block that has so many, where one is added: none past the last number.
+fn one_line(added: bool, lines: u32) -> Result<(), Fault>
+    ensures { met result ≡ line_fault added lines }
+{
+    if added {
+        return rewrite_progress::one_more(lines);
+    }
+    Ok(())
 }
 
 // What is wanted of a value: nothing, or its rebuild, under the next fresh number. (`work` is two tables in one slice, the rows and from
@@ -84,7 +94,7 @@ fn put_wanted(
     code: Code,
     work: &mut [u16],
     wants: Option<Build>,
-) -> Result<Progress, Clash>
+) -> Result<Progress, Fault>
     requires { Roomy p }
     ensures put_few { PutFew p 1 result }
     ensures work_unchanged { rows_in work.new ≡ rows_in work.old }
@@ -95,10 +105,13 @@ fn put_wanted(
     };
     let d = fresh_value(code.bounds.next, p.fresh);
     let to = put_tracked(out, p.to, code, work, build, d)?;
+    rewrite_progress::one_more(code.bounds.next as u32 + p.fresh)?;
+    let added = p.to != to;
+    one_line(added, p.lines)?;
     table::put(work, ROWS + p.fresh as usize, build.named.0);
     Ok(Progress {
         to,
-        lines: p.lines + (p.to != to) as u32,
+        lines: p.lines + added as u32,
         fresh: p.fresh + 1,
         ..p
     })
@@ -110,7 +123,7 @@ pub fn put_builds(
     p: Progress,
     values: ListedValues,
     work: &mut [u16],
-) -> Result<Progress, Clash>
+) -> Result<Progress, Fault>
     requires { Low low_enough p }
     ensures put_few { PutFew p most_listed result }
     ensures work_unchanged { rows_in work.new ≡ rows_in work.old }

@@ -20,7 +20,7 @@ pub record Opens (code : Code) (fresh : List ℕ) (size : ℕ) : Type 0 where
   pub tabled : Tabled (take code.bounds.next (recorded_in code.facts.now)) fresh routine.recorded types
   pub few : code.bounds.next + length fresh < 65536
   pub short : length code.bytes.now < 65536
-  pub low : size ≤ 4508876800
+  pub low : size ≤ 4643092480
 
 -- with no room for all nothing is written; else the head is
 pub record Opening (head : List ℕ) (size : ℕ) (out out' : List ℕ) (r : Option ℕ) : Type 0 where

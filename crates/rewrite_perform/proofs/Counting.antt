@@ -2,7 +2,6 @@
 use Prim.Native.Nat.{ℕ, ◌+◌, ◌*◌, ◌/◌, ◌%◌}
 use mathlib.Core.Path.{◌≡◌, refl, ap, ◌∙◌, sym}
 use mathlib.Core.List.{List, ◌++◌}
-use mathlib.Core.Bool.{Bool, true, false}
 use native.Mathlib.Omega.{arith}
 use lib.ListN.{length, length-append}
 use lib.Seq.{sets}
@@ -13,17 +12,10 @@ use Rattle.bytes_emit.proofs.Sets.{sets_front}
 use Rattle.fold.specs.Family.{Marks}
 use Rattle.rewrite.specs.Run.{Walked, add_counts}
 use Rattle.rewrite_progress.specs.declared.Progress.{Progress}
-use Rattle.std.specs.Prelude.{Ok, Err}
-use Rattle.rewrite.specs.declared.Clash.{Clash}
-use Rattle.rewrite_progress.specs.Effect.{Effect, Output, output_of, behind, further, walked_effect, mark_all, type_numbers, Puts}
+use Rattle.std.specs.Prelude.{Ok}
+use Rattle.rewrite_progress.specs.Effect.{output_of, behind, further, walked_effect, mark_all, type_numbers}
+use Rattle.rewrite_progress.proofs.Faults.{puts_effect}
 use Rattle.rewrite_perform.specs.Performed.{moved_to, block_effect, CountPut}
-
--- a writer that went, or clashed
-pub puts_went : (o : Output) (e : Effect) (clash : Bool) (buffer types : List ℕ) (dropped : Marks) (p : Progress) → clash ≡ false → output_of buffer types dropped p ≡ behind o e → Puts o e clash buffer types dropped (Ok p)
-puts_went o e clash buffer types dropped p h f = record { clashed = λ x z. absurd (let y : ◌≡◌ {A = ℕ} 0 1 = cc in omega arith); went = λ q z. let y : q ≡ p = cc in rw y (h, f) }
-
-pub puts_clash : (o : Output) (e : Effect) (clash : Bool) (buffer types : List ℕ) (dropped : Marks) (x : Clash) → clash ≡ true → Puts o e clash buffer types dropped (Err x)
-puts_clash o e clash buffer types dropped x h = record { clashed = λ _ z. h; went = λ p z. absurd (let y : ◌≡◌ {A = ℕ} 0 1 = cc in omega arith) }
 
 -- multiples of 256 do not change the lowest byte
 low_byte : (a b : ℕ) → (a + 256 * b) % 256 ≡ a % 256
@@ -61,4 +53,6 @@ block_out out₀ out out' types₀ types dropped₀ dropped p q v w z e f g =
 -- the count of a block whose body went
 pub count_went : (p q v : Progress) (out out' : List ℕ) → out' ≡ sets out p.to (to_bytes 2 (q.lines % 65536)) → v ≡ moved_to q q.to 0 → CountPut p out (Ok q) out' (Ok v)
 count_went p q v out out' f g =
-    λ out₀ types₀ types dropped₀ dropped w z h. let y = h.went q refl in puts_went _ _ _ out' types dropped v y.0 (block_out out₀ out out' types₀ types dropped₀ dropped p q v w z y.1 f g)
+    λ out₀ types₀ types dropped₀ dropped w z h.
+    let y = h.went q refl in
+    puts_effect _ _ w.fault out' types dropped v (ap w.fault z ∙ y.0) (block_out out₀ out out' types₀ types dropped₀ dropped p q v w z y.1 f g)

@@ -3,6 +3,7 @@ use Prim.Native.Nat.{ℕ, ◌+◌, ◌-◌, ◌≤◌}
 use mathlib.Core.Path.{◌≡◌, refl, ap, ◌∙◌, sym}
 use mathlib.Core.List.{List, [], ◌∷◌, ◌++◌, append-nil}
 use mathlib.Core.Bool.{false}
+use mathlib.Core.Option.{none, some}
 use native.Mathlib.Omega.{arith}
 use native.Mathlib.Nat.{add-zero}
 use lib.ListN.{length, length-append, take, drop}
@@ -21,13 +22,17 @@ use Rattle.bytes_index.specs.Code.{InstructionIn}
 use Rattle.mir.specs.Lookup.{Types}
 use Rattle.fold.specs.Family.{Marks, mark}
 use Rattle.rewrite.specs.declared.Counts.{Counts}
+use Rattle.rewrite.specs.declared.Fault.{Fault}
+use Rattle.rewrite.specs.Fault.{full_fault}
 use Rattle.rewrite.specs.State.{AggStates}
-use Rattle.rewrite.specs.Step.{Piece, kept, left, assigned, one_extract}
+use Rattle.rewrite.specs.Piece.{Piece, kept, left, assigned, one_extract}
 use Rattle.rewrite.specs.Run.{add_counts}
 use Rattle.rewrite_parts.specs.Rows.{ValueAt}
 use Rattle.rewrite_progress.specs.declared.Progress.{Progress}
 use Rattle.fold.specs.Tables.{CodeGround}
-use Rattle.rewrite_progress.specs.Effect.{output_of, behind, further, piece_effect, mark_all, type_numbers}
+use Rattle.std.specs.Prelude.{Result, Ok, Err}
+use Rattle.rewrite_progress.specs.Effect.{output_of, behind, further, piece_effect, mark_all, type_numbers, Puts}
+use Rattle.rewrite_progress.proofs.Faults.{puts_fault, puts_effect}
 use Rattle.rewrite_arms.specs.declared.Counted.{Counted}
 use Rattle.rewrite_arms.specs.declared.Action.{Action}
 use Rattle.rewrite_arms.specs.Decided.{counted_as, Does, Assigned, assigned_from}
@@ -76,39 +81,59 @@ pub assign_low : (d : ValueId) (x : Value) (t : TypeId) (from to : ℕ) → to �
 assign_low d x t from to e = omega (arith, e, assign_short d x t)
 
 -- the three actions: what each does is the piece q
-module _ (code : Code) (S : AggStates) (i : Instruction) (q : Piece) (act : Action) (does : Does code.bounds.next code.bytes.now S i q act) (out out' types : List ℕ) (dropped dropped' : Marks) (p r : Progress) where
-  abbrev Done : Type 0
-  Done = (q.clash ≡ false) × (output_of out' types dropped' r ≡ behind (output_of out types dropped p) (piece_effect q))
+module _ (code : Code) (S : AggStates) (i : Instruction) (q : Piece) (act : Action) (does : Does code.bounds.next code.bytes.now S (kept S i) q act) (out out' types : List ℕ) (dropped dropped' : Marks) (p : Progress) where
+  abbrev Done : Result Progress Fault → Type 0
+  Done r = Puts (output_of out types dropped p) (piece_effect q) q.fault out' types dropped' r
 
-  as_piece : (q' : Piece) → q ≡ q' → q'.clash ≡ false → output_of out' types dropped' r ≡ behind (output_of out types dropped p) (piece_effect q') → Done
-  as_piece q' e c f = (ap (λ x. x.clash) e ∙ c, f ∙ sym (ap (λ x. behind (output_of out types dropped p) (piece_effect x)) e))
+  as_piece : (q' : Piece) (r : Progress) → q ≡ q' → q'.fault p.lines ≡ none → output_of out' types dropped' r ≡ behind (output_of out types dropped p) (piece_effect q') → Done (Ok r)
+  as_piece q' r e c f = puts_effect _ _ q.fault out' types dropped' r (ap (λ x. x.fault p.lines) e ∙ c) (f ∙ sym (ap (λ x. behind (output_of out types dropped p) (piece_effect x)) e))
 
-  pub does_keep : (τ : Types) (slot : ℕ) (part : List ℕ) → act ≡ Action.Keep → dropped' ≡ dropped
+  -- the block is full
+  as_fault : (q' : Piece) (f : Fault) → q ≡ q' → q'.fault p.lines ≡ some f → Done (Err f)
+  as_fault q' f e c = puts_fault _ _ q.fault out' types dropped' f (ap (λ x. x.fault p.lines) e ∙ c)
+
+  pub keep_full : (f : Fault) → act ≡ Action.Keep → some f ≡ full_fault p.lines → Done (Err f)
+  unfolding kept
+  keep_full f z h =
+      let e : q ≡ kept S i = rw z at does in
+      as_fault (kept S i) f e (sym h)
+
+  pub does_keep : (r : Progress) (τ : Types) (slot : ℕ) (part : List ℕ) → act ≡ Action.Keep → none ≡ full_fault p.lines → dropped' ≡ dropped
       → CodeGround code τ → InstructionIn code.bounds code.bytes.now code.facts.now slot i
       → part ≡ take (end_in code.facts.now slot - place_in code.facts.now slot) (drop (place_in code.facts.now slot) code.bytes.now) → (length part ≤ 65536 → (r ≡ moved_to p (p.to + length part) (p.lines + 1)) × (out' ≡ sets out p.to part))
-      → Done
+      → Done (Ok r)
   unfolding kept
-  does_keep τ slot part z m g line f w =
+  does_keep r τ slot part z h m g line f w =
       let e : q ≡ kept S i = rw z at does in
-      as_piece (kept S i) e refl (rw m (kept_out code τ S i slot out out' types dropped p r part g line f w))
+      as_piece (kept S i) r e (sym h) (rw m (kept_out code τ S i slot out out' types dropped p r part g line f w))
 
-  pub does_track : (c : Counted) (d : ValueId) → act ≡ Action.Track d c → out' ≡ out → dropped' ≡ mark dropped d → r ≡ raised_by p (counted_as c) → Done
+  pub does_track : (r : Progress) (c : Counted) (d : ValueId) → act ≡ Action.Track d c → out' ≡ out → dropped' ≡ mark dropped d → r ≡ raised_by p (counted_as c) → Done (Ok r)
   unfolding left
-  does_track c d z o m f =
+  does_track r c d z o m f =
       let e : q ≡ left (counted_as c) (d ∷ []) q.states = rw z at does in
-      as_piece (left (counted_as c) (d ∷ []) q.states) e refl (rw o (left_out (counted_as c) d q.states out types dropped dropped' p r m f))
+      as_piece (left (counted_as c) (d ∷ []) q.states) r e refl (rw o (left_out (counted_as c) d q.states out types dropped dropped' p r m f))
 
-  assigned_does : (d : ValueId) (place : ℕ) (t : TypeId) (y : Value) (v : Progress) (to : ℕ) → Assigned code.bounds.next code.bytes.now S q d place t → dropped' ≡ dropped
-      → ((x : Value) → ValueAt code.bounds.next code.bytes.now place x → y ≡ x)
-      → (to ≡ p.to + length (instruction_bytes (plain (Assign d y t)))) × (out' ≡ sets out p.to (instruction_bytes (plain (Assign d y t))))
-      → v ≡ raised_by p one_extract → r ≡ moved_to v to (v.lines + 1) → Done
+  assigned_full : (f : Fault) (d : ValueId) (place : ℕ) (t : TypeId) → Assigned code.bounds.next code.bytes.now S q d place t → some f ≡ full_fault p.lines → Done (Err f)
   unfolding assigned
-  assigned_does d place t y v to (assigned_from x h e) m f w k n = as_piece (assigned one_extract S d x t) e refl (rw m (assigned_out S d x y t out out' types dropped p v r to (f x h) w k n))
+  assigned_full f d place t (assigned_from x h e) m = as_fault (assigned one_extract S d x t) f e (sym m)
 
-  pub does_assign : (d : ValueId) (place : ℕ) (t : TypeId) (y : Value) (v : Progress) (to : ℕ) → act ≡ Action.Assign d place t → dropped' ≡ dropped
-      → ((x : Value) → ValueAt code.bounds.next code.bytes.now place x → y ≡ x)
-      → (to ≡ p.to + length (instruction_bytes (plain (Assign d y t)))) × (out' ≡ sets out p.to (instruction_bytes (plain (Assign d y t))))
-      → v ≡ raised_by p one_extract → r ≡ moved_to v to (v.lines + 1) → Done
-  does_assign d place t y v to z m f w k n =
+  pub assign_full : (f : Fault) (d : ValueId) (place : ℕ) (t : TypeId) → act ≡ Action.Assign d place t → some f ≡ full_fault p.lines → Done (Err f)
+  assign_full f d place t z h =
       let e : Assigned code.bounds.next code.bytes.now S q d place t = rw z at does in
-      assigned_does d place t y v to e m f w k n
+      assigned_full f d place t e h
+
+  module _ (r : Progress) (d : ValueId) (place : ℕ) (t : TypeId) (y : Value) (v : Progress) (to : ℕ) where
+    assigned_does : Assigned code.bounds.next code.bytes.now S q d place t → none ≡ full_fault p.lines → dropped' ≡ dropped
+        → ((x : Value) → ValueAt code.bounds.next code.bytes.now place x → y ≡ x)
+        → (to ≡ p.to + length (instruction_bytes (plain (Assign d y t)))) × (out' ≡ sets out p.to (instruction_bytes (plain (Assign d y t))))
+        → v ≡ raised_by p one_extract → r ≡ moved_to v to (v.lines + 1) → Done (Ok r)
+    unfolding assigned
+    assigned_does (assigned_from x h e) u m f w k n = as_piece (assigned one_extract S d x t) r e (sym u) (rw m (assigned_out S d x y t out out' types dropped p v r to (f x h) w k n))
+
+    pub does_assign : act ≡ Action.Assign d place t → none ≡ full_fault p.lines → dropped' ≡ dropped
+        → ((x : Value) → ValueAt code.bounds.next code.bytes.now place x → y ≡ x)
+        → (to ≡ p.to + length (instruction_bytes (plain (Assign d y t)))) × (out' ≡ sets out p.to (instruction_bytes (plain (Assign d y t))))
+        → v ≡ raised_by p one_extract → r ≡ moved_to v to (v.lines + 1) → Done (Ok r)
+    does_assign z u m f w k n =
+        let e : Assigned code.bounds.next code.bytes.now S q d place t = rw z at does in
+        assigned_does e u m f w k n

@@ -1,5 +1,5 @@
 -- What an action and the end of a block add to the output.
-use Rattle.std.specs.Prelude.{ℕ, ◌+◌, ◌≤◌, ◌<◌, ◌≡◌, List, false, length}
+use Rattle.std.specs.Prelude.{ℕ, ◌+◌, ◌≤◌, ◌<◌, ◌≡◌, List, length}
 use Rattle.std.proofs.lemmas.List.Edits.{sets}
 use Rattle.mir.specs.Syntax.{Instruction}
 use Rattle.bytes_index.specs.declared.code.Code.{Code}
@@ -9,14 +9,14 @@ use Rattle.mir.specs.Lookup.{Types}
 use Rattle.fold.specs.Family.{Marks}
 use Rattle.rewrite.specs.declared.Counts.{Counts}
 use Rattle.rewrite.specs.State.{AggStates}
-use Rattle.rewrite.specs.Step.{Piece}
+use Rattle.rewrite.specs.Piece.{Piece, kept}
 use Rattle.rewrite.specs.Run.{Walked, add_counts}
 use Rattle.rewrite_parts.specs.Rows.{most_bytes}
 use Rattle.rewrite_progress.specs.declared.Progress.{Progress}
 use Rattle.std.specs.Prelude.{Result}
-use Rattle.rewrite.specs.declared.Clash.{Clash}
+use Rattle.rewrite.specs.declared.Fault.{Fault}
 use Rattle.fold.specs.Tables.{CodeGround}
-use Rattle.rewrite_progress.specs.Effect.{Effect, Output, output_of, behind, piece_effect, walked_effect, Puts}
+use Rattle.rewrite_progress.specs.Effect.{Effect, output_of, piece_effect, walked_effect, Puts}
 use Rattle.rewrite_arms.specs.declared.Action.{Action}
 use Rattle.rewrite_arms.specs.Decided.{Does}
 
@@ -41,14 +41,14 @@ pub record CountsLow (c : Counts) : Type 0 where
   pub inserts : c.inserts < 2147483648
   pub assigns : c.assigns < 2147483648
 
--- an action is done: nothing clashes, and the piece is put out
-abbrev pub Performs : Code → ℕ → Action → (List ℕ → Output) → (List ℕ → Output) → Type 0
-Performs code slot action before after =
+-- an action is done: the piece is put out, or the block is full; where the instruction stays, itself stands there
+abbrev pub Performs : Code → ℕ → Action → Progress → List ℕ → Marks → List ℕ → Marks → Result Progress Fault → Type 0
+Performs code slot action p out dropped out' dropped' r =
     (τ : Types) (S : AggStates) (i : Instruction) (q : Piece) (types : List ℕ) →
     CodeGround code τ →
     InstructionIn code.bounds code.bytes.now code.facts.now slot i →
-    Does code.bounds.next code.bytes.now S i q action →
-    (q.clash ≡ false) × (after types ≡ behind (before types) (piece_effect q))
+    Does code.bounds.next code.bytes.now S (kept S i) q action →
+    Puts (output_of out types dropped p) (piece_effect q) q.fault out' types dropped' r
 
 -- a walked block: its count in front, no instruction of the next block yet
 unfoldable pub block_effect : Walked → Effect
@@ -62,9 +62,9 @@ block_effect w =
     }
 
 -- a block whose body begins two bytes behind p gets its count in front
-abbrev pub CountPut : Progress → List ℕ → Result Progress Clash → List ℕ → Result Progress Clash → Type 0
+abbrev pub CountPut : Progress → List ℕ → Result Progress Fault → List ℕ → Result Progress Fault → Type 0
 CountPut p out r out' r' =
     (out₀ types₀ types : List ℕ) (dropped₀ dropped : Marks) (w : Walked) →
     p.lines ≡ 0 →
-    Puts (output_of out₀ types₀ dropped₀ (moved_to p (p.to + 2) 0)) (walked_effect w) w.clash out types dropped r →
-    Puts (output_of out₀ types₀ dropped₀ p) (block_effect w) w.clash out' types dropped r'
+    Puts (output_of out₀ types₀ dropped₀ (moved_to p (p.to + 2) 0)) (walked_effect w) w.fault out types dropped r →
+    Puts (output_of out₀ types₀ dropped₀ p) (block_effect w) w.fault out' types dropped r'

@@ -3,12 +3,12 @@
 
 ghost use Rattle.std.specs.Prelude.{◌≡◌, ℕ, ◌+◌, ◌≤◌};
 ghost use Rattle.rewrite.specs.Run.{add_counts};
-ghost use Rattle.rewrite_progress.specs.Effect.{output_of, low_enough, Low, PutLow, most_lines};
+ghost use Rattle.rewrite_progress.specs.Effect.{low_enough, Low, PutLow, most_lines};
 ghost use Rattle.rewrite_arms.specs.Decided.{counted_as};
 ghost use Rattle.rewrite_perform.specs.Performed.{moved_to, raised_by, PartPut, CountsLow, Performs, CountPut};
 
 use bytes_index::Code;
-use rewrite::{Clash, Counts};
+use rewrite::{Counts, Fault};
 use rewrite_arms::{Action, Counted};
 use rewrite_progress::{NUMBERS, Progress};
 
@@ -63,8 +63,8 @@ pub fn left_out(p: Progress, what: Counted) -> Progress
     }
 }
 
-// Puts out what is decided of a slot's instruction. (An action is a value and no closure: it is decided from tables that are not lent
-// here.)
+// Puts out what is decided of a slot's instruction, where the block has room for it. (An action is a value and no closure: it is
+// decided from tables that are not lent here.)
 pub fn perform(
     action: Action,
     code: Code,
@@ -72,24 +72,26 @@ pub fn perform(
     out: &mut [u8],
     p: Progress,
     dropped: &mut [bool],
-) -> Progress
+) -> Result<Progress, Fault>
     requires { Low low_enough p }
-    ensures by_index { (k : ℕ) → Low k p → Low (k + 1) result }
-    ensures performs { Performs code.entry slot action
-        (λ types. output_of out.old types dropped.old p)
-        (λ types. output_of out.new types dropped.new result) }
+    ensures by_index { (k : ℕ) → Low k p → PutLow (k + 1) result }
+    ensures performs { Performs code.entry slot action p out.old dropped.old out.new dropped.new result }
 {
     match action {
-        Action::Keep => put_part(out, p, code.slot_bytes(slot), 1),
+        Action::Keep => {
+            rewrite_progress::one_more(p.lines)?;
+            Ok(put_part(out, p, code.slot_bytes(slot), 1))
+        }
         Action::Track { dest: d, what } => {
             table::put(dropped, d.0 as usize, true);
-            left_out(p, what)
+            Ok(left_out(p, what))
         }
         Action::Assign {
             dest: d,
             place,
             named: t,
         } => {
+            rewrite_progress::one_more(p.lines)?;
             let to = bytes_emit::put_assign(
                 out,
                 p.to,
@@ -98,14 +100,14 @@ pub fn perform(
                 t,
             );
             let q = left_out(p, Counted::Extract);
-            moved(q, to, q.lines + 1)
+            Ok(moved(q, to, q.lines + 1))
         }
     }
 }
 
-// A block that begins at `p` is written from two bytes behind it on: its count of instructions goes in front. A clash is handed on.
-// (It takes the Result and no Progress: of that it could not promise any more what becomes of a clash.)
-pub fn put_count(out: &mut [u8], p: Progress, r: Result<Progress, Clash>) -> Result<Progress, Clash>
+// A block that begins at `p` is written from two bytes behind it on: its count of instructions goes in front. A fault is handed on.
+// (It takes the Result and no Progress: of that it could not promise any more what becomes of a fault.)
+pub fn put_count(out: &mut [u8], p: Progress, r: Result<Progress, Fault>) -> Result<Progress, Fault>
     requires { Low low_enough p }
     ensures by_index { (k : ℕ) → PutLow k r → PutLow k result }
     ensures count_put { CountPut p out.old r out.new result }

@@ -9,7 +9,7 @@ use Rattle.mir.specs.declared.TypeId.{TypeId}
 use Rattle.bytes_field.specs.Encode.{each_bytes, instruction_bytes, terminator_bytes}
 use Rattle.bytes_emit.proofs.Sets.{sets_append}
 use Rattle.fold.specs.Family.{Marks, mark}
-use Rattle.rewrite.specs.Step.{Piece}
+use Rattle.rewrite.specs.Piece.{Piece}
 use Rattle.rewrite.specs.Run.{Walked, glue}
 use Rattle.rewrite_progress.specs.declared.Progress.{Progress}
 use Rattle.rewrite_progress.specs.Effect.{Effect, Output, mark_all, type_numbers, further, behind, then_effect, no_effect, piece_effect, walked_effect}

@@ -1,5 +1,6 @@
 -- What an instruction, a terminator, a block or a routine adds to the output.
-use Rattle.std.specs.Prelude.{ℕ, ◌+◌, ◌*◌, ◌≤◌, ◌<◌, ◌≡◌, List, [], ◌∷◌, ◌++◌, Bool, true, false, length, Result, Ok, Err}
+use Rattle.std.specs.Prelude.{ℕ, ◌+◌, ◌*◌, ◌≤◌, ◌<◌, ◌≡◌, List, [], ◌∷◌, ◌++◌, length, Result, Ok, Err, ⊤}
+use Rattle.std.proofs.Math.Option.{Option, none, some}
 use Rattle.std.proofs.lemmas.List.Edits.{sets}
 use Rattle.table.specs.Number.{numbers_below}
 use Rattle.mir.specs.declared.ValueId.{ValueId}
@@ -8,10 +9,11 @@ use Rattle.bytes_field.specs.declared.Bounds.{Bounds}
 use Rattle.bytes_field.specs.Encode.{each_bytes, instruction_bytes, terminator_bytes}
 use Rattle.bytes_block.specs.Encode.{block_bytes}
 use Rattle.fold.specs.Family.{Marks, mark}
-use Rattle.rewrite.specs.declared.Clash.{Clash}
+use Rattle.rewrite.specs.declared.Fault.{Fault}
 use Rattle.rewrite.specs.declared.Counts.{Counts}
+use Rattle.rewrite.specs.Fault.{last_number}
 use Rattle.rewrite.specs.Rebuild.{Rebuilt}
-use Rattle.rewrite.specs.Step.{Piece, no_counts}
+use Rattle.rewrite.specs.Piece.{Piece, no_counts}
 use Rattle.rewrite.specs.Run.{Walked, Rewritten, add_counts}
 use Rattle.rewrite_progress.specs.declared.Progress.{Progress}
 
@@ -121,21 +123,32 @@ rewritten_effect w =
       counts = w.counts;
     }
 
--- what a writer answers: how far the output is written then; a clash only where there is one, else the output behind the effect
-pub record Puts (o : Output) (e : Effect) (clash : Bool) (buffer types : List ℕ) (dropped : Marks) (r : Result Progress Clash) : Type 0 where
-  pub clashed : (x : Clash) → r ≡ Err x → clash ≡ true
-  pub went : (p : Progress) → r ≡ Ok p → (clash ≡ false) × (output_of buffer types dropped p ≡ behind o e)
+-- the fault that was met, if any
+abbrev pub met : Result ⊤ Fault → Option Fault
+met (Ok _) = none
+met (Err f) = some f
 
--- the numbers of a progress are at most these: one thing put out adds at most 2^20 bytes and 1,024 of anything else
+-- what a writer answers, where the fault is by how many instructions the block has before: a fault only where it is the first met,
+-- else there is none, and how far the output is written then is the output behind the effect
+pub record Puts (o : Output) (e : Effect) (fault : ℕ → Option Fault) (buffer types : List ℕ) (dropped : Marks) (r : Result Progress Fault) : Type 0 where
+  pub refused : (f : Fault) → r ≡ Err f → fault o.progress.lines ≡ some f
+  pub went : (p : Progress) → r ≡ Ok p → (fault o.progress.lines ≡ none) × (output_of buffer types dropped p ≡ behind o e)
+
+-- no rebuild has more bytes; each takes a number, of which there are as many as two bytes count
+abbrev pub number_bytes : ℕ
+number_bytes = 2048
+
+-- the numbers of a progress are at most these: beside its rebuilds one thing put out adds at most 2^20 bytes and 1,024 of anything else; lines and
+-- materializations rise with its rebuilds too
 pub record Low (k : ℕ) (p : Progress) : Type 0 where
-  pub to : p.to ≤ k * 1048576
-  pub lines : p.lines ≤ k * 1024
-  pub fresh : p.fresh ≤ k * 1024
+  pub to : p.to ≤ k * 1048576 + p.fresh * number_bytes
+  pub lines : p.lines ≤ k * 65536
+  pub fresh : p.fresh ≤ last_number
   pub builds : p.counts.builds ≤ k * 1024
   pub extracts : p.counts.extracts ≤ k * 1024
   pub inserts : p.counts.inserts ≤ k * 1024
   pub assigns : p.counts.assigns ≤ k * 1024
-  pub materializations : p.counts.materializations ≤ k * 1024
+  pub materializations : p.counts.materializations ≤ k * 65536
 
 -- as many instructions as are put out at once
 abbrev pub most_lines : ℕ
@@ -163,13 +176,13 @@ abbrev pub counts_below : ℕ
 counts_below = 1073741824
 
 -- a writer's answer stays low
-abbrev pub PutLow : ℕ → Result Progress Clash → Type 0
+abbrev pub PutLow : ℕ → Result Progress Fault → Type 0
 PutLow k (Err x) = Unit {0}
 PutLow k (Ok p) = Low k p
 
--- the fresh numbers begin with the next one, and are enough for the types ts
+-- the fresh numbers begin with the next one, which is a number
 abbrev pub fresh_from : Bounds → Progress → ℕ
 fresh_from b p = b.next + p.fresh
 
-abbrev pub Enough : Bounds → Progress → List TypeId → Type 0
-Enough b p ts = fresh_from b p + length ts < numbers_below
+abbrev pub Numbered : Bounds → Progress → Type 0
+Numbered b p = fresh_from b p < numbers_below

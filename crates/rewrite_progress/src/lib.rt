@@ -1,10 +1,14 @@
 // How far the output of a run is written.
 #![tactic(auto)]
 
+ghost use Rattle.std.specs.Prelude.{◌≡◌};
+ghost use Rattle.rewrite.specs.Fault.{full_fault};
+ghost use Rattle.rewrite_progress.specs.Effect.{met};
+
 use bytes_index::Code;
 use fold::Settings;
 use mir::most;
-use rewrite::Counts;
+use rewrite::{Counts, Fault};
 
 // The flags of a choice: one for each slot, whether its build is folded, and from here on one for each block, whether it is
 // skipped. (Two tables in one slice, as `Follows` of specs/Chosen
@@ -15,6 +19,19 @@ pub const FLAGS: usize = SKIPS + most::BLOCKS;
 
 // How many numbers two bytes have.
 pub const NUMBERS: u32 = 65536;
+
+// The last of them: neither the next value nor a block's count of instructions passes it.
+pub const LAST_NUMBER: u32 = 65535;
+
+// One more number, or one more instruction of a block, where there are n: none past the last number that two bytes have.
+pub fn one_more(n: u32) -> Result<(), Fault>
+    ensures { met result ≡ full_fault n }
+{
+    if n < LAST_NUMBER {
+        return Ok(());
+    }
+    Err(Fault::Overfull)
+}
 
 // The place behind what is written, the instructions put out in the present block, the fresh numbers taken, the counts. (How low
 // they are, `Low` of specs/Effect, is no fact of the type: each writer takes low ones and answers higher ones.)

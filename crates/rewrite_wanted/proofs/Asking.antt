@@ -6,7 +6,7 @@ use mathlib.Core.Bool.{true, false, cond}
 use mathlib.Core.Bool as B
 use mathlib.Core.Option.{Option, none, some}
 use native.Mathlib.Omega.{arith}
-use borrow.Author.Tests.{lt-ltb, eqb-true, eqb-false}
+use borrow.Author.Tests.{eqb-true, eqb-false}
 use lib.ListN.{length, get_or, get_elem?, drop}
 use lib.Dec.{ltb, eqb}
 use denote.Enum.Bare.{sameb}
@@ -21,17 +21,18 @@ use Rattle.mir.specs.Operand.{operand_of}
 use Rattle.bytes_field.specs.declared.Bounds.{Bounds}
 use Rattle.mir.specs.MirType.{MirType, Felt, Bool, U32, Tuple, Struct, FixedArray, Pointer, Function, Unit, Error, Unknown}
 use Rattle.bytes_sections.specs.Index.{recorded_number, recorded_from}
-use Rattle.mir.specs.Lookup.{is_some, Types, row_of, recorded_type, shape, is_tuple, is_struct, is_array, is_aggregate}
+use Rattle.mir.specs.Lookup.{is_some, on_some, Types, row_of, recorded_type, shape, is_tuple, is_struct, is_array, is_aggregate}
 use Rattle.fold.specs.Tables.{Known}
 use Rattle.rewrite.specs.State.{AggStates, state_of}
-use Rattle.rewrite.specs.Rebuild.{one_value, aggregate_type, return_type}
+use Rattle.rewrite.specs.Rebuild.{Wanted, one_value, aggregate_type, return_type}
+use Rattle.rewrite.specs.Deep.{own_type, wanted_own}
 use Rattle.bytes_wire.specs.WellFormed.{Bytes}
 use Rattle.bytes_wire.proofs.Canon.{value_fit, bytes_drop}
 use Rattle.rewrite_parts.specs.Rows.{ValueAt, stands}
 use Rattle.rewrite_progress.specs.Ground.{Ground}
 use Rattle.rewrite_wanted.specs.declared.Asks.{Asks}
 use Rattle.std.specs.Prelude.{Some, None}
-use Rattle.rewrite_wanted.specs.Asked.{asked_at, Told, stays, build}
+use Rattle.rewrite_wanted.specs.Asked.{asked_at, asked_list, Told, stays, build}
 
 -- an aggregate has a shape
 agg_some : (o : Option MirType) → (shape o ≡ 0 → ⊥) → is_aggregate o ≡ true
@@ -60,18 +61,27 @@ other_shape Shape.Tuple = refl
 other_shape Shape.Struct = refl
 other_shape Shape.FixedArray = refl
 
-module _ (τ : Types) (i n w : ℕ) where
-  -- of a type that is no aggregate none is asked
-  pub none_other : (k : Shape) → i < n → sameb the_type k Shape.Other ≡ true → number_of_shape k ≡ shape (get_elem? τ.rows w) → none ≡ cond (ltb i n) (aggregate_type τ (record { 0 = w })) none
+module _ (τ : Types) (w : ℕ) where
+  -- a type that is no aggregate is not asked for
+  pub none_other : (k : Shape) → sameb the_type k Shape.Other ≡ true → number_of_shape k ≡ shape (get_elem? τ.rows w) → none ≡ aggregate_type τ (record { 0 = w })
   unfolding aggregate_type row_of
-  none_other k h o e =
+  none_other k o e =
       let z : shape (get_elem? τ.rows w) ≡ 0 = sym e ∙ eqb-true _ 0 (sym (other_shape k) ∙ o) in
-      rw (lt-ltb i n h, agg_none (get_elem? τ.rows w) z) refl
+      rw (agg_none (get_elem? τ.rows w) z) refl
 
   -- an aggregate is
-  pub some_type : (k : Shape) → i < n → sameb the_type k Shape.Other ≡ false → number_of_shape k ≡ shape (get_elem? τ.rows w) → some (record { 0 = w }) ≡ cond (ltb i n) (aggregate_type τ (record { 0 = w })) none
+  pub some_type : (k : Shape) → sameb the_type k Shape.Other ≡ false → number_of_shape k ≡ shape (get_elem? τ.rows w) → some (record { 0 = w }) ≡ aggregate_type τ (record { 0 = w })
   unfolding aggregate_type row_of
-  some_type k h o e = rw (lt-ltb i n h, agg_some (get_elem? τ.rows w) (λ z. eqb-false _ 0 (sym (other_shape k) ∙ o) (e ∙ z))) refl
+  some_type k o e = rw (agg_some (get_elem? τ.rows w) (λ z. eqb-false _ 0 (sym (other_shape k) ∙ o) (e ∙ z))) refl
+
+-- of a recorded type that is there, that it is an aggregate; of none nothing
+pub own_some : (τ : Types) (v : ValueId) (u : TypeId) → some u ≡ return_type τ (Value.Operand v) → own_type τ (Value.Operand v) ≡ aggregate_type τ u
+unfolding own_type on_some
+own_some τ v u e = rw (← e) refl
+
+pub own_none : (τ : Types) (v : ValueId) → none ≡ return_type τ (Value.Operand v) → own_type τ (Value.Operand v) ≡ none
+unfolding own_type on_some
+own_none τ v e = rw (← e) refl
 
 -- the number of a recorded type tells it
 from_number : (n : ℕ) (o : Option TypeId) → n ≡ recorded_number o → recorded_from n ≡ o
@@ -109,10 +119,16 @@ module _ (b : Bounds) (s types table : List ℕ) (τ : Types) (g : Ground b s ty
   listed_within w u true h = agg_within w u (get_elem? τ.rows w) refl h
   listed_within w u false h = absurd (no h)
 
+  own_within : (u : TypeId) (o : Option TypeId) → on_some o (aggregate_type τ) ≡ some u → u.0 < length τ.rows
+  unfolding on_some aggregate_type row_of
+  own_within u none h = absurd (no h)
+  own_within u (some w) h = agg_within w.0 u (get_elem? τ.rows w.0) refl h
+
   pub asked_within : (t : List ℕ) (asks : Asks) (i : ℕ) (v : ValueId) (u : TypeId) → asked_at τ t asks i (Value.Operand v) ≡ some u → u.0 < length τ.rows
-  unfolding return_type recorded_type
+  unfolding return_type recorded_type own_type
   asked_within t (Asks.Types at n) i v u h = listed_within (at16 (drop at t) (2 * i)) u (ltb i n) h
   asked_within t Asks.Recorded i v u h = rw g.rows (g.typed v.0 u h)
+  asked_within t Asks.Own i v u h = own_within u (recorded_type τ v) h
 
 module _ (τ : Types) (S : AggStates) where
   -- a value that is no operand stays
@@ -157,3 +173,9 @@ is_read Value.Error e = absurd (let z : ◌≡◌ {A = ℕ} 0 1 = cc in omega ar
 -- an operand that was read is one of the values there are
 pub operand_below : (next : ℕ) (t : List ℕ) (at : ℕ) (v : ValueId) → Bytes t → next ≤ 256 → ValueAt next t at (Value.Operand v) → v.0 < next
 operand_below next t at v h l (stands n e) = (value_fit next (drop at t) (bytes_drop t at h) e (omega arith)).0
+
+-- where each value's own type is asked for, the list is wanted so
+pub asked_own : (τ : Types) (t : List ℕ) (i : ℕ) (xs : List Value) → asked_list τ t Asks.Own i xs ≡ wanted_own τ xs
+unfolding asked_list wanted_own
+asked_own τ t i [] = refl
+asked_own τ t i (x ∷ xs) = ap (λ (ws : List Wanted). record { value = x; at = own_type τ x } ∷ ws) (asked_own τ t (suc i) xs)

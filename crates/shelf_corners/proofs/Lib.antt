@@ -2,3 +2,4 @@ pub mod Open
 pub mod Table
 pub mod Neighbours
 pub mod Printed
+pub mod Second

@@ -2,11 +2,14 @@
 use mathlib.Core.Path.{◌≡◌, refl}
 use mathlib.Core.List.{[], ◌∷◌}
 use mathlib.Core.Bool.{true, false}
+use mathlib.Core.Option.{some}
 use lib.ListN.{replicate}
 use Rattle.bytes_wire.specs.Value.{integer, boolean, unit}
 use Rattle.bytes_sections.specs.Encode.{encode}
 use Rattle.bytes_sections.proofs.Examples.{example}
+use Rattle.rewrite.specs.declared.Fault.{Fault}
 use Rattle.rewrite.specs.Run.{rewritten_blocks, rewrite}
+use Rattle.fold.specs.declared.Edition.{Edition}
 use Rattle.fold.specs.Scalarizable.{defaults}
 use Rattle.shelf_corners.specs.Words.{felt, pair, point, felts, eight, pairs, points, nine_pairs}
 use Rattle.shelf_corners.specs.Words.{op, two, by, part, tuple, struct, array, extract, insert, assign, load, store, call, marked, routine}
@@ -71,7 +74,7 @@ tuple_in_kept_array = refl
 
 -- "With enable_tuples off, arrays, Loads and Stores are left too"
 pub tuples_off :
-    Untouched (record { tuples = false; structs = true; most = 8 })
+    Untouched (record { tuples = false; structs = true; most = 8; edition = Edition.First })
     (routine (felts ∷ felt ∷ []) (array 0 two felt false ∷ store 0 (by (integer 1) ∷ []) (integer 9) felt ∷ load 1 0 (by (integer 1) ∷ []) ∷ []) (op 1 ∷ []))
 unfolding opened
 tuples_off = refl
@@ -119,6 +122,6 @@ unfolding opened
 returned_bare = refl
 
 -- "An array of another count panics: refusal 10"
-pub array_clashes : (rewritten_blocks defaults (routine (felts ∷ []) (array 0 (unit ∷ []) felt false ∷ []) (op 0 ∷ []))).clash ≡ true
+pub array_clashes : (rewritten_blocks defaults (routine (felts ∷ []) (array 0 (unit ∷ []) felt false ∷ []) (op 0 ∷ []))).fault ≡ some Fault.Clash
 unfolding opened
 array_clashes = refl

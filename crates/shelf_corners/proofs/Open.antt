@@ -11,7 +11,7 @@ use Rattle.bytes_block.specs.Encode.{block_bytes}
 use Rattle.bytes_types.specs.Encode.{type_bytes, types_bytes}
 use Rattle.bytes_sections.specs.Encode.{encode}
 use Rattle.bytes_sections.proofs.Examples.{reading}
-use Rattle.rewrite.specs.Outcome.{fitted_in, rewritten, of_input, outcome}
+use Rattle.rewrite.specs.Outcome.{fitted_in, unless, rewritten, of_input, outcome}
 use Rattle.shelf.specs.Answer.{reason_of, with_reason, answer}
 use Rattle.shelf_corners.specs.Words.{summary, aside_of}
 
@@ -42,5 +42,5 @@ opened = tt
 
 -- what is answered of bytes
 unfoldable pub answering : Unit {0}
-unfolding opened reading fitted_in rewritten of_input outcome reason_of with_reason answer summary aside_of
+unfolding opened reading fitted_in unless rewritten of_input outcome reason_of with_reason answer summary aside_of
 answering = tt

@@ -103,22 +103,22 @@ store_integer = refl
 -- (P) "The first projection of a Load or Store must be an Integer literal": by an operand neither is forwarded, whatever is tracked and whatever steps follow
 pub first_operand : (x : ValueId) → LoadStays (by (Value.Operand x)) × StoreStays (by (Value.Operand x))
 unfolding opened
-first_operand x = (λ τ folds S n i d b ps t. refl, λ τ S b ps y. refl)
+first_operand x = (λ τ folds S n m d b ps t. refl, λ τ S b ps y. refl)
 
 -- (P) "The first projection of a Load or Store must be an Integer literal": nor by a Boolean
 pub first_boolean : (a : Bool) → LoadStays (by (boolean a)) × StoreStays (by (boolean a))
 unfolding opened
-first_boolean a = (λ τ folds S n i d b ps t. refl, λ τ S b ps y. refl)
+first_boolean a = (λ τ folds S n m d b ps t. refl, λ τ S b ps y. refl)
 
 -- (P) "The first projection of a Load or Store must be an Integer literal": nor by a Field
 pub first_field : (f : NameId) → LoadStays (Projection.Field f) × StoreStays (Projection.Field f)
 unfolding opened
-first_field f = (λ τ folds S n i d b ps t. refl, λ τ S b ps y. refl)
+first_field f = (λ τ folds S n m d b ps t. refl, λ τ S b ps y. refl)
 
 -- (P) "The first projection of a Load or Store must be an Integer literal": nor by a Tuple step
 pub first_tuple : (k : ℕ) → LoadStays (part k) × StoreStays (part k)
 unfolding opened
-first_tuple k = (λ τ folds S n i d b ps t. refl, λ τ S b ps y. refl)
+first_tuple k = (λ τ folds S n m d b ps t. refl, λ τ S b ps y. refl)
 
 -- (P) "The first projection of a Load or Store must be an Integer literal": a Load by an operand stays, and the array is kept
 pub load_operand : Untouched defaults (routine (felts ∷ felt ∷ felt ∷ []) (array 0 two felt false ∷ assign 1 (integer 1) felt ∷ load 2 0 (by (op 1) ∷ []) ∷ []) (op 2 ∷ []))

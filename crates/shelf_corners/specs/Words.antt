@@ -8,14 +8,15 @@ use Rattle.mir.specs.declared.TypeId.{TypeId}
 use Rattle.mir.specs.declared.Value.{Value}
 use Rattle.mir.specs.MirType.{MirType}
 use Rattle.mir.specs.declared.Projection.{Projection}
-use Rattle.mir.specs.Syntax.{Instruction, InstructionKind, Return, Block, plain}
+use Rattle.mir.specs.Syntax.{Meta, Instruction, InstructionKind, Return, Block, plain}
 use Rattle.mir.specs.Routine.{Routine}
 use Rattle.mir.specs.Lookup.{Types}
 use Rattle.fold.specs.declared.Settings.{Settings}
 use Rattle.fold.specs.Scalarizable.{defaults}
 use Rattle.rewrite.specs.declared.Counts.{Counts}
 use Rattle.rewrite.specs.State.{AggStates, forward_store}
-use Rattle.rewrite.specs.Step.{kept, step_kind}
+use Rattle.rewrite.specs.Piece.{kept}
+use Rattle.rewrite.specs.Step.{step}
 use Rattle.rewrite.specs.Run.{rewritten_blocks}
 use Rattle.bytes_sections.specs.Decode.{mosts, whole_of}
 use Rattle.shelf.specs.Reads.{with_debug}
@@ -221,9 +222,10 @@ Says s w c before after =
 -- a Load whose first step it is stays as it is, whatever is tracked and whatever steps follow
 abbrev pub LoadStays : Projection → Type 0
 LoadStays p =
-    (τ : Types) (folds : ValueId → Bool) (S : AggStates) (n : ℕ) (i : Instruction)
+    (τ : Types) (folds : ValueId → Bool) (S : AggStates) (n : ℕ) (m : Meta)
     (d b : ValueId) (ps : List Projection) (t : TypeId)
-    → step_kind defaults τ folds S n i (InstructionKind.Load d (record { base = b; projections = p ∷ ps }) t) ≡ kept S i
+    → let i : Instruction = record { meta = m; kind = InstructionKind.Load d (record { base = b; projections = p ∷ ps }) t } in
+    step defaults τ folds S n i ≡ kept S i
 
 -- a Store whose first step it is is not forwarded
 abbrev pub StoreStays : Projection → Type 0

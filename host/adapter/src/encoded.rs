@@ -5,7 +5,7 @@ use std::fmt;
 
 use mir::{BasicBlock, BasicBlockId, MirFunction, MirType};
 use oracle::form::{Mosts, Routine};
-use oracle::{fill_block, read_output, routine_of, write, Misfit, Spelling};
+use oracle::{fill_block, read_second_output, routine_of, write, Misfit, Spelling};
 
 use crate::tables::{Spelled, Tables};
 
@@ -48,7 +48,7 @@ impl Encoded {
     /// terminators of blocks that changed, and the fresh values with their types. All else stays,
     /// and so does the whole function where the bytes are no rewriting.
     pub fn put_back(&self, output: &[u8], function: &mut MirFunction) -> Result<(), Foreign> {
-        let output = read_output(output).map_err(|_| Foreign)?;
+        let output = read_second_output(output).map_err(|_| Foreign)?;
         if !self.is_of(function) || !self.is_before(&output) {
             return Err(Foreign);
         }

@@ -21,4 +21,4 @@ pub use encoded::{Encoded, Foreign};
 pub use oracle::{Misfit, What};
 #[cfg(feature = "archive")]
 pub use pass::{Outcome, ProvedSroa};
-pub use poelvigu::{Cause, Counts, Lowered, Refusal, Settings, ShelfReason};
+pub use poelvigu::{Cause, Choices, Counts, Edition, Lowered, Refusal, Settings, ShelfReason};

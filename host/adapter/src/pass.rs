@@ -3,7 +3,7 @@
 use mir::passes::MirPass;
 use mir::MirFunction;
 use oracle::Misfit;
-use poelvigu::{lower, Counts, Lowered, Refusal, Settings};
+use poelvigu::{lower_with, Choices, Counts, Lowered, Refusal};
 
 use crate::encoded::Encoded;
 
@@ -56,21 +56,21 @@ pub enum Outcome {
 /// ```
 #[derive(Debug, Default)]
 pub struct ProvedSroa {
-    settings: Settings,
+    choices: Choices,
     only_passed: bool,
     counts: Counts,
     outcome: Option<Outcome>,
 }
 
 impl ProvedSroa {
-    /// The pass under the usual settings.
+    /// The pass under the usual settings, edition 1.
     pub fn new() -> Self {
         Self::default()
     }
 
-    /// The pass under other settings.
-    pub fn with_settings(settings: Settings) -> Self {
-        Self { settings, ..Self::default() }
+    /// The pass under other choices, or under other settings, which are edition 1.
+    pub fn with_choices(choices: impl Into<Choices>) -> Self {
+        Self { choices: choices.into(), ..Self::default() }
     }
 
     /// Puts back only what passed the shelf test: what nobody can tell from the original.
@@ -103,7 +103,7 @@ impl ProvedSroa {
             Ok(encoded) => encoded,
             Err(misfit) => return Outcome::NoRoom(misfit),
         };
-        let (lowered, output) = match lower(encoded.bytes(), &self.settings) {
+        let (lowered, output, _) = match lower_with(encoded.bytes(), &self.choices) {
             Ok(answer) => answer,
             Err(refusal) => return Outcome::Refused(refusal),
         };

@@ -2,7 +2,9 @@
 
 mod common;
 
-use adapter::{Cause, Counts, Outcome, ProvedSroa, Refusal, Settings, ShelfReason};
+use adapter::{
+    Cause, Choices, Counts, Edition, Outcome, ProvedSroa, Refusal, Settings, ShelfReason,
+};
 use common::*;
 use mir::passes::MirPass;
 use mir::{
@@ -32,7 +34,7 @@ fn in_order(counts: Counts) -> oracle::Counts {
 /// Both passes over one function, which the Rust may refuse to rebuild: what became of it.
 fn assert_same(function: &MirFunction, settings: Settings) -> Outcome {
     let (mut ours, mut other) = (function.clone(), function.clone());
-    let mut pass = ProvedSroa::with_settings(settings);
+    let mut pass = ProvedSroa::with_choices(settings);
     let changed = pass.run(&mut ours);
     match run_pass(&mut other, theirs(settings)) {
         Ok((result, counts)) => {
@@ -194,7 +196,7 @@ fn what_is_refused_is_left_and_told() {
         assert_eq!(pass.last_refusal().map(|refusal| refusal.cause), Some(cause));
         assert_eq!((left, pass.counts()), (function, Counts::default()));
     }
-    let mut pass = ProvedSroa::with_settings(Settings { most: 17, ..Settings::default() });
+    let mut pass = ProvedSroa::with_choices(Settings { most: 17, ..Settings::default() });
     assert!(!pass.run(&mut pair()));
     assert_eq!(pass.last_refusal(), Some(Refusal { cause: Cause::MostAbove16, offset: 0 }));
 }
@@ -223,4 +225,53 @@ fn only_what_passed_is_put_back_where_that_is_asked_for() {
     assert_eq!(lowered.reason, ShelfReason::ReadsDropped);
     assert!(pass.run(&mut pair()));
     assert!(ProvedSroa::new().run(&mut function) && function != returned_nest());
+}
+
+fn second() -> Choices {
+    Choices { edition: Edition::Second, ..Choices::default() }
+}
+
+/// What edition 1 does not pass, since a part is gone, edition 2 passes, and it is put back.
+#[test]
+fn edition_2_builds_parts_again() {
+    let mut function = returned_nest();
+    let mut pass = ProvedSroa::with_choices(second()).only_passed();
+    assert!(pass.run(&mut function));
+    let Some(Outcome::Lowered(lowered)) = pass.outcome() else {
+        panic!("it is lowered");
+    };
+    assert_eq!((lowered.reason, lowered.counts.materializations), (ShelfReason::Passed, 2));
+    let builds = |kind: &&InstructionKind| matches!(kind, InstructionKind::MakeTuple { .. });
+    assert_eq!(kinds(&function).filter(builds).count(), 2);
+}
+
+/// A value that is built of itself is left as it was.
+#[test]
+fn edition_2_refuses_a_loop() {
+    let mut draft = Draft::new("refused");
+    let one = draft.value(&MirType::tuple(vec![felt()]));
+    let entry = draft.function.entry_block;
+    let build = Instruction::make_tuple(one, vec![of(one)]);
+    draft.fill(entry, vec![build], Terminator::return_value(of(one)));
+    let mut left = draft.function.clone();
+    let mut pass = ProvedSroa::with_choices(second());
+    assert!(!pass.run(&mut left));
+    assert_eq!(pass.last_refusal(), Some(Refusal { cause: Cause::Looped, offset: 0 }));
+    assert_eq!(left, draft.function);
+}
+
+/// Whatever edition 2 makes of a function can be put back.
+#[test]
+fn made_functions_are_put_back_in_edition_2() {
+    let (mut changed, mut more) = (0, 0);
+    for function in made_functions(3, 2000) {
+        let mut first = ProvedSroa::new();
+        first.run(&mut function.clone());
+        let mut second = ProvedSroa::with_choices(second());
+        changed += u64::from(second.run(&mut function.clone()));
+        assert!(matches!(second.outcome(), Some(Outcome::Lowered(_) | Outcome::Refused(_))));
+        more += u64::from(second.counts().materializations > first.counts().materializations);
+    }
+    println!("{changed} changed, {more} with more built again");
+    assert!(changed > 700 && more > 50);
 }

@@ -2,7 +2,7 @@
 
 use std::collections::BTreeMap;
 
-use gen::{Sort, SORTS};
+use gen::{Sort, ALL_SORTS};
 
 /// Names that stand without a value.
 const ALONE: [&str; 1] = ["members"];
@@ -46,7 +46,7 @@ impl Args {
         let Some(name) = self.text("sort") else {
             return Ok(None);
         };
-        let sort = SORTS.into_iter().find(|sort| sort.name() == name);
+        let sort = ALL_SORTS.into_iter().find(|sort| sort.name() == name);
         sort.map(Some).ok_or(format!("--sort {name} is none of the sorts"))
     }
 
@@ -90,6 +90,7 @@ mod tests {
     fn sorts_have_names() {
         assert_eq!(of(&[]).unwrap().sort(), Ok(None));
         assert_eq!(of(&["--sort", "wild"]).unwrap().sort(), Ok(Some(Sort::Wild)));
+        assert_eq!(of(&["--sort", "tower"]).unwrap().sort(), Ok(Some(Sort::Tower)));
         assert!(of(&["--sort", "other"]).unwrap().sort().is_err());
     }
 }

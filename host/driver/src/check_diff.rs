@@ -1,6 +1,6 @@
 //! The archive's `check` against the oracle's reader.
 
-use gen::{Sort, SORTS};
+use gen::{Sort, ALL_SORTS};
 use oracle::rows::ROWS;
 use oracle::{from_hex, read, to_hex};
 
@@ -35,11 +35,11 @@ struct Difference {
 struct Comparison {
     check: Check,
     /// By sort, then by the oracle's number; the stored inputs come last.
-    met: [[u64; 10]; SORTS.len() + 1],
+    met: [[u64; 10]; ALL_SORTS.len() + 1],
     differences: Vec<Difference>,
 }
 
-const STORED: usize = SORTS.len();
+const STORED: usize = ALL_SORTS.len();
 
 impl Comparison {
     fn new(check: Check) -> Self {
@@ -83,7 +83,7 @@ impl Comparison {
     }
 
     fn print(&self, seed: u64) {
-        let names = SORTS.iter().map(|s| s.name()).chain(["stored"]);
+        let names = ALL_SORTS.iter().map(|s| s.name()).chain(["stored"]);
         println!("check against the oracle's reader, seed {seed}");
         println!("{:<10}{:>10}{}", "sort", "accepted", numbers());
         for (name, row) in names.zip(&self.met) {
@@ -104,7 +104,7 @@ impl Comparison {
 }
 
 fn place(sort: Sort) -> usize {
-    SORTS.iter().position(|s| *s == sort).expect("every sort is listed")
+    ALL_SORTS.iter().position(|s| *s == sort).expect("every sort is listed")
 }
 
 fn numbers() -> String {

@@ -1,6 +1,6 @@
 //! How often each case is met, so that nothing is missing.
 
-use gen::{Rng, Sort, SORTS};
+use gen::{Rng, Sort, ALL_SORTS, SORTS};
 use oracle::form::*;
 use oracle::{read, run_oracle, Outcome, Settings, COUNT_NAMES, LENT};
 
@@ -14,7 +14,8 @@ pub fn command(args: &Args) -> Result<bool, String> {
     let count = args.number("count", 100_000)?;
     let seed = args.number("seed", 1)?;
     let sort = args.sort()?;
-    let mut histogram = Histogram::new();
+    let sorts = if sort.is_some() { &ALL_SORTS[..] } else { &SORTS };
+    let mut histogram = Histogram::new(sorts);
     for number in 0..count {
         histogram.one(seed, number, sort);
     }
@@ -91,13 +92,13 @@ const RUNS: [&str; 6] = [
 ];
 
 impl Histogram {
-    fn new() -> Self {
+    fn new(sorts: &[Sort]) -> Self {
         let outcomes = (0..=12).map(|n| match n {
             0 => "accepted".to_string(),
             n => format!("refused {n}"),
         });
         Self {
-            sorts: Tally::new("inputs", SORTS.map(Sort::name)),
+            sorts: Tally::new("inputs", sorts.iter().map(|sort| sort.name())),
             outcomes: Tally::new("outcomes", outcomes),
             types: Tally::new("types", TYPE_NAMES),
             values: Tally::new("values", ["Integer", "Boolean", "Unit", "Operand", "Error"]),
@@ -117,7 +118,7 @@ impl Histogram {
 
     fn one(&mut self, seed: u64, number: u64, sort: Option<Sort>) {
         let (sort, input) = gen::input(seed, number, sort);
-        self.sorts.add(SORTS.iter().position(|s| *s == sort).expect("listed"), 1);
+        self.sorts.add(ALL_SORTS.iter().position(|s| *s == sort).expect("listed"), 1);
         let (settings, lent) = circumstances(&mut Rng::of(!seed, number));
         match run_oracle(&input, settings, lent) {
             Outcome::Refused(refusal) => self.outcomes.add(usize::from(refusal.number), 1),

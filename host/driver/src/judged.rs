@@ -1,5 +1,6 @@
-//! What `lower` must answer: what the Rust makes of an input, and the shelf reason.
+//! What `lower` must answer: what the Rust makes of an input, or an edition, and the shelf reason.
 
+use edition2::Edition;
 use oracle::{admitted, cause, run_routine, write, Lowered, Refusal, Settings};
 
 use crate::Answer;
@@ -20,6 +21,18 @@ impl Judged {
                     numbers: [0, 0, result.into(), a, b, c, d, e, reason.into(), length],
                     output,
                 }
+            }
+            Err(refusal) => Self { numbers: refused(refusal), output: Vec::new() },
+        }
+    }
+
+    /// The same of an edition as the crate `edition2` has it.
+    pub fn in_edition(input: &[u8], settings: Settings, edition: Edition) -> Self {
+        match edition2::lower(input, settings, edition, usize::MAX) {
+            Ok(edition2::Lowered { result, counts: [a, b, c, d, e], reason, output }) => {
+                let length = output.len() as u64;
+                let numbers = [0, 0, result.into(), a, b, c, d, e, reason.into(), length];
+                Self { numbers, output }
             }
             Err(refusal) => Self { numbers: refused(refusal), output: Vec::new() },
         }

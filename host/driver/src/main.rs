@@ -5,6 +5,7 @@ mod bench;
 mod bench_lower;
 mod check_diff;
 mod coverage;
+mod editions;
 mod examples;
 mod families;
 mod histogram;
@@ -17,6 +18,7 @@ mod runs;
 mod store;
 mod stored;
 mod tally;
+mod vectors;
 
 use std::process::ExitCode;
 
@@ -29,19 +31,25 @@ const USAGE: &str = "usage: driver COMMAND [--NAME VALUE]...
   bench       --count N --seed S                 check against the oracle's reader, in time
   lower-diff  --count N --seed S [--sort SORT] [--calls one]
                                                  the archive's lower against the Rust
+  editions-diff --count N --seed S [--sort SORT] [--against rust]
+                                                 the archive's entry with choices against the crate
+                                                 `edition2`, or that one's edition 1 against the Rust
   lower-small [--routines N] [--from FILE]       the same on all short inputs, and on all that is
                                                  one step from stored routines
   bench-lower --count N --seed S                 lower against the Rust, in time
-  runs        --count N --seed S                 original and rewritten routine on the machine
+  runs        --count N --seed S [--edition 2]   original and rewritten routine on the machine
   store       --count N --seed S --times N --to FILE
                                                  stored answers for the program `replay`
   examples    --to FOLDER                        the routines of the folder examples/
-  run         --hex HEX [--tuples N] [--structs N] [--max N] [--lent N]
-                                                 what the Rust makes of one input
+  vectors     --to FILE                          what both editions make of small routines
+  run         --hex HEX [--tuples N] [--structs N] [--max N] [--lent N] [--edition N]
+                                                 what the Rust makes of one input, or the crate
+                                                 `edition2`
   families    --hex HEX [--members]              the families of one input's builds
   families-diff --count N --seed S [--sort SORT] [--members] --program PATH
                                                  the program `families` against them
-sorts: typed, wild, near, damaged, bytes, debugs, copies; without one, a mix of all";
+sorts: typed, wild, near, damaged, bytes, debugs, copies; without one, a mix of these; also deep and
+tower";
 
 /// The archive's `check`.
 type Check = fn(&[u8]) -> (u8, u64);
@@ -60,6 +68,22 @@ const ARCHIVE: (Option<Check>, Option<Lower>) =
     (Some(poelvigu::check_numbers), Some(poelvigu::lower_numbers));
 #[cfg(not(feature = "archive"))]
 const ARCHIVE: (Option<Check>, Option<Lower>) = (None, None);
+
+/// An entry that takes choices by place: tuples, structs, most, edition.
+type LowerWith = fn(&[u8], &mut [u8], &[u64]) -> Answer;
+
+/// The archive's. A page that is written, or a length of one, makes an answer that none is.
+#[cfg(feature = "archive")]
+const LOWER_WITH: Option<LowerWith> = Some(|input, output, choices| {
+    let mut page = [0x3c; 64];
+    let answer = poelvigu::lower_with_numbers(input, output, &mut page, choices);
+    match answer {
+        [numbers @ .., 0] if page == [0x3c; 64] => numbers,
+        _ => [u64::MAX; NUMBERS],
+    }
+});
+#[cfg(not(feature = "archive"))]
+const LOWER_WITH: Option<LowerWith> = None;
 
 /// What is said where a command needs it and it is not there.
 const WITHOUT: &str = "built without the archive: add `--features archive`";
@@ -87,11 +111,13 @@ fn dispatch(command: &str, args: &Args) -> Result<bool, String> {
         "coverage" => coverage::command(args),
         "bench" => bench::command(args, check),
         "lower-diff" => lower_diff::command(args, lower.ok_or(WITHOUT)?),
+        "editions-diff" => editions::command(args),
         "lower-small" => lower_diff::small::command(args, lower.ok_or(WITHOUT)?),
         "bench-lower" => bench_lower::command(args, lower),
         "runs" => runs::command(args),
         "store" => store::command(args),
         "examples" => examples::command(args),
+        "vectors" => vectors::command(args),
         "run" => one::command(args),
         "families" => families::command(args),
         "families-diff" => families::diff::command(args),

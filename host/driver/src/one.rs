@@ -1,5 +1,6 @@
-//! What the Rust makes of one input.
+//! What the Rust makes of one input, or an edition.
 
+use edition2::Edition;
 use oracle::{from_hex, to_hex, Settings, LENT};
 
 use crate::args::Args;
@@ -7,7 +8,7 @@ use crate::judged::Judged;
 
 /// Prints as document 01's program does.
 pub fn command(args: &Args) -> Result<bool, String> {
-    args.only(&["hex", "tuples", "structs", "max", "lent"])?;
+    args.only(&["hex", "tuples", "structs", "max", "lent", "edition"])?;
     let hex = args.text("hex").ok_or("run takes --hex")?;
     let input = from_hex(hex).ok_or("--hex is no hexadecimal")?;
     let usual = Settings::default();
@@ -17,7 +18,11 @@ pub fn command(args: &Args) -> Result<bool, String> {
         max_aggregate_size: args.number("max", usual.max_aggregate_size)?,
     };
     let lent = args.number("lent", LENT as u64)? as usize;
-    print!("{}", printed(&Judged::of(&input, settings), lent));
+    let judged = match args.text("edition") {
+        None => Judged::of(&input, settings),
+        Some(_) => Judged::in_edition(&input, settings, Edition::of(args.number("edition", 1)?)),
+    };
+    print!("{}", printed(&judged, lent));
     Ok(true)
 }
 

@@ -72,5 +72,5 @@ fn the_first_run_and_the_tables_are_true() {
         assert!(readme.lines().any(row), "{file}");
     };
     (1..=5).for_each(|reason| has(reason, format!("reason-{reason}.hex")));
-    (1..=11).for_each(|number| has(number, format!("refused-{number}.hex")));
+    (1..=11).chain([14, 15]).for_each(|number| has(number, format!("refused-{number}.hex")));
 }

@@ -6,6 +6,8 @@ mod copies;
 mod damage;
 mod damage_routine;
 mod debugs;
+mod deep;
+mod deep_steps;
 mod draft;
 mod fields;
 mod near;
@@ -13,6 +15,7 @@ mod rng;
 mod shrink;
 mod shrink_routine;
 mod tables;
+pub mod tower;
 mod twist;
 mod typed;
 mod typed_steps;
@@ -45,10 +48,28 @@ pub enum Sort {
     Debugs,
     /// A routine whose blocks are dense in copies, in any order.
     Copies,
+    /// A routine whose values nest and are read whole, some by odd types and of themselves.
+    Deep,
+    /// A routine of which edition 2 makes about as many rebuilds as there are numbers.
+    Tower,
 }
 
+/// The sorts that a mix has.
 pub const SORTS: [Sort; 7] =
     [Sort::Typed, Sort::Wild, Sort::Near, Sort::Damaged, Sort::Bytes, Sort::Debugs, Sort::Copies];
+
+/// All sorts: those of the mix, and such as must be asked for.
+pub const ALL_SORTS: [Sort; 9] = [
+    Sort::Typed,
+    Sort::Wild,
+    Sort::Near,
+    Sort::Damaged,
+    Sort::Bytes,
+    Sort::Debugs,
+    Sort::Copies,
+    Sort::Deep,
+    Sort::Tower,
+];
 
 impl Sort {
     pub fn name(self) -> &'static str {
@@ -60,6 +81,8 @@ impl Sort {
             Sort::Bytes => "bytes",
             Sort::Debugs => "debugs",
             Sort::Copies => "copies",
+            Sort::Deep => "deep",
+            Sort::Tower => "tower",
         }
     }
 }
@@ -96,6 +119,11 @@ pub fn of_sort(rng: &mut Rng, sort: Sort) -> Vec<u8> {
         Sort::Bytes => bytes(rng),
         Sort::Debugs => with_debugs(rng),
         Sort::Copies => oracle::write(&copies::routine(rng)),
+        Sort::Deep => {
+            let odd = if rng.chance(40) { 0 } else { rng.pick(&[1, 3, 8, 20]) };
+            deep_of(rng, odd)
+        }
+        Sort::Tower => oracle::write(&tower::routine(rng)),
     }
 }
 
@@ -141,6 +169,12 @@ pub fn churned(rng: &mut Rng) -> Vec<u8> {
 pub fn churned_deep(rng: &mut Rng) -> Vec<u8> {
     let size = rng.within(3, 40);
     oracle::write(&churn::routine(rng, size, true))
+}
+
+/// A deep routine; `odd` of a hundred choices are such that types disagree.
+pub fn deep_of(rng: &mut Rng, odd: usize) -> Vec<u8> {
+    let size = rng.within(3, 60);
+    oracle::write(&deep::routine(rng, size, odd))
 }
 
 /// A routine of some sort, with Debugs put into it.

@@ -19,11 +19,18 @@ fn one_seed_gives_one_input() {
     }
 }
 
-/// Typed, wild and near routines, and those dense in copies, are read, and written as the bytes they
+/// Typed, wild, near and deep routines, towers, and those dense in copies, are read, and written as the bytes they
 /// came from; so is what becomes a `MirFunction` and a routine again.
 #[test]
 fn valid_sorts_go_there_and_back() {
-    let counts = [(Sort::Typed, 2000), (Sort::Wild, 2000), (Sort::Near, 200), (Sort::Copies, 1000)];
+    let counts = [
+        (Sort::Typed, 2000),
+        (Sort::Wild, 2000),
+        (Sort::Near, 200),
+        (Sort::Copies, 1000),
+        (Sort::Deep, 2000),
+        (Sort::Tower, 100),
+    ];
     for (sort, count) in counts {
         for number in 0..count {
             let bytes = of_sort(&mut Rng::of(3, number), sort);

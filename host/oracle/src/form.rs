@@ -60,6 +60,10 @@ impl Mosts {
     /// "The output may pass these; its next value is at most 4,864." Each instruction more has a
     /// number more, so that this is a most for instructions too.
     pub const OUTPUT: Self = Self { next_value: 4864, in_block: 4864, in_all: 4864 };
+
+    /// In edition 2 "65,535" for both; and in all, what is kept and as many as there are numbers.
+    pub const SECOND_OUTPUT: Self =
+        Self { next_value: 65_535, in_block: 65_535, in_all: most::IN_ALL + 65_535 };
 }
 
 /// How many kinds or operations of each sort are defined.

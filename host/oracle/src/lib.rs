@@ -21,7 +21,7 @@ pub use field::{Class, Sink};
 pub use fit::{hold, long, short, Fits, Misfit, What};
 pub use from_mir::{list, routine_of};
 pub use hex::{from_hex, to_hex};
-pub use read::{read, read_output};
+pub use read::{read, read_output, read_second_output};
 pub use run::{
     admitted, run_oracle, run_pass, run_routine, Counts, Lowered, Outcome, Settings, COUNT_NAMES,
     LENT,

@@ -16,6 +16,11 @@ pub fn read_output(output: &[u8]) -> Read<Routine> {
     read_within(output, &Mosts::OUTPUT)
 }
 
+/// Reads a routine that may be as large as edition 2 can make one.
+pub fn read_second_output(output: &[u8]) -> Read<Routine> {
+    read_within(output, &Mosts::SECOND_OUTPUT)
+}
+
 fn read_within(input: &[u8], mosts: &Mosts) -> Read<Routine> {
     let mut cursor = Cursor::new(input);
     let types = read_types(&mut cursor)?;

@@ -10,15 +10,13 @@ pub struct Reader<'a> {
     types: usize,
     next: usize,
     blocks: usize,
-    defined: [u8; MAP],
+    /// A bit for each value.
+    defined: Vec<u8>,
 }
-
-/// How many bytes a bit for each value takes.
-const MAP: usize = Mosts::OUTPUT.next_value.div_ceil(8);
 
 impl<'a> Reader<'a> {
     pub fn new(cursor: Cursor<'a>, types: usize, next: usize, blocks: usize) -> Self {
-        Self { cursor, types, next, blocks, defined: [0; MAP] }
+        Self { cursor, types, next, blocks, defined: vec![0; next.div_ceil(8)] }
     }
 
     /// "lists u8 count first", 16 at most.
@@ -79,8 +77,7 @@ impl<'a> Reader<'a> {
     /// "a bit map of next-value bits (value v is bit v mod 8 of byte v div 8, low bit first, spare
     /// bits 0), then a u16 type for each set bit, rising".
     pub fn recorded(&mut self, next: usize) -> Read<Vec<Option<TypeNo>>> {
-        let mut map = [0u8; MAP];
-        let map = &mut map[..next.div_ceil(8)];
+        let mut map = vec![0u8; next.div_ceil(8)];
         for (place, byte) in map.iter_mut().enumerate() {
             let at = self.cursor.at;
             *byte = self.cursor.u8()?;

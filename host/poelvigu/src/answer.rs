@@ -38,7 +38,8 @@ pub struct Counts {
     pub inserts_forwarded: u64,
     /// Assigns of aggregates that were left out.
     pub assigns_forwarded: u64,
-    /// Aggregates that were built again for a Call or a Return.
+    /// Aggregates that were built again: for a Call or a Return, in edition 2 for every instruction that
+    /// stays and reads one, and for a part of what is built again.
     pub materializations: u64,
 }
 
@@ -136,6 +137,8 @@ pub struct Lowered {
     pub reason: ShelfReason,
     /// How many bytes the output has.
     pub length: usize,
+    /// How many bytes the page has: 0, no page is made yet.
+    pub page: usize,
 }
 
 #[cfg(test)]

@@ -27,6 +27,8 @@
 //! # Ok::<(), poelvigu::Refusal>(())
 //! ```
 //!
+//! [`lower_with`] takes [`Choices`], the edition of the lowering rule among them.
+//!
 //! The functions stand behind the feature `archive`, which needs that archive and is on unless it
 //! is turned off; the types need nothing.
 
@@ -34,18 +36,24 @@
 #![deny(unsafe_code)]
 
 mod answer;
+mod choices;
 #[cfg(feature = "archive")]
 #[allow(unsafe_code)]
 mod entries;
 #[cfg(feature = "archive")]
 mod lower;
+#[cfg(feature = "archive")]
+mod lower_with;
 mod refusal;
 
 pub use answer::{Counts, Lowered, Settings, ShelfReason};
+pub use choices::{Choices, Edition};
 #[cfg(feature = "archive")]
-pub use entries::{check_numbers, lower_numbers, ANSWER};
+pub use entries::{check_numbers, lower_numbers, lower_with_numbers, ANSWER, ANSWER_WITH};
 #[cfg(feature = "archive")]
 pub use lower::{lower, lower_into, LONGEST_OUTPUT};
+#[cfg(feature = "archive")]
+pub use lower_with::{lower_with, lower_with_into, LONGEST_SECOND_OUTPUT};
 pub use refusal::{Cause, Refusal};
 
 /// Whether the bytes are a routine: if not, what is wrong with them (numbers 1 to 9) and where.

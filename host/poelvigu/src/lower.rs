@@ -5,14 +5,14 @@ use crate::{Cause, Counts, Lowered, Refusal, Settings, ShelfReason};
 
 /// How many bytes the longest routine has that is accepted: 4,841 of types and values, 256 Calls of
 /// 148, 32 instruction counts and Returns of 84.
-const LONGEST_INPUT: usize = 45_417;
+pub(crate) const LONGEST_INPUT: usize = 45_417;
 
 /// The most numbers that the pass adds: each of 256 instructions and of 32 Returns has at most 16
 /// values that are rebuilt for it.
 const MOST_FRESH: usize = (256 + 32) * 16;
 
 /// What one number adds at most: a MakeStruct of 16 fields of 7 bytes, and its recorded type.
-const MOST_ADDED: usize = (7 + 16 * 7) + 2;
+pub(crate) const MOST_ADDED: usize = (7 + 16 * 7) + 2;
 
 /// No output is longer. What is no rebuild is an instruction of the input, or one in its place that
 /// is not longer; the bits that say which values have a type make up the rest.
@@ -85,8 +85,8 @@ fn lower_within(
     Ok((lowered, output))
 }
 
-/// What the numbers of an answer say.
-fn answer(numbers: [u64; ANSWER]) -> Result<Lowered, Refusal> {
+/// What the numbers of an answer say, of which there is no page.
+pub(crate) fn answer(numbers: [u64; ANSWER]) -> Result<Lowered, Refusal> {
     let [number, offset, changed, builds, extracts, inserts, assigns, rebuilds, reason, length] =
         numbers;
     if let Some(refusal) = Refusal::of(number, offset) {
@@ -100,5 +100,5 @@ fn answer(numbers: [u64; ANSWER]) -> Result<Lowered, Refusal> {
         materializations: rebuilds,
     };
     let reason = ShelfReason::of(reason);
-    Ok(Lowered { changed: changed != 0, counts, reason, length: length as usize })
+    Ok(Lowered { changed: changed != 0, counts, reason, length: length as usize, page: 0 })
 }

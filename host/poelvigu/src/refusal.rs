@@ -32,12 +32,16 @@ pub enum Cause {
     OutputTooLong,
     /// 12: the setting `most` is above 16.
     MostAbove16,
+    /// 14: in edition 2 a value would be built again inside itself.
+    Looped,
+    /// 15: in edition 2 the next value or a block's instructions would pass 65,535.
+    Overfull,
     /// A number that has no name here.
     Unlisted(u64),
 }
 
 /// The causes with a name: number 1 first.
-const NAMED: [Cause; 12] = [
+const NAMED: [Cause; 14] = [
     Cause::Ends,
     Cause::PassesMost,
     Cause::Undefined,
@@ -50,6 +54,8 @@ const NAMED: [Cause; 12] = [
     Cause::ArrayCount,
     Cause::OutputTooLong,
     Cause::MostAbove16,
+    Cause::Looped,
+    Cause::Overfull,
 ];
 
 impl Cause {
@@ -74,6 +80,8 @@ impl Cause {
             Self::ArrayCount => 10,
             Self::OutputTooLong => 11,
             Self::MostAbove16 => 12,
+            Self::Looped => 14,
+            Self::Overfull => 15,
             Self::Unlisted(number) => number,
         }
     }
@@ -141,6 +149,10 @@ impl fmt::Display for Refusal {
                 f.write_str("the output is longer than the buffer that was lent for it")
             }
             Cause::MostAbove16 => f.write_str("the setting for the most parts is above 16"),
+            Cause::Looped => f.write_str("a value would be built again inside itself"),
+            Cause::Overfull => {
+                f.write_str("the next value or a block's instructions would pass 65,535")
+            }
             Cause::Unlisted(_) => write!(f, "a refusal without a name here, at byte {at}"),
         }?;
         write!(f, " (refusal {})", self.number())
@@ -156,11 +168,11 @@ mod tests {
     #[test]
     fn numbers_go_there_and_back() {
         assert_eq!(Refusal::of(0, 0), None);
-        for number in (1..=13).chain([u64::MAX]) {
+        for number in (1..=16).chain([u64::MAX]) {
             let refusal = Refusal::of(number, 5).expect("it is not 0");
             assert_eq!((refusal.number(), refusal.offset), (number, 5));
             let named = !matches!(refusal.cause, Cause::Unlisted(_));
-            assert_eq!(named, number <= 12);
+            assert_eq!(named, number <= 15 && number != 13);
         }
     }
 
@@ -168,7 +180,7 @@ mod tests {
     #[test]
     fn texts_say_what_and_where() {
         let text = |number| Refusal::of(number, 77).expect("it is not 0").to_string();
-        for number in 1..=12 {
+        for number in NAMED.map(Cause::number) {
             assert!(text(number).ends_with(&format!(" (refusal {number})")));
             assert_eq!(text(number).contains("at byte 77"), number <= 9, "{}", text(number));
         }

@@ -5,4 +5,4 @@ use Rattle.pass.proofs.lower.Goals as goal
 pub returns : goal.returns
 returns c =
     lowers _ _ c.args.input.now c.args.output.now _ c.args.answer.now _ _ _ (λ j. omega (arith, c.type_inv.input j))
-    (c.settings_of-settings.ensures _ _) c.lower_into-a.ensures c.numbers_of.ensures c.put_numbers.ensures
+    (c.settings_of-settings.ensures.same _ _) c.lower_into-a.ensures c.numbers_of.ensures c.put_numbers.ensures

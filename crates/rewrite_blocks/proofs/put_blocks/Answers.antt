@@ -1,9 +1,9 @@
 use Prim.Native.Nat.{◌+◌, ◌*◌}
 use native.Mathlib.Omega.{arith}
-use Rattle.std.proofs.lemmas.Result.{err_from_is_err_and}
+use Rattle.std.proofs.Common.{rules, ◌≡◌, Err}
 use Rattle.rewrite_step.specs.Stepping.{lent_as}
 use Rattle.rewrite_perform.proofs.Lows.{low_mono}
-use Rattle.rewrite_blocks.proofs.Rounds.{laid_clash, laid_again, laid_all}
+use Rattle.rewrite_blocks.proofs.Rounds.{laid_fault, laid_again, laid_all}
 use Rattle.rewrite_blocks.proofs.put_blocks.Goals as goal
 
 pub put_block-requires : goal.put_block-requires
@@ -19,11 +19,11 @@ returns-in_err-q-clause-all_put c =
     let a = c.args in
     let l = c.loop-k in
     let t = c.put_block in
-    let e = err_from_is_err_and c.from_residual.result c.from_residual.ensures.1 in
-    λ τ ch ks co fo z en. rw e.1 (laid_clash a.run
+    let e : c.from_residual.result ≡ Err c.in_err-q.field-0.0 = search rules in
+    λ τ ch ks co fo z en. rw e (laid_fault a.run
     (lent_as a.tracked.now a.dropped.now a.work.now a.out.now) a.p (lent_as l.tracked l.dropped l.work l.out) l.q
     l.k l.invariant c.loop-k-test.true (lent_as t.new.tracked t.new.dropped t.new.work t.new.out)
-    t.result t.ensures.one_put τ ch ks co fo z en _ _ c.in_err-q.was)
+    t.result t.ensures.one_put τ ch ks co fo z en _ c.in_err-q.was)
 
 pub loop-k-preserved : goal.loop-k-preserved
 loop-k-preserved c =

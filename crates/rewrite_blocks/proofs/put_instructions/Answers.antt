@@ -1,9 +1,9 @@
 use Prim.Native.Nat.{◌+◌}
 use native.Mathlib.Omega.{arith}
-use Rattle.std.proofs.lemmas.Result.{err_from_is_err_and}
+use Rattle.std.proofs.Common.{rules, ◌≡◌, Err}
 use Rattle.rewrite_step.specs.Stepping.{lent_as}
 use Rattle.rewrite_perform.proofs.Lows.{low_mono}
-use Rattle.rewrite_blocks.proofs.Walks.{walking_long, walking_clash, walking_again, walking_done}
+use Rattle.rewrite_blocks.proofs.Walks.{walking_long, walking_fault, walking_again, walking_done}
 use Rattle.rewrite_blocks.proofs.put_instructions.Goals as goal
 
 pub step-requires : goal.step-requires
@@ -20,9 +20,9 @@ returns-in_err-v-clause-instructions_put c = let a = c.args in
     let l₀ = lent_as a.tracked.now a.dropped.now a.work.now a.out.now in
     let l₁ = lent_as l.tracked l.dropped l.work l.out in
     let l' = lent_as t.new.tracked t.new.dropped t.new.work t.new.out in
-    let e = err_from_is_err_and c.from_residual.result c.from_residual.ensures.1 in
-    rw e.1 (walking_clash a.run a.at l₀ a.w l₁ l.v l.j l.invariant c.requires
-    c.loop-j-test.true _ c.flag.ensures l' t.result t.ensures.steps_on _ _ c.in_err-v.was)
+    let e : c.from_residual.result ≡ Err c.in_err-v.field-0.0 = search rules in
+    rw e (walking_fault a.run a.at l₀ a.w l₁ l.v l.j l.invariant c.requires
+    c.loop-j-test.true _ c.flag.ensures l' t.result t.ensures.steps_on _ c.in_err-v.was)
 
 pub loop-j-preserved : goal.loop-j-preserved
 loop-j-preserved c = let a = c.args in

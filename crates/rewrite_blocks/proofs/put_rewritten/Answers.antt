@@ -1,12 +1,11 @@
 use Prim.Native.Nat.{◌+◌}
-use mathlib.Core.Path.{refl}
+use Rattle.std.proofs.Common.{refl, rules, ◌≡◌, Err}
 use native.Mathlib.Omega.{arith}
 use Rattle.rewrite_arms.specs.declared.Used.{Used}
 use Rattle.rewrite_progress.specs.declared.Progress.{Progress}
-use Rattle.std.proofs.lemmas.Result.{err_from_is_err_and}
 use Rattle.rewrite_step.specs.Stepping.{lent_as}
 use Rattle.rewrite_perform.proofs.Lows.{low_mono}
-use Rattle.rewrite_blocks.proofs.Laying.{block_clash, block_end, low_begun, low_walked, low_end}
+use Rattle.rewrite_blocks.proofs.Laying.{block_fault, block_end, low_begun, low_walked, low_end}
 use Rattle.rewrite_blocks.proofs.put_rewritten.Goals as goal
 
 pub put_end-done-requires : goal.put_end-done-requires
@@ -27,10 +26,10 @@ returns-in_err-q-clause-one_put c = let a = c.args in
     let l = lent_as cleared.new.tracked a.dropped.now a.work.now a.out.now in
     let w : Used Progress = record { value = body.result; used = 256 } in
     let l' = lent_as t.new.tracked t.new.dropped t.new.work t.new.out in
-    let e = err_from_is_err_and c.from_residual.result c.from_residual.ensures.1 in
-    λ off τ ch ks co fo h z en. rw e.1 (block_clash a.run a.k.0 a.p off at.result at.ensures l w pre.1.1 body.ensures
+    let e : c.from_residual.result ≡ Err c.in_err-q.field-0.0 = search rules in
+    λ off τ ch ks co fo h z en. rw e (block_fault a.run a.k.0 a.p off at.result at.ensures l w pre.1.1 body.ensures
     (λ next s rows x y. cleared.ensures next s rows 256 x (omega arith) pre.1.0 y) refl τ ch ks co fo h en l' t.result
-    t.ensures.instructions_put _ _ c.in_err-q.was)
+    t.ensures.instructions_put _ c.in_err-q.was)
 
 pub returns : goal.returns
 returns c = let a = c.args in

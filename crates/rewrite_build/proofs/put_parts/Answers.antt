@@ -4,7 +4,7 @@ use Rattle.rewrite_build.proofs.put_parts.Goals as goal
 pub loop-i-preserved : goal.loop-i-preserved
 loop-i-preserved c =
     let e = c.put_part-p.ensures in
-    parts_again _ _ _ _ _ _ _ _ c.loop-i.invariant _ _ c.loop-i-test.true c.put_part-p.auto.out e.upper_bound e.of_parts
+    parts_again _ _ _ _ _ _ _ c.loop-i.invariant _ _ c.loop-i-test.true c.put_part-p.auto.out e.upper_bound e.of_parts
 
 pub returns-clause-of_parts : goal.returns-clause-of_parts
-returns-clause-of_parts c = parts_done _ _ _ _ _ _ _ _ c.loop-i.invariant c.loop-i-test.false
+returns-clause-of_parts c = parts_done _ _ _ _ _ _ _ c.loop-i.invariant c.loop-i-test.false

@@ -15,4 +15,4 @@ returns-in-Some c =
     let from = c.find_source-from.ensures in
     λ slot σ τ S folds m i used h w e on. insert_field_step h w σ folds m e on _ _ _ _ from.end c.u16_at.ensures from.named
     (c.in-Some.ensures _ τ.rows h.ground.known.rows h.ground.rows) _ _ from.value refl
-    (λ y d v. c.plan_insert.ensures _ _ _ used S i _ y h.rep d v)
+    (λ y d v. c.plan_insert.ensures _ _ _ used S _ _ y h.rep d v)

@@ -16,13 +16,13 @@ returns-then-not-active c = let a = c.args in
 pub returns-in-Assign : goal.returns-in-Assign
 returns-in-Assign c =
     λ τ S folds m i used h w n3 n6 f. c.assign.ensures _ c.args.turn.settings τ S folds m i used h w
-    (sym (c.in-Some.ensures ∙ h.line.kind) ∙ ap number_of_kind c.in-Assign.is) refl
+    (sym (c.in-Some.ensures ∙ h.line.kind) ∙ ap number_of_kind c.in-Assign.is) tt
 
 pub returns-in-Load : goal.returns-in-Load
 returns-in-Load c = let a = c.args in
     let is = ap number_of_kind c.in-Load.is in
     let on = acting a.turn.settings.tuples a.turn.settings.structs a.turn.fold load_kind c.active.ensures c.if-not-active.false is in
-    λ τ S folds m i used h w n3 n6 f. c.load.ensures a.turn.settings τ S folds m i used h w (sym (c.in-Some.ensures ∙ h.line.kind) ∙ is) on
+    λ τ S folds m i used h w n3 n6 f. c.load.ensures a.turn.settings τ S folds m i used h w (sym (c.in-Some.ensures ∙ h.line.kind) ∙ is) (on, refl)
 
 pub returns-in-MakeTuple : goal.returns-in-MakeTuple
 returns-in-MakeTuple c = let a = c.args in
@@ -48,7 +48,7 @@ returns-in-MakeStruct c = let a = c.args in
     let is = ap number_of_kind c.in-MakeStruct.is in
     let on = acting a.turn.settings.tuples a.turn.settings.structs a.turn.fold make_struct_kind c.active.ensures c.if-not-active.false is in
     λ τ S folds m i used h w n3 n6 f. struct_step h w a.turn.settings folds m _ f on (sym (c.in-Some.ensures ∙ h.line.kind) ∙ is) _
-    c.last_type.ensures (λ fs d v l. c.plan_struct.ensures _ refl τ S i fs h.ground d v l)
+    c.last_type.ensures (λ fs d v l. c.plan_struct.ensures _ refl τ S _ fs h.ground d v l)
 
 pub returns-in-ExtractStructField : goal.returns-in-ExtractStructField
 returns-in-ExtractStructField c = let a = c.args in

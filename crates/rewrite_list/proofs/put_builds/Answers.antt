@@ -1,13 +1,13 @@
-use Rattle.std.proofs.Common.{refl}
-use Rattle.std.proofs.lemmas.Result.{err_from_is_err_and}
-use Rattle.rewrite_list.proofs.Building.{building_again, building_clash, building_done}
+use Rattle.std.proofs.Common.{refl, rules, ◌≡◌}
+use Rattle.std.specs.Prelude.{Err}
+use Rattle.rewrite_list.proofs.Building.{building_again, building_fault, building_done}
 use Rattle.rewrite_list.proofs.put_builds.Goals as goal
 
 pub returns-in_err-q-clause-all_put : goal.returns-in_err-q-clause-all_put
 returns-in_err-q-clause-all_put c =
-    let p = err_from_is_err_and c.from_residual.result c.from_residual.ensures.1 in
-    rw p.1 (building_clash _ _ _ _ _ _ _ _ _ c.loop-i.invariant _ _ c.put_wanted.new.work _ c.loop-i-test.true
-    c.wanted_at-wants.ensures c.in_err-q.ensures.wanted_put _ _ refl)
+    let z : c.from_residual.result ≡ Err c.in_err-q.field-0.0 = search rules in
+    rw z (building_fault _ _ _ _ _ _ _ _ _ c.loop-i.invariant _ _ c.put_wanted.new.work _ c.loop-i-test.true
+    c.wanted_at-wants.ensures c.in_err-q.ensures.wanted_put _ refl)
 
 pub loop-i-preserved : goal.loop-i-preserved
 loop-i-preserved c =

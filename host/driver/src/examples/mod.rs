@@ -1,13 +1,15 @@
 //! The routines of the folder examples/: small ones, each made to show a thing.
 
 mod copies;
-mod draft;
+pub mod draft;
 mod passed;
 mod reasons;
 mod refused;
+mod second;
 
 use std::path::Path;
 
+use edition2::Edition;
 use oracle::{to_hex, write, Settings, LENT};
 
 use crate::args::Args;
@@ -31,9 +33,10 @@ pub fn command(args: &Args) -> Result<bool, String> {
 fn files() -> Vec<(String, String)> {
     let of_one = |(name, bytes): (&str, Vec<u8>)| {
         let own = |ending| name.replace(".hex", ending);
-        let families = (own(".families"), families_of(&bytes));
         let always = [(own(".hex"), digits(&bytes)), (own(".lines"), lines(&bytes))];
-        always.into_iter().chain(FAMILIES.contains(&name).then_some(families))
+        let families = FAMILIES.contains(&name).then(|| (own(".families"), families_of(&bytes)));
+        let second = SECOND.contains(&name).then(|| (own(".second"), second_lines(&bytes)));
+        always.into_iter().chain(families).chain(second)
     };
     all().into_iter().flat_map(of_one).collect()
 }
@@ -41,6 +44,18 @@ fn files() -> Vec<(String, String)> {
 /// The examples for which there are lines of the program `families` too.
 const FAMILIES: [&str; 5] =
     ["backwards.hex", "backwards-chain.hex", "other-kind.hex", "scalars.hex", "refused-6.hex"];
+
+/// The examples for which there are lines of edition 2 too.
+const SECOND: [&str; 8] = [
+    "nested.hex",
+    "twice.hex",
+    "kept-load.hex",
+    "kept-store.hex",
+    "reason-5.hex",
+    "debug-5.hex",
+    "refused-14.hex",
+    "refused-15.hex",
+];
 
 /// The text of an example's file.
 fn digits(bytes: &[u8]) -> String {
@@ -50,6 +65,11 @@ fn digits(bytes: &[u8]) -> String {
 /// What the Rust makes of the bytes, as document 01's program prints it.
 fn lines(bytes: &[u8]) -> String {
     printed(&Judged::of(bytes, Settings::default()), LENT)
+}
+
+/// What the crate `edition2` makes of them in edition 2, printed the same way.
+fn second_lines(bytes: &[u8]) -> String {
+    printed(&Judged::in_edition(bytes, Settings::default(), Edition::Second), LENT)
 }
 
 /// What the program `families` prints of them.
@@ -73,6 +93,9 @@ fn all() -> Vec<(&'static str, Vec<u8>)> {
         ("reason-4.hex", write(&reasons::stored_deep())),
         ("reason-5.hex", write(&reasons::asserted())),
         ("nested.hex", write(&reasons::returned_nest())),
+        ("twice.hex", write(&second::returned_twice())),
+        ("kept-load.hex", write(&second::loaded_whole())),
+        ("kept-store.hex", write(&second::stored_whole())),
         ("debug-1.hex", write(&reasons::debugged_error())),
         ("debug-2.hex", write(&reasons::debugged_ahead())),
         ("debug-5.hex", write(&reasons::debugged_dropped())),
@@ -91,6 +114,8 @@ fn all() -> Vec<(&'static str, Vec<u8>)> {
         ("refused-9.hex", refused::byte_more()),
         ("refused-10.hex", refused::other_array()),
         ("refused-11.hex", refused::long_output()),
+        ("refused-14.hex", write(&second::its_own_part())),
+        ("refused-15.hex", write(&gen::tower::sixteen())),
     ]
 }
 

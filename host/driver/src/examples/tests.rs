@@ -66,6 +66,29 @@ fn the_table_says_what_the_rust_does() {
     assert_eq!(rows(&table), expected);
 }
 
+/// The rows of the table of edition 2: a file `NAME.second` each, with its first line.
+#[test]
+fn the_table_of_edition_2_says_what_the_crate_does() {
+    let table = text("README.md");
+    let row = |line: &str| {
+        let row = line.strip_prefix("| `").filter(|row| row.contains(".second`"))?;
+        let mut cells = row.split('|').map(|cell| cell.trim_matches([' ', '`']).to_string());
+        Some([cells.next()?, cells.next()?])
+    };
+    let rows: Vec<[String; 2]> = table.lines().filter_map(row).collect();
+    let expected = SECOND.map(|name| {
+        let (_, input) = all().into_iter().find(|(own, _)| *own == name).expect("it is an example");
+        let lines = second_lines(&input);
+        let line = lines.lines().next().expect("a line is printed");
+        [name.replace(".hex", ".second"), line.to_string()]
+    });
+    assert_eq!(rows, expected);
+    for number in [14, 15] {
+        let refused = text(&format!("refused-{number}.second"));
+        assert_eq!(refused, format!("refused {number} 0\n"));
+    }
+}
+
 /// There is a file for every shelf reason and for every refusal that the program gives.
 #[test]
 fn every_reason_and_refusal_is_shown() {
@@ -148,6 +171,29 @@ fn an_unwritten_value_is_left_aside() {
     let [original, rewritten] = runs(&passed::unwritten(), Datum::Unit);
     assert_eq!(original.standing, Standing::Stopped(Cause::Unwritten));
     assert_eq!(rewritten, gives(Vec::new()));
+}
+
+/// What passes the shelf test in edition 2 alone does the same then.
+#[test]
+fn what_passed_in_edition_2_does_the_same() {
+    let passed = [
+        reasons::returned_nest(),
+        second::returned_twice(),
+        second::loaded_whole(),
+        reasons::asserted(),
+        reasons::debugged_dropped(),
+    ];
+    for routine in passed {
+        let usual = Settings::default();
+        let lowered = edition2::lower(&write(&routine), usual, Edition::Second, usize::MAX);
+        let lowered = lowered.expect("it is accepted");
+        assert_eq!(lowered.reason, 0);
+        let output = oracle::read_second_output(&lowered.output).expect("it is a routine");
+        let [original, rewritten] =
+            [&routine, &output].map(|routine| run(routine, &Plain, &mut List(&[]), 99).trace);
+        assert_eq!(original.standing, Standing::Ended(End::Return));
+        assert_eq!(original, rewritten);
+    }
 }
 
 /// Each of reasons 3 to 5 is there for a cause: the rewritten routine does something else.

@@ -1,19 +1,19 @@
 //! The archive's `lower` against the Rust: every number of an outcome, every byte lent.
 
-mod comparison;
-mod outcome;
-mod settings;
+pub mod comparison;
+pub mod outcome;
+pub mod settings;
 pub mod small;
 
-use gen::{Rng, Sort, SORTS};
+use gen::{Rng, Sort, ALL_SORTS};
 use oracle::from_hex;
 use oracle::rows::{DEBUGS, ROWS};
 
 use crate::args::Args;
 use crate::Lower;
-use comparison::Comparison;
-use outcome::Calls;
-use settings::{all_settings, some_settings, USUAL};
+use comparison::{Comparison, FIRST};
+use outcome::{Calls, Sides};
+use settings::{all_settings, some_settings, Triple, USUAL};
 
 /// One made input in so many is run under all settings.
 const ALL_SETTINGS: u64 = 100;
@@ -34,14 +34,14 @@ pub fn command(args: &Args, lower: Lower) -> Result<bool, String> {
     diff.made(count, sort, one);
     println!("lower against the Rust, seed {seed}");
     diff.comparison.print();
-    let missing = diff.comparison.missing();
+    let missing = diff.comparison.missing(&FIRST);
     missing.iter().for_each(|name| println!("never met: {name}"));
     Ok(diff.comparison.found.is_empty() && (sort.is_some() || one || missing.is_empty()))
 }
 
 /// Input `number` of a seed; every other typed one changes a few aggregates again and again, half
 /// of these in a part of a part too, and one in four has a twist.
-fn made(seed: u64, number: u64, only: Option<Sort>) -> (Sort, Vec<u8>) {
+pub fn made(seed: u64, number: u64, only: Option<Sort>) -> (Sort, Vec<u8>) {
     let (sort, input) = gen::input(seed, number, only);
     let mut rng = Rng::of(seed, !number);
     match (sort, number % 4) {
@@ -53,17 +53,17 @@ fn made(seed: u64, number: u64, only: Option<Sort>) -> (Sort, Vec<u8>) {
 }
 
 /// The group of the stored inputs, behind the sorts.
-const STORED: usize = SORTS.len();
+const STORED: usize = ALL_SORTS.len();
 
 struct Diff {
-    comparison: Comparison,
+    comparison: Comparison<Triple>,
     seed: u64,
 }
 
 impl Diff {
     fn new(lower: Lower, seed: u64) -> Self {
-        let groups = SORTS.iter().map(|s| s.name()).chain(["stored"]);
-        Self { comparison: Comparison::new(lower, groups), seed }
+        let groups = ALL_SORTS.iter().map(|s| s.name()).chain(["stored"]);
+        Self { comparison: Comparison::new(Sides::rust(lower), groups), seed }
     }
 
     fn stored(&mut self) {
@@ -94,7 +94,7 @@ impl Diff {
                 (some_settings(&mut Rng::of(!self.seed, number)), Calls::Many(number))
             };
             let from = || format!("{} input {number} of seed {}", sort.name(), self.seed);
-            let place = SORTS.iter().position(|s| *s == sort).expect("every sort is listed");
+            let place = ALL_SORTS.iter().position(|s| *s == sort).expect("every sort is listed");
             self.comparison.compare(place, from, &input, &settings, calls);
         }
     }

@@ -7,11 +7,31 @@ use oracle::{Settings, LENT};
 
 use super::settings::Triple;
 use crate::judged::Judged;
-use crate::{Answer, Lower};
+use crate::Answer;
+
+/// The two sides of a comparison under settings of some sort.
+#[derive(Clone, Copy)]
+pub struct Sides<S> {
+    /// Who knows, in a word.
+    pub judge: &'static str,
+    /// What a call must answer.
+    pub expected: fn(&[u8], S) -> Judged,
+    /// The call.
+    pub call: fn(&[u8], &mut [u8], S) -> Answer,
+}
+
+impl Sides<Triple> {
+    /// The Rust and an entry.
+    pub fn rust(call: crate::Lower) -> Self {
+        let expected = |input: &[u8], settings| Judged::of(input, settings_of(settings));
+        Self { judge: "Rust", expected, call }
+    }
+}
 
 /// What one call got wrong.
-pub struct Difference {
-    settings: Triple,
+pub struct Difference<S> {
+    judge: &'static str,
+    settings: S,
     lent: usize,
     pub expected: Answer,
     got: Answer,
@@ -19,10 +39,11 @@ pub struct Difference {
     byte: Option<usize>,
 }
 
-impl fmt::Display for Difference {
+impl<S: fmt::Debug> fmt::Display for Difference<S> {
     fn fmt(&self, f: &mut fmt::Formatter<'_>) -> fmt::Result {
-        let Self { settings, lent, expected, got, byte } = self;
-        write!(f, "settings {settings:?}, {lent} bytes lent: Rust {expected:?}, lower {got:?}")?;
+        let Self { judge, settings, lent, expected, got, byte } = self;
+        let said = format!("{judge} {expected:?}, lower {got:?}");
+        write!(f, "settings {settings:?}, {lent} bytes lent: {said}")?;
         match byte {
             Some(at) => write!(f, "; output differs at byte {at}"),
             None => Ok(()),
@@ -39,19 +60,18 @@ pub enum Calls {
     One,
 }
 
-/// Calls `lower`, and gives the first difference from the Rust. What each call must answer goes to
-/// `met`.
-pub fn differs(
-    lower: Lower,
+/// Makes the calls, and gives the first difference from what they must answer, which goes to `met`.
+pub fn differs<S: Copy>(
+    sides: Sides<S>,
     input: &[u8],
-    settings: Triple,
+    settings: S,
     calls: Calls,
     mut met: impl FnMut(&Answer),
-) -> Option<Difference> {
-    let judged = Judged::of(input, settings_of(settings));
+) -> Option<Difference<S>> {
+    let judged = (sides.expected)(input, settings);
     lengths(calls, input, &judged).into_iter().find_map(|lent| {
         met(&judged.within(lent).0);
-        compare(lower, input, settings, lent, &judged)
+        compare(sides, input, settings, lent, &judged)
     })
 }
 
@@ -80,19 +100,20 @@ fn lengths(calls: Calls, input: &[u8], judged: &Judged) -> Vec<usize> {
 }
 
 /// One call, with every byte of the output looked at.
-fn compare(
-    lower: Lower,
+fn compare<S: Copy>(
+    sides: Sides<S>,
     input: &[u8],
-    settings: Triple,
+    settings: S,
     lent: usize,
     judged: &Judged,
-) -> Option<Difference> {
+) -> Option<Difference<S>> {
     let (expected, bytes) = judged.within(lent);
     let mut left: Vec<u8> = (0..lent).map(|at| (at * 37 + 11) as u8).collect();
     let mut output = left.clone();
-    let got = lower(input, &mut output, settings);
+    let got = (sides.call)(input, &mut output, settings);
     left[..bytes.len()].copy_from_slice(bytes);
     let byte = (0..lent).find(|at| output[*at] != left[*at]);
     let differs = got != expected || byte.is_some();
-    differs.then_some(Difference { settings, lent, expected, got, byte })
+    let judge = sides.judge;
+    differs.then_some(Difference { judge, settings, lent, expected, got, byte })
 }

@@ -4,8 +4,8 @@
 use std::path::Path;
 
 use super::comparison::Comparison;
-use super::outcome::Calls;
-use super::settings::USUAL;
+use super::outcome::{Calls, Sides};
+use super::settings::{Triple, USUAL};
 use crate::args::Args;
 use crate::judged::Judged;
 use crate::{stored, Lower};
@@ -50,12 +50,12 @@ fn shortest(mut inputs: Vec<&[u8]>, many: usize) -> Vec<&[u8]> {
 const GROUPS: [&str; 3] = ["short", "prefixes", "changed"];
 
 struct Small {
-    comparison: Comparison,
+    comparison: Comparison<Triple>,
 }
 
 impl Small {
     fn new(lower: Lower) -> Self {
-        Self { comparison: Comparison::new(lower, GROUPS) }
+        Self { comparison: Comparison::new(Sides::rust(lower), GROUPS) }
     }
 
     fn compare(&mut self, group: usize, input: &[u8]) {
@@ -99,7 +99,7 @@ mod tests {
     use oracle::from_hex;
     use oracle::rows::EXAMPLE;
 
-    fn compared(lower: Lower) -> Comparison {
+    fn compared(lower: Lower) -> Comparison<Triple> {
         let mut small = Small::new(lower);
         small.short();
         small.steps(&from_hex(EXAMPLE).expect("it is hexadecimal"));

@@ -12,7 +12,7 @@ pub fn rust(input: &[u8], output: &mut [u8], settings: Triple) -> Answer {
     numbers
 }
 
-fn compared(lower: Lower, count: u64) -> Comparison {
+fn compared(lower: Lower, count: u64) -> Comparison<Triple> {
     let mut diff = Diff::new(lower, 1);
     diff.stored();
     diff.made(count, None, false);
@@ -24,7 +24,7 @@ fn the_rust_agrees_with_itself() {
     let comparison = compared(rust, 500);
     assert!(comparison.found.is_empty());
     comparison.print();
-    assert_eq!(comparison.missing(), Vec::<String>::new());
+    assert_eq!(comparison.missing(&FIRST), Vec::<String>::new());
 }
 
 /// A fault is found in the first inputs.
@@ -33,7 +33,9 @@ fn is_found(lower: Lower) -> bool {
         let input = made(1, number, None).1;
         let settings = some_settings(&mut Rng::of(2, number));
         let calls = Calls::Many(number);
-        settings.iter().any(|triple| differs(lower, &input, *triple, calls, |_| {}).is_some())
+        settings
+            .iter()
+            .any(|triple| differs(Sides::rust(lower), &input, *triple, calls, |_| {}).is_some())
     })
 }
 

@@ -1,9 +1,10 @@
 //! One routine, its rewriting, and the runs in which both are compared.
 
+use edition2::{rewrite, Edition};
 use gen::{Rng, Sort};
 use machine::{run, List, Run, Trace};
 use oracle::form::Routine;
-use oracle::{run_routine, Counts, Settings};
+use oracle::{run_routine, Counts, Lowered, Settings};
 
 use super::faults::Fault;
 use super::plan::{plans, Plan};
@@ -13,9 +14,19 @@ const RUNS: usize = 6;
 
 /// Input `number` of a seed, with settings: typed as a rule, else with a twist, and some wild; a
 /// third with Debugs put in.
-pub fn input(seed: u64, number: u64) -> (Vec<u8>, Settings) {
+/// For edition 2 every other one is deep, and a few are towers.
+pub fn input(seed: u64, number: u64, edition: Edition) -> (Vec<u8>, Settings) {
     let mut rng = Rng::of(seed, number);
     let settings = settings(&mut rng);
+    if edition == Edition::Second && number % 2 == 1 {
+        let deep = |rng: &mut Rng| {
+            let odd = usize::from(rng.chance(15));
+            gen::deep_of(rng, odd)
+        };
+        let tower = number % TOWERS == TOWERS - 1;
+        let bytes = if tower { gen::of_sort(&mut rng, Sort::Tower) } else { deep(&mut rng) };
+        return (bytes, settings);
+    }
     let bytes = match rng.below(100) {
         0..=19 => gen::of_sort(&mut rng, Sort::Typed),
         20..=43 => gen::churned(&mut rng),
@@ -37,11 +48,30 @@ fn settings(rng: &mut Rng) -> Settings {
     settings
 }
 
-/// A routine with what the Rust makes of it.
+/// One in so many is a tower.
+const TOWERS: u64 = 4000;
+
+/// What an edition makes of a routine, or the refusal's number; edition 1 is the Rust.
+pub fn rewritten_by(
+    routine: &Routine,
+    settings: Settings,
+    edition: Edition,
+) -> Result<Lowered, u8> {
+    match edition {
+        Edition::First => run_routine(routine.clone(), settings).map_err(|refusal| refusal.number),
+        Edition::Second => {
+            let rewritten = rewrite(routine, settings, edition).map_err(|fault| fault.0)?;
+            let edition2::Rewritten { result, counts, routine } = rewritten;
+            Ok(Lowered { result, counts, routine })
+        }
+    }
+}
+
+/// A routine with what is made of it.
 pub struct Case {
     pub original: Routine,
     pub rewritten: Routine,
-    /// Whether the Rust changed something.
+    /// Whether something was changed.
     pub changed: bool,
     pub counts: Counts,
 }
@@ -52,12 +82,14 @@ pub struct Wanted {
     /// 0, or a reason whose routines need not run alike.
     pub reason: u8,
     pub fault: Fault,
+    /// The edition that rewrites.
+    pub edition: Edition,
 }
 
 /// Why a routine is not compared.
 pub enum Aside {
-    /// A rebuild met another count.
-    Refused,
+    /// By this number.
+    Refused(u8),
     /// It has this shelf reason.
     Reason(u8),
 }
@@ -65,11 +97,13 @@ pub enum Aside {
 impl Case {
     /// The case of a routine with the wanted shelf reason; a fault is planted behind the test.
     pub fn of(original: Routine, settings: Settings, wanted: &Wanted) -> Result<Self, Aside> {
-        let lowered = run_routine(original.clone(), settings).map_err(|_| Aside::Refused)?;
+        let edition = wanted.edition;
+        let lowered = rewritten_by(&original, settings, edition).map_err(Aside::Refused)?;
         let dropped = shelf::dropped(&original, &lowered.routine);
         match shelf::reason(&original, &lowered.routine, &dropped) {
             reason if reason == wanted.reason => {
-                let rewritten = wanted.fault.plant(&original, lowered.routine, settings, &dropped);
+                let under = (settings, edition);
+                let rewritten = wanted.fault.plant(&original, lowered.routine, under, &dropped);
                 Ok(Self { original, rewritten, changed: lowered.result, counts: lowered.counts })
             }
             reason => Err(Aside::Reason(reason)),

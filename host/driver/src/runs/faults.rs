@@ -1,8 +1,11 @@
 //! Wrong rewritings, planted to see that the comparison finds them.
 
+use edition2::Edition;
 use oracle::form::*;
-use oracle::{run_routine, Settings};
+use oracle::Settings;
 use shelf::Dropped;
+
+use super::case::rewritten_by;
 
 #[derive(Debug, Clone, Copy, PartialEq, Eq)]
 pub enum Fault {
@@ -40,14 +43,18 @@ impl Fault {
         self,
         original: &Routine,
         rewritten: Routine,
-        settings: Settings,
+        (settings, edition): (Settings, Edition),
         dropped: &Dropped,
     ) -> Routine {
+        let rewrite = |misread: Routine| {
+            let lowered = rewritten_by(&misread, settings, edition).ok()?;
+            Some(lowered.routine)
+        };
         match self {
             Fault::None => rewritten,
-            Fault::Stale => misread(original, rewritten, settings, stale),
+            Fault::Stale => misread(original, rewritten, rewrite, stale),
             Fault::LostStore => {
-                misread(original, rewritten, settings, |kind| lost_store(kind, dropped))
+                misread(original, rewritten, rewrite, |kind| lost_store(kind, dropped))
             }
             Fault::Swapped => {
                 let fresh = original.recorded.len();
@@ -68,15 +75,14 @@ fn each_kind(mut routine: Routine, change: impl Fn(&mut Kind)) -> Routine {
     routine
 }
 
-/// What the Rust makes of the routine with some kinds changed; the right one where it refuses.
+/// What becomes of the routine with some kinds changed; the right one where that is refused.
 fn misread(
     original: &Routine,
     rewritten: Routine,
-    settings: Settings,
+    rewrite: impl Fn(Routine) -> Option<Routine>,
     change: impl Fn(&mut Kind),
 ) -> Routine {
-    let read = each_kind(original.clone(), change);
-    run_routine(read, settings).map_or(rewritten, |lowered| lowered.routine)
+    rewrite(each_kind(original.clone(), change)).unwrap_or(rewritten)
 }
 
 fn stale(kind: &mut Kind) {

@@ -4,6 +4,7 @@ mod case;
 mod faults;
 mod plan;
 
+use edition2::Edition;
 use machine::{Cause, End, Event, Run, Standing};
 use oracle::form::Routine;
 use oracle::{read, to_hex, write, Settings, COUNT_NAMES};
@@ -20,7 +21,7 @@ const ENOUGH: usize = 5;
 /// Compares runs of `--count` routines; true where nothing differs and every end, stop and event
 /// was met. With a planted fault, or of another reason than 0, true where a difference is found.
 pub fn command(args: &Args) -> Result<bool, String> {
-    args.only(&["count", "seed", "fault", "reason"])?;
+    args.only(&["count", "seed", "fault", "reason", "edition"])?;
     let (count, seed) = (args.number("count", 100_000)?, args.number("seed", 1)?);
     let fault = match args.text("fault") {
         Some(name) => FAULTS.iter().find(|(own, _)| *own == name).ok_or("no such fault")?.1,
@@ -28,16 +29,18 @@ pub fn command(args: &Args) -> Result<bool, String> {
     };
     let reason = args.number("reason", 0)?;
     let reason = u8::try_from(reason).ok().filter(|n| *n <= 5).ok_or("no such reason")?;
-    let wanted = Wanted { reason, fault };
+    let edition = Edition::of(args.number("edition", 1)?);
+    let wanted = Wanted { reason, fault, edition };
     let mut comparison = Comparison::new(seed, wanted);
     comparison.made(count);
     let missing = comparison.print();
     let alike = comparison.differences.is_empty();
-    Ok(if wanted == RIGHT { alike && missing.is_empty() } else { !alike })
+    let right = wanted == Wanted { edition, ..RIGHT };
+    Ok(if right { alike && missing.is_empty() } else { !alike })
 }
 
 /// What may go on the shelf, rewritten rightly.
-const RIGHT: Wanted = Wanted { reason: 0, fault: Fault::None };
+const RIGHT: Wanted = Wanted { reason: 0, fault: Fault::None, edition: Edition::First };
 
 struct Comparison {
     seed: u64,
@@ -77,12 +80,16 @@ const STANDINGS: [&str; 8] = [
     "stopped: operation",
 ];
 
+/// The refusals of a rebuild.
+const REFUSED: [u8; 3] = [10, 14, 15];
+
 const EVENTS: [&str; 7] =
     ["Call", "HeapAllocCells", "Load", "Store", "AssertEq", "Return", "Debug"];
 
 impl Comparison {
     fn new(seed: u64, wanted: Wanted) -> Self {
-        let reasons = (0..=5).map(|n| format!("reason {n}")).chain(["refused 10".to_string()]);
+        let refused = REFUSED.map(|n| format!("refused {n}"));
+        let reasons = (0..=5).map(|n| format!("reason {n}")).chain(refused);
         Self {
             seed,
             wanted,
@@ -107,7 +114,7 @@ impl Comparison {
             if self.differences.len() >= self.enough {
                 return;
             }
-            let (input, settings) = case::input(self.seed, number);
+            let (input, settings) = case::input(self.seed, number, self.wanted.edition);
             let original = read(&input).expect("made routines are valid");
             self.routine(number, original, settings);
         }
@@ -116,7 +123,10 @@ impl Comparison {
     fn routine(&mut self, number: u64, original: Routine, settings: Settings) {
         let case = match Case::of(original, settings, &self.wanted) {
             Ok(case) => case,
-            Err(Aside::Refused) => return self.routines.add(6, 1),
+            Err(Aside::Refused(number)) => {
+                let at = REFUSED.iter().position(|own| *own == number).expect("no other");
+                return self.routines.add(6 + at, 1);
+            }
             Err(Aside::Reason(reason)) => return self.routines.add(reason.into(), 1),
         };
         self.routines.add(self.wanted.reason.into(), 1);
@@ -239,6 +249,8 @@ fn place(standing: Standing) -> Result<usize, usize> {
 mod tests {
     use super::*;
 
+    const SECOND: Wanted = Wanted { edition: Edition::Second, ..RIGHT };
+
     fn compared(wanted: Wanted, count: u64) -> Comparison {
         let mut comparison = Comparison::new(1, wanted);
         comparison.enough = 1;
@@ -255,11 +267,21 @@ mod tests {
         assert!(comparison.debugs > 500);
     }
 
+    #[test]
+    fn runs_are_alike_in_edition_2() {
+        let comparison = compared(SECOND, 1500);
+        assert!(comparison.differences.is_empty());
+        assert!(comparison.compared > 2500);
+        assert!(comparison.changed[1] > 1000);
+        let swapped = compared(Wanted { fault: Fault::Swapped, ..SECOND }, 1500);
+        assert!(!swapped.differences.is_empty());
+    }
+
     /// Each planted fault is found, and by a small routine.
     #[test]
     fn planted_faults_are_found() {
         for (name, fault) in FAULTS {
-            let comparison = compared(Wanted { reason: 0, fault }, 1500);
+            let comparison = compared(Wanted { fault, ..RIGHT }, 1500);
             let small = comparison.differences.iter().map(|d| write(&d.routine).len()).min();
             assert!(small.is_some_and(|length| length < 200), "{name}: {small:?}");
         }
@@ -268,7 +290,7 @@ mod tests {
     /// Routines that may not go on the shelf do not all run alike.
     #[test]
     fn a_read_of_a_dropped_value_is_found() {
-        let comparison = compared(Wanted { reason: 5, fault: Fault::None }, 1500);
+        let comparison = compared(Wanted { reason: 5, ..RIGHT }, 1500);
         assert!(!comparison.differences.is_empty());
     }
 }

@@ -1,0 +1,29 @@
+use native.Mathlib.Omega.{arith}
+use Rattle.std.proofs.Common.{rules, refl, ◌≡◌}
+use Rattle.std.specs.Prelude.{Err}
+use Rattle.rewrite_before.proofs.Writing.{instruction_copied}
+use Rattle.rewrite_keep.proofs.Lows.{low_room, low_further}
+use Rattle.rewrite_keep.proofs.Behind.{behind_refused, behind_full, behind_made}
+use Rattle.rewrite_keep.proofs.put_behind.Goals as goal
+
+pub put_readings-requires : goal.put_readings-requires
+put_readings-requires c = (low_room c.args.p c.requires, refl)
+
+pub returns-in_err-q-clause-behind_put : goal.returns-in_err-q-clause-behind_put
+returns-in_err-q-clause-behind_put c =
+    let z : c.from_residual.result ≡ Err c.in_err-q.field-0.0 = search rules in
+    rw z (behind_refused c.args.site _ _ c.args.p _ c.put_readings.new.work _ _ c.put_readings.ensures.readings_put _ c.in_err-q.was)
+
+pub returns-in_err-one_more-clause-behind_put : goal.returns-in_err-one_more-clause-behind_put
+returns-in_err-one_more-clause-behind_put c =
+    let z : c.from_residual-in_err-one_more.result ≡ Err c.in_err-one_more.field-0.0 = search rules in
+    rw z (behind_full c.args.site _ _ c.args.p _ c.put_readings.new.work _ _ c.put_readings.ensures.readings_put _ _ c.in_ok-q.was c.in_err-one_more.ensures)
+
+pub returns-clause-behind_put : goal.returns-clause-behind_put
+returns-clause-behind_put c =
+    behind_made c.args.site _ _ c.args.p _ c.put_readings.new.work _ _ c.put_readings.ensures.readings_put _ _ _ _ _ c.in_ok-q.was c.in_ok-one_more.ensures
+    (instruction_copied c.args.site.code _ _ _ _ _ _ c.slot_bytes.ensures c.copy_bytes-to.ensures.writes) c.put_numbers.ensures c.put_further.ensures
+
+pub returns-clause-by_index : goal.returns-clause-by_index
+returns-clause-by_index c = λ k l.
+    low_further _ k _ 1 _ c.args.p _ _ c.in_ok-q.ensures.put_deeper c.copy_bytes-to.ensures.upper_bound (omega arith) refl c.put_further.ensures l

@@ -1,0 +1,13 @@
+pub mod Steps
+pub mod EachKind
+pub mod Patched
+pub mod Renewed
+pub mod Walked
+pub mod Found
+pub mod Bare
+pub mod Fits
+pub mod Whole
+pub mod Putting
+pub mod Numbers
+pub mod Returns
+pub mod Examples

@@ -1,13 +1,16 @@
 #!/usr/bin/env python3
 """Writes what edition 2 makes of small routines as rows that are computed from the definitions, by vectors of host/edition2.
 
-usage: tools/rows.py routines VECTORS >crates/rewrite/proofs/Rows.antt
-       tools/rows.py answers VECTORS >crates/shelf_corners/proofs/Second.antt
-at the top; VECTORS is host/edition2/vectors/small.txt, whose head says how it was made.
+usage: tools/rows.py routines VECTORS [FROM TO] >crates/rewrite/proofs/Rows.antt
+       tools/rows.py answers VECTORS 0 17 >crates/shelf_corners/proofs/Second.antt
+       tools/rows.py answers VECTORS 17 35 >crates/shelf_corners/proofs/SecondBounds.antt
+at the top; VECTORS is host/edition2/vectors/small.txt, whose head says how it was made. FROM and TO: the rows from one on up to before the
+other, all without them.
 
 `routines`: of some of them the rewritten routine, counts and fault; input and output are decoded from the vector's bytes.
 `answers`: of all of them but the 15 the answer to the bytes. Nothing is computed here: what a row is held to is the vector's.
 """
+import re
 import struct
 import sys
 
@@ -129,7 +132,8 @@ def routine(data):
     b.at += (nexts + 7) // 8
     recorded = [f"some {short(b)}" if bits[v // 8] >> (v % 8) & 1 else "none" for v in range(nexts)]
     blocks = [a_block(b) for _ in range(blocks)]
-    lines = ["    record {", "      types =", *[f"          {it}" + " ∷" for it in types], "          [];", f"      next = {nexts};", f"      entry = {numbered(entry)};"]
+    lines = ["    record {", "      types =", *[f"          {it}" + " ∷" for it in types], "          [];"]
+    lines += [f"      next = {nexts};", f"      entry = {numbered(entry)};"]
     lines += [f"      parameters = {listed(parameters)};", f"      recorded = {listed(recorded)};", "      blocks ="]
     for instructions, end in blocks:
         lines += ["          record {", "            instructions ="]
@@ -159,16 +163,15 @@ def numbers(data):
 
 HEAD = '''-- What edition 2 makes of small routines, each computed from the definitions and held to an implementation that was written apart from them
 -- (host/edition2; `tools/rows.py` wrote this file from its vectors).
-use Prim.Native.Nat.{ℕ}
 use mathlib.Core.Path.{◌≡◌, refl}
 use mathlib.Core.List.{[], ◌∷◌}
 use mathlib.Core.Bool.{true, false}
 use mathlib.Core.Option.{none, some}
-use Rattle.bytes_wire.specs.Value.{integer, boolean, unit}
+use Rattle.bytes_wire.specs.Value.{integer, boolean}
 use Rattle.mir.specs.declared.Value.{Value}
-use Rattle.mir.specs.declared.Projection.TheVariants.{Index, Field, Tuple}
+use Rattle.mir.specs.declared.Projection.TheVariants.{Index, Tuple}
 use Rattle.mir.specs.MirType.{MirType}
-use Rattle.mir.specs.Syntax.{plain, Return, Assign, Load, Store, MakeTuple, ExtractTupleElement, InsertField, InsertTuple, MakeFixedArray, AssertEq}
+use Rattle.mir.specs.Syntax.{plain, Return, Assign, Load, Store, MakeTuple, InsertTuple, MakeFixedArray, AssertEq}
 use Rattle.mir.specs.Routine.{Routine}
 use Rattle.fold.specs.declared.Edition.{Edition}
 use Rattle.fold.specs.declared.Settings.{Settings}
@@ -203,45 +206,62 @@ room = 65536
 '''
 
 
-def answers(path):
-    print(ANSWERS, end="")
+def kept(head, body):
+    """The head without the imports of which the body has no word."""
+    words = set(re.findall(r"[^\s()\[\]{}.;:]+", body + "\n".join(line for line in head.splitlines() if line[:4] != "use ")))
+    marks = {"◌≡◌": "≡", "[]": "∷", "◌∷◌": "∷"}
+    lines = []
+    for line in head.splitlines():
+        found = re.fullmatch(r"(use .*\{)(.*)\}", line)
+        if found:
+            names = [name for name in found[2].split(", ") if marks.get(name, name) in words]
+            line = found[1] + ", ".join(names) + "}" if names else None
+        if line is not None:
+            lines.append(line)
+    return "\n".join(lines) + "\n" + body
+
+
+def answers(path, among):
+    body = ""
     flag = {"0": "false", "1": "true"}
     # 15 takes 65,535 rebuilds, too many for a row.
     rows = [it for it in vectors(path).items() if not it[0].startswith("15")]
-    for i, (name, (tuples, structs, most, data, right)) in enumerate(rows):
+    for i, (name, (tuples, structs, most, data, right)) in list(enumerate(rows))[among]:
         told = f"refused {right[1]} {right[2]}"
         if right[0] != "refused":
             told = f"lowered {flag[right[0]]} (counts {' '.join(right[1:6])}) {right[6]}\n    {numbers(bytes.fromhex(right[7]))}"
-        print(f"\n-- {name}\npub answer_{i} : answer (second {flag[tuples]} {flag[structs]} {most}) room")
-        print(f"    {numbers(data)}\n    ≡ {told}\nunfolding answering\nanswer_{i} = refl")
+        body += f"\n-- {name}\npub answer_{i} : answer (second {flag[tuples]} {flag[structs]} {most}) room\n"
+        body += f"    {numbers(data)}\n    ≡ {told}\nunfolding answering\nanswer_{i} = refl\n"
+    print(kept(ANSWERS, body), end="")
 
 
-def routines(path):
-    print(HEAD, end="")
+def routines(path, among):
+    body = ""
     found = vectors(path)
-    for i, name in enumerate(WANTED):
+    for i, name in list(enumerate(WANTED))[among]:
         tuples, structs, most, data, right = found[name]
         assert (tuples, structs, most) == ("1", "1", "8")
-        print(f"\n-- {name}\nabbrev input_{i} : Routine\ninput_{i} =")
-        print("\n".join(routine(data)))
+        body += f"\n-- {name}\nabbrev input_{i} : Routine\ninput_{i} =\n"
+        body += "\n".join(routine(data)) + "\n"
         if right[0] == "refused":
             fault = FAULTS[int(right[1])]
-            print(f"\npub fault_{i} : (rewritten_blocks second input_{i}).fault ≡ some {fault}\nunfolding all_open\nfault_{i} = refl")
+            body += f"\npub fault_{i} : (rewritten_blocks second input_{i}).fault ≡ some {fault}\nunfolding all_open\nfault_{i} = refl\n"
             continue
         counts = dict(zip(["builds", "extracts", "inserts", "assigns", "materializations"], right[1:6]))
         told = "; ".join(f"{k} = {v}" for k, v in counts.items())
-        print(f"\npub counts_{i} : (rewritten_blocks second input_{i}).counts ≡ record {{ {told} }}\nunfolding all_open\ncounts_{i} = refl")
-        print(f"\npub fault_{i} : (rewritten_blocks second input_{i}).fault ≡ none\nunfolding all_open\nfault_{i} = refl")
-        print(f"\nabbrev output_{i} : Routine\noutput_{i} =")
-        print("\n".join(routine(bytes.fromhex(right[7]))))
-        print(f"\npub row_{i} : rewrite second input_{i} ≡ output_{i}\nunfolding all_open\nrow_{i} = refl")
+        body += f"\npub counts_{i} : (rewritten_blocks second input_{i}).counts ≡ record {{ {told} }}\nunfolding all_open\ncounts_{i} = refl\n"
+        body += f"\npub fault_{i} : (rewritten_blocks second input_{i}).fault ≡ none\nunfolding all_open\nfault_{i} = refl\n"
+        body += f"\nabbrev output_{i} : Routine\noutput_{i} =\n"
+        body += "\n".join(routine(bytes.fromhex(right[7]))) + "\n"
+        body += f"\npub row_{i} : rewrite second input_{i} ≡ output_{i}\nunfolding all_open\nrow_{i} = refl\n"
+    print(kept(HEAD, body), end="")
 
 
 def main(words):
-    if len(words) != 2 or words[0] not in ("routines", "answers"):
+    if len(words) not in (2, 4) or words[0] not in ("routines", "answers"):
         print(__doc__)
         return 2
-    (routines if words[0] == "routines" else answers)(words[1])
+    (routines if words[0] == "routines" else answers)(words[1], slice(*map(int, words[2:])) if words[2:] else slice(None))
     return 0
 
 

@@ -3,3 +3,4 @@ pub mod Table
 pub mod Neighbours
 pub mod Printed
 pub mod Second
+pub mod SecondBounds

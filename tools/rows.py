@@ -1,10 +1,11 @@
 #!/usr/bin/env python3
 """Writes what edition 2 makes of small routines as rows that are computed from the definitions, by vectors of host/edition2.
 
-usage: tools/rows.py routines VECTORS [FROM TO] >crates/rewrite/proofs/Rows.antt
+usage: tools/rows.py routines VECTORS 0 5 >crates/rewrite/proofs/Rows.antt
+       tools/rows.py routines VECTORS 5 12 >crates/rewrite/proofs/RowsFaults.antt
        tools/rows.py answers VECTORS 0 17 >crates/shelf_corners/proofs/Second.antt
        tools/rows.py answers VECTORS 17 35 >crates/shelf_corners/proofs/SecondBounds.antt
-at the top; VECTORS is host/edition2/vectors/small.txt, whose head says how it was made. FROM and TO: the rows from one on up to before the
+at the top; VECTORS is host/edition2/vectors/small.txt, whose head says how it was made. The two numbers: the rows from one on up to before the
 other, all without them.
 
 `routines`: of some of them the rewritten routine, counts and fault; input and output are decoded from the vector's bytes.

@@ -16,3 +16,4 @@ pub mod Flags
 pub mod Outcomes
 pub mod Open
 pub mod Rows
+pub mod RowsFaults

@@ -74,7 +74,8 @@ with_readings (UnaryOp op d x) vs = UnaryOp op d (first x vs)
 with_readings (BinaryOp op d x y) vs = BinaryOp op d (first x vs) (first y (others vs))
 with_readings (Call ds f xs ps rs) vs = Call ds f vs ps rs
 with_readings (Cast d x t u) vs = Cast d (first x vs) t u
-with_readings (Load d p t) vs = Load d (record { base = base_of p.base (first (Value.Operand p.base) vs); projections = with_indices p.projections (others vs) }) t
+with_readings (Load d p t) vs =
+    Load d (record { base = base_of p.base (first (Value.Operand p.base) vs); projections = with_indices p.projections (others vs) }) t
 with_readings (Store p x t) vs = Store (record { base = p.base; projections = with_indices p.projections vs }) (first x (behind_indices p.projections vs)) t
 with_readings (Debug m xs) vs = Debug m vs
 with_readings Nop vs = Nop

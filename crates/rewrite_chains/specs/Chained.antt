@@ -146,7 +146,8 @@ states_after S none = S
 states_after S (some S') = S'
 
 -- a Store's answer: it tells whether it is forwarded, and the tables hold the states behind it
-pub record Forwards (next : ℕ) (s : List ℕ) (S : AggStates) (o : Option AggStates) (tracked : Marks) (rows : List ℕ) (used : ℕ) (r : Answered ℕ) : Type 0 where
+pub record Forwards (next : ℕ) (s : List ℕ) (S : AggStates) (o : Option AggStates)
+    (tracked : Marks) (rows : List ℕ) (used : ℕ) (r : Answered ℕ) : Type 0 where
   pub is_told : is_answered r ≡ is_some o
   pub rep : Rep next s tracked rows (unwrap_or r used) (states_after S o)
 

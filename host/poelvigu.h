@@ -65,12 +65,14 @@ uint8_t poelvigu_check(const uint8_t *input, size_t input_len, uint64_t *offset)
 
 /* Rewrites the routine in `input` into `output`. A flag is on when it is not 0; `most` above 16 is refused. A refusal leaves
  * the output as it was; else the routine stands from its first byte on and the bytes behind it stay. As many of the
- * POELVIGU_ANSWERS numbers are written as `answer_len` has room for. */
+ * POELVIGU_ANSWERS numbers are written as `answer_len` has room for. A routine with neither shelf reason 1 nor 2 comes out with
+ * neither, and one without reason 1 without it; that a second run, over what came out, keeps shelf reason 0 is not promised. */
 void poelvigu_lower(const uint8_t *input, size_t input_len, uint8_t *output, size_t output_len, uint64_t tuples,
                     uint64_t structs, uint64_t most, uint64_t *answer, size_t answer_len);
 
 /* The same under choices by place, enum poelvigu_choice, and with one number more. `page` stays as it is: no page is made
- * yet. Without choices it does what `poelvigu_lower` does under 1, 1 and 8. */
+ * yet. Without choices it does what `poelvigu_lower` does under 1, 1 and 8. In both editions what `poelvigu_lower` promises of
+ * shelf reasons 1 and 2 holds, and no more is promised of a second run. */
 void poelvigu_lower_with(const uint8_t *input, size_t input_len, uint8_t *output, size_t output_len, uint8_t *page,
                          size_t page_len, const uint64_t *choices, size_t choices_len, uint64_t *answer, size_t answer_len);
 

@@ -1,16 +1,21 @@
 #!/usr/bin/env python3
-"""Writes what edition 2 makes of small routines as rows that are computed from the definitions, by vectors of host/edition2.
+"""Writes what the editions make of small routines as rows that are computed from the definitions, by vectors of host/edition2.
 
 usage: tools/rows.py routines VECTORS 0 5 >crates/rewrite/proofs/Rows.antt
        tools/rows.py routines VECTORS 5 12 >crates/rewrite/proofs/RowsFaults.antt
        tools/rows.py answers VECTORS 0 17 >crates/shelf_corners/proofs/Second.antt
        tools/rows.py answers VECTORS 17 35 >crates/shelf_corners/proofs/SecondBounds.antt
+       tools/rows.py judged VECTORS >crates/shelf_corners/proofs/Judged.antt
+       tools/rows.py edges VECTORS >crates/shelf_corners/proofs/JudgedEdges.antt
 at the top; VECTORS is host/edition2/vectors/small.txt, whose head says how it was made. The two numbers: the rows from one on up to before the
 other, all without them.
 
 `routines`: of some of them the rewritten routine, counts and fault; input and output are decoded from the vector's bytes.
-`answers`: of all of them but the 15 the answer to the bytes. Nothing is computed here: what a row is held to is the vector's.
+`answers`: of those up to the 15, and without it, the answer to the bytes.
+`judged`, `edges`: of some of them, in both editions, the shelf reason, what comes out, and that input and output have neither reason 1 nor reason 2.
+Nothing is computed here: what a row is held to is the vector's.
 """
+import itertools
 import re
 import struct
 import sys
@@ -33,8 +38,10 @@ FAULTS = {10: "Fault.Clash", 14: "Fault.Looped", 15: "Fault.Overfull"}
 
 
 class Bytes:
-    def __init__(self, data):
-        self.data, self.at = data, 0
+    """With `words` a number is written by the word of its sort."""
+
+    def __init__(self, data, words=False):
+        self.data, self.at, self.words = data, 0, words
 
     def take(self, form):
         (n,) = struct.unpack_from("<" + form, self.data, self.at)
@@ -43,6 +50,7 @@ class Bytes:
 
 
 def listed(items):
+    items = list(items)
     return "(" + " ∷ ".join([*items, "[]"]) + ")" if items else "[]"
 
 
@@ -54,8 +62,21 @@ def many(b, item):
     return [item(b) for _ in range(b.take("B"))]
 
 
-def short(b):
-    return numbered(b.take("H"))
+def short(b, word):
+    n = b.take("H")
+    return f"({word} {n})" if b.words else numbered(n)
+
+
+def value_id(b):
+    return short(b, "v")
+
+
+def type_id(b):
+    return short(b, "ty")
+
+
+def name_id(b):
+    return short(b, "label")
 
 
 def a_type(b):
@@ -63,15 +84,15 @@ def a_type(b):
     if kind == 0:
         return "MirType.Felt"
     if kind == 3:
-        return f"(MirType.Tuple {listed(many(b, short))})"
+        return f"(MirType.Tuple {listed(many(b, type_id))})"
     if kind == 4:
-        name = short(b)
-        fields = many(b, lambda b: f"(record {{ name = {short(b)}; part = {short(b)} }})")
+        name = name_id(b)
+        fields = many(b, lambda b: f"(record {{ name = {name_id(b)}; part = {type_id(b)} }})")
         return f"(MirType.Struct {name} {listed(fields)})"
     if kind == 5:
-        return f"(MirType.FixedArray {short(b)} {b.take('I')})"
+        return f"(MirType.FixedArray {type_id(b)} {b.take('I')})"
     if kind == 6:
-        return f"(MirType.Pointer {short(b)})"
+        return f"(MirType.Pointer {type_id(b)})"
     raise ValueError(f"type {kind}")
 
 
@@ -84,18 +105,26 @@ def a_value(b):
     if kind == 2:
         return "unit"
     if kind == 3:
-        return f"(Value.Operand {short(b)})"
+        return short(b, "op") if b.words else f"(Value.Operand {value_id(b)})"
     return "Value.Error"
 
 
 def a_step(b):
     kind = b.take("B")
-    return [lambda: f"(Index {a_value(b)})", lambda: f"(Field {short(b)})", lambda: f"(Tuple {b.take('I')})"][kind]()
+    return [lambda: f"(Index {a_value(b)})", lambda: f"(Field {name_id(b)})", lambda: f"(Tuple {b.take('I')})"][kind]()
 
 
 def a_place(b):
-    base = short(b)
+    base = value_id(b)
     return f"(record {{ base = {base}; projections = {listed(many(b, a_step))} }})"
+
+
+def a_source(b):
+    return f"(record {{ block = {short(b, 'target')}; value = {a_value(b)} }})"
+
+
+def an_init(b):
+    return f"(record {{ name = {name_id(b)}; value = {a_value(b)} }})"
 
 
 def an_instruction(b):
@@ -103,47 +132,65 @@ def an_instruction(b):
     if bits:
         raise ValueError("meta")
     fields = {
-        5: lambda: f"Load {short(b)} {a_place(b)} {short(b)}",
-        6: lambda: f"Store {a_place(b)} {a_value(b)} {short(b)}",
-        10: lambda: f"MakeTuple {short(b)} {listed(many(b, a_value))}",
-        11: lambda: f"ExtractTupleElement {short(b)} {a_value(b)} {b.take('I')} {short(b)}",
-        14: lambda: f"InsertField {short(b)} {a_value(b)} {short(b)} {a_value(b)} {short(b)}",
-        15: lambda: f"InsertTuple {short(b)} {a_value(b)} {b.take('I')} {a_value(b)} {short(b)}",
-        16: lambda: f"MakeFixedArray {short(b)} {listed(many(b, a_value))} {short(b)} false",
+        0: lambda: f"Assign {value_id(b)} {a_value(b)} {type_id(b)}",
+        3: lambda: f"Call {listed(many(b, value_id))} {b.take('H')} {listed(many(b, a_value))} {listed(many(b, type_id))} {listed(many(b, type_id))}",
+        5: lambda: f"Load {value_id(b)} {a_place(b)} {type_id(b)}",
+        6: lambda: f"Store {a_place(b)} {a_value(b)} {type_id(b)}",
+        7: lambda: f"Debug {b.take('I')} {listed(many(b, a_value))}",
+        9: lambda: f"Phi {value_id(b)} {type_id(b)} {listed(many(b, a_source))}",
+        10: lambda: f"MakeTuple {value_id(b)} {listed(many(b, a_value))}",
+        11: lambda: f"ExtractTupleElement {value_id(b)} {a_value(b)} {b.take('I')} {type_id(b)}",
+        12: lambda: f"MakeStruct {value_id(b)} {listed(many(b, an_init))} {type_id(b)}",
+        13: lambda: f"ExtractStructField {value_id(b)} {a_value(b)} {name_id(b)} {type_id(b)}",
+        14: lambda: f"InsertField {value_id(b)} {a_value(b)} {name_id(b)} {a_value(b)} {type_id(b)}",
+        15: lambda: f"InsertTuple {value_id(b)} {a_value(b)} {b.take('I')} {a_value(b)} {type_id(b)}",
+        16: lambda: f"MakeFixedArray {value_id(b)} {listed(many(b, a_value))} {type_id(b)} false",
         17: lambda: f"AssertEq {a_value(b)} {a_value(b)}",
-        0: lambda: f"Assign {short(b)} {a_value(b)} {short(b)}",
     }
     return f"plain ({fields[kind]()})"
 
 
-def a_block(b):
-    instructions = [an_instruction(b) for _ in range(b.take("H"))]
+def an_end(b):
     kind = b.take("B")
-    if kind != 3:
-        raise ValueError(f"terminator {kind}")
-    return instructions, f"Return {listed(many(b, a_value))}"
+    if kind == 0:
+        return f"Jump {short(b, 'target')}"
+    if kind == 3:
+        return f"Return {listed(many(b, a_value))}"
+    raise ValueError(f"terminator {kind}")
+
+
+def a_block(b):
+    return [an_instruction(b) for _ in range(b.take("H"))], an_end(b)
+
+
+class Whole:
+    """A routine's parts: numbers are numbers, what is behind them is written."""
+
+    def __init__(self, data, words=False):
+        b = Bytes(data, words)
+        self.types = [a_type(b) for _ in range(b.take("H"))]
+        self.next, blocks, self.entry = b.take("H"), b.take("H"), b.take("H")
+        self.parameters = many(b, lambda b: b.take("H"))
+        bits = b.data[b.at : b.at + (self.next + 7) // 8]
+        b.at += (self.next + 7) // 8
+        self.recorded = [b.take("H") if bits[v // 8] >> (v % 8) & 1 else None for v in range(self.next)]
+        self.blocks = [a_block(b) for _ in range(blocks)]
 
 
 def routine(data):
-    b = Bytes(data)
-    types = [a_type(b) for _ in range(b.take("H"))]
-    nexts, blocks, entry = b.take("H"), b.take("H"), b.take("H")
-    parameters = many(b, short)
-    bits = b.data[b.at : b.at + (nexts + 7) // 8]
-    b.at += (nexts + 7) // 8
-    recorded = [f"some {short(b)}" if bits[v // 8] >> (v % 8) & 1 else "none" for v in range(nexts)]
-    blocks = [a_block(b) for _ in range(blocks)]
-    lines = ["    record {", "      types =", *[f"          {it}" + " ∷" for it in types], "          [];"]
-    lines += [f"      next = {nexts};", f"      entry = {numbered(entry)};"]
-    lines += [f"      parameters = {listed(parameters)};", f"      recorded = {listed(recorded)};", "      blocks ="]
-    for instructions, end in blocks:
+    r = Whole(data)
+    recorded = ["none" if t is None else f"some {numbered(t)}" for t in r.recorded]
+    lines = ["    record {", "      types =", *[f"          {it}" + " ∷" for it in r.types], "          [];"]
+    lines += [f"      next = {r.next};", f"      entry = {numbered(r.entry)};"]
+    lines += [f"      parameters = {listed(map(numbered, r.parameters))};", f"      recorded = {listed(recorded)};", "      blocks ="]
+    for instructions, end in r.blocks:
         lines += ["          record {", "            instructions ="]
         lines += [*[f"                {it} ∷" for it in instructions], "                [];", f"            terminator = {end};", "          } ∷"]
     return lines + ["          [];", "    }"]
 
 
-def vectors(path):
-    """Returns by name, of edition 2: the settings, the input and what it comes to."""
+def vectors(path, wanted="2"):
+    """Returns by name, of an edition: the settings, the input and what it comes to."""
     name, found = None, {}
     for line in open(path, encoding="utf-8"):
         line = line.rstrip("\n")
@@ -152,7 +199,7 @@ def vectors(path):
         elif line:
             left, right = line.split(" -> ")
             tuples, structs, most, edition, data = left.split()
-            if edition == "2":
+            if edition == wanted:
                 found[name] = (tuples, structs, most, bytes.fromhex(data), right.split())
     return found
 
@@ -210,7 +257,7 @@ room = 65536
 def kept(head, body):
     """The head without the imports of which the body has no word."""
     words = set(re.findall(r"[^\s()\[\]{}.;:]+", body + "\n".join(line for line in head.splitlines() if line[:4] != "use ")))
-    marks = {"◌≡◌": "≡", "[]": "∷", "◌∷◌": "∷"}
+    marks = {"◌≡◌": "≡", "◌+◌": "+", "◌++◌": "++", "[]": "∷", "◌∷◌": "∷"}
     lines = []
     for line in head.splitlines():
         found = re.fullmatch(r"(use .*\{)(.*)\}", line)
@@ -226,7 +273,7 @@ def answers(path, among):
     body = ""
     flag = {"0": "false", "1": "true"}
     # 15 takes 65,535 rebuilds, too many for a row.
-    rows = [it for it in vectors(path).items() if not it[0].startswith("15")]
+    rows = list(itertools.takewhile(lambda it: not it[0].startswith("15"), vectors(path).items()))
     for i, (name, (tuples, structs, most, data, right)) in list(enumerate(rows))[among]:
         told = f"refused {right[1]} {right[2]}"
         if right[0] != "refused":
@@ -259,6 +306,12 @@ def routines(path, among):
 
 
 def main(words):
+    if len(words) == 2 and words[0] in ("judged", "edges"):
+        sys.dont_write_bytecode = True
+        import judged
+
+        print(getattr(judged, words[0])(words[1]), end="")
+        return 0
     if len(words) not in (2, 4) or words[0] not in ("routines", "answers"):
         print(__doc__)
         return 2

@@ -22,7 +22,7 @@ use Rattle.bytes_block.specs.WellFormed.{FitInstructions}
 use Rattle.rewrite_laws.proofs.Marks.{dests_new}
 use Rattle.shelf.specs.Lists.{every}
 use Rattle.machine_simulation.specs.Static.{below}
-use Rattle.machine_simulation.proofs.Tools.{both_l, both_r, both}
+use Rattle.machine_simulation.proofs.Tools.{both_l, both_r, both, every_append}
 
 -- ---- refusal 4: values are below next
 
@@ -58,10 +58,6 @@ indices_low b (Projection.Tuple k ∷ ps) h = indices_low b ps h.1
 
 place_low : (b : Bounds) (p : Place) → FitPlace b p → T (every (low b.next) (place_reads p))
 place_low b p h = both (low b.next p.base) _ (fit_low b.next p.base h.0) (indices_low b p.projections h.1.1)
-
-every_append : {A : Type 0} (p : A → B.Bool) (xs ys : List A) → T (every p xs) → T (every p ys) → T (every p (xs ++ ys))
-every_append p [] ys s t = t
-every_append p (x ∷ xs) ys s t = both (p x) _ (both_l (p x) (every p xs) s) (every_append p xs ys (both_r (p x) (every p xs) s) t)
 
 pub news_low : (b : Bounds) (seen : List B.Bool) (ds : List ValueId) → FitNews b seen ds → T (every (low b.next) ds)
 news_low b seen [] h = tt

@@ -99,7 +99,7 @@ marked_new b seen (d ∷ ds) v h e =
     differs true f = absurd (true≢false (sym e ∙ ap (λ k. get_or seen k false) (f tt) ∙ h.0.1))
     differs false f = tt
 
-among_append : (v : ℕ) (xs ys : List ValueId) → T (not (among v xs)) → T (not (among v ys)) → T (not (among v (xs ++ ys)))
+pub among_append : (v : ℕ) (xs ys : List ValueId) → T (not (among v xs)) → T (not (among v ys)) → T (not (among v (xs ++ ys)))
 among_append v [] ys s t = t
 among_append v (x ∷ xs) ys s t = nor_i (eqb v x.0) (among v (xs ++ ys)) (first (eqb v x.0) s) (among_append v xs ys (rest (eqb v x.0) s) t)
   where

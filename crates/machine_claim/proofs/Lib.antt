@@ -2,4 +2,5 @@ pub mod Typed
 pub mod Accepted
 pub mod Defined
 pub mod Facts
+pub mod Answered
 pub mod Theorem

@@ -224,7 +224,7 @@ unfolding exec need
 struct_does κ m d fs u xs E w e h = rw h (rw (struct_row_lem κ.types d u e, same_row κ.types d (some u) e))
 
 -- a test on the values given holds of the parts
-parts_given : (p : ValueId → Bool) (τ : Types) (d : ValueId) (fs : List FieldInit) (u : TypeId) (xs : List Value)
+pub parts_given : (p : ValueId → Bool) (τ : Types) (d : ValueId) (fs : List FieldInit) (u : TypeId) (xs : List Value)
     → T (every p (operands (init_values fs))) → struct_parts τ d fs u ≡ some xs → T (every p (operands xs))
 parts_given p τ d fs u xs t h = all→every p (operands xs) (parts_in (λ v. T (p v)) τ d fs u xs (every→all p (operands (init_values fs)) t) h)
 

@@ -63,14 +63,14 @@ after_builds κ φ i j is t S n k xs r E F w rec sim le tk ag g ok hb (ran G sm 
 -- ---- a Call
 
 -- the values asked for are the arguments
-call_values : (τ : Types) (xs : List Value) (ps : List TypeId) → wanted_values (wanted_arguments τ xs ps) ≡ xs
+pub call_values : (τ : Types) (xs : List Value) (ps : List TypeId) → wanted_values (wanted_arguments τ xs ps) ≡ xs
 unfolding wanted_arguments
 call_values τ [] ps = refl
 call_values τ (x ∷ xs) [] = ap (λ (l : List Value). x ∷ l) (call_values τ xs [])
 call_values τ (x ∷ xs) (p ∷ ps) = ap (λ (l : List Value). x ∷ l) (call_values τ xs ps)
 
 -- each argument fits the type that it is rebuilt at
-call_own : (τ : Types) (S : AggStates) (xs : List Value) (ps : List TypeId) → T (arguments_fit τ xs ps) → AtOwn τ S (wanted_arguments τ xs ps)
+pub call_own : (τ : Types) (S : AggStates) (xs : List Value) (ps : List TypeId) → T (arguments_fit τ xs ps) → AtOwn τ S (wanted_arguments τ xs ps)
 unfolding wanted_arguments arguments_fit
 call_own τ S [] [] h = tt
 call_own τ S [] (p ∷ ps) h = tt

@@ -66,7 +66,7 @@ one_length τ n x k rest h (some t) none = ap suc (h n)
 one_length τ n x k rest h (some t) (some xs) = ap suc (h (suc n))
 
 -- as flat rebuilds
-flat_length : (τ : Types) (S : AggStates) (n : ℕ) (ws : List Wanted) → length (rebuild_all τ S n ws).values ≡ length ws
+pub flat_length : (τ : Types) (S : AggStates) (n : ℕ) (ws : List Wanted) → length (rebuild_all τ S n ws).values ≡ length ws
 unfolding rebuild_all
 flat_length τ S n [] = refl
 flat_length τ S n (w ∷ ws) = one_length τ n w.value (length ws) (λ m. rebuild_all τ S m ws) (λ m. flat_length τ S m ws) w.at (state_of S w.value)
@@ -110,7 +110,7 @@ take_all xs k e = rw e (all xs)
     all (x ∷ xs) = ap (λ (l : List Value). x ∷ l) (all xs)
 
 -- by the row of the type
-kept_same : (row : Option MirType) (xs : List Value) → part_count row ≡ some (length xs) → kept_parts row xs ≡ xs
+pub kept_same : (row : Option MirType) (xs : List Value) → part_count row ≡ some (length xs) → kept_parts row xs ≡ xs
 unfolding kept_parts part_count
 kept_same none xs e = refl
 kept_same (some Y.Felt) xs e = refl

@@ -114,13 +114,13 @@ sim_terminator κ t E F w rec ag lo cl =
 -- ---- a Return behind rebuilds
 
 -- the values asked for are the returned ones
-return_values : (τ : Types) (xs : List Value) → wanted_values (wanted_returns τ xs) ≡ xs
+pub return_values : (τ : Types) (xs : List Value) → wanted_values (wanted_returns τ xs) ≡ xs
 unfolding wanted_returns
 return_values τ [] = refl
 return_values τ (x ∷ xs) = ap (λ (l : List Value). x ∷ l) (return_values τ xs)
 
 -- a returned value is rebuilt at its own type
-return_own : (τ : Types) (S : AggStates) (xs : List Value) → AtOwn τ S (wanted_returns τ xs)
+pub return_own : (τ : Types) (S : AggStates) (xs : List Value) → AtOwn τ S (wanted_returns τ xs)
 unfolding wanted_returns
 return_own τ S [] = tt
 return_own τ S (x ∷ xs) = (λ ys t a b. type_own τ x t b, return_own τ S xs)

@@ -109,7 +109,7 @@ unfolding defined_in
 once_later i is v t = among_r v (dests i.kind) (defined_in is) t
 
 -- nor here
-once_now : (i : Instruction) (is : List Instruction) (v : ℕ) → T (not (among v (defined_in (i ∷ is)))) → T (not (among v (dests i.kind)))
+pub once_now : (i : Instruction) (is : List Instruction) (v : ℕ) → T (not (among v (defined_in (i ∷ is)))) → T (not (among v (dests i.kind)))
 unfolding defined_in
 once_now i is v t = among_l v (dests i.kind) (defined_in is) t
 

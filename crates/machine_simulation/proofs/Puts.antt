@@ -99,7 +99,7 @@ whole_replaced τ t xs k y ys s f e =
     }
 
 -- a test on the operands stays, where the new part passes it
-test_replaced : (p : ValueId → Bool) (xs : List Value) (k : ℕ) (y : Value) (ys : List Value) → T (every p (operands xs)) → T (every p (operand y []))
+pub test_replaced : (p : ValueId → Bool) (xs : List Value) (k : ℕ) (y : Value) (ys : List Value) → T (every p (operands xs)) → T (every p (operand y []))
     → St.replaced xs k y ≡ some ys → T (every p (operands ys))
 unfolding St.replaced
 test_replaced p [] k y ys s t h = absurd (none_some h)

@@ -44,13 +44,13 @@ pub low_low : (m n x : ℕ) → m ≤ n → T (ltb x m) → T (ltb x n)
 low_low m n x le t = lt→ltb x n (omega (arith, ltb→lt x m t))
 
 -- below is not equal
-low_other : (n x : ℕ) → T (ltb x n) → T (not (eqb x n))
+pub low_other : (n x : ℕ) → T (ltb x n) → T (not (eqb x n))
 low_other n x t = elim (split (eqb x n)) [ passes e ↦ absurd (omega (arith, ltb→lt x n t, eqb→eq x n e)) | fails nn ↦ nn ]
 
 -- ---- the parts of a rebuild are the tracked ones
 
 -- a tuple rebuilt at its own count has its parts
-fitted_same : (xs : List Value) (k : ℕ) → k ≡ length xs → fitted k xs ≡ xs
+pub fitted_same : (xs : List Value) (k : ℕ) → k ≡ length xs → fitted k xs ≡ xs
 unfolding fitted
 fitted_same xs k e = rw e (whole xs)
   where

@@ -122,7 +122,7 @@ module _ (τ : Types) (rs : List (Option TypeId)) where
   value_row_later v a = rw a (row_of_later (recorded_type (retyped τ rs) v))
 
   -- an operand's row
-  operand_row_later : (x : Value) (vs : List ValueId) → Each (Alike τ rs) (operand x vs) → operand_row τ x ≡ operand_row (retyped τ rs) x
+  pub operand_row_later : (x : Value) (vs : List ValueId) → Each (Alike τ rs) (operand x vs) → operand_row τ x ≡ operand_row (retyped τ rs) x
   unfolding operand_row
   operand_row_later (Value.Literal l) vs h = refl
   operand_row_later (Value.Operand v) vs h = value_row_later v h.0

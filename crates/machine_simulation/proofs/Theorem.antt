@@ -136,7 +136,7 @@ cleans κ (k ∷ ks) a b = (
 -- ---- the recorded types of the rewritten routine
 
 -- recorded types below next stay
-get_front : (l more : List (Option TypeId)) (k : ℕ) → T (ltb k (length l)) → get_or l k none ≡ get_or (l ++ more) k none
+pub get_front : (l more : List (Option TypeId)) (k : ℕ) → T (ltb k (length l)) → get_or l k none ≡ get_or (l ++ more) k none
 get_front [] more k t = absurd (not-suc-le-zero (ltb→lt k 0 t))
 get_front (x ∷ l) more zero t = refl
 get_front (x ∷ l) more (suc k) t = get_front l more k (lt→ltb k (length l) (le_of_suc-le-suc (ltb→lt (suc k) (suc (length l)) t)))
@@ -147,7 +147,7 @@ get_next [] t more = refl
 get_next (x ∷ l) t more = get_next l t more
 
 -- fresh numbers are recorded in their order
-fresh_recorded : (τ : Types) (l : List (Option TypeId)) (ts : List TypeId) → Recorded (retyped τ (l ++ map some ts)) (length l) ts
+pub fresh_recorded : (τ : Types) (l : List (Option TypeId)) (ts : List TypeId) → Recorded (retyped τ (l ++ map some ts)) (length l) ts
 unfolding recorded_type
 fresh_recorded τ l [] = tt
 fresh_recorded τ l (t ∷ ts) =
@@ -163,7 +163,7 @@ unfolding fields_once struct_fields_of
 no_fields = tt
 
 -- refusal 5, of a type's number
-names_once : (τ : Types) (t : TypeId) → T (every (λ row. fields_once (struct_fields_of (some row))) τ.rows) → T (fields_once (struct_fields_of (row_of τ (some t))))
+pub names_once : (τ : Types) (t : TypeId) → T (every (λ row. fields_once (struct_fields_of (some row))) τ.rows) → T (fields_once (struct_fields_of (row_of τ (some t))))
 unfolding row_of
 names_once τ t h = at_row (get_elem? τ.rows t.0) refl
   where

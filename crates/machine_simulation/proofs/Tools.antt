@@ -102,6 +102,11 @@ pub every_r : {A : Type 0} (p : A → Bool) (a b : List A) → T (every p (a ++ 
 every_r p [] b t = t
 every_r p (x ∷ a) b t = every_r p a b (both_r (p x) (every p (a ++ b)) t)
 
+-- of both
+pub every_append : {A : Type 0} (p : A → Bool) (xs ys : List A) → T (every p xs) → T (every p ys) → T (every p (xs ++ ys))
+every_append p [] ys s t = t
+every_append p (x ∷ xs) ys s t = both (p x) _ (both_l (p x) (every p xs) s) (every_append p xs ys (both_r (p x) (every p xs) s) t)
+
 -- two tests, as a statement of each element
 pub every_two→Each : {A : Type 0} (p q : A → Bool) (P : A → Type 0) → ((x : A) → T (p x) → T (q x) → P x) → (xs : List A) → T (every p xs)
     → T (every q xs) → Each P xs

@@ -23,8 +23,11 @@ use Rattle.pass_answers.proofs.Laws.{as_given}
 use Rattle.pass_input.proofs.Copied.{take_sets}
 use Rattle.machine.specs.Meaning.{Meaning}
 use Rattle.machine_claim.specs.Claim.{Indistinguishable}
-use Rattle.machine_claim.proofs.Theorem.{indistinguishable, with_room}
-use Rattle.pass.specs.Promise.{Lowers, LowersWith, Counted}
+use Rattle.machine_claim.proofs.Answered.{with_room}
+use Rattle.machine_claim.proofs.Theorem.{indistinguishable}
+use Rattle.pass_lasting.specs.Lasting.{WellTyped}
+use Rattle.pass_lasting.proofs.Theorem.{well_typed}
+use Rattle.pass.specs.Promise.{Output, Lowers, LowersWith, Counted}
 
 -- the output begins with the rewritten routine
 stands : (σ : Settings) (s out out' : List ℕ) (w : Bool) (c : Counts) (k : ℕ) (bytes : List ℕ) → given σ (length out) s ≡ lowered w c k bytes → out' ≡ leaves (given σ (length out) s) out → take (length bytes) out' ≡ bytes
@@ -33,6 +36,14 @@ stands σ s out out' w c k bytes e f = ap (take (length bytes)) (f ∙ ap (λ o.
 -- demand 3, for scalars of any type
 unseen : {A : Type 0} (σ : Settings) (s out out' : List ℕ) → Bytes s → out' ≡ leaves (given σ (length out) s) out → (w : Bool) (c : Counts) (bytes : List ℕ) → given σ (length out) s ≡ lowered w c 0 bytes → (M : Meaning A) → Indistinguishable (lifted σ) M s (take (length bytes) out')
 unseen σ s out out' b f w c bytes e M = rw (stands σ s out out' w c 0 bytes e f) (indistinguishable M σ (length out) s w c 0 bytes b e refl)
+
+-- wish 12
+lasting : (σ : Settings) (s out out' : List ℕ) → Bytes s → out' ≡ leaves (given σ (length out) s) out → (w : Bool) (c : Counts) (k : ℕ) (bytes : List ℕ) → given σ (length out) s ≡ lowered w c k bytes → (k ≡ 1 → ⊥) → WellTyped (lifted σ) k (take (length bytes) out')
+lasting σ s out out' b f w c k bytes e n = rw (stands σ s out out' w c k bytes e f) (well_typed σ (length out) s w c k bytes b e n)
+
+-- so both are promised of what stands in the output
+output : (σ : Settings) (s out out' : List ℕ) → Bytes s → out' ≡ leaves (given σ (length out) s) out → Output σ s out out'
+output σ s out out' b f = record { unseen = unseen σ s out out' b f; lasting = lasting σ s out out' b f }
 
 -- so it follows from what the entries promise
 pub for_every_meaning_with : {A : Type 0} {σ : Settings} {input out out' page page' numbers numbers' : List ℕ} → Bytes input → LowersWith σ input out out' page page' numbers numbers' → (w : Bool) (c : Counts) (bytes : List ℕ) → given σ (length out) input ≡ lowered w c 0 bytes → (M : Meaning A) → Indistinguishable (lifted σ) M input (take (length bytes) out')
@@ -48,7 +59,7 @@ lowers σ σ' s out out' numbers numbers' r n b e h q f =
     record {
       says = f ∙ ap (λ n. sets numbers 0 (ten_numbers n)) (q ∙ h.says ∙ ap numbers_of e);
       left = left;
-      unseen = unseen σ s out out' b left;
+      output = output σ s out out' b left;
     }
 
 pub lowers_with : (σ σ' : Settings) (s out out' page page' numbers numbers' : List ℕ) (r : Result Lowered Refused) (n : Numbers) → Bytes s → given σ' (length out) s ≡ given σ (length out) s → Answers (given σ' (length out) s) r out out' → n ≡ as_answer r → numbers' ≡ sets numbers 0 (eleven_numbers n) → page' ≡ page → LowersWith σ s out out' page page' numbers numbers'
@@ -58,9 +69,9 @@ lowers_with σ σ' s out out' page page' numbers numbers' r n b e h q f u =
       says = f ∙ ap (λ n. sets numbers 0 (eleven_numbers n)) (q ∙ h.says ∙ ap numbers_of e);
       left = left;
       untouched = u;
-      unseen = unseen σ s out out' b left;
+      output = output σ s out out' b left;
     }
 
 -- and so are the totals
 pub counted : (σ : Settings) (s out out' : List ℕ) (r : Result Lowered Refused) (t t' : Totals) → Bytes s → Fit t → Answers (given σ (length out) s) r out out' → t' ≡ after_answer t r → Counted σ s out out' r t t'
-counted σ s out out' r t t' b f h e = record { answers = h; counted = as_given (given σ (length out) s) r out out' t t' f h e; unseen = unseen σ s out out' b h.left }
+counted σ s out out' r t t' b f h e = record { answers = h; counted = as_given (given σ (length out) s) r out out' t t' f h e; output = output σ s out out' b h.left }

@@ -20,7 +20,7 @@ use Rattle.shelf.specs.Answer.{Answer, refused, lowered, with_reason, reason_of,
 use Rattle.pass_numbers.specs.Ten.{ten_numbers}
 use Rattle.pass_answers.specs.Numbers.{numbers_of, leaves}
 use Rattle.pass_input.proofs.Copied.{take_sets}
-use Rattle.machine_claim.proofs.Theorem.{with_room}
+use Rattle.machine_claim.proofs.Answered.{with_room}
 use Rattle.pass.specs.Promise.{Lowers}
 use Rattle.text_lines.specs.Lines.{answer_lines, lowered_lines}
 use Rattle.text_lines.proofs.Laws.{answer_refused, answer_lowered}

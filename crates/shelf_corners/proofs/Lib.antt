@@ -4,3 +4,5 @@ pub mod Neighbours
 pub mod Printed
 pub mod Second
 pub mod SecondBounds
+pub mod Judged
+pub mod JudgedEdges

@@ -12,7 +12,7 @@ use crate::judged::Judged;
 use crate::lower_diff;
 use crate::lower_diff::comparison::{Comparison, FIRST};
 use crate::lower_diff::outcome::{Calls, Sides};
-use crate::lower_diff::settings::some_settings;
+use crate::lower_diff::settings::{some_settings, Triple};
 use crate::{Answer, LOWER_WITH, WITHOUT};
 
 /// How many places there are.
@@ -35,6 +35,11 @@ impl fmt::Debug for Choices {
 }
 
 impl Choices {
+    /// Settings and an edition; the others are not given.
+    pub fn of([tuples, structs, most]: Triple, edition: u64) -> Self {
+        Self { numbers: [tuples, structs, most, edition, 0, 0, 0], given: DEFAULTS.len() }
+    }
+
     fn words(&self) -> &[u64] {
         &self.numbers[..self.given]
     }
@@ -48,7 +53,7 @@ impl Choices {
         Settings { enable_tuples, enable_structs, max_aggregate_size }
     }
 
-    fn edition(&self) -> Edition {
+    pub fn edition(&self) -> Edition {
         Edition::of(self.at(3))
     }
 }
@@ -73,8 +78,11 @@ fn expected(input: &[u8], choices: Choices) -> Judged {
     Judged::in_edition(input, choices.settings(), choices.edition())
 }
 
+/// An entry with choices: input, output, choices.
+pub type Call = fn(&[u8], &mut [u8], Choices) -> Answer;
+
 /// What it says, behind the entry's signature.
-fn called(input: &[u8], output: &mut [u8], choices: Choices) -> Answer {
+pub fn called(input: &[u8], output: &mut [u8], choices: Choices) -> Answer {
     let judged = expected(input, choices);
     let (numbers, bytes) = judged.within(output.len());
     output[..bytes.len()].copy_from_slice(bytes);
@@ -88,13 +96,17 @@ const AGAINST_RUST: Sides<Choices> = Sides {
     call: called,
 };
 
-/// The archive, compared with the crate.
-fn archive() -> Option<Sides<Choices>> {
+/// The archive's entry.
+pub fn archive() -> Option<Call> {
     LOWER_WITH?;
-    let call = |input: &[u8], output: &mut [u8], choices: Choices| {
+    Some(|input, output, choices| {
         LOWER_WITH.expect("it was looked for")(input, output, choices.words())
-    };
-    Some(Sides { judge: "crate", expected, call })
+    })
+}
+
+/// An entry, compared with the crate.
+fn against_crate(call: Call) -> Sides<Choices> {
+    Sides { judge: "crate", expected, call }
 }
 
 /// Compares `--count` inputs; true where nothing differs and every outcome was met.
@@ -104,7 +116,7 @@ pub fn command(args: &Args) -> Result<bool, String> {
     let sort = args.sort()?;
     let (sides, second) = match args.text("against") {
         Some("rust") => (AGAINST_RUST, false),
-        None => (archive().ok_or(WITHOUT)?, true),
+        None => (against_crate(archive().ok_or(WITHOUT)?), true),
         Some(other) => return Err(format!("--against {other}: there is only rust")),
     };
     let comparison = compared(sides, second, seed, count, sort);
@@ -167,7 +179,7 @@ mod tests {
 
     #[test]
     fn the_crate_agrees_with_itself() {
-        let sides = Sides { judge: "crate", expected, call: called };
+        let sides = against_crate(called);
         for (count, sort, outcomes) in
             [(400, Some(Sort::Deep), [0, 10, 14]), (8, Some(Sort::Tower), [0, 11, 15])]
         {
@@ -179,8 +191,8 @@ mod tests {
     }
 
     /// A wrong entry is found in the first inputs of a sort.
-    fn is_found(sort: Sort, call: fn(&[u8], &mut [u8], Choices) -> Answer) -> bool {
-        let sides = Sides { judge: "crate", expected, call };
+    fn is_found(sort: Sort, call: Call) -> bool {
+        let sides = against_crate(call);
         (0..400).any(|number| {
             let input = made(1, number, Some(sort)).1;
             let choices = drawn(&mut Rng::of(!1, number), true);

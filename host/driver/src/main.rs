@@ -10,6 +10,7 @@ mod examples;
 mod families;
 mod histogram;
 mod judged;
+mod lasting;
 mod lower_diff;
 mod one;
 #[cfg(test)]
@@ -34,6 +35,9 @@ const USAGE: &str = "usage: driver COMMAND [--NAME VALUE]...
   editions-diff --count N --seed S [--sort SORT] [--against rust]
                                                  the archive's entry with choices against the crate
                                                  `edition2`, or that one's edition 1 against the Rust
+  lasting     --count N --seed S [--sort SORT] [--by crate]
+                                                 the archive's outputs, or the crate's, judged by
+                                                 shelf reasons 1 and 2, as inputs are
   lower-small [--routines N] [--from FILE]       the same on all short inputs, and on all that is
                                                  one step from stored routines
   bench-lower --count N --seed S                 lower against the Rust, in time
@@ -112,6 +116,7 @@ fn dispatch(command: &str, args: &Args) -> Result<bool, String> {
         "bench" => bench::command(args, check),
         "lower-diff" => lower_diff::command(args, lower.ok_or(WITHOUT)?),
         "editions-diff" => editions::command(args),
+        "lasting" => lasting::command(args),
         "lower-small" => lower_diff::small::command(args, lower.ok_or(WITHOUT)?),
         "bench-lower" => bench_lower::command(args, lower),
         "runs" => runs::command(args),

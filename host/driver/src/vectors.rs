@@ -7,6 +7,8 @@ use oracle::{from_hex, to_hex, write, Settings};
 use crate::args::Args;
 use crate::examples::draft::*;
 
+mod judged;
+
 /// Writes the lines to the file `--to`.
 pub fn command(args: &Args) -> Result<bool, String> {
     args.only(&["to"])?;
@@ -75,6 +77,7 @@ fn all() -> Vec<Vector> {
     let mut all = typed();
     all.extend(settings());
     all.extend(looser());
+    all.extend(judged::all());
     all
 }
 

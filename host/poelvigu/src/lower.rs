@@ -25,6 +25,11 @@ pub const LONGEST_OUTPUT: usize = LONGEST_INPUT + MOST_FRESH * MOST_ADDED + MOST
 /// (numbers 1 to 9), a routine with an array that cannot be rebuilt (10), a routine whose output is
 /// longer than `output` (11) and a setting that is too high (12).
 ///
+/// A routine with neither shelf reason 1 nor 2 comes out with neither, whatever else its reason is,
+/// and one without reason 1 comes out without it, so that a second run, over what came out, answers
+/// neither where the first did not. That it keeps shelf reason 0 is not promised, and it refuses what
+/// has become larger than an input may be.
+///
 /// ```
 /// use poelvigu::{lower_into, Cause, Settings};
 ///
@@ -51,7 +56,8 @@ pub fn lower_into(
 /// Rewrites the routine in `input`, and gives the rewritten one with what was done.
 ///
 /// It finds a buffer that is large enough, of [`LONGEST_OUTPUT`] bytes at most, so it is refused as
-/// [`lower_into`] is, but never with number 11.
+/// [`lower_into`] is, but never with number 11. What that promises of the output's shelf reasons 1
+/// and 2, and does not of a second run, holds here too.
 ///
 /// ```
 /// use poelvigu::{lower, Cause, Settings};

@@ -19,6 +19,10 @@ const MOST_NUMBERS: usize = 65_535;
 /// itself (14), and one that needs more numbers or instructions than there is room for (15). `page`
 /// stays as it is: no page is made yet.
 ///
+/// In both editions a routine with neither shelf reason 1 nor 2 comes out with neither, and one
+/// without reason 1 without it; that a second run, over what came out, keeps shelf reason 0 is not
+/// promised.
+///
 /// ```
 /// use poelvigu::{lower_with_into, Choices, Edition};
 ///
@@ -45,7 +49,8 @@ pub fn lower_with_into(
 /// no page: none is made yet.
 ///
 /// It finds a buffer that is large enough, of [`LONGEST_SECOND_OUTPUT`] bytes at most, so it is
-/// refused as [`lower_with_into`] is, but never with number 11.
+/// refused as [`lower_with_into`] is, but never with number 11. What that promises of the output's
+/// shelf reasons 1 and 2, and does not of a second run, holds here too.
 ///
 /// ```
 /// use poelvigu::{lower_with, Choices, Edition};

@@ -20,11 +20,21 @@ fn defined(routine: &Routine) -> BTreeSet<ValueNo> {
     routine.instructions().flat_map(|i| i.kind.dests()).copied().collect()
 }
 
+/// Reason 1 of any routine, an output too: it looks at no rewriting.
+pub fn types_disagree(routine: &Routine) -> bool {
+    typing::disagree(routine)
+}
+
+/// Reason 2 of any routine, whatever reason 1 says.
+pub fn reads_ahead(routine: &Routine) -> bool {
+    order::reads_ahead(routine)
+}
+
 /// "Reason 0 is passed; else the lowest that holds".
 pub fn reason(original: &Routine, rewritten: &Routine, dropped: &Dropped) -> u8 {
-    if typing::disagree(original) {
+    if types_disagree(original) {
         1
-    } else if order::reads_ahead(original) {
+    } else if reads_ahead(original) {
         2
     } else if order::stores_into_part(original) {
         3

@@ -2,7 +2,7 @@
 
 mod copies;
 pub mod draft;
-mod passed;
+pub mod passed;
 mod reasons;
 mod refused;
 mod second;
@@ -46,7 +46,8 @@ const FAMILIES: [&str; 5] =
     ["backwards.hex", "backwards-chain.hex", "other-kind.hex", "scalars.hex", "refused-6.hex"];
 
 /// The examples for which there are lines of edition 2 too.
-const SECOND: [&str; 8] = [
+const SECOND: [&str; 9] = [
+    "second-run.hex",
     "nested.hex",
     "twice.hex",
     "kept-load.hex",
@@ -78,7 +79,7 @@ fn families_of(bytes: &[u8]) -> String {
 }
 
 /// Each example with its bytes.
-fn all() -> Vec<(&'static str, Vec<u8>)> {
+pub fn all() -> Vec<(&'static str, Vec<u8>)> {
     vec![
         ("pair.hex", write(&passed::pair())),
         ("struct.hex", write(&passed::nested_struct())),
@@ -87,6 +88,7 @@ fn all() -> Vec<(&'static str, Vec<u8>)> {
         ("long.hex", write(&passed::long_line())),
         ("debug.hex", write(&passed::debugged())),
         ("unwritten.hex", write(&passed::unwritten())),
+        ("second-run.hex", write(&passed::passed_once())),
         ("reason-1.hex", write(&reasons::other_type())),
         ("reason-2.hex", write(&reasons::read_ahead())),
         ("reason-3.hex", write(&reasons::stored_into_part())),

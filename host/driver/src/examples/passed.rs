@@ -131,3 +131,31 @@ pub fn calls(count: usize) -> Routine {
 pub fn long_line() -> Routine {
     calls(6)
 }
+
+/// `let one = (7,); let nest = (one,); let part = nest.0; let both = Both { left: nest, right: nest };`, and
+/// `one` is stored over `part`, whole. The tuple that stands twice in `both` keeps `one` from being taken
+/// apart. Both are gone from the output, of which `one` is taken apart and with it its copy `part`: a kept
+/// Store's base, which is not built again.
+pub fn passed_once() -> Routine {
+    let [one, nest, both] = [1, 2, 3].map(TypeNo);
+    let [left, right] = [1, 2].map(NameNo);
+    let types = vec![
+        Type::Felt,
+        Type::Tuple(vec![FELT]),
+        Type::Tuple(vec![one]),
+        Type::Struct { name: NameNo(5), fields: vec![(left, nest), (right, nest)] },
+    ];
+    let kinds = vec![
+        tuple(0, integers([7])),
+        tuple(1, vec![value(0)]),
+        part(2, 1, 0, one),
+        Kind::MakeStruct {
+            dest: ValueNo(3),
+            fields: vec![(left, value(1)), (right, value(1))],
+            struct_ty: both,
+        },
+        store(place(2, Vec::new()), value(0), one),
+    ];
+    let blocks = vec![block(kinds, Terminator::Return(Vec::new()))];
+    routine(types, &[one, nest, one, both], blocks)
+}

@@ -212,3 +212,26 @@ fn what_did_not_pass_may_do_another_thing() {
         assert_eq!(rewritten, stopped);
     }
 }
+
+/// What passes may come out as what does not pass: in either edition, though it has neither reason 1 nor 2.
+#[test]
+fn what_passed_may_not_pass_again() {
+    let usual = Settings::default();
+    for edition in [Edition::First, Edition::Second] {
+        let run = |input: &[u8]| {
+            edition2::lower(input, usual, edition, usize::MAX).expect("it is accepted")
+        };
+        let first = run(&write(&passed::passed_once()));
+        let second = run(&first.output);
+        assert_eq!((first.reason, second.reason), (0, 5));
+        let output = oracle::read(&first.output).expect("it is a routine");
+        assert!(!shelf::types_disagree(&output) && !shelf::reads_ahead(&output));
+    }
+    let again = |name: &str| {
+        let output = text(name).lines().nth(1).and_then(from_hex).expect("hexadecimal");
+        lines(&output).lines().next().map(str::to_string)
+    };
+    let readme = text("README.md");
+    let said = again("second-run.lines").expect("a line is printed");
+    assert!(said.ends_with(" 5") && readme.contains(&format!("`{said}`")), "{said}");
+}

@@ -1,0 +1,15 @@
+pub mod Vocabulary
+pub mod Parts
+pub mod Arms
+pub mod Later
+pub mod AgreesWith
+pub mod OneRebuilt
+pub mod Rebuilt
+pub mod Typed
+pub mod TypedBlocks
+pub mod Calm
+pub mod StepOrder
+pub mod Order
+pub mod OrderBlocks
+pub mod Theorem
+pub mod Twice

@@ -19,7 +19,7 @@ use Rattle.rewrite.specs.Run.{rebuilt_return, walk, Rewritten, Choice, block_the
 use Rattle.shelf.specs.Lists.{every, among}
 use Rattle.shelf.specs.Reads.{defined_in, ordered, counted_reads}
 use Rattle.machine_simulation.specs.Static.{below, no_phi}
-use Rattle.machine_simulation.proofs.Tools.{both_l, both_r, both, none_some}
+use Rattle.machine_simulation.proofs.Tools.{both_l, both_r, both}
 use Rattle.machine_simulation.proofs.Phis.{below_behind}
 use Rattle.machine_simulation.proofs.NoPhi.{walk_no_phi}
 use Rattle.mir.specs.Reads.{reads}
@@ -27,7 +27,7 @@ use Rattle.rewrite.specs.Step.{step}
 use Rattle.shelf.proofs.Flag.{counted_of}
 use Rattle.machine_simulation.proofs.Invariant.{once_later}
 use Rattle.pass_lasting.proofs.Vocabulary.{AllParts, early, Calm, none}
-use Rattle.pass_lasting.proofs.Parts.{step_parts, parts_weaken}
+use Rattle.pass_lasting.proofs.Parts.{step_parts, parts_weaken, none_parts}
 use Rattle.pass_lasting.proofs.Arms.{shown}
 use Rattle.pass_lasting.proofs.Calm.{rebuilt_calm, deep_calm}
 use Rattle.pass_lasting.proofs.StepOrder.{step_order_of}
@@ -105,12 +105,11 @@ module _ (debug : Bool) (σ : Settings) (τ : Types) (c : Choice) (low : ℕ) wh
   walked_ordered : (n : ℕ) (k : Block) → low ≤ n → OrderedBlock debug low k
       → let w = walk σ τ (c.folds k) no_states n (behind_phis k.instructions) k.terminator in
       T (in_place debug (record { instructions = phis_of k.instructions ++ w.out; terminator = w.terminator }))
-  unfolding no_states
   walked_ordered n k le h =
       let is = behind_phis k.instructions in
       let w = walk σ τ (c.folds k) no_states n is k.terminator in
       block_ordered debug k w (walk_no_phi σ τ (c.folds k) no_states n is k.terminator h.phis_first)
-      (walk_ordered debug σ τ (c.folds k) no_states low n is k.terminator le (λ v xs e. absurd (none_some e))
+      (walk_ordered debug σ τ (c.folds k) no_states low n is k.terminator le (none_parts (λ v. ltb v low && not (among v (defined_in is))))
       (below_behind low k.instructions h.lows) h.ordered).ordered
 
   -- one block, skipped or walked, in front of others

@@ -28,7 +28,7 @@ use Rattle.machine_simulation.proofs.TypedStates.{step_typed}
 use Rattle.machine_claim.proofs.Typed.{counted_typed}
 use Rattle.shelf.proofs.Flag.{counted_of}
 use Rattle.pass_lasting.proofs.Vocabulary.{AllParts, Table, types_later, AgreeBefore}
-use Rattle.pass_lasting.proofs.Parts.{step_parts}
+use Rattle.pass_lasting.proofs.Parts.{step_parts, none_parts}
 use Rattle.pass_lasting.proofs.Arms.{shown}
 use Rattle.pass_lasting.proofs.Later.{low_alike, end_later}
 use Rattle.pass_lasting.proofs.AgreesWith.{known_twins}
@@ -163,7 +163,7 @@ behind_known debug κ k h =
     let p = every (fine debug κ) k.instructions in
     record {
       typed = λ v xs e. absurd (none_some e);
-      parts = λ v xs e. absurd (none_some e);
+      parts = none_parts (λ v. ltb v κ.m);
       lows = below_behind κ.m k.instructions h.lows;
       low_end = h.low_end;
       fine = every_r (fine debug κ) (phis_of k.instructions) (behind_phis k.instructions)

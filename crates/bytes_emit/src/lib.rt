@@ -131,12 +131,15 @@ pub fn put_assign(out: &mut [u8], to: usize, d: ValueId, x: Value, t: TypeId) ->
     at + 2
 }
 
-// Copies all of `s` to the places from `to` on, where there is room for it.
+// Copies all of `s` to the places from `to` on, where there is room for it. (One by one: by `copy_from_slice` the archive would ask its host
+// for `memmove`.)
 pub fn copy_whole(s: &[u8], out: &mut [u8], to: usize)
     requires { to + length s.now ≤ length out.old }
     ensures { out.new ≡ sets out.old to s.now }
 {
-    out[to..to + s.len()].copy_from_slice(s);
+    for i in 0..s.len() {
+        out[to + i] = s[i];
+    }
 }
 
 // Copies `s` to the places from `to` on, as far as there is room, and returns the place behind it.

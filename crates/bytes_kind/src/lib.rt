@@ -86,10 +86,15 @@ pub fn kind_behind(p: Scan, kind: Kind) -> Scan
     }
 }
 
-// The same of what a reader of the instruction answered. (For callers outside the pass, whose own reader has the good answer in hand.)
-pub fn after_kind(p: Result<Scan, Refusal>, kind: Kind) -> Result<Scan, Refusal>
+// The same of what a reader of the instruction answered, by the kind's number; behind a number that is no kind's a Phi is late too. (For
+// callers outside the pass, whose own reader has the good answer in hand.)
+pub fn after_kind(p: Result<Scan, Refusal>, kind: u8) -> Result<Scan, Refusal>
     ensures { (seen : List Bool) (buffer : List ℕ) →
-        as_scan result seen buffer ≡ map_parse (λ w. late_behind (number_of_kind kind) w) (as_scan p seen buffer) }
+        as_scan result seen buffer ≡ map_parse (λ w. late_behind kind w) (as_scan p seen buffer) }
 {
-    Ok(kind_behind(p?, kind))
+    let before = p?;
+    Ok(Scan {
+        late: before.late || kind != Kind::Phi as u8,
+        ..before
+    })
 }

@@ -25,8 +25,7 @@ pub fn block_bytes<'a>(s: &'a [u8], blocks: &[u16], k: BlockId) -> &'a [u8]
     bytes_field::between(s, from, to)
 }
 
-// The place of a type's kind, where `starts` has the places of the types. (For callers outside the pass, which reads the row itself,
-// `Code::type_row`.)
+// The place of a type's kind, where `starts` has the places of the types.
 pub fn type_place(starts: &[u16], t: TypeId) -> usize
     ensures { result ≡ get_or starts.now t.0 0 }
 {

@@ -1,5 +1,5 @@
 -- A row of classes, one field after another.
-use Prim.Native.Nat.{ℕ, zero, suc, ◌+◌, ◌*◌, ◌/◌, ◌%◌, ◌<◌, ◌≤◌}
+use Prim.Native.Nat.{ℕ, zero, suc, ◌+◌, ◌-◌, ◌*◌, ◌/◌, ◌%◌, ◌<◌, ◌≤◌}
 use mathlib.Core.Path.{◌≡◌, refl, ap, ◌∙◌, sym}
 use mathlib.Core.List.{List, [], ◌∷◌}
 use native.Mathlib.Omega.{arith}
@@ -85,3 +85,20 @@ module _ (b : Bounds) (many : ℕ) (s : List ℕ) (row : List Class) (all : Pars
   row_done h =
       let e : drop i row ≡ [] = drop_all i row h in
       sym (l.left ∙ rw e (and_same s p _ _ (λ w t. no_digits b many 0 w t) ∙ and_nothing s p))
+
+-- of the five digits of a row's number i are behind, and those of `rest` are left
+pub record Digits (b : Bounds) (many : ℕ) (s : List ℕ) (all : Parse Walk) (rest i : ℕ) (p : Parse Walk) : Type 0 where
+  pub digits : all ≡ and_then s p (λ w t. row_walk b many (5 - i) rest w t)
+
+module _ (b : Bounds) (many : ℕ) (s : List ℕ) (all : Parse Walk) (rest i : ℕ) (p : Parse Walk) (r : Digits b many s all rest i p) where
+  -- one more is behind
+  pub digit_again : (q : Parse Walk) → i < 5 → q ≡ and_then s p (λ w t. field_walk b many (rest % 16) w t) → Digits b many s all (rest / 16) (i + 1) q
+  unfolding row_walk
+  digit_again q h e =
+      let z : 5 - i ≡ suc (5 - (i + 1)) = omega arith in
+      record { digits = r.digits ∙ rw (z, e) (sym (assoc s p (λ w t. field_walk b many (rest % 16) w t) (λ v t. row_walk b many (5 - (i + 1)) (rest / 16) v t))) }
+
+  -- all are behind
+  pub digits_done : 5 ≤ i → p ≡ all
+  unfolding row_walk
+  digits_done h = let z : 5 - i ≡ 0 = omega arith in sym (r.digits ∙ rw z (and_nothing s p))

@@ -1,6 +1,6 @@
 -- The classes of a row's fields and the kinds of lists as the code has them, and their numbers (`fields` and `first_of` of
 -- bytes_field/specs/Walk).
-use Rattle.std.specs.Prelude.{ℕ, ◌+◌, ◌*◌, List, [], ◌∷◌}
+use Rattle.std.specs.Prelude.{ℕ, ◌+◌, ◌*◌, List, [], ◌∷◌, Option, None, Some}
 use Rattle.bytes_row.specs.declared.class.ListKind.{ListKind}
 use Rattle.bytes_row.specs.declared.class.Class.{Class}
 use Rattle.bytes_row.specs.declared.class.Class.TheVariants.{Dest, Value, Name, Number, Block, Place, Binary, Unary}
@@ -32,6 +32,11 @@ number_of_class Dests = 12
 number_of_class Named = 13
 number_of_class Sources = 14
 number_of_class Returns = 15
+
+-- a digit of any number: 0 is that of no class
+abbrev pub number_of_digit : Option Class → ℕ
+number_of_digit None = 0
+number_of_digit (Some c) = number_of_class c
 
 -- the number of a row, as `row_walk` reads it: its hexadecimal digits are the classes, the first the lowest
 abbrev pub number_of_row : List Class → ℕ

@@ -6,11 +6,11 @@
 
 pub mod class;
 
-ghost use Rattle.std.specs.Prelude.{◌≡◌, List, Bool, not, length};
+ghost use Rattle.std.specs.Prelude.{◌≡◌, ◌<◌, List, Bool, not, length};
 ghost use Rattle.bytes_wire.specs.Parse.{and_then, map_parse};
 ghost use Rattle.bytes_wire.specs.Value.{value_of};
 ghost use Rattle.bytes_field.specs.Walk.{walk_before, uses_value, pair_walk, times, first_of, second_of, counts};
-ghost use Rattle.bytes_row.specs.Class.{number_of_list, number_of_class, number_of_row};
+ghost use Rattle.bytes_row.specs.Class.{number_of_list, number_of_class, number_of_digit, number_of_row};
 ghost use Rattle.bytes_field.specs.Walk.{list_walk, place_walk, field_walk, row_walk, as_scan, scanned};
 
 use bytes_field::{Bounds, Lists, Scan};
@@ -188,18 +188,73 @@ pub fn row_behind(
     Ok(w)
 }
 
-// A row behind what another reader answered. (For callers outside the pass, whose own readers have the good answer in hand.)
+// The class that a digit of a row's number says; 0 says none.
+fn class_of(digit: u32) -> Option<Class>
+    requires { digit < 16 }
+    ensures { number_of_digit result ≡ digit }
+{
+    match digit {
+        0 => None,
+        1 => Some(Class::Dest),
+        2 => Some(Class::Value),
+        3 => Some(Class::Type),
+        4 => Some(Class::Name),
+        5 => Some(Class::Number),
+        6 => Some(Class::Block),
+        7 => Some(Class::Place),
+        8 => Some(Class::Binary),
+        9 => Some(Class::Unary),
+        10 => Some(Class::Values),
+        11 => Some(Class::Types),
+        12 => Some(Class::Dests),
+        13 => Some(Class::Named),
+        14 => Some(Class::Sources),
+        _ => Some(Class::Returns),
+    }
+}
+
+// The field that a digit says, behind what was read; 0 reads nothing.
+fn digit_behind(
+    s: &[u8],
+    p: Scan,
+    digit: u32,
+    many: u8,
+    b: Bounds,
+    seen: &mut [bool],
+    buffer: &mut [u16],
+) -> Result<Scan, Refusal>
+    requires { digit < 16 }
+    ensures { as_scan result seen.new buffer.new ≡
+        and_then s.now (scanned seen.old buffer.old p) (λ w t. field_walk b many digit w t) }
+{
+    match class_of(digit) {
+        None => Ok(p),
+        Some(c) => {
+            let t = table::behind(s, p.size);
+            bytes_field::further(read_field(t, p, c, many, b, seen, buffer), p.size)
+        }
+    }
+}
+
+// A row that is given as a number, behind what another reader answered: its five lowest hexadecimal digits are the classes of its fields, the
+// first field's the lowest. (For callers outside the pass, whose own readers have the good answer in hand.)
 pub fn then_row(
     s: &[u8],
     p: Result<Scan, Refusal>,
-    row: &[Class],
+    row: u32,
     many: u8,
     b: Bounds,
     seen: &mut [bool],
     buffer: &mut [u16],
 ) -> Result<Scan, Refusal>
     ensures { as_scan result seen.new buffer.new ≡
-        and_then s.now (as_scan p seen.old buffer.old) (λ w t. row_walk b many (length row.now) (number_of_row row.now) w t) }
+        and_then s.now (as_scan p seen.old buffer.old) (λ w t. row_walk b many 5 row w t) }
 {
-    row_behind(s, p?, row, many, b, seen, buffer)
+    let mut w = p?;
+    let mut left = row;
+    for _ in 0..5u8 {
+        w = digit_behind(s, w, left % 16, many, b, seen, buffer)?;
+        left /= 16;
+    }
+    Ok(w)
 }

@@ -42,10 +42,11 @@ fn find_in_row(row: &[u8], name: NameId) -> Option<FoundField>
         return None;
     };
     let i = position(row, name)?;
+    let fields = bytes_types::field_count(row);
     Some(FoundField {
         position: i as u32,
         part: part(row, i),
-        fields: bytes_types::field_count(row),
+        fields,
     })
 }
 

@@ -41,7 +41,7 @@ fn decide_one(code: Code, settings: Settings, slot: u16, view: View, looked: boo
         return false;
     }
     let v = fold_scan::dest(code, slot);
-    fold_climb::folds(v, kind, looked, settings, view)
+    fold_climb::folds(v, kind as u16, looked, settings, view)
 }
 
 // Gives each instruction of a block a flag, at its slot: whether it is a build that is folded.

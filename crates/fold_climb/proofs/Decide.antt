@@ -1,18 +1,27 @@
 -- The decision for each kind of build, from the tables.
-use Prim.Native.Nat.{ℕ, zero, suc, ◌+◌, ◌≤◌, ◌<◌}
-use mathlib.Core.Path.{◌≡◌, refl, ap, sym, ◌∙◌}
+use Prim.Native.Nat.{ℕ, zero, suc, ◌+◌, ◌-◌, ◌≤◌, ◌<◌}
+use mathlib.Core.Path.{◌≡◌, refl, ap, sym, subst, ◌∙◌}
 use mathlib.Core.List.{List, [], ◌∷◌}
 use mathlib.Core.Bool.{Bool, true, false, cond, not, ◌&&◌, ◌||◌, or-true}
 use mathlib.Core.Option.{Option, none, some}
-use native.Mathlib.Nat.{add-zero, zero-add}
+use native.Mathlib.Nat.{zero-add}
 use native.Mathlib.Omega.{arith}
-use Rattle.std.specs.List.{list_all, range_with_len}
+use Rattle.std.specs.List.{list_all}
+use Rattle.std.specs.declared.ops.Range.{Range}
+use Rattle.std.specs.declared.iter.Rev.{Rev}
+use Rattle.std.specs.Iterator.Adapters.{rev_source, rev_steps}
+use Rattle.std.proofs.iter.runs.Sources.{nat_range_steps_back}
+use Rattle.std.proofs.lemmas.Iterator.{YieldsList}
+use Rattle.std.proofs.lemmas.Iterator.Consumers.{YieldsList-from_shown}
 use lib.ListN.{length}
 use lib.Dec.{eqb}
 use Rattle.mir.specs.declared.ValueId.{ValueId}
 use Rattle.mir.specs.declared.Value.{Value}
 use Rattle.mir.specs.Syntax.{Instruction, MakeTuple}
 use Rattle.mir.specs.Reads.{kind_number, reads}
+use Rattle.mir.specs.declared.kind.Kind.{Kind}
+use Rattle.mir.specs.Kind.{number_of_kind}
+use Rattle.mir.proofs.Numbers.{one_kind}
 use Rattle.fold.specs.declared.Settings.{Settings}
 use Rattle.mir.specs.Lookup.{Types, is_some}
 use Rattle.fold.specs.Family.{Marks, build_dest, has_dynamic_index}
@@ -41,6 +50,13 @@ dynamic_array false b d e = refl
 pub constant_array : (a b d r : Bool) → a ≡ true → d ≡ false → r ≡ b → r ≡ (a && (b && not d))
 constant_array a true d r e f k = rw (e, f) k
 constant_array a false d r e f k = rw e k
+
+-- a number that is another kind's, or no kind's, is neither a struct's nor an array's
+pub other_kind : (n : ℕ) (k : Kind) → number_of_kind k ≡ n → (k ≡ Kind.MakeStruct → ⊥) → (k ≡ Kind.MakeFixedArray → ⊥) → (n ≡ 12 → ⊥) × (n ≡ 16 → ⊥)
+other_kind n k e s a = ((λ h. s (one_kind k Kind.MakeStruct (e ∙ h))), (λ h. a (one_kind k Kind.MakeFixedArray (e ∙ h))))
+
+pub past_kinds : (n : ℕ) → 18 < n → (n ≡ 12 → ⊥) × (n ≡ 16 → ⊥)
+past_kinds n p = ((λ h. omega arith), (λ h. omega arith))
 
 module _ (Q : ℕ → Type 0) where
   one_behind : (b : Bool) (e : Edge) (es : List Edge) → Each Q (cond b es (e ∷ es)) → Each Q es
@@ -137,26 +153,31 @@ module _ {σ : Settings} {τ : Types} {cross : Marks} {is : List Instruction} {s
             array = λ n d. absurd (a n);
           }
 
--- what holds of n + 1 numbers holds of the last and of the others
-all_last : (t : ℕ → Bool) (a n : ℕ) → list_all t (range_with_len a (suc n)) ≡ (t (a + n) && list_all t (range_with_len a n))
-all_last t a zero = rw add-zero
-all_last t a (suc n) =
-    let e : a + 1 + n ≡ a + suc n = omega arith in
-    rw (all_last t (a + 1) n, e) (swap (t a) (t (a + suc n)) (list_all t (range_with_len (a + 1) n)))
-  where
-    swap : (x y z : Bool) → (x && (y && z)) ≡ (y && (x && z))
-    swap true y z = refl
-    swap false true z = refl
-    swap false false z = refl
+-- the numbers of a range, the last one first
+abbrev pub counted_down : ℕ → ℕ → List ℕ
+counted_down a zero = []
+counted_down a (suc n) = (a + n) ∷ counted_down a n
+
+one_down : (a n b m x : ℕ) → n ≡ suc m → x ≡ a + m → b ≡ a → counted_down a n ≡ x ∷ counted_down b m
+one_down a n b m x e f g = ap (counted_down a) e ∙ ap (λ y. y ∷ counted_down a m) (sym f) ∙ ap (λ c. x ∷ counted_down c m) (sym g)
+
+-- they are what a range gives from its end on
+pub counts_down : {s : Rev (Range ℕ)} (n : ℕ) → rev_source s ≡ record { start = 0; end = n } → YieldsList (rev_steps nat_range_steps_back) (λ x. x) s (counted_down 0 n)
+counts_down {s} n e =
+    let shown = λ (u : Rev (Range ℕ)). counted_down (rev_source u).start ((rev_source u).end - (rev_source u).start) in
+    let all : shown s ≡ counted_down 0 n = ap (λ (r : Range ℕ). counted_down r.start (r.end - r.start)) e ∙ ap (counted_down 0) (omega arith) in
+    subst (YieldsList (rev_steps nat_range_steps_back) (λ x. x) s) all
+    (YieldsList-from_shown (rev_steps nat_range_steps_back) (λ x. x) shown
+    (λ u t p. ap (λ m. length (counted_down (rev_source u).start m)) p.1.0)
+    (λ u x t p. one_down _ _ _ _ x (omega (arith, p.0, p.1.0, p.1.2)) (omega (arith, p.0, p.1.0, p.1.1, p.1.2)) p.0)
+    s)
 
 -- the tuples that take the value as a part, among all edges
 pub all_tuples : (can : ℕ → Bool) (v : ℕ) (g : List ℕ) (n : ℕ)
-    → list_all (λ k. not (eqb (child_in g k) v) || (not (of_tuple g k) || can (parent_in g k))) (range_with_len 0 n) ≡ tuples_climb can v (tuples_down g n)
+    → list_all (λ k. not (eqb (child_in g k) v) || (not (of_tuple g k) || can (parent_in g k))) (counted_down 0 n) ≡ tuples_climb can v (tuples_down g n)
 unfolding tuples_down tuples_climb
 all_tuples can v g zero = refl
-all_tuples can v g (suc n) =
-    let t = λ (k : ℕ). not (eqb (child_in g k) v) || (not (of_tuple g k) || can (parent_in g k)) in
-    all_last t 0 n ∙ rw (zero-add, all_tuples can v g n) (one (of_tuple g n))
+all_tuples can v g (suc n) = rw (zero-add, all_tuples can v g n) (one (of_tuple g n))
   where
     one : (b : Bool) → ((not (eqb (child_in g n) v) || (not b || can (parent_in g n))) && tuples_climb can v (tuples_down g n)) ≡ tuples_climb can v (cond b (edge_in g n ∷ tuples_down g n) (tuples_down g n))
     one true = refl

@@ -2,7 +2,6 @@
 #![tactic(auto)]
 
 ghost use Rattle.std.specs.Prelude.{◌≡◌, not, ◌&&◌, get_or, eqb};
-ghost use Rattle.mir.specs.Kind.{number_of_kind};
 ghost use Rattle.mir.specs.Option.{as_option};
 ghost use Rattle.fold_climb.specs.Edges.{climb_of, array_in};
 ghost use Rattle.fold_climb.specs.Scanned.{sight_of, many_in, edge_at, child_in, parent_in, of_tuple, built_in, barred_in};
@@ -143,22 +142,23 @@ fn can_scalarize(v: ValueId, view: View) -> bool
     climb(v, view, [false; most::VALUES]).is_some()
 }
 
-// Each tuple that takes the value as a part can be taken apart, with a new set of visited values for each.
+// Each tuple that takes the value as a part can be taken apart, with a new set of visited values for each. (From the edge that was
+// noted last, the block's first, as the climb goes: the first tuple that cannot ends the search.)
 fn tuple_parents(v: ValueId, view: View) -> bool
     ensures { result ≡ tuples_pass view.entry.shapes.now view.entry.graph.now v.0 }
 {
-    (0..view.edge_count()).all(|k| {
+    (0..view.edge_count()).rev().all(|k| {
         view.child(k) != v || !view.of_tuple(k) || can_scalarize(view.parent(k), view)
     })
 }
 
-// Whether the build of a value is taken apart, by the build's kind; `dynamic`: an array with a dynamic index.
-pub fn folds(v: ValueId, kind: Kind, dynamic: bool, settings: Settings, view: View) -> bool
-    ensures { FoldsBy settings view.entry.shapes.now view.entry.graph.now v (number_of_kind kind) dynamic result }
+// Whether the build of a value is taken apart, by the number of the build's kind; `dynamic`: an array with a dynamic index.
+pub fn folds(v: ValueId, kind: u16, dynamic: bool, settings: Settings, view: View) -> bool
+    ensures { FoldsBy settings view.entry.shapes.now view.entry.graph.now v kind dynamic result }
 {
-    match kind {
-        Kind::MakeStruct => settings.structs && can_scalarize(v, view),
-        Kind::MakeFixedArray => settings.tuples && !dynamic && can_scalarize(v, view),
+    match Kind::try_from(kind) {
+        Ok(Kind::MakeStruct) => settings.structs && can_scalarize(v, view),
+        Ok(Kind::MakeFixedArray) => settings.tuples && !dynamic && can_scalarize(v, view),
         _ => settings.tuples && view.built(v) && tuple_parents(v, view),
     }
 }

@@ -117,7 +117,9 @@ fn note_copy(c: Option<BlockCopy>, n: u16, copies: &mut [u16]) -> u16
     n + 1
 }
 
-// The step is an Index that is no Integer literal.
+// The step is an Index that is no Integer literal. (`is_integer` is unfolded for the edit `boolean_index`, whose body tells the literals
+// apart by itself: so it is what a Boolean counts as that refuses it.)
+#[tactic(auto, unfolding(mir::specs::Lookup::is_integer))]
 fn is_dynamic(p: Option<Projection>) -> bool
     ensures { result ≡ dynamic_step (as_option p) }
 {

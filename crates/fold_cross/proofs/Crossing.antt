@@ -5,7 +5,7 @@ use mathlib.Core.List.{List, ◌∷◌}
 use mathlib.Core.Bool.{false, cond}
 use native.Mathlib.Numerals.{add-one}
 use native.Mathlib.Omega.{arith}
-use lib.ListN.{length, get_or, drop, replicate, length-replicate, take}
+use lib.ListN.{length, get_or, drop, replicate, length-replicate}
 use lib.Seq.{drop-cons, drop-length}
 use Rattle.mir.specs.Syntax.{Instruction, Block}
 use Rattle.bytes_field.specs.declared.Bounds.{Bounds}
@@ -21,7 +21,7 @@ use Rattle.fold_copies.specs.Found.{ScanCopies}
 use Rattle.fold_readers.specs.Readers.{read_blocks}
 use Rattle.std.specs.Prelude.{Option as Answered}
 use Rattle.mir.specs.declared.ValueId.{ValueId}
-use Rattle.fold_family.proofs.Listed.{first_listed}
+use Rattle.fold_family.proofs.Listed.{listed_few}
 use Rattle.fold_cross.specs.declared.cross_facts.CrossFacts.{CrossFacts}
 use Rattle.fold_cross.specs.Cross.{Ready, Built, IdleAll, cross_block, family_read, MembersCrossed, FamilyRead, CrossMarks}
 use Rattle.fold_cross.proofs.Builds.{read_crossed, read_length}
@@ -89,7 +89,7 @@ module _ (known : CrossFacts) where
       module _ (f c : Marks) (members : List ℕ) (j : ℕ) (u : Building f₀ f c₀ c members j) (h : j < slots.count) (d : Answered ValueId)
           (eb : (i : Instruction) → InstructionIn b known.code.bytes.now facts (slots.first + j) i → Built known.eligible.now b.next d i.kind)
           (f' : Marks) (members' : List ℕ) (n : ℕ) (em : FamilyRead d table known.shapes.now f f' members members' n)
-          (lm : length members' ≡ length members) (listed : List ℕ) (el : listed ≡ take n members') where
+          (lm : length members' ≡ length members) where
         -- of a routine that stands so
         module _ (σ : Settings) (τ : Types) (ks : List Block) (a : Given f₀ c₀ σ τ ks) where
           abbrev x : Block
@@ -115,20 +115,21 @@ module _ (known : CrossFacts) where
           sized : length f' ≡ b.next
           sized = ap (λ y. length y) found.0 ∙ read_length τ x.instructions d ∙ valued
 
-          all : Members listed (length listed) f'
-          all = rw el (first_listed members' n f' found.1 (omega (arith, sized, valued, u.wide, a.ready.coded.ground.few)))
+          -- they are all in the list
+          inside_list : n ≤ length members'
+          inside_list = omega (arith, listed_few members' n f' found.1, sized, valued, lm, u.wide, a.ready.coded.ground.few)
 
-          step : {c' : Marks} → MembersCrossed own listed (length listed) known.readers.now c c' → c' ≡ cross_build σ τ ks k x (build_dest i.kind) c
+          step : {c' : Marks} → (n ≤ length members' → MembersCrossed own members' n known.readers.now c c') → c' ≡ cross_build σ τ ks k x (build_dest i.kind) c
           step g =
               let o : own ≡ k = eo (omega (arith, a.ready.coded.many, a.ready.coded.few)) in
               let l : length c ≡ b.next = u.long ∙ a.each in
-              g f' ks all (sized ∙ sym l) (a.ready.readers ∙ ap (λ y. read_blocks 0 (replicate y 0) ks) (sym sized))
+              g inside_list f' ks found.1 (sized ∙ sym l) (a.ready.readers ∙ ap (λ y. read_blocks 0 (replicate y 0) ks) (sym sized))
               ∙ ap (λ y. cond (read_elsewhere y own 0 ks) (union y c) c) found.0
               ∙ read_crossed σ τ known.shapes.now known.eligible.now b.next a.ready.given valued ks own x c i.kind d built l
               ∙ ap (λ y. cross_build σ τ ks y x (build_dest i.kind) c) o
 
-        pub building_again : (c' f'' : Marks) → MembersCrossed own listed (length listed) known.readers.now c c' → length c' ≡ length c → ClearsMembers listed (length listed) f' f''
-            → Building f₀ f'' c₀ c' members' (j + 1)
+        pub building_again : (c' f'' : Marks) → (n ≤ length members' → MembersCrossed own members' n known.readers.now c c') → length c' ≡ length c
+            → ClearsMembers members' n f' f'' → Building f₀ f'' c₀ c' members' (j + 1)
         unfolding cross_builds
         building_again c' f'' g lc w =
             record {
@@ -141,7 +142,7 @@ module _ (known : CrossFacts) where
                   u.left σ τ ks a
                   ∙ ap (λ y. cross_builds σ τ ks k (x σ τ ks a) y c) z
                   ∙ ap (λ y. cross_builds σ τ ks k (x σ τ ks a) (drop (j + 1) is) y) (sym (step σ τ ks a g));
-              clear = λ σ τ ks a. w (all σ τ ks a) ∙ ap (λ y. replicate y false) (sized σ τ ks a);
+              clear = λ σ τ ks a. w (found σ τ ks a).1 ∙ ap (λ y. replicate y false) (sized σ τ ks a);
             }
 
       pub building_done : (f c : Marks) (members : List ℕ) (j : ℕ) → Building f₀ f c₀ c members j → slots.count ≤ j

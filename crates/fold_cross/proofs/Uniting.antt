@@ -1,13 +1,14 @@
 -- A family that is marked beside the marks that stand already.
-use Prim.Native.Nat.{ℕ, zero, suc, ◌<◌}
+use Prim.Native.Nat.{ℕ, zero, suc, ◌≤◌, ◌<◌}
 use mathlib.Core.Path.{◌≡◌, refl, ap, ◌∙◌, sym}
 use mathlib.Core.List.{List, [], ◌∷◌}
 use mathlib.Core.Bool.{Bool, true, false, ◌||◌, true≢false}
 use native.Mathlib.Omega.{arith}
-use lib.ListN.{length, get_or, replicate}
+use lib.ListN.{length, get_or, take, replicate}
 use lib.Seq.{ext_get_or}
 use Rattle.fold.specs.Family.{Marks, union}
 use Rattle.fold_family.specs.Search.{Listed, listed_at, Members, Flagged, kept, listed, Storing}
+use Rattle.fold_family.proofs.Listed.{first_listed}
 
 -- the union of as many marks
 union_length : (m c : Marks) → length m ≡ length c → length (union m c) ≡ length c
@@ -46,3 +47,8 @@ unites members n c₀ c m u a l =
       where
         none : Listed members n x → true ≡ false
         none (listed_at i j w) = sym (a.marked i j) ∙ ap (λ y. get_or m y false) w ∙ e
+
+-- so does marking the first n of a list, where they are the members
+pub unites_first : (members : List ℕ) (n : ℕ) (c₀ c m : Marks) (front : List ℕ) → front ≡ take n members → Storing front (length front) true c₀ c
+    → n ≤ length members → Members members n m → length m ≡ length c₀ → c ≡ union m c₀
+unites_first members n c₀ c m front el u h a l = unites front (length front) c₀ c m u (rw el (first_listed members n m a h)) l

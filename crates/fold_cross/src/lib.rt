@@ -41,12 +41,12 @@ fn has_build(code: Code, slots: Slots, eligible: &[bool]) -> bool
     (0..slots.count).any(|k| eligible_build(code, slots.first + k, eligible).is_some())
 }
 
-// Marks the members of a family of block `own` where another block reads one.
-fn unite_abroad(own: BlockNumber, members: &[u16], readers: &[u8], marks: &mut [bool])
-    ensures { MembersCrossed own.number members.now (length members.now) readers.now marks.old marks.new }
+// Marks the `n` members of a family of block `own` where another block reads one; no more are asked for than are listed.
+fn unite_abroad(own: BlockNumber, members: &[u16], n: u16, readers: &[u8], marks: &mut [bool])
+    ensures { n ≤ length members.now → MembersCrossed own.number members.now n readers.now marks.old marks.new }
 {
-    if fold_readers::member_abroad(members, own, readers) {
-        fold_family::mark_members(members, true, marks);
+    if fold_readers::member_abroad(members, n, own, readers) {
+        fold_family::mark_members(fold_family::first_members(members, n), true, marks);
     }
 }
 
@@ -91,9 +91,8 @@ fn cross_builds(
     for j in 0..slots.count {
         let d = eligible_build(known.code, slots.first + j, known.eligible);
         let n = find_family(d, copies, known.shapes, family, &mut members);
-        let listed = fold_family::first_members(&members, n);
-        unite_abroad(own, listed, known.readers, marks);
-        fold_family::unmark(listed, family);
+        unite_abroad(own, &members, n, known.readers, marks);
+        fold_family::unmark(&members, n, family);
     }
 }
 

@@ -1,11 +1,11 @@
 -- A member that is looked into by an index that is not known is one that has both marks.
-use Prim.Native.Nat.{ℕ, zero, suc}
+use Prim.Native.Nat.{ℕ, zero, suc, ◌≤◌}
 use mathlib.Core.Path.{◌≡◌, refl, ap, ◌∙◌, sym}
 use mathlib.Core.List.{List, [], ◌∷◌}
-use mathlib.Core.Bool.{Bool, true, false, cond, ◌&&◌, ◌||◌, and-true, and-false, or-false, or_assoc}
+use mathlib.Core.Bool.{Bool, true, false, cond, ◌&&◌, ◌||◌, and-true, and-false, or-false, or_assoc, true≢false}
 use mathlib.Core.Option.{Option, none, some}
 use native.Mathlib.Omega.{arith}
-use lib.ListN.{length, get_or, set, replicate, length-set, length-replicate}
+use lib.ListN.{length, get_or, set, take, drop, replicate, length-set, length-replicate}
 use Rattle.std.specs.List.{list_any, zip}
 use Rattle.mir.specs.declared.ValueId.{ValueId}
 use Rattle.mir.specs.Syntax.{Place, Instruction}
@@ -78,6 +78,32 @@ dynamic_family τ v is =
     meets_dynamics m (replicate n false) is (length-replicate n false ∙ sym (family_length τ v is))
     ∙ ap (λ x. x || any (λ i. dynamic_at m (accessed i.kind)) is) (meets_clear m n)
 
+-- k marks are behind, and none of them was met
+pub record Meeting (m d : Marks) (k : ℕ) : Type 0 where
+  pub under : k ≤ length m
+  pub left : meets m d ≡ meets (drop k m) (drop k d)
+
+-- those that `any` has passed
+pub meeting : (m d : Marks) (k : ℕ) → k ≤ length m → list_any (λ (x, y). x && y) (take k (zip m d)) ≡ false → Meeting m d k
+unfolding meets
+meeting m d k h e = record { under = h; left = go m d k h e }
+  where
+    none : (m : Marks) → false ≡ meets m []
+    none [] = refl
+    none (a ∷ m) = refl
+
+    go : (m d : Marks) (k : ℕ) → k ≤ length m → list_any (λ (x, y). x && y) (take k (zip m d)) ≡ false → meets m d ≡ meets (drop k m) (drop k d)
+    go m d zero h e = refl
+    go [] d (suc k) h e = absurd (omega arith)
+    go (a ∷ m) [] (suc k) h e = none (drop k m)
+    go (a ∷ m) (b ∷ d) (suc k) h e = both (a && b) e (go m d k (omega arith))
+      where
+        both : (c : Bool) → (c || list_any (λ (x, y). x && y) (take k (zip m d))) ≡ false
+            → (list_any (λ (x, y). x && y) (take k (zip m d)) ≡ false → meets m d ≡ meets (drop k m) (drop k d))
+            → (c || meets m d) ≡ meets (drop k m) (drop k d)
+        both true z r = absurd (true≢false z)
+        both false z r = r z
+
 -- mark by mark
 pub zip_meets : (m d : Marks) → list_any (λ (x, y). x && y) (zip m d) ≡ meets m d
 unfolding meets
@@ -86,5 +112,5 @@ zip_meets (a ∷ m) [] = refl
 zip_meets (a ∷ m) (b ∷ d) = ap (λ x. (a && b) || x) (zip_meets m d)
 
 -- and so the code's answer is the definition's
-pub dynamic_found : (m d : Marks) {r : Bool} → r ≡ meets m d → DynamicIndex m d r
-dynamic_found m d e τ v is f g = e ∙ rw (f, g) (dynamic_family τ v is)
+pub dynamic_found : (m d : Marks) {r : Bool} → r ≡ meets m d → (r ≡ meets m d) × DynamicIndex m d r
+dynamic_found m d e = (e, λ τ v is f g. e ∙ rw (f, g) (dynamic_family τ v is))

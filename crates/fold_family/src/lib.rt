@@ -183,19 +183,23 @@ pub fn mark_members(members: &[u16], on: bool, marks: &mut [bool])
     }
 }
 
-// Clears the marks of the members.
-pub fn unmark(members: &[u16], marks: &mut [bool])
-    ensures { ClearsMembers members.now (length members.now) marks.old marks.new }
+// Clears the marks of the `n` members. (A list and a number, here and in what asks of members, since more is promised than of a slice: past
+// the list a member is value 0, as reads of tables give it.)
+pub fn unmark(members: &[u16], n: u16, marks: &mut [bool])
+    ensures { ClearsMembers members.now n marks.old marks.new }
 {
-    mark_members(members, false, marks);
+    mark_members(first_members(members, n), false, marks);
+    if members.len() < n as usize {
+        table::put(marks, 0, false);
+    }
 }
 
-// Whether one of the members of a family is looked into by an index that is not known, where `dynamic` are the marks that
+// Whether one of the `n` members of a family is looked into by an index that is not known, where `dynamic` are the marks that
 // the scan of the block has set.
-pub fn member_indexed(members: &[u16], dynamic: &[bool]) -> bool
-    ensures { MemberIndexed members.now (length members.now) dynamic.now result }
+pub fn member_indexed(members: &[u16], n: u16, dynamic: &[bool]) -> bool
+    ensures { MemberIndexed members.now n dynamic.now result }
 {
-    members.iter().any(|v| table::flag(dynamic, *v as usize))
+    (0..n).any(|k| table::flag(dynamic, table::place(members, k as usize)))
 }
 
 // Whether a member of the family that `marks` has is looked into by an index that is not known, where `dynamic` are

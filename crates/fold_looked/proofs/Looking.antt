@@ -7,7 +7,7 @@ use mathlib.Core.Logic.{⊎_elim}
 use mathlib.Core.Option.{some}
 use native.Mathlib.Nat.{le_trans}
 use native.Mathlib.Omega.{arith}
-use lib.ListN.{length, get_or, set, take, replicate, drop, length-set, length-replicate}
+use lib.ListN.{length, get_or, set, replicate, drop, length-set, length-replicate}
 use lib.Seq.{get_or-set_same, get_or-set_other}
 use Rattle.mir.specs.declared.ValueId.{ValueId}
 use Rattle.mir.specs.Syntax.{Instruction}
@@ -25,7 +25,6 @@ use Rattle.fold_family.specs.Copies.{RowsAt}
 use Rattle.fold_family.specs.Search.{Members, FindsFamily, ClearsMembers, MemberIndexed}
 use Rattle.fold_family.specs.declared.Found.{Found}
 use Rattle.fold_family.proofs.Closed.{copies_few}
-use Rattle.fold_family.proofs.Listed.{first_listed}
 use Rattle.fold_family.proofs.Rows.{newest}
 use Rattle.fold_family.proofs.Sweeps.{family_length}
 use Rattle.fold_copies.specs.Found.{ScanCopies}
@@ -38,39 +37,33 @@ use Rattle.fold_looked.specs.Looked.{Looking, FindsBuild, LooksAt, LooksAll, Fil
 use Rattle.fold_looked.proofs.Behind.{copies_behind, dynamics_behind, behind_few}
 
 -- a build's dest is its first field; its family is found, whose members are held against the dynamic marks
-pub finds_build : (code : Code) (slot : ℕ) (tables : Tables) (clear m : Marks) (room members listed : List ℕ) (v : ValueId) (shp : ℕ) (found : Found) (looked : Bool)
+pub finds_build : (code : Code) (slot : ℕ) (tables : Tables) (clear m : Marks) (room members : List ℕ) (v : ValueId) (shp : ℕ) (found : Found) (looked : Bool)
     → v.0 ≡ dest_in code.bytes.now code.facts.now slot → shp ≡ get_or tables.shapes.now v.0 0
-    → length members ≡ length room → listed ≡ take found.members members
-    → FindsFamily tables.copies.now shp v clear m room members found → MemberIndexed listed (length listed) tables.dynamic.now looked
+    → FindsFamily tables.copies.now shp v clear m room members found → MemberIndexed members found.members tables.dynamic.now looked
     → FindsBuild code slot tables clear m room members (record { dest = v; found = found; looked = looked })
-finds_build code slot tables clear m room members listed v shp found looked ds ss long el finds index σ τ is i d eligible k sh l at h =
+finds_build code slot tables clear m room members v shp found looked ds ss finds index σ τ is i d eligible k sh l at h =
     elim (build_place code.bounds code.bytes.now code.facts.now slot i d at h) [
       | build_at a low ↦
           let z : v ≡ d = ap (λ (x : ℕ). record { 0 = x }) (ds ∙ sym a) in
           let below : v.0 < length τ.recorded = rw (z, l) low in
           let f = finds τ is k.rows (le_trans (copies_few τ is) k.short) (ss ∙ sh.shaped v.0 below) below k.few k.wide k.cleared in
-          let few : length m ≤ length members = omega (arith, k.few, k.wide, ap length f.same, family_length τ v is) in
-          let all : Members listed (length listed) m = rw el (first_listed members found.members m f.listed few) in
           rw (sym z) record {
             dest = refl;
             family = f;
-            looked = index τ v is (subst (Members listed (length listed)) f.same all) k.dynamic_all;
+            looked = index τ v is (subst (Members members found.members) f.same f.listed) k.dynamic_all;
           }
     ]
 
 -- where it is an array, and its marks are cleared
-pub looks_at : (code : Code) (slot : ℕ) (tables : Tables) (clear m after : Marks) (room members listed : List ℕ) (r : BuildFamily)
-    → kind_in code.facts.now slot ≡ 16 → FindsBuild code slot tables clear m room members r
-    → length members ≡ length room → listed ≡ take r.found.members members → ClearsMembers listed (length listed) m after
+pub looks_at : (code : Code) (slot : ℕ) (tables : Tables) (clear m after : Marks) (room members : List ℕ) (r : BuildFamily)
+    → kind_in code.facts.now slot ≡ 16 → FindsBuild code slot tables clear m room members r → ClearsMembers members r.found.members m after
     → LooksAt code slot tables clear after room r.looked
-looks_at code slot tables clear m after room members listed r ka finds long el clears σ τ is i eligible k sh l at =
+looks_at code slot tables clear m after room members r ka finds clears σ τ is i eligible k sh l at =
     elim (array_place code.bounds [] false (drop (place_in code.facts.now slot) code.bytes.now) i _ at.read (sym at.kind ∙ ka)) [
       | dest w g a low ↦
           let x = finds σ τ is i w eligible k sh l at g in
           let f = x.family in
-          let few : length m ≤ length members = omega (arith, k.few, k.wide, ap length f.same, family_length τ w is) in
-          let all : Members listed (length listed) m = rw el (first_listed members r.found.members m f.listed few) in
-          let again : after ≡ clear = clears all ∙ ap (λ n. replicate n false) (ap length f.same ∙ family_length τ w is) ∙ sym k.cleared in
+          let again : after ≡ clear = clears f.listed ∙ ap (λ n. replicate n false) (ap length f.same ∙ family_length τ w is) ∙ sym k.cleared in
           (again, λ d q e. let y : w ≡ d = cc in rw (sym y) x.looked)
     ]
 

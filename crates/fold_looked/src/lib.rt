@@ -50,8 +50,7 @@ pub fn find_build(
     let dest = fold_scan::dest(code, slot);
     let shape = bytes_wire::byte_at(tables.shapes, dest.0 as usize);
     let found = fold_family::family(tables.copies, shape, dest, family, members);
-    let listed = fold_family::first_members(members, found.members);
-    let looked = fold_family::member_indexed(listed, tables.dynamic);
+    let looked = fold_family::member_indexed(members, found.members, tables.dynamic);
     BuildFamily {
         dest,
         found,
@@ -67,8 +66,7 @@ fn look(code: Code, slot: u16, tables: Tables, family: &mut [bool], members: &mu
         return false;
     }
     let build = find_build(code, slot, tables, family, members);
-    let listed = fold_family::first_members(members, build.found.members);
-    fold_family::unmark(listed, family);
+    fold_family::unmark(members, build.found.members, family);
     build.looked
 }
 

@@ -1,5 +1,5 @@
 -- The phis in front of a block.
-use Prim.Native.Nat.{ℕ, suc, ◌+◌, ◌-◌, ◌<◌}
+use Prim.Native.Nat.{ℕ, suc, ◌+◌, ◌-◌, ◌≤◌, ◌<◌}
 use mathlib.Core.Path.{◌≡◌, refl, ap, ◌∙◌, sym}
 use mathlib.Core.List.{List, [], ◌∷◌}
 use mathlib.Core.Bool.{Bool, true, false, cond, ◌||◌}
@@ -9,6 +9,8 @@ use borrow.Author.Tests.{eqb-true, eqb-false}
 use lib.ListN.{length, get_or, drop}
 use lib.Dec.{eqb}
 use Rattle.std.specs.List.{list_any, prefix_len, range_with_len}
+use Rattle.std.proofs.lemmas.List.FromFn.{length-range_with_len}
+use Rattle.std.proofs.lemmas.List.Sums.{prefix_len-le-length}
 use Rattle.bytes_wire.specs.Parse.{ok}
 use Rattle.bytes_wire.specs.Number.{at16}
 use Rattle.mir.specs.declared.ValueId.{ValueId}
@@ -24,6 +26,7 @@ use Rattle.bytes_operands.specs.Fields.{fields_place}
 use Rattle.bytes_operands.proofs.Instruction.{instruction_fields}
 use Rattle.bytes_index.specs.Table.{place_in, end_in, kind_in}
 use Rattle.bytes_index.specs.declared.code.Code.{Code}
+use Rattle.bytes_index.specs.declared.slots.Slots.{Slots}
 use Rattle.bytes_index.specs.Code.{InstructionIn, InstructionsIn}
 use Rattle.fold.specs.declared.Settings.{Settings}
 use Rattle.mir.specs.Lookup.{Types, value_row, shape, is_tuple, is_struct, any}
@@ -118,3 +121,35 @@ module _ (b : Bounds) (s facts : List ℕ) where
           let e : 1 + n ≡ suc n = omega arith in
           rw e ih
       go ih false = refl
+
+-- no phis stand in front of what is behind them
+behind_again : (is : List Instruction) → behind_phis (behind_phis is) ≡ behind_phis is
+unfolding behind_phis
+behind_again [] = refl
+behind_again (i ∷ is) = go (eqb (kind_number i.kind) 9) refl (behind_again is)
+  where
+    go : (p : Bool) → eqb (kind_number i.kind) 9 ≡ p → behind_phis (behind_phis is) ≡ behind_phis is
+        → behind_phis (cond p (behind_phis is) (i ∷ is)) ≡ cond p (behind_phis is) (i ∷ is)
+    go true e r = r
+    go false e r = rw e refl
+
+-- the instructions before k are phis
+pub record Counting (facts : List ℕ) (slots : Slots) (k : ℕ) : Type 0 where
+  pub low : k ≤ slots.count
+  pub small : slots.first + slots.count ≤ 288
+  pub left :
+      (b : Bounds) (s : List ℕ) (is : List Instruction)
+      → InstructionsIn b s facts slots.first is
+      → length is ≡ slots.count
+      → behind_phis is ≡ behind_phis (drop k is)
+
+-- those that are counted
+pub counting : (facts : List ℕ) (slots : Slots) {k : ℕ} → k ≡ prefix_len (phi_in facts) (range_with_len slots.first slots.count) → Counting facts slots k
+counting facts slots {k} e =
+    record {
+      low = omega (arith, e, prefix_len-le-length (phi_in facts) (range_with_len slots.first slots.count), length-range_with_len slots.first slots.count);
+      small = slots.low;
+      left = λ b s is at l.
+          let z : behind_phis is ≡ drop k is = rw (e, ← l) (front_phis b s facts slots.first is at) in
+          sym (ap (λ x. behind_phis x) (sym z) ∙ behind_again is);
+    }

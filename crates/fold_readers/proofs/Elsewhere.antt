@@ -171,10 +171,10 @@ foreign_of own (x ∷ r) zero = refl
 foreign_of own (x ∷ r) (suc k) = foreign_of own r k
 
 -- what the code looks up for each member: its number, and what it says
-pub any_foreign : (own : ℕ) (reader members : List ℕ)
-    → list_any (λ v. foreign own (get_or reader v 0)) members ≡ list_any (λ v. get_or (foreigners own reader) v false) members
-any_foreign own reader [] = refl
-any_foreign own reader (v ∷ vs) = rw (foreign_of own reader v, any_foreign own reader vs) refl
+pub any_foreign : (own : ℕ) (reader : List ℕ) (member : ℕ → ℕ) (places : List ℕ)
+    → list_any (λ k. foreign own (get_or reader (member k) 0)) places ≡ list_any (λ k. get_or (foreigners own reader) (member k) false) places
+any_foreign own reader member [] = refl
+any_foreign own reader member (k ∷ ks) = rw (foreign_of own reader (member k), any_foreign own reader member ks) refl
 
 -- and for each mark
 pub zip_foreign : (own : ℕ) (m : Marks) (reader : List ℕ) → list_any (λ p. p.0 && foreign own p.1) (zip m reader) ≡ meets m (foreigners own reader)
@@ -183,10 +183,15 @@ zip_foreign own [] reader = refl
 zip_foreign own (a ∷ m) [] = refl
 zip_foreign own (a ∷ m) (x ∷ reader) = ap (λ y. (a && foreign own x) || y) (zip_foreign own m reader)
 
+-- what it looks up for value k, by its mark
+pub abroad_meets : (m : Marks) (own : ℕ) (reader : List ℕ) (k : ℕ) {r : Bool}
+    → r ≡ (get_or m k false && foreign own (get_or reader k 0)) → r ≡ (get_or m k false && get_or (foreigners own reader) k false)
+abroad_meets m own reader k e = e ∙ ap (λ y. get_or m k false && y) (sym (foreign_of own reader k))
+
 -- and so the code's answers are the definition's
 pub elsewhere_found : (m : Marks) (own : ℕ) (reader : List ℕ) {r : Bool}
-    → own < 254 → r ≡ meets m (foreigners own reader) → ReadElsewhere m own reader r
-elsewhere_found m own reader l e n ks f h = e ∙ ap (λ q. meets m (foreigners own q)) f ∙ elsewhere m own n ks l h
+    → own < 254 → r ≡ meets m (foreigners own reader) → (r ≡ meets m (foreigners own reader)) × ReadElsewhere m own reader r
+elsewhere_found m own reader l e = (e, λ n ks f h. e ∙ ap (λ q. meets m (foreigners own q)) f ∙ elsewhere m own n ks l h)
 
 pub abroad_found : (members : List ℕ) (n own : ℕ) (reader : List ℕ) {r : Bool}
     → own < 254 → ((m : Marks) → Members members n m → r ≡ meets m (foreigners own reader)) → MemberAbroad members n own reader r

@@ -131,11 +131,14 @@ pub fn is_foreign(own: BlockNumber, x: u8) -> bool
     }
 }
 
-// Whether some block other than `own` reads one of the members of a family.
-pub fn member_abroad(members: &[u16], own: BlockNumber, readers: &[u8]) -> bool
-    ensures { MemberAbroad members.now (length members.now) own.number readers.now result }
+// Whether some block other than `own` reads one of the `n` members of a family; past the list a member is value 0.
+pub fn member_abroad(members: &[u16], n: u16, own: BlockNumber, readers: &[u8]) -> bool
+    ensures { MemberAbroad members.now n own.number readers.now result }
 {
-    members.iter().any(|v| is_foreign(own, bytes_wire::byte_at(readers, *v as usize)))
+    (0..n).any(|k| is_foreign(
+        own,
+        bytes_wire::byte_at(readers, table::place(members, k as usize)),
+    ))
 }
 
 // Whether some block other than `own` reads one of the marked values. (The pass goes by the list of a family's members.)

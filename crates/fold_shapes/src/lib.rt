@@ -50,7 +50,9 @@ pub fn type_row<'a>(code: Code<'a>, t: Option<TypeId>) -> &'a [u8]
     ensures { result.now ≡ row_in code.entry (as_option t) }
 {
     match t {
-        Some(t) if t.0 < code.bounds.types => code.type_row(t),
+        Some(t) if t.0 < code.bounds.types => {
+            table::behind(code.bytes, bytes_lookup::type_place(code.facts, t))
+        }
         _ => &[],
     }
 }

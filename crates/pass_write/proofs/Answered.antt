@@ -6,15 +6,14 @@ use mathlib.Core.Bool.{Bool, false, not}
 use mathlib.Core.Option.{some}
 use native.Mathlib.Nat.{zero-add}
 use native.Mathlib.Omega.{arith}
-use lib.ListN.{length, take, drop, replicate, length-append, length-drop}
-use lib.Seq.{sets, length-sets, take_all, get_or-take, length-take-le}
+use lib.ListN.{length, get_or, take, drop, replicate, length-append, length-drop}
+use lib.Seq.{sets, length-sets, take_all}
 use lib.Dec.{eqb}
 use Rattle.bytes_field.specs.declared.Bounds.{Bounds}
 use Rattle.bytes_index.specs.Table.{recorded_in}
 use Rattle.bytes_emit.proofs.Sets.{sets_append}
 use Rattle.mir.specs.Routine.{Routine}
 use Rattle.bytes_sections.specs.Encode.{encode}
-use Rattle.bytes_sections.specs.Index.{RecordedAt}
 use Rattle.fold.specs.declared.Settings.{Settings}
 use Rattle.fold.specs.Family.{Marks}
 use Rattle.rewrite.specs.declared.Counts.{Counts}
@@ -149,21 +148,18 @@ module _ {run : Run} {trial : Trial} (m : Measured run trial) where
   pub recorded_long : b.next ≤ length (recorded_in facts)
   recorded_long = omega (arith, next_few a, a.facts_of.long, length-drop 65 facts)
 
-  recorded_there : RecordedAt (take b.next (recorded_in facts)) x.recorded
-  recorded_there v h k =
-      let l : v < b.next = omega (arith, h, recorded_many a) in
-      get_or-take b.next (recorded_in facts) v 0 l ∙ a.facts_of.recorded v h (omega (arith, recorded_long))
-
-  pub tabled : Tabled (take b.next (recorded_in facts)) trial.fresh.now x.recorded w.fresh
+  pub tabled : Tabled (recorded_in facts) trial.fresh.now b.next p.fresh x.recorded w.fresh
   tabled =
       record {
-        old = recorded_many a ∙ sym (length-take-le b.next (recorded_in facts) recorded_long);
-        known = recorded_there;
-        new = types_taken;
+        old = recorded_many a;
+        new = sym m.ran.many;
+        known = a.facts_of.recorded;
+        long = recorded_long;
+        taken = λ k l. ap (λ t. get_or t k 0) types_taken;
       }
 
   -- what the writer of the head asks for
-  abbrev pub opens : Opens run.code trial.fresh.now p.to
+  abbrev pub opens : Opens run.code trial.fresh.now p.fresh p.to
   opens =
       record {
         routine = x;
@@ -171,9 +167,8 @@ module _ {run : Run} {trial : Trial} (m : Measured run trial) where
         reads = canon a;
         behind = types_end a;
         next = sym (next_is a);
-        long = recorded_long;
         tabled = tabled;
-        few = omega (arith, few_values a σ m.ran.calm, ap length types_taken, numbers_length w.fresh);
+        few = many_few;
         short = a.facts_of.short;
         low = m.low;
       }

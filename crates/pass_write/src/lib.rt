@@ -48,7 +48,8 @@ fn write_measured(run: Run, trial: Trial, out: &mut [u8]) -> Result<Lowered, Ref
     requires { Measured run trial }
     ensures { Answers (given run.entry.settings (length out.old) run.entry.code.bytes.now) result out.old out.new }
 {
-    let to = rewrite_opening::put_opening(run.code, trial.fresh, trial.progress.to, out).ok_or(
+    let p = trial.progress;
+    let to = rewrite_opening::put_opening(run.code, trial.fresh, p.fresh, p.to, out).ok_or(
         Refused::NoRoom,
     )?;
     Ok(write_body(run, trial, out, to))

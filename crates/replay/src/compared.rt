@@ -3,10 +3,12 @@
 // What an output is filled with before the call.
 pub const FILL: u8 = 165;
 
-// The ten numbers of an answer are those that stand at the head of `told`.
-pub fn same_numbers(answer: &[u64; 10], told: &[u8]) -> bool {
-    let mut numbers = answer.iter().enumerate();
-    numbers.all(|(i, x)| *x == bytes_wire::u32_at(told, 4 * i) as u64)
+// How many numbers an answer has.
+const NUMBERS: usize = 10;
+
+// The ten numbers of an answer are those that stand at the head of `told`; where the answer has fewer, the others are 0.
+pub fn same_numbers(answer: &[u64], told: &[u8]) -> bool {
+    (0..NUMBERS).all(|i| table::at(answer, i, 0) == bytes_wire::u32_at(told, 4 * i) as u64)
 }
 
 // The output has these bytes, and what it was filled with behind them.

@@ -28,9 +28,9 @@ value_most = 5
 abbrev pub rebuild_most : ℕ
 rebuild_most = 1792
 
--- P holds of the parts that stand at these places of the routine
-abbrev pub OfParts : Code → List ℕ → (List Value → Type 0) → Type 0
-OfParts code places P = (xs : List Value) → RowAt code.bounds.next code.bytes.now places 0 xs → length xs ≡ length places → P xs
+-- P holds of the so many parts that stand at these places of the routine
+abbrev pub OfParts : Code → List ℕ → ℕ → (List Value → Type 0) → Type 0
+OfParts code places many P = (xs : List Value) → RowAt code.bounds.next code.bytes.now places 0 xs → length xs ≡ many → P xs
 
 -- a part under its fresh number, if it has one: no fresh number is 0
 unfoldable pub numbered_part : ℕ → Value → Value
@@ -45,7 +45,7 @@ renumbered (n ∷ ns) (x ∷ xs) = numbered_part n x ∷ renumbered ns xs
 
 -- P holds of the parts that are written
 abbrev pub OfPlaced : Placed → (List Value → Type 0) → Type 0
-OfPlaced parts P = OfParts parts.code parts.places.now (λ xs. P (renumbered parts.nums.now xs))
+OfPlaced parts P = OfParts parts.code parts.places.now parts.many (λ xs. P (renumbered parts.nums.now xs))
 
 -- P holds of the `want` fields whose names stand in a type's bytes
 abbrev pub OfFields : List ℕ → ℕ → (List StructField → Type 0) → Type 0

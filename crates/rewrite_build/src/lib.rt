@@ -35,12 +35,13 @@ pub fn put_value_at(out: &mut [u8], to: usize, s: &[u8], at: usize, next: u16) -
     bytes_emit::put_value(out, to, bytes_operands::value_at(s, at, next))
 }
 
-// The parts of a value that is rebuilt: the places of the routine where they stand, and by part the fresh number that it has
-// instead, or 0.
+// The parts of a value that is rebuilt: the places of the routine where they stand, how many they are (a part past the places stands
+// at place 0), and by part the fresh number that it has instead, or 0.
 #[derive(Clone, Copy)]
 pub struct Placed<'a> {
     pub code: Code<'a>,
     pub places: &'a [u16],
+    pub many: usize,
     pub nums: &'a [u16],
 }
 
@@ -51,20 +52,15 @@ fn put_part(out: &mut [u8], to: usize, parts: Placed, k: u8) -> usize
     ensures of_parts { OfPlaced parts.entry (λ xs.
         Writes (value_bytes (get_or xs k unit)) out.old out.new to result) }
 {
-    let Some(at) = parts.places.get(k as usize) else {
+    if parts.many <= k as usize {
         return bytes_emit::put_value(out, to, Value::Literal(Literal::Unit));
-    };
+    }
     let fresh = table::number(parts.nums, k as usize);
     if fresh != 0 {
         return bytes_emit::put_value(out, to, Value::Operand(ValueId(fresh)));
     }
-    put_value_at(
-        out,
-        to,
-        parts.code.bytes,
-        *at as usize,
-        parts.code.bounds.next,
-    )
+    let at = table::place(parts.places, k as usize);
+    put_value_at(out, to, parts.code.bytes, at, parts.code.bounds.next)
 }
 
 // `want` parts: those there are, then Units.
@@ -135,23 +131,23 @@ fn put_struct(out: &mut [u8], to: usize, d: ValueId, parts: Placed, row: &[u8], 
 fn put_array(out: &mut [u8], to: usize, d: ValueId, parts: Placed, e: TypeId) -> usize
     requires { to < build_room }
     ensures upper_bound { result ≤ to + rebuild_most }
-    ensures of_parts { OfPlaced parts.entry (λ xs. length parts.entry.places.now < 256
+    ensures of_parts { OfPlaced parts.entry (λ xs. parts.entry.many < 256
         → Writes (instruction_bytes (plain (InstructionKind.MakeFixedArray d xs e false))) out.old out.new to result) }
 {
-    let n = parts.places.len().min(255) as u8;
+    let n = parts.many.min(255) as u8;
     put_head(out, to, Kind::MakeFixedArray, d, n);
     let at = put_parts(out, to + HEAD_BYTES, parts, n);
     bytes_emit::put_type_id(out, at, e);
     at + bytes_field::ID
 }
 
-// Type `row`, from its kind on, is an array of another count than there are parts.
-fn array_clashes(row: &[u8], places: &[u16]) -> bool
-    ensures { OfType row.now (λ T. (xs : List Value) → length xs ≡ length places.now → result ≡ clashes xs (some T)) }
+// Type `row`, from its kind on, is an array of another count than so many parts.
+fn array_clashes(row: &[u8], many: usize) -> bool
+    ensures { OfType row.now (λ T. (xs : List Value) → length xs ≡ many → result ≡ clashes xs (some T)) }
 {
     match bytes_types::kind_of(row) {
         Some(TypeKind::FixedArray) => {
-            places.len() != bytes_wire::u32_at(row, layout::ARRAY_SIZE) as usize
+            many != bytes_wire::u32_at(row, layout::ARRAY_SIZE) as usize
         }
         _ => false,
     }
@@ -173,7 +169,7 @@ fn row_keeps(row: &[u8], many: u8) -> u8
 fn put_make(out: &mut [u8], to: usize, row: &[u8], t: TypeId, d: ValueId, parts: Placed) -> usize
     requires { to < build_room }
     ensures upper_bound { result ≤ to + rebuild_most }
-    ensures of_type { OfType row.now (λ T. OfPlaced parts.entry (λ xs. length parts.entry.places.now ≤ most_parts
+    ensures of_type { OfType row.now (λ T. OfPlaced parts.entry (λ xs. parts.entry.many ≤ most_parts
         → Writes (each_bytes instruction_bytes (rebuild_at d xs t (some T))) out.old out.new to result)) }
 {
     match bytes_types::kind_of(row) {
@@ -194,7 +190,7 @@ fn put_make(out: &mut [u8], to: usize, row: &[u8], t: TypeId, d: ValueId, parts:
 pub fn clashes_at(code: Code, t: TypeId, places: &[u16]) -> bool
     ensures { OfTable code.entry t (λ τ. (xs : List Value) → length xs ≡ length places.now → result ≡ clashes xs (row_of τ (some t))) }
 {
-    array_clashes(code.type_row(t), places)
+    array_clashes(code.type_row(t), places.len())
 }
 
 // How many of so many parts a rebuild at type t keeps: at a tuple or struct type no more than it has, else all.
@@ -209,14 +205,14 @@ pub fn kept_count(code: Code, t: TypeId, many: u8) -> u8
 pub fn put_numbered(out: &mut [u8], to: usize, t: TypeId, d: ValueId, parts: Placed) -> usize
     requires { to < build_room }
     ensures upper_bound { result ≤ to + rebuild_most }
-    ensures of_table { OfTable parts.entry.code t (λ τ. OfPlaced parts.entry (λ xs. length parts.entry.places.now ≤ most_parts
+    ensures of_table { OfTable parts.entry.code t (λ τ. OfPlaced parts.entry (λ xs. parts.entry.many ≤ most_parts
         → Writes (rebuild_bytes τ d xs t) out.old out.new to result)) }
 {
     put_make(out, to, parts.code.type_row(t), t, d, parts)
 }
 
-// Writes the rebuild of d at type t from the parts that stand at these places of the routine, as put_numbered does with no fresh
-// numbers; an array of another count clashes.
+// Writes the rebuild of d at type t from so many parts, which stand at these places of the routine, as put_numbered does with no
+// fresh numbers; an array of another count clashes. The places may end before the parts, or go on behind them.
 pub fn put_rebuild(
     out: &mut [u8],
     to: usize,
@@ -224,18 +220,20 @@ pub fn put_rebuild(
     t: TypeId,
     d: ValueId,
     places: &[u16],
+    many: usize,
 ) -> Result<usize, Fault>
     requires { to < build_room }
     ensures to_bound { IfOk result (λ end. end ≤ to + rebuild_most) }
-    ensures of_table { OfTable code.entry t (λ τ. OfParts code.entry places.now (λ xs.
-        length places.now ≤ most_parts → Rebuilds τ d xs t out.old out.new to result)) }
+    ensures of_table { OfTable code.entry t (λ τ. OfParts code.entry places.now many (λ xs.
+        many ≤ most_parts → Rebuilds τ d xs t out.old out.new to result)) }
 {
-    if clashes_at(code, t, places) {
+    if array_clashes(code.type_row(t), many) {
         return Err(Fault::Clash);
     }
     let parts = Placed {
         code,
         places,
+        many,
         nums: &[],
     };
     Ok(put_numbered(out, to, t, d, parts))

@@ -1,8 +1,8 @@
 -- A Store: where its value stands, and what it changes.
-use Prim.Native.Nat.{ℕ, ◌+◌, ◌<◌}
+use Prim.Native.Nat.{ℕ, ◌+◌, ◌≤◌, ◌<◌}
 use mathlib.Core.Path.{◌≡◌, refl, ap, ◌∙◌, sym}
 use mathlib.Core.List.{List, [], ◌∷◌}
-use mathlib.Core.Bool.{Bool, true, false}
+use mathlib.Core.Bool.{Bool, true, false, cond}
 use mathlib.Core.Option.{Option, none, some}
 use native.Mathlib.Omega.{arith}
 use borrow.Author.Tests.{ltb-true, ltb-false}
@@ -17,7 +17,7 @@ use Rattle.mir.specs.declared.ValueId.{ValueId}
 use Rattle.mir.specs.declared.Projection.{Projection}
 use Rattle.mir.specs.Syntax.{Place, Instruction, InstructionKind}
 use Rattle.mir.specs.Reads.{kind_number}
-use Rattle.bytes_field.specs.Decode.{instruction_of}
+use Rattle.bytes_field.specs.Decode.{instruction_of, bit}
 use Rattle.bytes_field.specs.declared.Bounds.{Bounds}
 use Rattle.bytes_operands.specs.Fields.{operand_fields, fields_place, projection_end, after}
 use Rattle.bytes_operands.proofs.EachKind.{At, at}
@@ -31,6 +31,14 @@ use Rattle.std.specs.Prelude.{Some, None, unwrap_or, is_some as is_answered, Opt
 use Rattle.rewrite_parts.proofs.Tables.{replaced_set, replaced_past}
 use Rattle.rewrite_chains.specs.Chained.{states_after, Forwards}
 use Rattle.table.proofs.Elements.{some_at, none_at}
+
+-- an instruction's own fields begin soon
+at_most : (b : Bool) (n : ℕ) → cond b n 0 ≤ n
+at_most true n = omega arith
+at_most false n = omega arith
+
+pub fields_near : (s : List ℕ) → fields_place s ≤ 26
+fields_near s = omega (arith, at_most (bit 0 (get_or s 0 0)) 8, at_most (bit 1 (get_or s 0 0)) 12, at_most (bit 2 (get_or s 0 0)) 4)
 
 -- the first of a list
 first_listed : {A : Type 0} {Q : ℕ → A → Type 0} {end : ℕ → ℕ} {p : ℕ} {xs : List A} (x : A) → Listed Q end p xs → xs ≡ x ∷ [] → Q p x

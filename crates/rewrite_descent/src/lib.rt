@@ -91,9 +91,11 @@ fn put_whole(
 {
     let number = code.bounds.next as u32 + p.fresh;
     number_and_line(number, p.lines)?;
+    let places = rewrite_parts::row(rows(work), build.value);
     let parts = Placed {
         code,
-        places: rewrite_parts::row(rows(work), build.value),
+        places,
+        many: places.len(),
         nums,
     };
     let to = rewrite_build::put_numbered(out, p.to, build.named, ValueId(number as u16), parts);

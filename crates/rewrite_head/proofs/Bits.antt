@@ -13,7 +13,6 @@ use Rattle.bytes_field.specs.Encode.{stands}
 use Rattle.bytes_sections.specs.Encode.{map_number}
 use Rattle.bytes_sections.specs.Index.{recorded_number, recorded_from}
 use Rattle.rewrite_progress.specs.Effect.{type_numbers}
-use Rattle.rewrite_progress.proofs.Laws.{numbers_length}
 use Rattle.rewrite_head.specs.declared.recorded.RecordedTypes.{RecordedTypes}
 use Rattle.rewrite_head.specs.Head.{OfRecorded, with_fresh, Tabled}
 
@@ -33,28 +32,23 @@ fresh_type [] k h = absurd (omega arith)
 fresh_type (t ∷ ts) zero h = refl
 fresh_type (t ∷ ts) (suc k) h = fresh_type ts k (omega arith)
 
-module _ {recorded fresh : List ℕ} {rs : List (Option TypeId)} {ts : List TypeId} (h : Tabled recorded fresh rs ts) where
-  -- how many fresh ones there are
-  pub fresh_many : length ts ≡ length fresh
-  fresh_many = sym (ap length h.new ∙ numbers_length ts)
-
+module _ {recorded fresh : List ℕ} {next many : ℕ} {rs : List (Option TypeId)} {ts : List TypeId} (h : Tabled recorded fresh next many rs ts) where
   -- the recorded type of a value there was
-  pub old_type : (v : ℕ) (o : Option TypeId) → v < length recorded → o ≡ recorded_from (get_or recorded v 0) → o ≡ get_or (with_fresh rs ts) v none
+  pub old_type : (v : ℕ) (o : Option TypeId) → v < next → o ≡ recorded_from (get_or recorded v 0) → o ≡ get_or (with_fresh rs ts) v none
   old_type v o l e =
       let i : v < length rs = omega (arith, h.old) in
-      e ∙ ap recorded_from (h.known v i l) ∙ recorded_back _ ∙ sym (get_or-append rs (map some ts) none v i)
+      e ∙ ap recorded_from (h.known v i (omega (arith, h.long))) ∙ recorded_back _ ∙ sym (get_or-append rs (map some ts) none v i)
 
   -- of a fresh one
-  pub new_type : (v : ℕ) → length recorded ≤ v → v - length recorded < length fresh → some (record { 0 = get_or fresh (v - length recorded) 0 }) ≡ get_or (with_fresh rs ts) v none
-  new_type v l k =
-      let n = v - length recorded in
+  pub new_type : (v n : ℕ) → next + n ≡ v → n < many → some (record { 0 = get_or fresh n 0 }) ≡ get_or (with_fresh rs ts) v none
+  new_type v n l k =
       let p : length rs + n ≡ v = omega (arith, h.old) in
       let q : get_or (with_fresh rs ts) v none ≡ get_or (map some ts) n none = ap (λ n. get_or (with_fresh rs ts) n none) (sym p) ∙ get_or-append-add rs (map some ts) n none in
-      ap (λ l. some (record { 0 = get_or l n 0 })) h.new ∙ fresh_type ts n (omega (arith, fresh_many)) ∙ sym q
+      ap (λ t. some (record { 0 = t })) (h.taken n k) ∙ fresh_type ts n (omega (arith, h.new)) ∙ sym q
 
   -- past all of them there is none
-  pub no_type : (v : ℕ) → length recorded ≤ v → length fresh ≤ v - length recorded → none ≡ get_or (with_fresh rs ts) v none
-  no_type v l k = sym (get_or-eq_default (with_fresh rs ts) none {n = v} (omega (arith, h.old, fresh_many, length_fresh rs ts)))
+  pub no_type : (v : ℕ) → next + many ≤ v → none ≡ get_or (with_fresh rs ts) v none
+  no_type v l = sym (get_or-eq_default (with_fresh rs ts) none {n = v} (omega (arith, h.old, h.new, length_fresh rs ts)))
 
 -- the lowest bit, and those above it
 pub low_bit : (rs : List (Option TypeId)) (v : ℕ) → map_number (drop v rs) ≡ stands (get_or rs v none) + 2 * map_number (drop (v + 1) rs)
@@ -63,6 +57,18 @@ low_bit (r ∷ rs) zero = refl
 low_bit (r ∷ rs) (suc v) =
     let e : suc v + 1 ≡ suc (v + 1) = omega arith in
     rw e (low_bit rs v)
+
+-- the bits of a byte, all eight at once
+pub eight : (x a b c d e f g h y : ℕ) → a ≤ 1 → b ≤ 1 → c ≤ 1 → d ≤ 1 → e ≤ 1 → f ≤ 1 → g ≤ 1 → h ≤ 1
+    → x ≡ a + 2 * (b + 2 * (c + 2 * (d + 2 * (e + 2 * (f + 2 * (g + 2 * (h + 2 * y)))))))
+    → (a + 2 * b + 4 * c + 8 * d + 16 * (e + 2 * f + 4 * g + 8 * h) ≡ x % 256) × (x / 256 ≡ y)
+eight x a b c d e f g h y i j k l m n o p q =
+    let z : x ≡ (a + 2 * b + 4 * c + 8 * d + 16 * (e + 2 * f + 4 * g + 8 * h)) + 256 * y = omega arith in
+    let w : a + 2 * b + 4 * c + 8 * d + 16 * (e + 2 * f + 4 * g + 8 * h) < 256 = omega arith in
+    parts (a + 2 * b + 4 * c + 8 * d + 16 * (e + 2 * f + 4 * g + 8 * h)) z w
+  where
+    parts : (u : ℕ) → x ≡ u + 256 * y → u < 256 → (u ≡ x % 256) × (x / 256 ≡ y)
+    parts u z w = (omega arith, omega arith)
 
 -- the bits of a byte from bit k on, which stand before those of the bytes behind it
 pub record Bits (values : RecordedTypes) (v byte k : ℕ) : Type 0 where

@@ -17,7 +17,7 @@ use Rattle.bytes_sections.specs.Encode.{encode, map_number, recorded_bytes}
 use Rattle.bytes_emit.specs.Written.{Writes}
 use Rattle.bytes_wire.proofs.RoundTrip.{length_to_bytes}
 use Rattle.rewrite_head.specs.Head.{head_bytes, with_fresh, widened, Tabled, front_end, front_bytes}
-use Rattle.rewrite_head.proofs.Bits.{length_fresh, fresh_many}
+use Rattle.rewrite_head.proofs.Bits.{length_fresh}
 
 -- a part that is lent is the part in the middle
 part_slice : (from end : ℕ) (s : List ℕ) → from ≤ end → take (end - from) (drop from s) ≡ slice from end s
@@ -116,22 +116,21 @@ unfolding head_bytes
 head_is x ts f e = rw e (simp (append_assoc))
 
 -- all of it
-pub head_written : (x : Routine) (s : List ℕ) (at next : ℕ) (recorded fresh : List ℕ) (ts : List TypeId) → encode x ≡ s
-    → length (types_bytes x.types) ≡ at → x.next ≡ length recorded → next ≡ length recorded + length fresh → Tabled recorded fresh x.recorded ts
+pub head_written : (x : Routine) (s : List ℕ) (at all next many : ℕ) (recorded fresh : List ℕ) (ts : List TypeId) → encode x ≡ s
+    → length (types_bytes x.types) ≡ at → x.next ≡ next → all ≡ next + many → Tabled recorded fresh next many x.recorded ts
     → (out a b c : List ℕ) (p q r : ℕ)
-    → p ≡ front_end s at → a ≡ sets out 0 (front_bytes s at next) → q ≡ p + (length recorded + length fresh + 7) / 8
-    → b ≡ sets a p (to_bytes ((length recorded + length fresh + 7) / 8) (map_number (with_fresh x.recorded ts)))
+    → p ≡ front_end s at → a ≡ sets out 0 (front_bytes s at all) → q ≡ p + (next + many + 7) / 8
+    → b ≡ sets a p (to_bytes ((next + many + 7) / 8) (map_number (with_fresh x.recorded ts)))
     → Writes (each_bytes (option_bytes type_id_bytes) (with_fresh x.recorded ts)) b c q r → Writes (head_bytes (widened x ts)) out c 0 r
-head_written x s at next recorded fresh ts e l n d h out a b c p q r ep e₁ eq eb w =
-    let all = length recorded + length fresh in
+head_written x s at all next many recorded fresh ts e l n d h out a b c p q r ep e₁ eq eb w =
     let R = with_fresh x.recorded ts in
-    let f = front_bytes s at all in
+    let f = front_bytes s at (next + many) in
     let ea : a ≡ sets out 0 f = e₁ ∙ ap (λ n. sets out 0 (front_bytes s at n)) d in
-    let i : f ≡ types_bytes x.types ++ (to_bytes 2 all ++ middle x s at e l) = front_is x s at e l all in
-    let j : all ≡ x.next + length ts = omega (arith, fresh_many h) in
-    let k : p ≡ length f = omega (arith, ap length i, length-append (types_bytes x.types) (to_bytes 2 all ++ middle x s at e l), front_end_lem x s at e l) in
-    let m : all ≡ length R = omega (arith, h.old, fresh_many h, length_fresh x.recorded ts) in
-    let o : q ≡ p + length (to_bytes ((all + 7) / 8) (map_number R)) = eq ∙ ap (λ z. p + z) (sym (length_to_bytes ((all + 7) / 8) (map_number R))) in
-    let u : Writes (f ++ (to_bytes ((all + 7) / 8) (map_number R) ++ each_bytes (option_bytes type_id_bytes) R)) out c 0 r = three_runs out a b c f (to_bytes ((all + 7) / 8) (map_number R)) (each_bytes (option_bytes type_id_bytes) R) p q r k ea o eb w in
+    let i : f ≡ types_bytes x.types ++ (to_bytes 2 (next + many) ++ middle x s at e l) = front_is x s at e l (next + many) in
+    let j : next + many ≡ x.next + length ts = omega (arith, h.new) in
+    let k : p ≡ length f = omega (arith, ap length i, length-append (types_bytes x.types) (to_bytes 2 (next + many) ++ middle x s at e l), front_end_lem x s at e l) in
+    let m : next + many ≡ length R = omega (arith, h.old, h.new, length_fresh x.recorded ts) in
+    let o : q ≡ p + length (to_bytes ((next + many + 7) / 8) (map_number R)) = eq ∙ ap (λ z. p + z) (sym (length_to_bytes ((next + many + 7) / 8) (map_number R))) in
+    let u : Writes (f ++ (to_bytes ((next + many + 7) / 8) (map_number R) ++ each_bytes (option_bytes type_id_bytes) R)) out c 0 r = three_runs out a b c f (to_bytes ((next + many + 7) / 8) (map_number R)) (each_bytes (option_bytes type_id_bytes) R) p q r k ea o eb w in
     let v : Writes (f ++ recorded_bytes R) out c 0 r = rw (← m) u in
     rw (← head_is x ts f (i ∙ ap (λ z. types_bytes x.types ++ (to_bytes 2 z ++ middle x s at e l)) j)) v

@@ -1,5 +1,5 @@
 -- Everything before the blocks of a rewritten routine.
-use Rattle.std.specs.Prelude.{ℕ, ◌+◌, ◌*◌, ◌≡◌, List, ◌++◌, map, length, get_or}
+use Rattle.std.specs.Prelude.{ℕ, ◌+◌, ◌*◌, ◌≤◌, ◌<◌, ◌≡◌, List, ◌++◌, map, length, get_or}
 use Rattle.std.proofs.Math.Option.{Option, some}
 use Rattle.std.proofs.Math.Seq.{slice}
 use Rattle.bytes_wire.specs.Number.{to_bytes}
@@ -38,15 +38,17 @@ widened r ts =
       blocks = r.blocks;
     }
 
--- what the code keeps of recorded types: a table by value, and one of the fresh values by number
-pub record Tabled (recorded fresh : List ℕ) (rs : List (Option TypeId)) (ts : List TypeId) : Type 0 where
-  pub old : length rs ≡ length recorded
+-- what the code keeps of recorded types: a table by value, and one of the fresh values by number; each may go on behind them
+pub record Tabled (recorded fresh : List ℕ) (next many : ℕ) (rs : List (Option TypeId)) (ts : List TypeId) : Type 0 where
+  pub old : length rs ≡ next
+  pub new : length ts ≡ many
   pub known : RecordedAt recorded rs
-  pub new : fresh ≡ type_numbers ts
+  pub long : next ≤ length recorded
+  pub taken : (k : ℕ) → k < many → get_or fresh k 0 ≡ get_or (type_numbers ts) k 0
 
 -- how many values there are
 abbrev pub all_values : RecordedTypes → ℕ
-all_values values = length values.old.now + length values.fresh.now
+all_values values = values.next + values.many
 
 -- the place behind the parameters, where the types end at `at`
 abbrev pub front_end : List ℕ → ℕ → ℕ
@@ -60,7 +62,7 @@ front_bytes s at next = slice 0 at s ++ (to_bytes 2 next ++ slice (at + 2) (fron
 abbrev pub OfRecorded : RecordedTypes → (List (Option TypeId) → Type 0) → Type 0
 OfRecorded values P =
     (rs : List (Option TypeId)) (ts : List TypeId)
-    → Tabled values.old.now values.fresh.now rs ts
+    → Tabled values.old.now values.fresh.now values.next values.many rs ts
     → P (with_fresh rs ts)
 
 -- of the routine that s is, whose types end at `at`, the head with the fresh values is written
@@ -69,8 +71,8 @@ HeadPut s at values out out' r =
     (x : Routine) (ts : List TypeId)
     → encode x ≡ s
     → length (types_bytes x.types) ≡ at
-    → x.next ≡ length values.old.now
-    → Tabled values.old.now values.fresh.now x.recorded ts
+    → x.next ≡ values.next
+    → Tabled values.old.now values.fresh.now values.next values.many x.recorded ts
     → Writes (head_bytes (widened x ts)) out out' 0 r
 
 -- the places of the map's bits are below this

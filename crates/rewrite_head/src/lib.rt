@@ -37,18 +37,23 @@ const BYTE_BITS: usize = 8;
 fn count(values: RecordedTypes) -> usize
     ensures { result ≡ all_values values.entry }
 {
-    values.old.len() + values.fresh.len()
+    values.next as usize + values.many as usize
 }
 
-// The recorded type of value v.
+// The recorded type of value v. A fresh type that the table does not have is 0.
 fn type_of(values: RecordedTypes, v: usize) -> Option<TypeId>
     ensures { OfRecorded values.entry (λ all. as_option result ≡ get_or all v none) }
 {
-    let old = values.old.len();
-    if v < old {
+    let next = values.next as usize;
+    if v < next {
         return bytes_lookup::recorded_type(values.old, ValueId(v as u16));
     }
-    Some(TypeId(*values.fresh.get(v - old)?))
+    let k = v - next;
+    let many = values.many as usize;
+    if k < many {
+        return Some(TypeId(table::number(values.fresh, k)));
+    }
+    None
 }
 
 // Value v's bit of the map.

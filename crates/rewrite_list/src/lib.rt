@@ -72,7 +72,7 @@ fn put_tracked(
     ensures tracked_put { TrackedPut code.entry work.now build d out.old out.new to result }
 {
     let parts = rewrite_parts::row(rows(work), build.value);
-    rewrite_build::put_rebuild(out, to, code, build.named, d, parts)
+    rewrite_build::put_rebuild(out, to, code, build.named, d, parts, parts.len())
 }
 
 // One more instruction of a block that has so many, where one is added: none past the last number.

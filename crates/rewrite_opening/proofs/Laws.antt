@@ -1,10 +1,9 @@
 -- The writer of the head meets what it is told.
 use Prim.Native.Nat.{ℕ, ◌+◌, ◌≤◌, ◌<◌}
-use mathlib.Core.Path.{◌≡◌, refl, ap, ◌∙◌, sym}
+use mathlib.Core.Path.{◌≡◌, refl, ◌∙◌, sym}
 use mathlib.Core.List.{List}
 use native.Mathlib.Omega.{arith}
-use lib.ListN.{length, get_or, take}
-use lib.Seq.{length-take-le}
+use lib.ListN.{length, get_or}
 use Rattle.bytes_index.specs.declared.code.Code.{Code}
 use Rattle.bytes_index.specs.Table.{recorded_in}
 use Rattle.bytes_emit.specs.Written.{Writes}
@@ -17,18 +16,16 @@ use Rattle.rewrite_head.proofs.Front.{front_within}
 use Rattle.rewrite_opening.specs.Opens.{Opens, Opening}
 use Rattle.std.specs.Prelude.{Some, None}
 
-module _ {code : Code} {fresh : List ℕ} {size : ℕ} (h : Opens code fresh size) where
+module _ {code : Code} {fresh : List ℕ} {many size : ℕ} (h : Opens code fresh many size) where
   -- the types end, and the parameters stand, within the bytes
   pub head_within : (at : ℕ) → at ≡ get_or code.facts.now code.bounds.types 0 → front_end code.bytes.now at ≤ length code.bytes.now
   head_within at e = front_within h.routine code.bytes.now at h.reads (sym (e ∙ h.behind))
 
   -- the head that is written is that of the routine
-  pub head_opened : (at : ℕ) (old out out' : List ℕ) (to : ℕ) → at ≡ get_or code.facts.now code.bounds.types 0 → old ≡ take code.bounds.next (recorded_in code.facts.now)
-      → ((x : Routine) (ts : List TypeId) → encode x ≡ code.bytes.now → length (types_bytes x.types) ≡ at → x.next ≡ length old → Tabled old fresh x.recorded ts → Writes (head_bytes (widened x ts)) out out' 0 to)
+  pub head_opened : (at : ℕ) (old out out' : List ℕ) (to : ℕ) → at ≡ get_or code.facts.now code.bounds.types 0 → old ≡ recorded_in code.facts.now
+      → ((x : Routine) (ts : List TypeId) → encode x ≡ code.bytes.now → length (types_bytes x.types) ≡ at → x.next ≡ code.bounds.next → Tabled old fresh code.bounds.next many x.recorded ts → Writes (head_bytes (widened x ts)) out out' 0 to)
       → Writes (head_bytes (widened h.routine h.types)) out out' 0 to
-  head_opened at old out out' to e f put =
-      let many : length old ≡ code.bounds.next = ap length f ∙ length-take-le code.bounds.next (recorded_in code.facts.now) h.long in
-      put h.routine h.types h.reads (sym (e ∙ h.behind)) (h.next ∙ sym many) (rw f h.tabled)
+  head_opened at old out out' to e f put = put h.routine h.types h.reads (sym (e ∙ h.behind)) h.next (rw f h.tabled)
 
 module _ (head : List ℕ) (size n : ℕ) (out : List ℕ) (e : n ≡ 0 + length head) where
   pub opening_long : length out < n + size → Opening head size out out None

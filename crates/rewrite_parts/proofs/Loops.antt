@@ -110,6 +110,29 @@ laid_more {s} {before} {n} {at} {rows₀} {to} {rows} {here} {i} {rows'} {there}
           rw e (filled_more (here + before) short (o.filled next xs v l short r) (omega (arith, o.grown.size)) (rw o.place (v.each i (omega arith))));
     }
 
+-- i of n places are copied
+pub record Copying (rows₀ : List ℕ) (from to n : ℕ) (rows : List ℕ) (i : ℕ) : Type 0 where
+  pub under : i ≤ n
+  pub grown : Grown rows₀ to rows
+  pub done : from + n ≤ to → to + n ≤ length rows₀ → (j : ℕ) → j < i → get_or rows (to + j) 0 ≡ get_or rows₀ (from + j) 0
+
+-- none yet
+pub copying : (rows : List ℕ) (from to n : ℕ) → Copying rows from to n rows 0
+copying rows from to n = record { under = zero-le; grown = grown_none rows to; done = λ p q j h. absurd (omega arith) }
+
+-- one more
+pub copied_more : {rows₀ : List ℕ} {from to n : ℕ} {rows : List ℕ} {i : ℕ} {rows' : List ℕ} {place : ℕ} → Copying rows₀ from to n rows i → i < n → place ≡ get_or rows (from + i) 0 → rows' ≡ set rows (to + i) place → Copying rows₀ from to n rows' (i + 1)
+copied_more {rows₀} {from} {to} {n} {rows} {i} {rows'} {place} o h f e =
+    record {
+      under = omega arith;
+      grown = rw e (grown_more (to + i) place o.grown (omega arith));
+      done = λ p q.
+          rw e
+          (one_more (λ j. get_or (set rows (to + i) place) (to + j) 0 ≡ get_or rows₀ (from + j) 0) i
+          (λ j l. get_or-set_other rows (to + i) (to + j) place 0 (λ z. omega arith) ∙ o.done p q j l)
+          (get_or-set_same rows (to + i) place 0 (omega (arith, o.grown.size)) ∙ f ∙ o.grown.old (from + i) (omega arith)));
+    }
+
 -- d has a copy of the row of v, with part k at another place
 pub rep_replace : {next : ℕ} {s : List ℕ} {tracked : Marks} {rows rows' : List ℕ} {used : ℕ} {S : AggStates} {xs ys : List Value} {y : Value} (d v : ValueId) (k n place : ℕ)
     → Rep next s tracked rows used S → Room rows used → d.0 < 256 → S v.0 ≡ some xs → replaced xs k y ≡ some ys → ValueAt next s place y → length xs ≡ n

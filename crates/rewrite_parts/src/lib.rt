@@ -141,15 +141,15 @@ pub fn track_values(
     used + 1 + n as usize
 }
 
-// Copies `n` places within the rows, behind where they stand.
+// Copies `n` places within the rows. (One by one: by `copy_within` or `copy_from_slice` the archive would ask its host for `memmove`.)
 fn copy_row(rows: &mut [u16], from: usize, to: usize, n: u16)
     requires { Addressable to × Addressable from }
     ensures grown { Grown rows.old to rows.new }
     ensures row_copied { RowCopied from to n rows.old rows.new }
 {
-    let end = from + n as usize;
-    if end <= to && to + n as usize <= rows.len() {
-        rows.copy_within(from..end, to);
+    for i in 0..n {
+        let place = table::number(rows, from + i as usize);
+        table::put(rows, to + i as usize, place);
     }
 }
 

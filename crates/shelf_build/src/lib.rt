@@ -20,7 +20,7 @@ pub fn make_tuple(typing: Typing, t: &[u8]) -> bool
     ensures { Judged make_tuple_of typing.entry t.now result }
 {
     let y = shelf_field::id_type(typing, t, DEST);
-    let shaped = shelf_field::has_shape(typing.code, y, Shape::Tuple);
+    let shaped = shelf_field::has_shape(typing.code, y, Shape::Tuple as u8);
     let list = Listed::behind(t, COUNT);
     let all = shelf_list::parts_fit(typing, list, y);
     shaped & all
@@ -34,7 +34,7 @@ pub fn make_array(typing: Typing, t: &[u8]) -> bool
     let list = Listed::behind(t, COUNT);
     let e = bytes_operands::values_end(t, list.at, 0, 0, list.count);
     let part = shelf_field::type_at(t, typing.code.bounds, e);
-    let shaped = shelf_field::has_shape(typing.code, y, Shape::FixedArray);
+    let shaped = shelf_field::has_shape(typing.code, y, Shape::FixedArray as u8);
     let same = shelf_types::same_type(shelf_rows::part_type(typing.code, y, 0), part);
     let all = shelf_list::parts_fit(typing, list, y);
     let fit = same & all;
@@ -53,7 +53,7 @@ pub fn make_struct(typing: Typing, t: &[u8]) -> bool
     if !shelf_rows::has_parts(code, y, list.count as u32) {
         return false;
     }
-    if !shelf_field::has_shape(code, y, Shape::Struct) {
+    if !shelf_field::has_shape(code, y, Shape::Struct as u8) {
         return false;
     }
     let same = shelf_field::id_has(typing, t, DEST, y);

@@ -11,7 +11,6 @@ ghost use Rattle.mir.specs.declared.Value.{Value as AnyValue};
 ghost use Rattle.mir.specs.declared.Projection.{Projection};
 ghost use Rattle.rewrite_parts.specs.Rows.{ValueAt};
 ghost use Rattle.mir.specs.Lookup.{Types, recorded_type};
-ghost use Rattle.mir.specs.Shape.{number_of_shape};
 ghost use Rattle.rewrite.specs.Rebuild.{return_type};
 ghost use Rattle.rewrite_progress.specs.Ground.{Ground};
 ghost use Rattle.shelf.specs.Agrees.{is_scalar_type, is_scalar};
@@ -22,7 +21,6 @@ ghost use Rattle.shelf_field.specs.Asked.{OfId, IdType, IdHas, OfValueAt, Operan
 
 use bytes_field::Bounds;
 use bytes_index::{Code, Typing};
-use mir::shape::Shape;
 use mir::{Projection, TypeId, Value, ValueId};
 use rewrite_parts::Listed;
 
@@ -64,6 +62,7 @@ pub fn id_scalar(typing: Typing, t: &[u8], at: usize) -> bool
 }
 
 // The recorded type of an operand; none of any other value.
+#[tactic(auto, unfolding(rewrite::specs::Rebuild::return_type))]
 fn value_type(recorded: &[u16], x: Value) -> Option<TypeId>
     ensures { (b : Bounds) (s types : List ℕ) (τ : Types) → Ground b s types recorded.now τ
         → FitValue b.next x → Is result (return_type τ x) }
@@ -93,11 +92,12 @@ pub fn value_scalar(typing: Typing, t: &[u8], at: usize) -> bool
     shelf_types::is_scalar(typing, value_at(t, at, typing.code.bounds.next))
 }
 
-// The type is of that shape.
-pub fn has_shape(code: Code, number: Option<TypeId>, shape: Shape) -> bool
-    ensures { HasShape code.entry number (number_of_shape shape) result }
+// The type is of the shape with the number `k`. (A number and no `Shape`: the promise is of every number, also of one that is no shape's.)
+#[tactic(auto, using(mir::proofs::Numbers::shape_tag))]
+pub fn has_shape(code: Code, number: Option<TypeId>, k: u8) -> bool
+    ensures { HasShape code.entry number k result }
 {
-    shelf_rows::shape_of(code, number) == shape
+    shelf_rows::shape_of(code, number) as u8 == k
 }
 
 // The projection at a place. (Beside that of bytes_operands for its promise: of a projection that stands there, as lists of them have it,

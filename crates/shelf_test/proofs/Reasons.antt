@@ -147,7 +147,7 @@ not_passed ShelfReason.DeepStore h = omega (arith, h)
 not_passed ShelfReason.ReadsDropped h = omega (arith, h)
 
 module _ (x : Routine) (w : Rewritten) where
-  reason_first : (n : ℕ) → n ≡ input_reason x → (n ≡ 0 → ⊥) → n ≡ shelf_reason with_debug x w
+  pub reason_first : (n : ℕ) → n ≡ input_reason x → (n ≡ 0 → ⊥) → n ≡ shelf_reason with_debug x w
   unfolding input_reason shelf_reason
   reason_first n e h = first_some (types_agree with_debug x) (in_order with_debug x) (kept_apart x) _ n e h
 

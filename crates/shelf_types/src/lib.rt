@@ -126,6 +126,7 @@ pub fn is_index(typing: Typing, x: Value) -> bool
 }
 
 // A Boolean, or an operand recorded as Bool.
+#[tactic(auto, unfolding(shelf::specs::Agrees::is_condition))]
 pub fn is_condition(typing: Typing, x: Value) -> bool
     ensures { OfValue typing.entry x is_condition result }
 {
@@ -133,7 +134,7 @@ pub fn is_condition(typing: Typing, x: Value) -> bool
 }
 
 // A literal, or an operand with a recorded type.
-#[tactic(auto, unfolding(shelf::specs::Agrees::is_known))]
+#[tactic(auto, using(crate::proofs::Fitted::known_type), unfolding(shelf::specs::Agrees::is_known))]
 pub fn is_known(recorded: &[u16], x: Value) -> bool
     ensures { Noted recorded.now (λ τ. FitValue (length τ.recorded) x → result ≡ is_known τ x) }
 {

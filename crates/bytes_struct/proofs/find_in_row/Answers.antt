@@ -20,4 +20,4 @@ pub returns : goal.returns
 returns c = λ most own n T e.
     let k = kind_is number_of_type_kind c.in-Some-Struct.field-0-is c.in-Some-Struct.ensures in
     let p : c.part.result ≡ record { 0 = at16 c.args.row.now (6 + 4 * c.in_ok-i.i) } = ap (λ (j : ℕ). record { 0 = j }) c.part.ensures in
-    rw (p, c.field_count.ensures) (among_found most own n c.args.row.now T c.args.name e k (Some c.in_ok-i.i) c.in_ok-i.ensures)
+    rw (p, c.field_count-fields.ensures) (among_found most own n c.args.row.now T c.args.name e k (Some c.in_ok-i.i) c.in_ok-i.ensures)

@@ -1,3 +1,5 @@
+use mathlib.Core.Path.{◌∙◌}
+use Rattle.mir.proofs.Numbers.{kind_tag}
 use Rattle.fold_choose.proofs.Folding.{decided, decided_none}
 use Rattle.fold_choose.proofs.decide_one.Goals as goal
 
@@ -10,5 +12,5 @@ returns-then-not-is_build c =
 pub returns : goal.returns
 returns c =
     let a = c.args in
-    decided a.settings a.view.shapes.now a.view.graph.now a.looked a.code a.slot _ c.in-Some.ensures
+    decided a.settings a.view.shapes.now a.view.graph.now a.looked a.code a.slot _ (kind_tag c.in-Some.kind ∙ c.in-Some.ensures)
     c.dest-v.result.0 c.dest-v.ensures c.folds.result c.folds.ensures

@@ -1,5 +1,4 @@
-use Rattle.std.proofs.Common.{refl, arith, ◌∙◌, rules, ◌||◌, not}
-use Rattle.std.proofs.lemmas.Iterator.{YieldsList-from_range}
+use Rattle.std.proofs.Common.{◌∙◌, rules, ◌||◌, not}
 use Rattle.std.proofs.lemmas.Iterator.Search.{all_from_yields_List}
 use mathlib.Core.Path.{ap}
 use lib.Dec.{eqb}
@@ -7,7 +6,7 @@ use Rattle.fold_climb.specs.Edges.{tuples_climb}
 use Rattle.fold_climb.specs.Scanned.{sight_of, child_in, parent_in, of_tuple, tuples_down}
 use Rattle.fold_climb.specs.Decided.{climbs}
 use Rattle.fold_climb.proofs.tuple_parents.Goals as goal
-use Rattle.fold_climb.proofs.Decide.{all_tuples}
+use Rattle.fold_climb.proofs.Decide.{counts_down, all_tuples}
 
 pub returns : goal.returns
 returns c =
@@ -16,5 +15,5 @@ returns c =
     let n = c.edge_count.result in
     let can = climbs (sight_of a.view.shapes.now g) in
     all_from_yields_List (λ k. not (eqb (child_in g k) a.v.0) || (not (of_tuple g k) || can (parent_in g k))) _ _ _ c.all.ensures.ran
-    (YieldsList-from_range 0 n n refl (omega arith)) (λ x b q k. search rules)
+    (counts_down n c.rev.ensures.source) (λ x b q k. search rules)
     ∙ all_tuples can a.v.0 g n ∙ ap (λ m. tuples_climb can a.v.0 (tuples_down g m)) c.edge_count.ensures

@@ -8,7 +8,7 @@ loop-j-preserved c =
     building_again a.known a.copies.now a.k.0 c.block_slots-slots.result _ c.block_number-own.ensures c.block_slots-slots.ensures _ _
     l.family l.marks l.members l.j l.invariant c.loop-j-test.true
     c.eligible_build-d.result c.eligible_build-d.ensures _ _ _ c.find_family-n.ensures
-    c.find_family-n.auto.members _ c.first_members-listed.ensures _ _ c.unite_abroad.ensures c.unite_abroad.auto.marks c.unmark.ensures
+    c.find_family-n.auto.members _ _ c.unite_abroad.ensures c.unite_abroad.auto.marks c.unmark.ensures
 
 pub returns : goal.returns
 returns c =

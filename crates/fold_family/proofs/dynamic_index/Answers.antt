@@ -14,4 +14,4 @@ returns c =
     (YieldsList-from_zip (YieldsList-from_slice a.marks.now cc) (YieldsList-from_slice a.dynamic.now cc)) (λ x b q k. search (rules, tests))
     ∙ zip_meets a.marks.now a.dynamic.now
     in
-    record { met = e; indexed = dynamic_found a.marks.now a.dynamic.now e }
+    record { met = e; indexed = (dynamic_found a.marks.now a.dynamic.now e).1 }

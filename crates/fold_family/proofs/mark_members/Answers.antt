@@ -6,4 +6,4 @@ pub loop-v-preserved : goal.loop-v-preserved
 loop-v-preserved c =
     let a = c.args in
     let l = c.loop-v in
-    flag_again a.members.now a.on a.marks.now l.marks l.v-index _ l.invariant c.loop-v-test.true refl c.put.ensures
+    flag_again a.members.now a.on a.marks.now l.marks l.v-index _ l.invariant refl c.put.ensures

@@ -15,4 +15,4 @@ returns c =
     (YieldsList-from_zip (YieldsList-from_slice a.marks.now cc) (YieldsList-from_slice a.readers.now cc)) (λ x b q k. search (rules, tests))
     ∙ zip_foreign a.own.number a.marks.now a.readers.now
     in
-    record { met = e; elsewhere = elsewhere_found a.marks.now a.own.number a.readers.now a.own.low e }
+    record { met = e; elsewhere = (elsewhere_found a.marks.now a.own.number a.readers.now a.own.low e).1 }

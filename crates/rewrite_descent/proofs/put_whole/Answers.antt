@@ -29,7 +29,7 @@ returns-clause-work_unchanged c =
 pub returns-clause-whole_put : goal.returns-clause-whole_put
 returns-clause-whole_put c = λ h τ S tracked xs e o.
     let a = c.args in
-    let r = c.row.ensures.parts_stand _ _ _ _ S xs (rep_of c.rows.ensures e.rep) o.parts in
+    let r = c.row-places.ensures.parts_stand _ _ _ _ S xs (rep_of c.rows.ensures e.rep) o.parts in
     whole_made τ S a.build a.nums.now xs _ o _ a.work.now a.p _ _ _ _ (omega arith) c.in_ok-number_and_line.ensures
-    (c.put_numbered-to.ensures.of_table _ τ e.ground.bytes e.ground.known.rows (type_below a.code τ S a.build xs e.ground o) xs r.0 r.1 c.row.ensures.upper_bound)
+    (c.put_numbered-to.ensures.of_table _ τ e.ground.bytes e.ground.known.rows (type_below a.code τ S a.build xs e.ground o) xs r.0 r.1 c.row-places.ensures.upper_bound)
     c.put.ensures

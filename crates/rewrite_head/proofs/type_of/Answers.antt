@@ -1,14 +1,15 @@
-use Rattle.std.proofs.Common.{◌∙◌, sym}
-use borrow.Author.Tests.{ltb-true, ltb-false}
-use Rattle.std.proofs.lemmas.List.{get_or_default}
+use Rattle.std.proofs.Common.{arith}
 use Rattle.rewrite_head.proofs.Bits.{new_type, no_type}
 use Rattle.rewrite_head.proofs.type_of.Goals as goal
 
-pub returns-in_err-get : goal.returns-in_err-get
-returns-in_err-get c = λ rs ts h. rw c.from_residual.ensures
-    (no_type h c.args.v c.if-v-old.false (ltb-false _ _ (sym c.in_err-get.ensures.lookup.0)))
+pub returns-then-k-many : goal.returns-then-k-many
+returns-then-k-many c =
+    let l = c.if-v-next.false in
+    let m = c.if-k-many.true in
+    λ rs ts h. rw c.number.ensures (new_type h c.args.v _ (omega (arith, l)) (omega (arith, m)))
 
 pub returns : goal.returns
 returns c =
-    let l = ltb-true _ _ (sym c.in_ok-get.ensures.lookup.0) in
-    λ rs ts h. rw (c.in_ok-get.ensures.lookup.1 ∙ get_or_default _ _ _ 0 l) (new_type h c.args.v c.if-v-old.false l)
+    let l = c.if-v-next.false in
+    let m = c.if-k-many.false in
+    λ rs ts h. no_type h c.args.v (omega (arith, l, m))

@@ -45,7 +45,7 @@ fn has_build(code: Code, slots: Slots, eligible: &[bool]) -> bool
 fn unite_abroad(own: BlockNumber, members: &[u16], n: u16, readers: &[u8], marks: &mut [bool])
     ensures { n ≤ length members.now → MembersCrossed own.number members.now n readers.now marks.old marks.new }
 {
-    if fold_readers::member_abroad(members, n, own, readers) {
+    if fold_readers::listed_abroad(members, n, own, readers) {
         fold_family::mark_members(fold_family::first_members(members, n), true, marks);
     }
 }

@@ -1,6 +1,6 @@
 -- The members of a family, one after another, in place of all its marks.
 use Prim.Native.Nat.{ℕ, zero, suc, ◌+◌, ◌≤◌, ◌<◌}
-use mathlib.Core.Path.{◌≡◌, refl, ap, ◌∙◌, sym}
+use mathlib.Core.Path.{◌≡◌, refl, ap, ◌∙◌, sym, subst}
 use mathlib.Core.List.{List, [], ◌∷◌}
 use mathlib.Core.Bool.{Bool, true, false, ◌&&◌, ◌||◌, or-true, true≢false}
 use mathlib.Core.Logic.{⊎_elim}
@@ -42,9 +42,36 @@ meets_none (a ∷ m) (b ∷ d) f = go a refl (meets_none m d (λ x. f (suc x)))
     go true e r = rw (f 0 e) r
     go false e r = r
 
--- the test of each of the n members in turn
-pub list_met : (members : List ℕ) (n : ℕ) (m d : Marks) → Members members n m → list_any (λ k. get_or d (get_or members k 0) false) (range_with_len 0 n) ≡ meets m d
-list_met members n m d a = go (list_any p places) refl
+-- some values, read off places, of which each has its mark, and no other value that passes the test does
+any_met : (f : ℕ → ℕ) (xs : List ℕ) (m d : Marks) → ((i : ℕ) → i < length xs → get_or m (f (get_or xs i 0)) false ≡ true)
+    → ((x : ℕ) → get_or m x false ≡ true → list_any (λ k. get_or d (f k) false) xs ≡ false → get_or d x false ≡ false)
+    → list_any (λ k. get_or d (f k) false) xs ≡ meets m d
+any_met f xs m d marked only = go (list_any p xs) refl
+  where
+    p : ℕ → Bool
+    p k = get_or d (f k) false
+
+    go : (b : Bool) → list_any p xs ≡ b → list_any p xs ≡ meets m d
+    go true e =
+        let (i, k, h, z, g) = Any-from_list_any p xs e in
+        let q : get_or xs i 0 ≡ k = sym (get_or_default_zero xs i k h) ∙ z in
+        e ∙ sym (meets_at m d (f k) (subst (λ y. get_or m (f y) false ≡ true) q (marked i h)) g)
+    go false e = e ∙ sym (meets_none m d (λ x y. only x y e))
+
+-- the test of each member in turn
+pub list_met : (members : List ℕ) (m d : Marks) → Members members (length members) m → list_any (λ v. get_or d v false) members ≡ meets m d
+list_met members m d a = any_met (λ v. v) members m d a.marked (λ x h e. only x e (a.only x h) (p x) refl)
+  where
+    p : ℕ → Bool
+    p v = get_or d v false
+
+    only : (x : ℕ) → list_any p members ≡ false → Listed members (length members) x → (b : Bool) → p x ≡ b → p x ≡ false
+    only x e l false f = f
+    only x e (listed_at i h z) true f = absurd (true≢false (sym (list_any_at p members i 0 h (ap p z ∙ f)) ∙ e))
+
+-- the test of each of the n members in turn, by its place
+pub places_met : (members : List ℕ) (n : ℕ) (m d : Marks) → Members members n m → list_any (λ k. get_or d (get_or members k 0) false) (range_with_len 0 n) ≡ meets m d
+places_met members n m d a = any_met (λ k. get_or members k 0) places m d marked (λ x h e. only x e (a.only x h) (get_or d x false) refl)
   where
     p : ℕ → Bool
     p k = get_or d (get_or members k 0) false
@@ -58,17 +85,13 @@ list_met members n m d a = go (list_any p places) refl
     place : (i : ℕ) → i < n → get_or places i 0 ≡ i
     place i h = get_or-range_with_len 0 n i 0 h ∙ zero-add i
 
+    marked : (i : ℕ) → i < length places → get_or m (get_or members (get_or places i 0) 0) false ≡ true
+    marked i h = let l : i < n = omega (arith, many) in rw (place i l) (a.marked i l)
+
     only : (x : ℕ) → list_any p places ≡ false → Listed members n x → (b : Bool) → get_or d x false ≡ b → get_or d x false ≡ false
     only x e l false f = f
     only x e (listed_at i h z) true f =
         absurd (true≢false (sym (list_any_at p places i 0 (omega (arith, many)) (ap p (place i h) ∙ ap (λ y. get_or d y false) z ∙ f)) ∙ e))
-
-    go : (b : Bool) → list_any p places ≡ b → list_any p places ≡ meets m d
-    go true e =
-        let (i, k, h, z, f) = Any-from_list_any p places e in
-        let q : k ≡ i = sym z ∙ get_or_default_zero places i k h ∙ place i (omega (arith, many)) in
-        e ∙ sym (meets_at m d (get_or members k 0) (a.marked k (omega (arith, many))) f)
-    go false e = e ∙ sym (meets_none m d (λ x y. only x e (a.only x y) (get_or d x false) refl))
 
 -- and so the code's answer is the definition's
 pub indexed_found : (members : List ℕ) (n : ℕ) (d : Marks) {r : Bool} → ((m : Marks) → Members members n m → r ≡ meets m d) → MemberIndexed members n d r

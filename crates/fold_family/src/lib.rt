@@ -183,7 +183,7 @@ pub fn mark_members(members: &[u16], on: bool, marks: &mut [bool])
     }
 }
 
-// Clears the marks of the `n` members. (A list and a number, here and in what asks of members, since more is promised than of a slice: past
+// Clears the marks of the `n` members. (A list and a number, here and in what asks of `n` members, since more is promised than of a slice: past
 // the list a member is value 0, as reads of tables give it.)
 pub fn unmark(members: &[u16], n: u16, marks: &mut [bool])
     ensures { ClearsMembers members.now n marks.old marks.new }

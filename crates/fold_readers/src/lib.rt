@@ -2,6 +2,8 @@
 #![tactic(auto)]
 
 pub mod number;
+#[cfg(test)]
+mod tests;
 
 ghost use Rattle.std.specs.Prelude.{◌≡◌, List, ◌&&◌, ℕ, ◌<◌, length, get_or};
 ghost use Rattle.mir.specs.declared.ValueId.{ValueId as DeclaredValueId};
@@ -131,8 +133,16 @@ pub fn is_foreign(own: BlockNumber, x: u8) -> bool
     }
 }
 
+// Whether some block other than `own` reads one of the members of a family, which are the whole list, of any length. (For callers outside the
+// pass, whose list may be longer than a `u16` says; the pass goes by `listed_abroad`.)
+pub fn member_abroad(members: &[u16], own: BlockNumber, readers: &[u8]) -> bool
+    ensures { MemberAbroad members.now (length members.now) own.number readers.now result }
+{
+    members.iter().any(|v| is_foreign(own, bytes_wire::byte_at(readers, *v as usize)))
+}
+
 // Whether some block other than `own` reads one of the `n` members of a family; past the list a member is value 0.
-pub fn member_abroad(members: &[u16], n: u16, own: BlockNumber, readers: &[u8]) -> bool
+pub fn listed_abroad(members: &[u16], n: u16, own: BlockNumber, readers: &[u8]) -> bool
     ensures { MemberAbroad members.now n own.number readers.now result }
 {
     (0..n).any(|k| is_foreign(

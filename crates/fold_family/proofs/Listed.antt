@@ -42,7 +42,7 @@ meets_none (a ∷ m) (b ∷ d) f = go a refl (meets_none m d (λ x. f (suc x)))
     go true e r = rw (f 0 e) r
     go false e r = r
 
--- some values, read off places, of which each has its mark, and no other value that passes the test does
+-- values that are read off places: each is marked, and where none of them passes the test, no marked value does
 any_met : (f : ℕ → ℕ) (xs : List ℕ) (m d : Marks) → ((i : ℕ) → i < length xs → get_or m (f (get_or xs i 0)) false ≡ true)
     → ((x : ℕ) → get_or m x false ≡ true → list_any (λ k. get_or d (f k) false) xs ≡ false → get_or d x false ≡ false)
     → list_any (λ k. get_or d (f k) false) xs ≡ meets m d

@@ -1,3 +1,4 @@
+// What nothing in the pass calls: `member_abroad`, of a whole list.
 use crate::{block_number, member_abroad};
 use mir::BlockId;
 
@@ -7,12 +8,7 @@ const READERS: [u8; 4] = [0, 1, 2, 255];
 #[test]
 fn a_member_that_another_block_reads(rt: HostRuntime) {
     let own = block_number(BlockId(0));
-    for (members, abroad) in [
-        ([0, 0], false),
-        ([0, 1], false),
-        ([1, 2], true),
-        ([3, 0], true),
-    ] {
+    for (members, abroad) in [([0, 1], false), ([1, 2], true), ([3, 0], true)] {
         assert_eq!(rt;
             member_abroad(&members, own, &READERS),
             abroad,
